@@ -1,7 +1,7 @@
 // f32 as numbers: the helpers that every crate above uses. Each equals its definition bit for bit,
 // whatever it is given.
 ghost use mathlib.Core.Path.{_≡_};
-ghost use Rattle.floats.specs.Floats.{minOf, maxOf, clampOf, clamp01Of};
+ghost use Rattle.floats.specs.Floats.{minOf, maxOf, clampOf, clamp01Of, bitsOf};
 
 // 2 ^ -23. A length of at most this counts as nothing.
 pub const EPSILON: f32 = 0.00000011920929;
@@ -54,4 +54,15 @@ pub fn clamp01(t: f32) -> f32
         return 0.0;
     }
     clamp(t, 0.0, 1.0)
+}
+
+// The bits of x, as they are returned or printed. The pattern of a NaN is a constant here, so that it
+// is proved and does not rest on which NaN the processor made.
+pub fn bits(x: f32) -> u32
+    ensures { λ r. ⌜ r ≡ bitsOf x ⌝ }
+{
+    if x != x {
+        return 0x7fc0_0000;
+    }
+    f32::to_bits(x)
 }
