@@ -65,6 +65,10 @@ pub refusal-settled : (r s : Refusal) → numberOf r ≡ numberOf s → listed (
 refusal-settled r s n l =
     sym (read-back r) ∙ ap (λ k. read k (carriedOf r)) n ∙ ap (read (numberOf s)) (values-settled (carriedOf r) (carriedOf s) l) ∙ read-back s
 
+-- a contract that is one equation settles its answer: `docs/UNIQUE.md` cites this for every such entry
+pub equation-settles : {A : Type 0} {value : A} (r s : A) → r ≡ value → s ≡ value → r ≡ s
+equation-settles r s p q = p ∙ sym q
+
 pub report-unique :
     (number : ℕ) (values before : List ℕ) (r s : ℕ) (after other : List ℕ)
     → Report number values before r after
