@@ -1,0 +1,5 @@
+-- Laws of the definitions of `specs/`, which the proofs of this crate and of those above it cite.
+pub mod ScanLaws
+pub mod ByteLaws
+pub mod RunLaws
+pub mod NumberLaws

@@ -1,0 +1,51 @@
+-- `scan::past_digits` meets its contract. The invariant: the run from `i` ends where the run from `at` does. The measure is what is left of the text.
+-- Assumes nothing.
+use mathlib.Core.Path.{_≡_, sym, _∙_}
+use Prim.Native.Nat.{_-_}
+use native.Mathlib.Omega.{arith}
+use borrow.Author.Needs.{needs}
+use lib.ListN.{length}
+use Rattle.scan.specs.Bytes.{digits}
+use Rattle.scan.specs.Runs.{pastDigitsOf}
+use Rattle.scan.proofs.RunLaws.{all-pass, all-stop, all-end}
+use Rattle.scan.proofs.runs.past_digits.Statement.{statement}
+use Rattle.scan.proofs.runs.past_digits.Tie as tie
+
+abbrev Inv-loop : tie.InvT-loop
+Inv-loop text at i₀ i = pastDigitsOf text i ≡ pastDigitsOf text at
+
+abbrev μ-loop : tie.MeasureT-loop
+μ-loop text at i₀ i = length text - i
+
+loop-holds : tie.Need-loop-holds Inv-loop μ-loop
+loop-holds c = search needs
+
+shared-slice-read-is-digit : tie.Need-shared-slice-read-is-digit Inv-loop μ-loop
+shared-slice-read-is-digit c = search needs
+
+is-digit-requires : tie.Need-is-digit-requires Inv-loop μ-loop
+is-digit-requires c κs = search needs
+
+add-i : tie.Need-add-i Inv-loop μ-loop
+add-i c = omega arith
+
+loop-less : tie.Need-loop-less Inv-loop μ-loop
+loop-less c = omega arith
+
+loop-again : tie.Need-loop-again Inv-loop μ-loop
+loop-again c =
+    let at-loop = c .before .before .before .before in
+    all-pass digits _ _ (search needs) (sym (c .before .is-digit .ensures) ∙ c .if1 .taken) ∙ at-loop .loop .inv
+
+returns : tie.Need-returns Inv-loop μ-loop
+returns c = sym (all-end digits _ _ (search needs)) ∙ c .before .loop .inv
+
+returns-2 : tie.Need-returns-2 Inv-loop μ-loop
+returns-2 c =
+    let at-loop = c .before .before .before .before in
+    sym (all-stop digits _ _ (search needs) (sym (c .before .is-digit .ensures) ∙ c .if1 .left)) ∙ at-loop .loop .inv
+
+pub past-digits-spec : {M : Type 1} → statement M
+past-digits-spec =
+    tie.close
+    (tie.spec Inv-loop μ-loop loop-holds shared-slice-read-is-digit is-digit-requires add-i loop-less loop-again returns returns-2)

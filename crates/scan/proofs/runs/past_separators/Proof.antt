@@ -1,0 +1,51 @@
+-- `scan::past_separators` meets its contract. The invariant: the run from `i` ends where the run from `at` does. The measure is what is left of the text.
+-- Assumes nothing.
+use mathlib.Core.Path.{_≡_, sym, _∙_}
+use Prim.Native.Nat.{_-_}
+use native.Mathlib.Omega.{arith}
+use borrow.Author.Needs.{needs}
+use lib.ListN.{length}
+use Rattle.scan.specs.Bytes.{separators}
+use Rattle.scan.specs.Runs.{pastSeparatorsOf}
+use Rattle.scan.proofs.RunLaws.{all-pass, all-stop, all-end}
+use Rattle.scan.proofs.runs.past_separators.Statement.{statement}
+use Rattle.scan.proofs.runs.past_separators.Tie as tie
+
+abbrev Inv-loop : tie.InvT-loop
+Inv-loop text at i₀ i = pastSeparatorsOf text i ≡ pastSeparatorsOf text at
+
+abbrev μ-loop : tie.MeasureT-loop
+μ-loop text at i₀ i = length text - i
+
+loop-holds : tie.Need-loop-holds Inv-loop μ-loop
+loop-holds c = search needs
+
+shared-slice-read-is-separator : tie.Need-shared-slice-read-is-separator Inv-loop μ-loop
+shared-slice-read-is-separator c = search needs
+
+is-separator-requires : tie.Need-is-separator-requires Inv-loop μ-loop
+is-separator-requires c κs = search needs
+
+add-i : tie.Need-add-i Inv-loop μ-loop
+add-i c = omega arith
+
+loop-less : tie.Need-loop-less Inv-loop μ-loop
+loop-less c = omega arith
+
+loop-again : tie.Need-loop-again Inv-loop μ-loop
+loop-again c =
+    let at-loop = c .before .before .before .before in
+    all-pass separators _ _ (search needs) (sym (c .before .is-separator .ensures) ∙ c .if1 .taken) ∙ at-loop .loop .inv
+
+returns : tie.Need-returns Inv-loop μ-loop
+returns c = sym (all-end separators _ _ (search needs)) ∙ c .before .loop .inv
+
+returns-2 : tie.Need-returns-2 Inv-loop μ-loop
+returns-2 c =
+    let at-loop = c .before .before .before .before in
+    sym (all-stop separators _ _ (search needs) (sym (c .before .is-separator .ensures) ∙ c .if1 .left)) ∙ at-loop .loop .inv
+
+pub past-separators-spec : {M : Type 1} → statement M
+past-separators-spec =
+    tie.close
+    (tie.spec Inv-loop μ-loop loop-holds shared-slice-read-is-separator is-separator-requires add-i loop-less loop-again returns returns-2)

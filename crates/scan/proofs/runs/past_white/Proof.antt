@@ -1,0 +1,51 @@
+-- `scan::past_white` meets its contract. The invariant: the run from `i` ends where the run from `at` does. The measure is what is left of the text.
+-- Assumes nothing.
+use mathlib.Core.Path.{_≡_, sym, _∙_}
+use Prim.Native.Nat.{_-_}
+use native.Mathlib.Omega.{arith}
+use borrow.Author.Needs.{needs}
+use lib.ListN.{length}
+use Rattle.scan.specs.Bytes.{whiteSpace}
+use Rattle.scan.specs.Runs.{pastWhiteOf}
+use Rattle.scan.proofs.RunLaws.{all-pass, all-stop, all-end}
+use Rattle.scan.proofs.runs.past_white.Statement.{statement}
+use Rattle.scan.proofs.runs.past_white.Tie as tie
+
+abbrev Inv-loop : tie.InvT-loop
+Inv-loop text at i₀ i = pastWhiteOf text i ≡ pastWhiteOf text at
+
+abbrev μ-loop : tie.MeasureT-loop
+μ-loop text at i₀ i = length text - i
+
+loop-holds : tie.Need-loop-holds Inv-loop μ-loop
+loop-holds c = search needs
+
+shared-slice-read-is-white : tie.Need-shared-slice-read-is-white Inv-loop μ-loop
+shared-slice-read-is-white c = search needs
+
+is-white-requires : tie.Need-is-white-requires Inv-loop μ-loop
+is-white-requires c κs = search needs
+
+add-i : tie.Need-add-i Inv-loop μ-loop
+add-i c = omega arith
+
+loop-less : tie.Need-loop-less Inv-loop μ-loop
+loop-less c = omega arith
+
+loop-again : tie.Need-loop-again Inv-loop μ-loop
+loop-again c =
+    let at-loop = c .before .before .before .before in
+    all-pass whiteSpace _ _ (search needs) (sym (c .before .is-white .ensures) ∙ c .if1 .taken) ∙ at-loop .loop .inv
+
+returns : tie.Need-returns Inv-loop μ-loop
+returns c = sym (all-end whiteSpace _ _ (search needs)) ∙ c .before .loop .inv
+
+returns-2 : tie.Need-returns-2 Inv-loop μ-loop
+returns-2 c =
+    let at-loop = c .before .before .before .before in
+    sym (all-stop whiteSpace _ _ (search needs) (sym (c .before .is-white .ensures) ∙ c .if1 .left)) ∙ at-loop .loop .inv
+
+pub past-white-spec : {M : Type 1} → statement M
+past-white-spec =
+    tie.close
+    (tie.spec Inv-loop μ-loop loop-holds shared-slice-read-is-white is-white-requires add-i loop-less loop-again returns returns-2)
