@@ -7,8 +7,8 @@ use mathlib.Core.Logic.{_⊎_, inl, inr, ⊎-elim}
 use mathlib.Core.List.{List, [], _∷_}
 use native.Mathlib.Nat.{not-suc-le-zero}
 use native.Mathlib.Omega.{arith}
-use lib.Dec.{eqb, T}
-use borrow.Author.Tests.{eqb-true, eqb-false, eq-eqb, ne-eqb}
+use lib.Dec.{eqb, leb, T}
+use borrow.Author.Tests.{eqb-true, eqb-false, eq-eqb, ne-eqb, leb-true}
 use Rattle.scan.specs.Bytes.{among, digits}
 
 -- ---- flags
@@ -103,3 +103,22 @@ alone-is b x e = simp (eq-eqb b x e)
 pub alone-isnt : (b x : ℕ) → (b ≡ x → ⊥) → among b (x ∷ []) ≡ false
 unfolding among
 alone-isnt b x h = simp (ne-eqb b x h)
+
+-- ---- a test of each byte of a class
+
+abbrev pub eachb : (ℕ → Bool) → List ℕ → Bool
+eachb f [] = true
+eachb f (x ∷ l) = f x && eachb f l
+
+pub each : (f : ℕ → Bool) (l : List ℕ) → T (eachb f l) → (b : ℕ) → among b l ≡ true → f b ≡ true
+unfolding among
+each f [] t b h = absurd (clash h refl)
+each f (x ∷ l) t b h =
+    ⊎-elim (λ e. subst (λ (y : ℕ). f y ≡ true) (sym (eqb-true b x e)) (is-true (f x) (and-left (f x) (eachb f l) t)))
+    (λ e. each f l (and-right (f x) (eachb f l) t) b e)
+    (either-of (eqb b x) (among b l) h)
+
+-- a digit's byte, in numbers
+pub digit-range : (b : ℕ) → among b digits ≡ true → (48 ≤ b) × (b ≤ 57)
+digit-range b h =
+    (leb-true 48 b (each (λ x. leb 48 x) digits tt b h), leb-true b 57 (each (λ x. leb x 57) digits tt b h))

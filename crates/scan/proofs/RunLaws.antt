@@ -2,14 +2,16 @@
 use Prim.Native.Nat.{ℕ, zero, suc, _+_, _≤_, _<_}
 use mathlib.Core.Path.{_≡_, refl, sym, subst, _∙_, ap}
 use mathlib.Core.Bool.{Bool, true, false, _&&_, cond}
+use mathlib.Core.Logic.{⊎-elim}
 use mathlib.Core.List.{List, [], _∷_}
 use native.Mathlib.Omega.{arith}
 use lib.Dec.{ltb}
-use borrow.Author.Tests.{lt-ltb, le-ltb}
+use borrow.Author.Tests.{lt-ltb, le-ltb, ltb-true, ltb-false}
 use lib.ListN.{length, getD}
 use Rattle.scan.specs.Bytes.{among}
 use Rattle.scan.specs.Runs.{stands, pastOne, pastAll}
-use Rattle.scan.proofs.ScanLaws.{scan-pass, scan-stop, scan-end}
+use Rattle.scan.proofs.ByteLaws.{clash, either-way}
+use Rattle.scan.proofs.ScanLaws.{scan-pass, scan-stop, scan-end, scan-onward, scan-within, scan-passed, scan-stopped, scan-again}
 
 module _ (class text : List ℕ) (at : ℕ) where
   -- within the text, what stands at a place is a matter of its byte
@@ -45,3 +47,56 @@ module _ (class text : List ℕ) (at : ℕ) where
   pub all-end : length text ≤ at → pastAll class text at ≡ at
   unfolding pastAll
   all-end past = scan-end (λ byte. among byte class) text at past
+
+  -- a byte of the class stands at a place, or none does and the place is past the run
+  pub one-step : (stands text at class ≡ true → pastOne class text at ≡ at + 1) × (stands text at class ≡ false → pastOne class text at ≡ at)
+  unfolding pastOne
+  one-step = (ap (λ t. cond t (at + 1) at), ap (λ t. cond t (at + 1) at))
+
+  pub one-onward : at ≤ pastOne class text at
+  one-onward =
+      ⊎-elim (λ h. let e = one-step .0 h in omega arith) (λ h. let e = one-step .1 h in omega arith) (either-way (stands text at class))
+
+  -- where a byte stands is within the text
+  pub stands-within : stands text at class ≡ true → at < length text
+  stands-within h =
+      ⊎-elim (λ e. ltb-true at (length text) e) (λ e. absurd (clash h (stands-past (ltb-false at (length text) e)))) (either-way (ltb at (length text)))
+
+  -- the byte that stands there is of the class
+  pub stands-among : stands text at class ≡ true → among (getD text at 0) class ≡ true
+  stands-among h = sym (stands-inside (stands-within h)) ∙ h
+
+  pub one-within : at ≤ length text → pastOne class text at ≤ length text
+  one-within inside =
+      ⊎-elim (λ h. let e = one-step .0 h in let w = stands-within h in omega arith) (λ h. let e = one-step .1 h in omega arith)
+      (either-way (stands text at class))
+
+  pub all-onward : at ≤ pastAll class text at
+  unfolding pastAll
+  all-onward = scan-onward (λ byte. among byte class) text at
+
+  pub all-within : at ≤ length text → pastAll class text at ≤ length text
+  unfolding pastAll
+  all-within inside = scan-within (λ byte. among byte class) text at inside
+
+  -- every byte of a run is of the class
+  pub all-passed : (k : ℕ) → at ≤ k → k < pastAll class text at → among (getD text k 0) class ≡ true
+  unfolding pastAll
+  all-passed k from upto = scan-passed (λ byte. among byte class) text 0 at k from upto
+
+module _ (class text : List ℕ) (at : ℕ) where
+  all-fails : pastAll class text at < length text → among (getD text (pastAll class text at) 0) class ≡ false
+  unfolding pastAll
+  all-fails inside = scan-stopped (λ byte. among byte class) text 0 at inside
+
+  -- where a run ends no byte of the class stands
+  pub all-stopped : stands text (pastAll class text at) class ≡ false
+  all-stopped = ⊎-elim inside (λ e. stands-past class text _ (ltb-false _ (length text) e)) (either-way (ltb (pastAll class text at) (length text)))
+    where
+      inside : ltb (pastAll class text at) (length text) ≡ true → stands text (pastAll class text at) class ≡ false
+      inside e = let h = ltb-true _ (length text) e in stands-inside class text _ h ∙ all-fails h
+
+  -- and a second run does not move
+  pub all-again : pastAll class text (pastAll class text at) ≡ pastAll class text at
+  unfolding pastAll
+  all-again = scan-again (λ byte. among byte class) text 0 at

@@ -1,10 +1,14 @@
 -- The parts of a number and their places (document 01, "Permissive reading"). Definitions only.
 -- "A number: optional sign, digits, optional point and digits, at least one digit in all (else 3 at its start), optional exponent. It takes the
 -- longest text."
-use Prim.Native.Nat.{ℕ}
-use mathlib.Core.Bool.{Bool, _&&_, cond}
+use Prim.Native.Nat.{ℕ, _+_, _≤_, _<_}
+use mathlib.Core.Path.{_≡_}
+use mathlib.Core.Bool.{Bool, true, _&&_, cond}
+use mathlib.Core.Logic.{_⊎_}
 use mathlib.Core.List.{List}
 use lib.Dec.{ltb, eqb}
+use lib.ListN.{length, getD}
+use Rattle.scan.specs.Bytes.{among, digits}
 use Rattle.scan.specs.Runs.{pastDigitsOf, pastSignOf, pastPointOf, pastMarkOf}
 use Rattle.scan.specs.declared.numbers.Places.{Places}
 use Rattle.scan.specs.declared.numbers.Number.{Number}
@@ -59,3 +63,19 @@ noExponentDigit text at = ltb (markOf text at) (exponentOf text at) && eqb (expo
 unfoldable pub scanNumberOf : List ℕ → ℕ → Number
 scanNumberOf text at =
     cond (noDigit text at) (NoDigit at) (cond (noExponentDigit text at) (NoExponentDigit (markOf text at)) (Scanned (placesOf text at)))
+
+-- what a converter may rely on: the places lie in the text in their order, with digits where digits are due, "at least one digit in all", and
+-- an exponent with a digit or none
+pub record NumberAt (text : List ℕ) (p : Places) : Type 0 where
+  pub start-le : p .start ≤ p .whole
+  pub whole-le : p .whole ≤ p .point
+  pub point-le : p .point ≤ p .fraction
+  pub fraction-le : p .fraction ≤ p .mark
+  pub mark-le : p .mark ≤ p .exponent
+  pub exponent-le : p .exponent ≤ p .end
+  pub end-within : p .end ≤ length text
+  pub whole-digits : (k : ℕ) → p .whole ≤ k → k < p .point → among (getD text k 0) digits ≡ true
+  pub fraction-digits : (k : ℕ) → p .fraction ≤ k → k < p .mark → among (getD text k 0) digits ≡ true
+  pub exponent-digits : (k : ℕ) → p .exponent ≤ k → k < p .end → among (getD text k 0) digits ≡ true
+  pub some-digit : p .whole + p .fraction < p .point + p .mark
+  pub exponent-or-none : ((p .mark < p .exponent) × (p .exponent < p .end)) ⊎ (p .mark ≡ p .end)
