@@ -36,86 +36,103 @@ fn apart(point: u64) -> [Bits; 2] {
 }
 
 /// The float nearest to the exact square root, ties to even; NaN and below zero give NaN.
+#[inline]
 pub fn sqrt(x: f32) -> f32 {
     kihavute_sqrt(x)
 }
 
 /// `x`, and for every NaN the one NaN 7FC00000.
+#[inline]
 pub fn tidy(x: f32) -> f32 {
     kihavute_tidy(x)
 }
 
 /// The smaller: a NaN loses against a number, and of two equals the first is kept.
+#[inline]
 pub fn min(a: f32, b: f32) -> Bits {
     kihavute_min(a, b)
 }
 
 /// The larger: a NaN loses against a number, and of two equals the first is kept.
+#[inline]
 pub fn max(a: f32, b: f32) -> Bits {
     kihavute_max(a, b)
 }
 
 /// `x` held to `low` and `high`; a NaN stays.
+#[inline]
 pub fn clamp(x: f32, low: f32, high: f32) -> Bits {
     kihavute_clamp(x, low, high)
 }
 
 /// `x` held to 0 and 1; a NaN is 0.
+#[inline]
 pub fn clamp01(x: f32) -> Bits {
     kihavute_clamp01(x)
 }
 
 /// `a + (b - a) * t`.
+#[inline]
 pub fn lerp(a: f32, b: f32, t: f32) -> Bits {
     kihavute_lerp(a, b, t)
 }
 
 /// Degrees to radians.
+#[inline]
 pub fn deg_to_rad(deg: f32) -> Bits {
     kihavute_deg_to_rad(deg)
 }
 
 /// Radians to degrees.
+#[inline]
 pub fn rad_to_deg(rad: f32) -> Bits {
     kihavute_rad_to_deg(rad)
 }
 
 /// `a + b`.
+#[inline]
 pub fn add(a: [f32; 2], b: [f32; 2]) -> [Bits; 2] {
     apart(kihavute_add(a[0], a[1], b[0], b[1]))
 }
 
 /// `a - b`.
+#[inline]
 pub fn sub(a: [f32; 2], b: [f32; 2]) -> [Bits; 2] {
     apart(kihavute_sub(a[0], a[1], b[0], b[1]))
 }
 
 /// Both coordinates times `factor`.
+#[inline]
 pub fn scale(v: [f32; 2], factor: f32) -> [Bits; 2] {
     apart(kihavute_scale(v[0], v[1], factor))
 }
 
 /// The sum of the coordinates' products.
+#[inline]
 pub fn dot(a: [f32; 2], b: [f32; 2]) -> Bits {
     kihavute_dot(a[0], a[1], b[0], b[1])
 }
 
 /// The root of the dot product of `v` with itself.
+#[inline]
 pub fn length(v: [f32; 2]) -> Bits {
     kihavute_length(v[0], v[1])
 }
 
 /// The length of `b - a`.
+#[inline]
 pub fn distance(a: [f32; 2], b: [f32; 2]) -> Bits {
     kihavute_distance(a[0], a[1], b[0], b[1])
 }
 
 /// `v` over its length, and (0, 0) where that is at most 2^-23.
+#[inline]
 pub fn normalize(v: [f32; 2]) -> [Bits; 2] {
     apart(kihavute_normalize(v[0], v[1]))
 }
 
 /// Each coordinate's `lerp` from `a` to `b`.
+#[inline]
 pub fn lerp_point(a: [f32; 2], b: [f32; 2], t: f32) -> [Bits; 2] {
     apart(kihavute_lerp_point(a[0], a[1], b[0], b[1], t))
 }
