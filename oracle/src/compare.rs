@@ -38,19 +38,32 @@ impl Report {
                 let small = smallest(input, |other| ours(other) != theirs(other));
                 println!("  DIFFERENT in {name}: {small}");
                 println!("    ours {}, the Rust {}", ours(&small), theirs(&small));
-                self.failed += 1;
-                self.calls += calls;
+                self.count(calls, false);
                 return calls;
             }
         }
-        self.passed += 1;
-        self.calls += calls;
+        self.count(calls, true);
         calls
+    }
+
+    /// Counts a group that was compared elsewhere.
+    pub fn count(&mut self, calls: u64, equal: bool) {
+        self.calls += calls;
+        if equal {
+            self.passed += 1;
+        } else {
+            self.failed += 1;
+        }
+    }
+
+    /// Seconds since the start.
+    pub fn seconds(&self) -> f64 {
+        self.began.elapsed().as_secs_f64()
     }
 
     /// Prints the tally as the last line. True where every group passed and there was one.
     pub fn finish(self) -> bool {
-        println!("{} calls in {:.1} s", self.calls, self.began.elapsed().as_secs_f64());
+        println!("{} calls in {:.1} s", self.calls, self.seconds());
         println!("{} passed, {} failed", self.passed, self.failed);
         self.failed == 0 && self.passed > 0
     }

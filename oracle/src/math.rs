@@ -212,9 +212,8 @@ impl Operands {
 }
 
 /// Compares every helper: the specials, and this many calls of each kind of operands.
-pub fn compare(seed: u64, calls: u32) -> bool {
+pub fn compare(report: &mut Report, seed: u64, calls: u32) {
     println!("math.rs: {} helpers, seed {seed}, {calls} calls of each kind", HELPERS.len());
-    let mut report = Report::new();
     for (number, helper) in HELPERS.iter().enumerate() {
         let ours = |operands: &Operands| (helper.ours)(&operands.floats());
         let theirs = |operands: &Operands| (helper.theirs)(&operands.floats());
@@ -226,7 +225,6 @@ pub fn compare(seed: u64, calls: u32) -> bool {
         }
         println!("  {:10} {made:9} calls", helper.name);
     }
-    report.finish()
 }
 
 // ---- making a failing input small

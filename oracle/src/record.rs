@@ -3,6 +3,7 @@
 //! A record is a line of 65 bytes: the helper's letter, then five operands and two answers as eight hexadecimal
 //! digits each, a space before each. Places that a helper does not use hold zeros.
 
+use crate::compare::Report;
 use crate::math::{Answer, HELPERS, Helper, Operands};
 use crate::samples::{KINDS, SPECIALS, Stream, draw};
 use std::fs;
@@ -51,23 +52,43 @@ const TIES: [(char, [u32; 5]); 20] = [
     ('u', [0x4580_0000, 0x3F80_0000, 0, 0, 0]),
 ];
 
-/// Writes the list, from the Rust's answers, and the line that the program is to print. True where the proved
-/// library gives the same answers.
-pub fn math(seed: u64) -> bool {
+/// Writes the list and the line that the program is to print.
+pub fn write(report: &mut Report, seed: u64) {
+    let (list, count) = list(report, seed);
+    fs::write(format!("{FOLDER}/stdin"), list).expect("the list is written");
+    fs::write(format!("{FOLDER}/stdout"), due(count)).expect("the line is written");
+    println!("{FOLDER}/stdin: {count} answers of the Rust, seed {seed}");
+}
+
+/// Sees that the list in the repository is the one that would be written.
+pub fn compare(report: &mut Report, seed: u64) {
+    let (list, count) = list(report, seed);
+    let read = |name: &str| fs::read_to_string(format!("{FOLDER}/{name}")).unwrap_or_default();
+    let equal = read("stdin") == list && read("stdout") == due(count);
+    report.count(0, equal);
+    let state = if equal { "as it would be written" } else { "DIFFERENT: oracle/record math writes it anew" };
+    println!("  {FOLDER}: {count} recorded answers, {state}");
+}
+
+fn due(count: u64) -> String {
+    format!("replayed {count}, different 0\n")
+}
+
+// the lines, with the Rust's answers, and how many there are; the proved library is to give the same
+fn list(report: &mut Report, seed: u64) -> (String, u64) {
     let mut lines = String::new();
-    let (mut count, mut different) = (0, 0);
+    let mut count = 0;
     for helper in &HELPERS {
-        for operands in chosen(helper, seed) {
-            let answer = (helper.theirs)(&operands.floats());
-            different += u32::from((helper.ours)(&operands.floats()) != answer);
-            count += 1;
-            lines.push_str(&line(helper, &operands, answer));
+        let inputs = chosen(helper, seed);
+        for operands in &inputs {
+            lines.push_str(&line(helper, operands, (helper.theirs)(&operands.floats())));
         }
+        let ours = |operands: &Operands| (helper.ours)(&operands.floats());
+        let theirs = |operands: &Operands| (helper.theirs)(&operands.floats());
+        count += inputs.len() as u64;
+        report.group(&format!("{}, recorded", helper.name), inputs.into_iter(), ours, theirs);
     }
-    fs::write(format!("{FOLDER}/stdin"), lines).expect("the list is written");
-    fs::write(format!("{FOLDER}/stdout"), format!("replayed {count}, different 0\n")).expect("the line is written");
-    println!("{FOLDER}/stdin: {count} answers of the Rust, seed {seed}; {different} differ from the proved library");
-    different == 0
+    (lines, count)
 }
 
 fn line(helper: &Helper, operands: &Operands, answer: Answer) -> String {

@@ -1,27 +1,20 @@
 //! Every one of the 2^32 patterns: the proved root against the machine's.
 
-use std::time::Instant;
+use crate::compare::Report;
 
-/// Compares all patterns, in 16 parts. True where none differs.
-pub fn compare() -> bool {
-    let began = Instant::now();
-    let (mut passed, mut failed) = (0, 0);
+/// Compares all patterns, in 16 parts.
+pub fn compare(report: &mut Report) {
     for part in 0..16u32 {
         let first = part << 28;
         let different = (first..=first | 0x0FFF_FFFF).filter(|bits| ours(*bits) != machine(*bits));
         let (count, least) = different.fold((0u32, None), |(count, least), bits| (count + 1, least.or(Some(bits))));
-        match least {
-            None => passed += 1,
-            Some(bits) => {
-                failed += 1;
-                println!("  DIFFERENT at {count} patterns, the first {bits:08X}");
-                println!("    ours {:08X}, the machine {:08X}", ours(bits), machine(bits));
-            }
+        if let Some(bits) = least {
+            println!("  DIFFERENT at {count} patterns, the first {bits:08X}");
+            println!("    ours {:08X}, the machine {:08X}", ours(bits), machine(bits));
         }
-        println!("  {:2} of 16 parts of 2^28 patterns, {:.0} s", part + 1, began.elapsed().as_secs_f64());
+        report.count(1 << 28, count == 0);
+        println!("  {:2} of 16 parts of 2^28 patterns, {:.0} s", part + 1, report.seconds());
     }
-    println!("{passed} passed, {failed} failed");
-    failed == 0
 }
 
 fn ours(bits: u32) -> u32 {
