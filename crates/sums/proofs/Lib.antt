@@ -4,3 +4,8 @@ pub mod Nested
 pub mod Ladder
 pub mod Sided
 pub mod Near
+pub mod Gaps
+pub mod Patterns
+pub mod Packed
+pub mod Difference
+pub mod Bound
