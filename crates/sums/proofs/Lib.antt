@@ -9,3 +9,5 @@ pub mod Patterns
 pub mod Packed
 pub mod Difference
 pub mod Bound
+pub mod Scaled
+pub mod Turns
