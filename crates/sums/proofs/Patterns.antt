@@ -2,10 +2,11 @@
 use mathlib.Core.Path.{_≡_, refl, sym, ap, _∙_, subst}
 use mathlib.Core.Logic.{inl, inr}
 use Prim.Native.Nat.{ℕ, zero, suc, _+_, _-_, _*_, _/_, _%_, _^_, _≤_, _<_}
-use native.Mathlib.Nat.{le-trans, eq-or-lt-of-le, mod-eq-of-lt, mul-assoc, mul-one, zero-add, pow-succ', div-add-mod'}
+use native.Mathlib.Nat.{lt-of-not-le, eq-or-lt-of-le, mod-eq-of-lt, mul-assoc, mul-one, zero-add, add-comm, pow-succ', div-add-mod'}
 use native.Mathlib.Omega.{arith}
 use native.Mathlib.Decide.{decLe}
 use mathlib.Core.Bool.{Bool, true, false, cond}
+use lib.IntN.{ℤ}
 use lib.Dec.{T, leb, eqb, eqb→eq, not-T}
 use lib.Ieee.{Float, nan, inf, fin, binary32, odd, ofFields, ofBits}
 use lib.Ieee.Bits.{cond-no}
@@ -91,6 +92,12 @@ fields x t b e ht hx =
     rest : b % 8388608 ≡ t
     rest = omega arith
 
+pub normal-value : (a : ℕ) → 8388608 ≤ a → a < 2139095040 → Is (ofBits binary32 a) false ((a % 8388608 + 8388608) * 2 ^ (a / 8388608 - 1))
+normal-value a lo hi =
+    subst (λ (n : ℕ). Is (ofBits binary32 a) false (n * 2 ^ (a / 8388608 - 1))) (add-comm 8388608 (a % 8388608))
+    (subst (λ (x : Float). Is x false ((8388608 + a % 8388608) * 2 ^ (a / 8388608 - 1))) (sym (fields (a / 8388608 - 1) (a % 8388608) a (omega arith) (omega arith) (omega arith)))
+    (odd-sign 24 false (8388608 + a % 8388608) (a / 8388608 - 1) 149))
+
 -- f * 2 ^ 23 + q, for q from 2 ^ 23 to 2 ^ 24, stands for q * 2 ^ f units
 pub bits-value : (f q : ℕ) → 8388608 ≤ q → q ≤ 16777216 → f < 250 → Is (ofBits binary32 (f * 8388608 + q)) false (q * 2 ^ f)
 bits-value f q lo hi hf =
@@ -133,3 +140,26 @@ subnormal-value a h =
 
     at-zero : (t n : ℕ) → t ≡ n → Is (ofFields binary32 false 0 t) false n
     at-zero t n e = subst (λ (m : ℕ). Is (ofFields binary32 false 0 t) false m) (mul-one t ∙ e) (zero-field t)
+
+-- ---- patterns with all ones in the exponent's field are not finite
+top-field : (s t : Bool) (d m : ℕ) (e : ℤ) → ofFields binary32 s 255 d ≡ fin t m e → ⊥
+unfolding ofFields
+top-field s t d m e h = go (eqb d 0) h
+  where
+    go : (z : Bool) → cond z (inf s) nan ≡ fin t m e → ⊥
+    go true k =
+        let z : _≡_ {A = ℕ} 0 1 = cc in
+        omega arith
+    go false k =
+        let z : _≡_ {A = ℕ} 0 1 = cc in
+        omega arith
+
+pub finite-lt : (b : ℕ) (t : Bool) (m : ℕ) (e : ℤ) → b < 4294967296 → ofBits binary32 b ≡ fin t m e → b % 2147483648 < 2139095040
+unfolding ofBits
+finite-lt b t m e h k = go (decLe 2139095040 (b % 2147483648))
+  where
+    go : Dec (2139095040 ≤ b % 2147483648) → b % 2147483648 < 2139095040
+    go (yes l) =
+        let x : b % 2147483648 / 8388608 ≡ 255 = omega arith in
+        absurd (top-field (leb 2147483648 b) t (b % 8388608) m e (ap (λ (n : ℕ). ofFields binary32 (leb 2147483648 b) n (b % 8388608)) (sym x) ∙ k))
+    go (no f) = lt-of-not-le f
