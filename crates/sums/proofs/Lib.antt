@@ -13,3 +13,5 @@ pub mod Scaled
 pub mod Turns
 pub mod Angles
 pub mod Reach
+pub mod Little
+pub mod Ruled

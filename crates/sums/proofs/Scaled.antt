@@ -12,7 +12,7 @@ use Rattle.sums.specs.Sums.{factorial, term, terms, whole, sineSide, cos
 use Rattle.sums.specs.Rule.{Within}
 use Rattle.sums.proofs.Ladder.{upTo}
 
-pow-product : (c n j : ℕ) → (c * n) ^ j ≡ c ^ j * n ^ j
+pub pow-product : (c n j : ℕ) → (c * n) ^ j ≡ c ^ j * n ^ j
 pow-product c n zero = pow-zero (c * n) ∙ sym (ap (λ (m : ℕ). m * n ^ 0) (pow-zero c) ∙ ap (λ (m : ℕ). 1 * m) (pow-zero n))
 pow-product c n (suc j) =
     pow-suc (c * n) j ∙ ap (λ (m : ℕ). m * (c * n)) (pow-product c n j) ∙ mul-mul-mul-comm (c ^ j) (n ^ j) c n ∙ ap (λ (m : ℕ). m * (n ^ j * n)) (sym (pow-suc c j)) ∙ ap (λ (m : ℕ). c ^ suc j * m) (sym (pow-suc n j))
