@@ -5,3 +5,5 @@ pub mod Targets
 pub mod Ends
 pub mod Spots
 pub mod Theorems
+pub mod Fused
+mod Witnesses

@@ -5,7 +5,7 @@ use native.Mathlib.Nat.{zero-lt-suc}
 use mathlib.Core.Bool.{not}
 use mathlib.Core.List.{List}
 use lib.Dec.{T}
-use lib.Ieee.{Float, binary32, mul, div, le}
+use lib.Ieee.{Float, binary32, mul, le}
 use lib.Ieee.Fits.{mul-fits}
 use lib.Ieee.Positive.{num, den}
 use Rattle.floats.specs.Floats.{zeroF, oneF, epsilonF, clamp01Of}
@@ -21,8 +21,8 @@ use Rattle.floats.proofs.Clamping.{clamp01-at-most, clamp01-nonneg, at-most-one
 use Rattle.table.specs.Lookup.{at, lastOf, firstNotBelow, targetOf, shareOf, placeOf, rawAt}
 use Rattle.table.proofs.Lengths.{start-at-most, total-at-most}
 use Rattle.order.specs.Stated.{F32Table}
-use Rattle.order.proofs.Steady.{byWay, whole, sound-of, way-at-least, way-at-most, never-back}
-use Rattle.order.proofs.Division.{first-picks, division-shares, division-finishes}
+use Rattle.order.proofs.Steady.{byWay, sound-of, way-at-least, way-at-most, never-back}
+use Rattle.order.proofs.Division.{quotientOf, first-picks, division-shares, division-joins}
 
 -- ---- the target of a progress is held, and grows with the clamped progress
 module _ (total : Float) (H : Held binary32 total) where
@@ -52,19 +52,16 @@ long-parts {xs} {total} f long = go (lastOf xs) (total-at-most (sound-of f))
 
 -- ---- a table with a part: at least two entries
 module _ {xs : List Float} {total : Float} (f : F32Table xs total) (some : 1 ≤ lastOf xs) where
-  abbrev finish : Float → Float
-  finish sum = div binary32 sum (whole (lastOf xs))
-
   -- the lookup is this way, by its definition
-  is-way : (t : Float) → rawAt xs total t ≡ byWay (λ t. firstNotBelow t xs) shareOf finish xs total t
+  is-way : (t : Float) → rawAt xs total t ≡ byWay (λ t. firstNotBelow t xs) shareOf (quotientOf (lastOf xs)) xs total t
   unfolding rawAt placeOf
   is-way t = refl
 
   pub raw-at-least : (t : Float) → Held binary32 t → T (le zeroF (rawAt xs total t))
-  raw-at-least t H = rw (is-way t) (way-at-least f (first-picks f) division-shares (division-finishes (lastOf xs) some (f .table .counted)) t H)
+  raw-at-least t H = rw (is-way t) (way-at-least f (first-picks f) division-shares (division-joins (lastOf xs) some (f .table .counted)) t H)
 
   pub raw-at-most : (t : Float) → Held binary32 t → T (le (rawAt xs total t) oneF)
-  raw-at-most t H = rw (is-way t) (way-at-most f (first-picks f) division-shares (division-finishes (lastOf xs) some (f .table .counted)) t H)
+  raw-at-most t H = rw (is-way t) (way-at-most f (first-picks f) division-shares (division-joins (lastOf xs) some (f .table .counted)) t H)
 
   pub raw-at-mono : (t u : Float) → Held binary32 t → Held binary32 u → T (le t u) → T (le (rawAt xs total t) (rawAt xs total u))
-  raw-at-mono t u H K h = rw (is-way t, is-way u) (never-back f (first-picks f) division-shares (division-finishes (lastOf xs) some (f .table .counted)) t u H K h)
+  raw-at-mono t u H K h = rw (is-way t, is-way u) (never-back f (first-picks f) division-shares (division-joins (lastOf xs) some (f .table .counted)) t u H K h)

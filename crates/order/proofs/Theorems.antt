@@ -2,7 +2,7 @@
 -- clamped, so `clamp01Of p` is the progress that counts. Assumes nothing.
 use mathlib.Core.Path.{_≡_, refl, sym, ap, _∙_, subst}
 use mathlib.Core.Logic.{_⊎_, inl, inr}
-use Prim.Native.Nat.{ℕ, _-_, _≤_, _<_}
+use Prim.Native.Nat.{ℕ, suc, _-_, _≤_, _<_}
 use native.Mathlib.Omega.{arith}
 use mathlib.Core.Bool.{Bool, true, false, not, cond}
 use mathlib.Core.List.{List}
@@ -16,12 +16,12 @@ use Rattle.floats.proofs.Fractions.{nonneg-real}
 use Rattle.floats.proofs.Constants.{one-held}
 use Rattle.floats.proofs.Clamping.{clamp01-at-least, clamp01-at-most}
 use Rattle.table.specs.declared.tables.Spot.{Spot}
-use Rattle.table.specs.Lookup.{at, lastOf, firstNotBelow, targetOf, markOf, placeOf, rawAt, rawOf}
+use Rattle.table.specs.Lookup.{at, lastOf, firstNotBelow, targetOf, shareOf, markOf, placeOf, rawAt, rawOf}
 use Rattle.table.specs.Spots.{before, pathTotal, spotted, spotWithin, spotAt, spotOf}
 use Rattle.table.proofs.Enclosure.{Encloses, Within, enclosed, path-encloses}
 use Rattle.order.specs.Stated.{F32Table, F32Path, NoStepBack}
-use Rattle.order.proofs.Steady.{Between, sound-of, entry-held, total-held, part-from, part-upto}
-use Rattle.order.proofs.Division.{division-shares, division-finishes}
+use Rattle.order.proofs.Steady.{Between, Part, sound-of, entry-held, total-held}
+use Rattle.order.proofs.Division.{quotientOf, division-shares, quotient-from, quotient-upto}
 use Rattle.order.proofs.Targets.{target-held, target-mono, long-parts, raw-at-least, raw-at-most, raw-at-mono}
 use Rattle.order.proofs.Ends.{clamped-zero, clamped-one, target-of-zero, target-of-one, target-of-one-above}
 use Rattle.order.proofs.Spots.{path-total-held, spot-at-mono}
@@ -104,18 +104,28 @@ raw-placed {xs} {total} f p long above below =
     let t = targetOf total p in
     let i = firstNotBelow t xs in
     let e = target-enclosed f p above below in
-    let F = division-finishes (lastOf xs) (long-parts f (lt→not-le total epsilonF long)) (f .table .counted) in
     let B : Between (at xs (i - 1)) (at xs i) t =
     record { start = entry-held f (i - 1) (under i (lastOf xs) (e .upto)) .nn; end = entry-held f i (e .upto); target = target-held total (total-held f) p; from = lt→le (at xs (i - 1)) t (e .lower); upto = e .upper } in
+    let x = shareOf (at xs (i - 1)) (at xs i) t in
+    let P : Part x = record { low = division-shares .low (at xs (i - 1)) (at xs i) t B; high = division-shares .high (at xs (i - 1)) (at xs i) t B } in
+    let some = long-parts f (lt→not-le total epsilonF long) in
+    let inside : i - 1 < lastOf xs = less i (lastOf xs) (e .from) (e .upto) in
     record {
       enclosing = e;
       same = is;
-      from = subst (λ (x : Float). T (le (markOf (lastOf xs) (i - 1)) x)) (sym is) (unfold markOf placeOf in (part-from f division-shares F i (e .from) (e .upto) t B));
-      upto = subst (λ (x : Float). T (le x (markOf (lastOf xs) i))) (sym is) (unfold markOf placeOf in (part-upto f division-shares F i (e .from) (e .upto) t B));
+      from = subst (λ (r : Float). T (le (markOf (lastOf xs) (i - 1)) r)) (sym is) (unfold placeOf in (quotient-from (lastOf xs) some (f .table .counted) (i - 1) x inside P));
+      upto = subst (λ (r : Float). T (le r (markOf (lastOf xs) i))) (sym is)
+          (unfold placeOf in (subst (λ (k : ℕ). T (le (quotientOf (lastOf xs) (i - 1) x) (markOf (lastOf xs) k))) (one-more i (e .from)) (quotient-upto (lastOf xs) some (f .table .counted) (i - 1) x inside P)));
     }
   where
     under : (i n : ℕ) → i ≤ n → i - 1 ≤ n
     under i n h = omega arith
+
+    less : (i n : ℕ) → 1 ≤ i → i ≤ n → i - 1 < n
+    less i n h k = omega arith
+
+    one-more : (i : ℕ) → 1 ≤ i → suc (i - 1) ≡ i
+    one-more i h = omega arith
 
     is : rawOf xs total p ≡ placeOf xs (targetOf total p) (firstNotBelow (targetOf total p) xs)
     is =
