@@ -107,11 +107,11 @@ whole k = ofInt binary32 (pos k)
 abbrev pub quotientOf : ℕ → ℕ → Float → Float
 quotientOf n k x = div binary32 (add binary32 (whole k) x) (whole n)
 
-part-nonneg : (x : Float) → Part x → T (nonneg x)
+pub part-nonneg : (x : Float) → Part x → T (nonneg x)
 part-nonneg x P = nonneg-between zeroF x oneF (zero-held .nn) (one-held .nn) (P .low) (P .high)
 
 module _ (n : ℕ) (some : 1 ≤ n) (counted : n ≤ countable) where
-  whole-nonneg : (k : ℕ) → k ≤ n → T (nonneg (whole k))
+  pub whole-nonneg : (k : ℕ) → k ≤ n → T (nonneg (whole k))
   whole-nonneg k h = whole-value binary32 k (le-trans h counted) .0
 
   count-above : 0 < num (whole n)
@@ -139,7 +139,7 @@ module _ (n : ℕ) (some : 1 ≤ n) (counted : n ≤ countable) where
     sum-upto : T (le sum (whole (suc k)))
     sum-upto = whole-step binary32 k x (le-trans inside counted) (part-nonneg x P) (at-most-one x (part-nonneg x P) (P .high))
 
-    sum-nonneg : T (nonneg sum)
+    pub sum-nonneg : T (nonneg sum)
     sum-nonneg = nonneg-between (whole k) sum (whole (suc k)) k-nonneg next-nonneg sum-from sum-upto
 
     -- so the parameter lies between their places

@@ -6,4 +6,6 @@ pub mod Ends
 pub mod Spots
 pub mod Theorems
 pub mod Fused
+pub mod Above
+pub mod Variants
 mod Witnesses
