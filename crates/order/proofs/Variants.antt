@@ -11,7 +11,7 @@ use lib.Dec.{T, leb, leb→le, nleb→lt, ltb, ltb→lt, nltb→le}
 use lib.Ieee.{Float, nan, inf, fin, binary32, add, sub, mul, div, neg, lt, le, ne, eq, isNan, ofInt, ofBits, sum, round}
 use lib.Ieee.Fits.{and-l, and-r, mul-fits}
 use lib.Ieee.Positive.{num, den, den-pos}
-use Rattle.floats.specs.Floats.{zeroF, oneF, epsilonF, maxOf, clampOf}
+use Rattle.floats.specs.Floats.{zeroF, oneF, epsilonF, maxOf, clampOf, clamp01Of}
 use Rattle.floats.specs.Kinds.{real, nonneg}
 use Rattle.floats.proofs.Tests.{decide}
 use Rattle.floats.proofs.Order.{le-le-trans, le-self, le-real-l}
@@ -24,9 +24,12 @@ use Rattle.floats.proofs.Whole.{whole-mono}
 use Rattle.floats.proofs.Constants.{zero-held, zero-num, one-held, one-num, epsilon-held, zero-le-one}
 use Rattle.floats.proofs.Clamping.{clamp-at-least, clamp-at-most, clamp-mono, clamp-same}
 use Rattle.floats.proofs.Extremes.{max-left, max-right}
+use Rattle.table.specs.Lookup.{lastOf, targetOf}
 use Rattle.table.specs.Sound.{countable}
+use Rattle.order.specs.Stated.{F32Table}
 use Rattle.order.proofs.Fused.{fusedOf, Taken, fused-rounds, fused-taken, fused-mono}
-use Rattle.order.proofs.Steady.{Between, Shares, Part, Joins, all-is-part}
+use Rattle.order.proofs.Steady.{Between, Picks, Shares, Part, Joins, all-is-part, byWay, total-held, never-back}
+use Rattle.order.proofs.Targets.{target-held, target-mono}
 use Rattle.order.proofs.Division.{whole, part-nonneg, whole-nonneg, sum-nonneg, spanOf, difference-nonneg, way-nonneg, way-mono, span-nonneg, span-above}
 
 -- ---- by the span, without the clamp: the quotient lies between 0 and 1 by itself
@@ -350,3 +353,17 @@ fused-number-joins = tested-joins (fusedNumberJoin 31) (λ k x l P. fused-low (w
   where
     tested : T (meetsAndEnds (fusedNumberJoin 31))
     tested = unfold fusedOf mul add sum div oneF zeroF ofBits ofInt round le lt eq in tt
+
+-- ---- the whole lookup by a way, from a progress
+abbrev pub wayOf : (Float → ℕ) → (Float → Float → Float → Float) → (ℕ → Float → Float) → List Float → Float → Float → Float
+wayOf pick share join xs total p = cond (le total epsilonF) (clamp01Of p) (byWay pick share join xs total (targetOf total p))
+
+-- Whatever picks, shares and joins as above does not step back. So none of these does, in any sound table of 32 entries: with the first length that is not below the target or the first above
+-- it; with the quotient bare, the clamped product by the reciprocal, or the clamped fused multiply-add; joined by the division, by the product with R, or by either fused form of two products.
+pub way-order : {xs : List Float} {total : Float} → F32Table xs total → {pick : Float → ℕ} → Picks xs total pick → {share : Float → Float → Float → Float} → Shares share → {join : ℕ → Float → Float} → Joins (lastOf xs) join
+    → (p q : Float) → T (le (clamp01Of p) (clamp01Of q)) → T (le (wayOf pick share join xs total p) (wayOf pick share join xs total q))
+way-order {xs} {total} f {pick} P {share} S {join} J p q h = go (le total epsilonF)
+  where
+    go : (b : Bool) → T (le (cond b (clamp01Of p) (byWay pick share join xs total (targetOf total p))) (cond b (clamp01Of q) (byWay pick share join xs total (targetOf total q))))
+    go true = h
+    go false = never-back f P S J (targetOf total p) (targetOf total q) (target-held total (total-held f) p) (target-held total (total-held f) q) (target-mono total (total-held f) p q h)
