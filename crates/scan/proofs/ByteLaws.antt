@@ -20,6 +20,10 @@ pub either-way : (b : Bool) → (b ≡ true) ⊎ (b ≡ false)
 either-way true = inl refl
 either-way false = inr refl
 
+pub both-true : (a b : Bool) → (a && b) ≡ true → (a ≡ true) × (b ≡ true)
+both-true true b e = (refl, e)
+both-true false b e = absurd (clash e refl)
+
 and-left : (a b : Bool) → T (a && b) → T a
 and-left true b t = tt
 and-left false b t = t
