@@ -46,7 +46,7 @@ not-true : (b : Bool) → T (not b) → b ≡ true → ⊥
 not-true true t e = t
 not-true false t e = clash e refl
 
-either-of : (a b : Bool) → (a || b) ≡ true → (a ≡ true) ⊎ (b ≡ true)
+pub either-of : (a b : Bool) → (a || b) ≡ true → (a ≡ true) ⊎ (b ≡ true)
 either-of true b e = inl refl
 either-of false b e = inr e
 
