@@ -2,3 +2,4 @@
 pub mod SpanLaws
 pub mod Numbers
 pub mod Separators
+pub mod Theorems

@@ -62,7 +62,8 @@ fn past_arguments(text: &[u8], at: usize, kind: Kind) -> usize
 {
     let mut end = at;
     loop {
-        match read_argument(text, past_separator(text, end), kind) {
+        let start = past_separator(text, end);
+        match read_argument(text, start, kind) {
             Word::Ends(next) => {
                 end = next;
             }
