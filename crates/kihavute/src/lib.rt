@@ -2,3 +2,4 @@
 // floats; a float that comes out as bits is 7FC00000 where it is a NaN.
 mod numbers;
 mod points;
+mod strict_reading;
