@@ -1,2 +1,3 @@
 -- What the C interface gives besides the definitions of the crates below.
 pub mod Pair
+pub mod Given
