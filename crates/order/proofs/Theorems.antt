@@ -1,7 +1,7 @@
 -- Demand 3 of the letter, in five theorems over the definitions of `table`: whatever the number of entries or segments. A progress may be any f32: a NaN counts as 0 and the rest is
 -- clamped, so `clamp01Of p` is the progress that counts. Assumes nothing.
-use mathlib.Core.Path.{_≡_, refl, sym, ap, _∙_, subst}
-use mathlib.Core.Logic.{_⊎_, inl, inr}
+use mathlib.Core.Path.{_≡_, refl, sym, _∙_, subst}
+use mathlib.Core.Logic.{inl, inr}
 use Prim.Native.Nat.{ℕ, suc, _-_, _≤_, _<_}
 use native.Mathlib.Omega.{arith}
 use mathlib.Core.Bool.{Bool, true, false, not, cond}
@@ -17,7 +17,7 @@ use Rattle.floats.proofs.Constants.{one-held}
 use Rattle.floats.proofs.Clamping.{clamp01-at-least, clamp01-at-most}
 use Rattle.table.specs.declared.tables.Spot.{Spot}
 use Rattle.table.specs.Lookup.{at, lastOf, firstNotBelow, targetOf, shareOf, markOf, placeOf, rawAt, rawOf}
-use Rattle.table.specs.Spots.{before, pathTotal, spotted, spotWithin, spotAt, spotOf}
+use Rattle.table.specs.Spots.{pathTotal, spotted, spotWithin, spotAt, spotOf}
 use Rattle.table.proofs.Enclosure.{Encloses, Within, enclosed, path-encloses}
 use Rattle.order.specs.Stated.{F32Table, F32Path, NoStepBack}
 use Rattle.order.proofs.Steady.{Between, Part, sound-of, entry-held, total-held}

@@ -4,7 +4,7 @@ use mathlib.Core.Path.{_≡_}
 use mathlib.Core.Logic.{_⊎_}
 use mathlib.Core.List.{List}
 use lib.Dec.{T}
-use lib.Ieee.{Float, binary32, lt, le, fits}
+use lib.Ieee.{Float, binary32, le, fits}
 use Rattle.table.specs.Lookup.{at}
 use Rattle.table.specs.Sound.{SoundTable, SoundPath}
 
