@@ -1,0 +1,6 @@
+-- The laws of the sums, in the order in which they build on one another.
+pub mod Factorial
+pub mod Nested
+pub mod Ladder
+pub mod Sided
+pub mod Near

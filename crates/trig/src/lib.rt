@@ -1,0 +1,73 @@
+// Sine and cosine of an angle in radians. Each equals its definition by steps in the crate `sums`,
+// whose laws show that it keeps the rule.
+pub mod inner;
+
+use crate::inner::cosine_at;
+use crate::inner::fixed;
+use crate::inner::reduce;
+use crate::inner::sine_at;
+ghost use mathlib.Core.Path.{_≡_};
+ghost use Rattle.sums.specs.Steps.{sineOf, cosineOf};
+
+pub struct SinCos {
+    pub sin: f32,
+    pub cos: f32,
+}
+
+// The sine of an angle of at most 64 in size, and NaN for any other.
+pub fn sin(x: f32) -> f32
+    ensures { λ r. ⌜ r ≡ sineOf x ⌝ }
+{
+    if -64.0 <= x {
+        if x <= 64.0 {
+            let b = f32::to_bits(x);
+            let a = b % 0x8000_0000;
+            if a < 0x3980_0000 {
+                return x;
+            }
+            let r = reduce(fixed(a));
+            return f32::from_bits(sine_at(b / 0x8000_0000 + r.flip, r.size));
+        }
+    }
+    0.0 / 0.0
+}
+
+// The cosine of an angle of at most 64 in size, and NaN for any other.
+pub fn cos(x: f32) -> f32
+    ensures { λ r. ⌜ r ≡ cosineOf x ⌝ }
+{
+    if -64.0 <= x {
+        if x <= 64.0 {
+            let a = f32::to_bits(x) % 0x8000_0000;
+            if a < 0x3980_0000 {
+                return 1.0;
+            }
+            let r = reduce(fixed(a));
+            return f32::from_bits(cosine_at(r.size));
+        }
+    }
+    0.0 / 0.0
+}
+
+// Both at once, for one reduction.
+pub fn sin_cos(x: f32) -> SinCos
+    ensures { λ r. ⌜ (r .sin ≡ sineOf x) × (r .cos ≡ cosineOf x) ⌝ }
+{
+    if -64.0 <= x {
+        if x <= 64.0 {
+            let b = f32::to_bits(x);
+            let a = b % 0x8000_0000;
+            if a < 0x3980_0000 {
+                return SinCos { sin: x, cos: 1.0 };
+            }
+            let r = reduce(fixed(a));
+            let s = f32::from_bits(sine_at(b / 0x8000_0000 + r.flip, r.size));
+            let c = f32::from_bits(cosine_at(r.size));
+            return SinCos { sin: s, cos: c };
+        }
+    }
+    SinCos {
+        sin: 0.0 / 0.0,
+        cos: 0.0 / 0.0,
+    }
+}
