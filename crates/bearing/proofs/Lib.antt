@@ -4,3 +4,4 @@ pub mod Places
 pub mod Search
 pub mod Regions
 pub mod Fallback
+pub mod Exact
