@@ -4,3 +4,10 @@ pub mod Nested
 pub mod Ladder
 pub mod Sided
 pub mod Near
+pub mod Gaps
+pub mod Patterns
+pub mod Packed
+pub mod Difference
+pub mod Bound
+pub mod Scaled
+pub mod Turns
