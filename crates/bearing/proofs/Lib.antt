@@ -5,3 +5,5 @@ pub mod Search
 pub mod Regions
 pub mod Fallback
 pub mod Exact
+pub mod Pointed
+pub mod Sizes
