@@ -11,3 +11,7 @@ pub mod Difference
 pub mod Bound
 pub mod Scaled
 pub mod Turns
+pub mod Angles
+pub mod Reach
+pub mod Little
+pub mod Ruled

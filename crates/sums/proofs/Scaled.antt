@@ -12,7 +12,7 @@ use Rattle.sums.specs.Sums.{factorial, term, terms, whole, sineSide, cos
 use Rattle.sums.specs.Rule.{Within}
 use Rattle.sums.proofs.Ladder.{upTo}
 
-pow-product : (c n j : ℕ) → (c * n) ^ j ≡ c ^ j * n ^ j
+pub pow-product : (c n j : ℕ) → (c * n) ^ j ≡ c ^ j * n ^ j
 pow-product c n zero = pow-zero (c * n) ∙ sym (ap (λ (m : ℕ). m * n ^ 0) (pow-zero c) ∙ ap (λ (m : ℕ). 1 * m) (pow-zero n))
 pow-product c n (suc j) =
     pow-suc (c * n) j ∙ ap (λ (m : ℕ). m * (c * n)) (pow-product c n j) ∙ mul-mul-mul-comm (c ^ j) (n ^ j) c n ∙ ap (λ (m : ℕ). m * (n ^ j * n)) (sym (pow-suc c j)) ∙ ap (λ (m : ℕ). c ^ suc j * m) (sym (pow-suc n j))
@@ -27,6 +27,7 @@ term-scaled N c n d j h =
   where
     regroup : (a b x y g : ℕ) → a * b * (x * y) * g ≡ a * x * (b * y * g)
     regroup a b x y g = simp (mul-assoc, mul-left-comm)
+
     back : j + (N - j) ≡ N
     back = omega arith
 
@@ -61,7 +62,7 @@ module _ (k m a t w : ℕ) (h : Within m a t w) where
   within-scaled =
       record {
         above = le-trans (le-of-eq (sym scaled-left)) (le-trans (mul-le-mul-left k (h .above)) (le-of-eq (mul-add k (2 ^ 149 * a) (2 ^ 127 * w) ∙ ap (λ (n : ℕ). n + k * (2 ^ 127 * w)) (mul-left-comm k (2 ^ 149) a) ∙ ap (λ (n : ℕ). 2 ^ 149 * (k * a) + n) (mul-left-comm k (2 ^ 127) w))));
-        below = le-trans (le-of-eq (mul-left-comm (2 ^ 149) k a)) (le-trans (mul-le-mul-left k (h .below)) (le-of-eq (mul-add k (m * w + 2 ^ 149 * t) (2 ^ 127 * w) ∙ ap (λ (n : ℕ). n + k * (2 ^ 127 * w)) scaled-left ∙ ap (λ (n : ℕ). m * (k * w) + 2 ^ 149 * (k * t) + n) (mul-left-comm k (2 ^ 127) w))))
+        below = le-trans (le-of-eq (mul-left-comm (2 ^ 149) k a)) (le-trans (mul-le-mul-left k (h .below)) (le-of-eq (mul-add k (m * w + 2 ^ 149 * t) (2 ^ 127 * w) ∙ ap (λ (n : ℕ). n + k * (2 ^ 127 * w)) scaled-left ∙ ap (λ (n : ℕ). m * (k * w) + 2 ^ 149 * (k * t) + n) (mul-left-comm k (2 ^ 127) w))));
       }
 
 pub sine-rescaled : (m R : ℕ) (b : Bool) → Within m (sineSide b R (2 ^ 56)) (sineSide (not b) R (2 ^ 56)) (whole 31 (2 ^ 56))

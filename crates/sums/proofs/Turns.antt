@@ -42,17 +42,21 @@ reduced x =
     record {
       turns = (x + half) / turn;
       left = go (decLe (turnsOf x) x);
-      smallest = λ k. le-trans (mul-le-mul-right (2 ^ 93) (rest-smallest x k)) (le-of-eq (sym (apart-scaled x (k * turn) (2 ^ 93)) ∙ ap (λ (n : ℕ). apart (x * 2 ^ 93) n) (mul-assoc k turn (2 ^ 93))))
+      smallest = λ k. le-trans (mul-le-mul-right (2 ^ 93) (rest-smallest x k)) (le-of-eq (sym (apart-scaled x (k * turn) (2 ^ 93)) ∙ ap (λ (n : ℕ). apart (x * 2 ^ 93) n) (mul-assoc k turn (2 ^ 93))));
     }
   where
     t : ℕ
     t = (x + half) / turn * turnUnits
+
     family : Bool → ℕ → Type 0
     family b r = x * 2 ^ 93 + cond (not b) (r * 2 ^ 93) 0 ≡ t + cond (not b) 0 (r * 2 ^ 93)
+
     t-is : turnsOf x * 2 ^ 93 ≡ t
     t-is = mul-assoc ((x + half) / turn) turn (2 ^ 93)
+
     at : (b : Bool) → leb (turnsOf x) x ≡ b → family b (cond b (x - turnsOf x) (turnsOf x - x)) → family (leb (turnsOf x) x) (restOf x)
     at b e f = subst (λ (c : Bool). family c (cond c (x - turnsOf x) (turnsOf x - x))) (sym e) f
+
     go : Dec (turnsOf x ≤ x) → family (leb (turnsOf x) x) (restOf x)
     go (yes h) =
         let sum : turnsOf x + (x - turnsOf x) ≡ x = omega arith in
