@@ -7,3 +7,7 @@ pub mod Fallback
 pub mod Exact
 pub mod Pointed
 pub mod Sizes
+pub mod Tiny
+pub mod Quotient
+pub mod Whole
+pub mod Answers

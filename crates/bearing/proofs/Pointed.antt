@@ -29,11 +29,11 @@ z-pos : 0 < z
 unfolding whole factorial
 z-pos = lit≤ tt
 
--- ---- the sums at R / 2 ^ 56, with y's sign taken out: x is negative where q is true, the rest where f is
-pub record Kept (q f : Bool) (Y X R : ℕ) : Type 0 where
-  pub above : 2 ^ 20 * (Y * cosineSide true R (2 ^ 56) * z + X * sineSide (unlike f q) R (2 ^ 56) * w) ≤ 2 ^ 20 * (Y * cosineSide false R (2 ^ 56) * z + X * sineSide (not (unlike f q)) R (2 ^ 56) * w) + (X + Y) * (w * z)
-  pub below : 2 ^ 20 * (Y * cosineSide false R (2 ^ 56) * z + X * sineSide (not (unlike f q)) R (2 ^ 56) * w) ≤ 2 ^ 20 * (Y * cosineSide true R (2 ^ 56) * z + X * sineSide (unlike f q) R (2 ^ 56) * w) + (X + Y) * (w * z)
-  pub forward : X * cosineSide q R (2 ^ 56) * z + Y * sineSide f R (2 ^ 56) * w < X * cosineSide (not q) R (2 ^ 56) * z + Y * sineSide (not f) R (2 ^ 56) * w
+-- ---- the sums at r / d, with y's sign taken out: x is negative where q is true, the rest where f is
+pub record Kept (q f : Bool) (Y X r d : ℕ) : Type 0 where
+  pub above : 2 ^ 20 * (Y * cosineSide true r d * whole 31 d + X * sineSide (unlike f q) r d * whole 30 d) ≤ 2 ^ 20 * (Y * cosineSide false r d * whole 31 d + X * sineSide (not (unlike f q)) r d * whole 30 d) + (X + Y) * (whole 30 d * whole 31 d)
+  pub below : 2 ^ 20 * (Y * cosineSide false r d * whole 31 d + X * sineSide (not (unlike f q)) r d * whole 30 d) ≤ 2 ^ 20 * (Y * cosineSide true r d * whole 31 d + X * sineSide (unlike f q) r d * whole 30 d) + (X + Y) * (whole 30 d * whole 31 d)
+  pub forward : X * cosineSide q r d * whole 31 d + Y * sineSide f r d * whole 30 d < X * cosineSide (not q) r d * whole 31 d + Y * sineSide (not f) r d * whole 30 d
 
 -- the test's three parts, by x's side and the rest's
 pub record Passed (u v : ℕ) (q f : Bool) (R : ℕ) : Type 0 where
@@ -78,7 +78,7 @@ module _ (R : ℕ) (m : R ≤ half) where
   sine-other false = sine-down-beside R m
 
 module _ (u v Y X G H R : ℕ) (m : R ≤ half) (cu : Cut u Y G H) (cv : Cut v X G H) (posH : 0 < H) (posG : 0 < G) (large : 2 ^ 29 ≤ u + v) where
-  pub kept : (q f : Bool) → Passed u v q f R → Kept q f Y X R
+  pub kept : (q f : Bool) → Passed u v q f R → Kept q f Y X R (2 ^ 56)
   unfolding ahead behind along against
   kept q f t =
       let s = unlike f q in
@@ -104,17 +104,15 @@ factor = (2 ^ 93) ^ 30 * (2 ^ 93) ^ 31
 factor-pos : 0 < factor
 factor-pos = lit≤ tt
 
-cosine-scaled : (s : Bool) (n R : ℕ) (b c : Bool) → unlike s b ≡ c → timesCosine s n (R * 2 ^ 93) b ≡ factor * (n * cosineSide c R (2 ^ 56) * z)
-cosine-scaled s n R b c e =
-    ap (λ (t : Bool). n * cosineSide t (R * 2 ^ 93) (2 ^ 149) * whole 31 (2 ^ 149)) e
-    ∙ ap (λ (a : ℕ). n * a * whole 31 (2 ^ 149)) (cosine-side-scaled c R) ∙ ap (λ (a : ℕ). n * ((2 ^ 93) ^ 30 * cosineSide c R (2 ^ 56)) * a) (whole-scaled 31 (2 ^ 93) (2 ^ 56))
-    ∙ regroup ((2 ^ 93) ^ 30) ((2 ^ 93) ^ 31) n (cosineSide c R (2 ^ 56)) z
+cosine-scaled : (n R : ℕ) (b : Bool) → n * cosineSide b (R * 2 ^ 93) (2 ^ 149) * whole 31 (2 ^ 149) ≡ factor * (n * cosineSide b R (2 ^ 56) * z)
+cosine-scaled n R b =
+    ap (λ (a : ℕ). n * a * whole 31 (2 ^ 149)) (cosine-side-scaled b R) ∙ ap (λ (a : ℕ). n * ((2 ^ 93) ^ 30 * cosineSide b R (2 ^ 56)) * a) (whole-scaled 31 (2 ^ 93) (2 ^ 56))
+    ∙ regroup ((2 ^ 93) ^ 30) ((2 ^ 93) ^ 31) n (cosineSide b R (2 ^ 56)) z
 
-sine-scaled : (s : Bool) (n R : ℕ) (b c : Bool) → unlike s b ≡ c → timesSine s n (R * 2 ^ 93) b ≡ factor * (n * sineSide c R (2 ^ 56) * w)
-sine-scaled s n R b c e =
-    ap (λ (t : Bool). n * sineSide t (R * 2 ^ 93) (2 ^ 149) * whole 30 (2 ^ 149)) e
-    ∙ ap (λ (a : ℕ). n * a * whole 30 (2 ^ 149)) (sine-side-scaled c R) ∙ ap (λ (a : ℕ). n * ((2 ^ 93) ^ 31 * sineSide c R (2 ^ 56)) * a) (whole-scaled 30 (2 ^ 93) (2 ^ 56))
-    ∙ regroup ((2 ^ 93) ^ 31) ((2 ^ 93) ^ 30) n (sineSide c R (2 ^ 56)) w
+sine-scaled : (n R : ℕ) (b : Bool) → n * sineSide b (R * 2 ^ 93) (2 ^ 149) * whole 30 (2 ^ 149) ≡ factor * (n * sineSide b R (2 ^ 56) * w)
+sine-scaled n R b =
+    ap (λ (a : ℕ). n * a * whole 30 (2 ^ 149)) (sine-side-scaled b R) ∙ ap (λ (a : ℕ). n * ((2 ^ 93) ^ 31 * sineSide b R (2 ^ 56)) * a) (whole-scaled 30 (2 ^ 93) (2 ^ 56))
+    ∙ regroup ((2 ^ 93) ^ 31) ((2 ^ 93) ^ 30) n (sineSide b R (2 ^ 56)) w
 
 over-scaled : over ≡ factor * (w * z)
 over-scaled =
@@ -133,7 +131,21 @@ grow-close k a b c d s o {A} {B} {C} {D} {O} eA eB eC eD eO h = rw (eA, eB, eC, 
 grow-less : (k a b c d : ℕ) {A B C D : ℕ} → 0 < k → A ≡ k * a → B ≡ k * b → C ≡ k * c → D ≡ k * d → a + b < c + d → A + B < C + D
 grow-less k a b c d {A} {B} {C} {D} pos eA eB eC eD h = rw (eA, eB, eC, eD) (lt-of-le-of-lt (le-of-eq (sym (mul-add k a b))) (lt-of-lt-of-le (mul-lt-mul-of-pos-left h pos) (le-of-eq (mul-add k c d))))
 
--- which side a product's side is
+pub kept-scaled : (q f : Bool) (Y X R : ℕ) → Kept q f Y X R (2 ^ 56) → Kept q f Y X (R * 2 ^ 93) (2 ^ 149)
+kept-scaled q f Y X R k =
+    let t = unlike f q in
+    let c1 = cosine-scaled Y R true in
+    let c0 = cosine-scaled Y R false in
+    let s1 = sine-scaled X R t in
+    let s0 = sine-scaled X R (not t) in
+    record {
+      above = grow-close factor _ _ _ _ (X + Y) (w * z) c1 s1 c0 s0 over-scaled (k .above);
+      below = grow-close factor _ _ _ _ (X + Y) (w * z) c0 s0 c1 s1 over-scaled (k .below);
+      forward = grow-less factor _ _ _ _ factor-pos (cosine-scaled X R q) (sine-scaled Y R f) (cosine-scaled X R (not q)) (sine-scaled Y R (not f)) (k .forward)
+    }
+
+-- ---- y's sign, which is a's too
+-- which side of the sum a side of the product is
 plus-on : (f q : Bool) → unlike (unlike (unlike false f) q) true ≡ not (unlike f q)
 plus-on false false = refl
 plus-on false true = refl
@@ -166,39 +178,22 @@ opposite : (q : Bool) → unlike q true ≡ not q
 opposite false = refl
 opposite true = refl
 
--- y's sign meets a's
-cancels : (p f b : Bool) → unlike (unlike (unlike p f) p) b ≡ unlike f b
-cancels false false b = refl
-cancels false true b = refl
-cancels true false b = refl
-cancels true true b = refl
+both-on : (p f : Bool) → unlike (unlike (unlike p f) p) true ≡ not f
+both-on false false = refl
+both-on false true = refl
+both-on true false = refl
+both-on true true = refl
 
-forward-scaled : (p q f : Bool) (Y X R : ℕ) → Kept q f Y X R
-    → timesCosine q X (R * 2 ^ 93) false + timesSine (unlike (unlike p f) p) Y (R * 2 ^ 93) false < timesCosine q X (R * 2 ^ 93) true + timesSine (unlike (unlike p f) p) Y (R * 2 ^ 93) true
-forward-scaled p q f Y X R k =
-    grow-less factor _ _ _ _ factor-pos (cosine-scaled q X R false q (itself q)) (sine-scaled (unlike (unlike p f) p) Y R false f (cancels p f false ∙ itself f))
-    (cosine-scaled q X R true (not q) (opposite q)) (sine-scaled (unlike (unlike p f) p) Y R true (not f) (cancels p f true ∙ opposite f)) (k .forward)
+both-off : (p f : Bool) → unlike (unlike (unlike p f) p) false ≡ f
+both-off false false = refl
+both-off false true = refl
+both-off true false = refl
+both-off true true = refl
 
-pub points : (p q f : Bool) (Y X R : ℕ) → Kept q f Y X R → Points p Y q X (unlike p f) (R * 2 ^ 93)
-points false q f Y X R k =
-    let t = unlike (unlike false f) q in
-    let c1 = cosine-scaled false Y R true true refl in
-    let c0 = cosine-scaled false Y R false false refl in
-    let s1 = sine-scaled t X R true (not (unlike f q)) (plus-on f q) in
-    let s0 = sine-scaled t X R false (unlike f q) (plus-off f q) in
-    record {
-      above = grow-close factor _ _ _ _ (X + Y) (w * z) c1 s0 c0 s1 over-scaled (k .above);
-      below = grow-close factor _ _ _ _ (X + Y) (w * z) c0 s1 c1 s0 over-scaled (k .below);
-      forward = forward-scaled false q f Y X R k
-    }
-points true q f Y X R k =
-    let t = unlike (unlike true f) q in
-    let c1 = cosine-scaled true Y R true false refl in
-    let c0 = cosine-scaled true Y R false true refl in
-    let s1 = sine-scaled t X R true (unlike f q) (minus-on f q) in
-    let s0 = sine-scaled t X R false (not (unlike f q)) (minus-off f q) in
-    record {
-      above = grow-close factor _ _ _ _ (X + Y) (w * z) c1 s0 c0 s1 over-scaled (k .below);
-      below = grow-close factor _ _ _ _ (X + Y) (w * z) c0 s1 c1 s0 over-scaled (k .above);
-      forward = forward-scaled true q f Y X R k
-    }
+module _ (q f : Bool) (Y X r : ℕ) (k : Kept q f Y X r (2 ^ 149)) where
+  forward-with : (p : Bool) → timesCosine q X r false + timesSine (unlike (unlike p f) p) Y r false < timesCosine q X r true + timesSine (unlike (unlike p f) p) Y r true
+  forward-with p = rw (itself q, both-off p f, opposite q, both-on p f) (k .forward)
+
+  pub points : (p : Bool) → Points p Y q X (unlike p f) r
+  points false = record { above = rw (plus-off f q, plus-on f q) (k .above); below = rw (plus-off f q, plus-on f q) (k .below); forward = forward-with false }
+  points true = record { above = rw (minus-off f q, minus-on f q) (k .below); below = rw (minus-off f q, minus-on f q) (k .above); forward = forward-with true }

@@ -3,7 +3,7 @@
 use mathlib.Core.Path.{_≡_, refl, sym, ap, _∙_, subst}
 use mathlib.Core.Logic.{_⊎_, inl, inr}
 use Prim.Native.Nat.{ℕ, zero, suc, _+_, _-_, _*_, _/_, _%_, _^_, _≤_, _<_}
-use native.Mathlib.Nat.{le-refl, le-trans, le-of-eq, le-of-lt, lt-of-lt-of-le, lt-of-le-of-lt, lt-of-not-le, not-le-of-lt, add-comm, add-mul, one-mul, zero-mul, mul-assoc, mul-comm, mul-right-comm, mul-le-mul-right, mul-le-mul-left, mul-lt-mul-of-pos-right, lt-of-mul-lt-mul-right, mul-div-cancel, div-mul-le-self, lt-div-mul-add, le-div-iff-mul-le, div-lt-iff-lt-mul, div-eq-of-lt}
+use native.Mathlib.Nat.{le-refl, le-trans, le-of-eq, le-of-lt, lt-of-lt-of-le, lt-of-le-of-lt, lt-of-not-le, not-le-of-lt, zero-add, le-add-right, le-add-left, add-mul, one-mul, zero-mul, mul-assoc, mul-comm, mul-right-comm, mul-le-mul-right, mul-le-mul-left, mul-lt-mul-of-pos-right, lt-of-mul-lt-mul-right, mul-div-cancel, div-mul-le-self, lt-div-mul-add, le-div-iff-mul-le, div-lt-iff-lt-mul, div-eq-of-lt}
 use native.Mathlib.Omega.{arith}
 use native.Mathlib.Decide.{decLe, decLt}
 use mathlib.Core.Bool.{Bool, true, false, cond}
@@ -12,7 +12,7 @@ use lib.Pow.{pow-pos, pow-mono, pow-add, shl-lt, shr-shr}
 use lib.Ieee.{Float, nan, inf, fin, up, down, size, binary64, toBits}
 use lib.Ieee.Digits.{size-lt, size-reaches, size-le}
 use lib.Ieee.Fits.{down-pos, kept-lt}
-use borrow.Author.Tests.{lt-ltb, le-ltb}
+use borrow.Author.Tests.{lt-ltb, le-ltb, ltb-true, ltb-false}
 use Rattle.sums.specs.Rule.{Is}
 use Rattle.sums.proofs.Patterns.{bit}
 use Rattle.bearing.specs.Steps.{plain, signBit, field, topOf, partOf}
@@ -174,3 +174,71 @@ part-of (suc N) top h l =
     let r : suc (dropped n) ≤ top = le-trans (le-of-eq (sym (field-is n b))) h in
     subst (λ (u : ℕ). Part (suc N) top u) (sym (part-is n b top r))
     (record { cut = cut-of (suc N) (2 ^ (top + 22)) (pow-pos (top + 22)); under = part-lt n b top r; large = λ e p. part-large n b top r (sym (field-is n b) ∙ e) })
+
+-- ---- y and x together, not both zero
+pub record Pair (Y X u v : ℕ) : Type 0 where
+  pub scale : ℕ
+  pub scale-pos : 0 < scale
+  pub rise : Cut u Y scale (2 ^ 925)
+  pub run : Cut v X scale (2 ^ 925)
+  pub rise-under : u < 2 ^ 30
+  pub run-under : v < 2 ^ 30
+  pub large : 2 ^ 29 ≤ u + v
+
+field-low : (N : ℕ) → 0 < N → 874 ≤ field (wideBits (N * 2 ^ 925))
+field-low N h = let a = dropped-low (N * 2 ^ 925) (above-none N h) in let e = field-is (N * 2 ^ 925) (above-none N h) in omega arith
+
+-- the larger field, and whose it is
+top-ge-first : (a b : ℕ) → field a ≤ topOf a b
+top-ge-first a b = go (ltb (field a) (field b)) refl
+  where
+    go : (t : Bool) → ltb (field a) (field b) ≡ t → field a ≤ cond t (field b) (field a)
+    go true e = le-of-lt (ltb-true (field a) (field b) e)
+    go false e = le-refl (field a)
+
+top-ge-second : (a b : ℕ) → field b ≤ topOf a b
+top-ge-second a b = go (ltb (field a) (field b)) refl
+  where
+    go : (t : Bool) → ltb (field a) (field b) ≡ t → field b ≤ cond t (field b) (field a)
+    go true e = le-refl (field b)
+    go false e = ltb-false (field a) (field b) e
+
+top-is : (a b : ℕ) → (field a ≡ topOf a b) ⊎ (field b ≡ topOf a b)
+top-is a b = go (ltb (field a) (field b))
+  where
+    go : (t : Bool) → (field a ≡ cond t (field b) (field a)) ⊎ (field b ≡ cond t (field b) (field a))
+    go true = inr refl
+    go false = inl refl
+
+field-pos : (N : ℕ) → 874 ≤ field (wideBits (N * 2 ^ 925)) → 0 < N
+field-pos zero h = absurd (none (le-trans h (le-of-eq (ap field (ap wideBits (zero-mul (2 ^ 925)) ∙ wide-zero)))))
+  where
+    none : 874 ≤ 0 → ⊥
+    none k = omega arith
+field-pos (suc N) h = omega arith
+
+some-field : (Y X : ℕ) → 0 < Y + X → 874 ≤ topOf (wideBits (Y * 2 ^ 925)) (wideBits (X * 2 ^ 925))
+some-field zero X h = le-trans (field-low X (le-trans h (le-of-eq (zero-add X)))) (top-ge-second (wideBits (0 * 2 ^ 925)) (wideBits (X * 2 ^ 925)))
+some-field (suc Y) X h = le-trans (field-low (suc Y) (omega arith)) (top-ge-first (wideBits (suc Y * 2 ^ 925)) (wideBits (X * 2 ^ 925)))
+
+pub pair : (Y X : ℕ) → 0 < Y + X
+    → Pair Y X (partOf (wideBits (Y * 2 ^ 925)) (topOf (wideBits (Y * 2 ^ 925)) (wideBits (X * 2 ^ 925)))) (partOf (wideBits (X * 2 ^ 925)) (topOf (wideBits (Y * 2 ^ 925)) (wideBits (X * 2 ^ 925))))
+pair Y X some =
+    let a = wideBits (Y * 2 ^ 925) in
+    let b = wideBits (X * 2 ^ 925) in
+    let top = topOf a b in
+    let far = some-field Y X some in
+    let p = part-of Y top (top-ge-first a b) (le-trans (lit≤ tt) far) in
+    let q = part-of X top (top-ge-second a b) (le-trans (lit≤ tt) far) in
+    record {
+      scale = 2 ^ (top + 22);
+      scale-pos = pow-pos (top + 22);
+      rise = p .cut;
+      run = q .cut;
+      rise-under = p .under;
+      run-under = q .under;
+      large = elim (top-is a b) [
+        | inl e ↦ le-trans (p .large e (field-pos Y (le-trans far (le-of-eq (sym e))))) (le-add-right (partOf a top) (partOf b top))
+        | inr e ↦ le-trans (q .large e (field-pos X (le-trans far (le-of-eq (sym e))))) (le-add-left (partOf b top) (partOf a top))
+      ]
+    }
