@@ -86,10 +86,13 @@ term-high u n G H s a w z c b =
   where
     front : 2 ^ 30 * (H * (n * a * z)) ≡ n * H * (2 ^ 30 * a * z)
     front = simp (mul-assoc, mul-comm, mul-left-comm)
+
     middle : (u + 1) * G * (2 ^ 30 * a * z) ≡ G * z * (u * (2 ^ 30 * a) + 2 ^ 30 * a)
     middle = ap (λ (x : ℕ). x * (2 ^ 30 * a * z)) (add-mul u 1 G) ∙ ap (λ (x : ℕ). (u * G + x) * (2 ^ 30 * a * z)) (one-mul G) ∙ simp (mul-add, add-mul, mul-assoc, mul-comm, mul-left-comm)
+
     inner : u * ((s + 64) * w) + 2 ^ 30 * (7 * w) ≡ w * (u * s + 64 * u + 7 * 2 ^ 30)
     inner = simp (mul-add, add-mul, mul-left-comm) (omega arith)
+
     last : G * z * (u * ((s + 64) * w) + 2 ^ 30 * (7 * w)) ≡ G * (w * z) * (u * s + 64 * u + 7 * 2 ^ 30)
     last = ap (λ (x : ℕ). G * z * x) inner ∙ simp (mul-assoc, mul-left-comm)
 
@@ -99,8 +102,10 @@ term-low u n G H s a w z c b =
   where
     front : G * (w * z) * (u * s) ≡ u * G * z * (s * w)
     front = simp (mul-assoc, mul-comm, mul-left-comm)
+
     middle : u * G * z * (2 ^ 30 * a) ≡ u * G * (2 ^ 30 * a * z)
     middle = simp (mul-assoc, mul-comm, mul-left-comm)
+
     last : n * H * (2 ^ 30 * a * z) ≡ 2 ^ 30 * (H * (n * a * z))
     last = simp (mul-assoc, mul-comm, mul-left-comm)
 
@@ -144,7 +149,7 @@ module _ (u v n m G H w z : ℕ) (cu : Cut u n G H) (cv : Cut v m G H) where
       let k : u * p + v * r + 92 * (u + v) ≤ u * q + v * s + 1024 * (u + v) = omega arith in
       let up : 2 ^ 30 * (H * L) ≤ G * (w * z) * (u * q + v * s + 1024 * (u + v)) = le-trans (upper p r a b large ba bb) (mul-le-mul-left (G * (w * z)) k) in
       let e : G * (w * z) * (u * q + v * s + 1024 * (u + v)) ≡ G * (w * z) * (u * q + v * s) + 1024 * (w * z * ((u + v) * G)) =
-          mul-add (G * (w * z)) (u * q + v * s) (1024 * (u + v)) ∙ ap (λ (x : ℕ). G * (w * z) * (u * q + v * s) + x) (turn G (w * z) (u + v)) in
+      mul-add (G * (w * z)) (u * q + v * s) (1024 * (u + v)) ∙ ap (λ (x : ℕ). G * (w * z) * (u * q + v * s) + x) (turn G (w * z) (u + v)) in
       let low = lower q s c d bc bd in
       let cut : w * z * ((u + v) * G) ≤ w * z * ((m + n) * H) = mul-le-mul-left (w * z) whole-cut in
       le-of-mul-le-mul-left {k = 2 ^ 10 * H} (le-trans (le-of-eq (left L)) (le-trans (last (2 ^ 30 * (H * L)) (2 ^ 30 * (H * Q)) (w * z * ((u + v) * G)) (w * z * ((m + n) * H)) (le-trans up (le-trans (le-of-eq e) (add-le-add low (le-refl (1024 * (w * z * ((u + v) * G))))))) cut) (le-of-eq (right Q))))
@@ -152,13 +157,16 @@ module _ (u v n m G H w z : ℕ) (cu : Cut u n G H) (cv : Cut v m G H) where
     where
       turn : (g x y : ℕ) → g * x * (1024 * y) ≡ 1024 * (x * (y * g))
       turn g x y = simp (mul-assoc, mul-comm, mul-left-comm)
+
       left : (L : ℕ) → 2 ^ 10 * H * (2 ^ 20 * L) ≡ 2 ^ 30 * (H * L)
       left L = mul-assoc (2 ^ 10) H (2 ^ 20 * L) ∙ ap (λ (x : ℕ). 2 ^ 10 * x) (mul-left-comm H (2 ^ 20) L) ∙ sym (mul-assoc (2 ^ 10) (2 ^ 20) (H * L))
+
       right : (Q : ℕ) → 2 ^ 30 * (H * Q) + 1024 * (w * z * ((m + n) * H)) ≡ 2 ^ 10 * H * (2 ^ 20 * Q + (m + n) * (w * z))
       right Q = ap (λ (x : ℕ). x + 1024 * (w * z * ((m + n) * H))) (sym (left Q)) ∙ ap (λ (x : ℕ). 2 ^ 10 * H * (2 ^ 20 * Q) + x) (swap (w * z) (m + n)) ∙ sym (mul-add (2 ^ 10 * H) (2 ^ 20 * Q) ((m + n) * (w * z)))
         where
           swap : (x y : ℕ) → 1024 * (x * (y * H)) ≡ 1024 * H * (y * x)
           swap x y = simp (mul-assoc, mul-comm, mul-left-comm)
+
       last : (a b c d : ℕ) → a ≤ b + 1024 * c → c ≤ d → a ≤ b + 1024 * d
       last a b c d g h = omega arith
 

@@ -11,3 +11,4 @@ pub mod Tiny
 pub mod Quotient
 pub mod Whole
 pub mod Answers
+pub mod Meets

@@ -50,7 +50,7 @@ parts u v q f R t =
     record {
       above = leb→le (ahead u v s R) (behind u v s R + 900 * (u + v)) (and-l a (b && c) t);
       below = leb→le (behind u v s R) (ahead u v s R + 900 * (u + v)) (and-l b c (and-r a (b && c) t));
-      forward = leb→le (against u v (not q) (not f) R + 900 * (u + v)) (along u v (not q) (not f) R) (and-r b c (and-r a (b && c) t))
+      forward = leb→le (against u v (not q) (not f) R + 900 * (u + v)) (along u v (not q) (not f) R) (and-r b c (and-r a (b && c) t));
     }
 
 pub passed : (u v : ℕ) (q f : Bool) (R : ℕ) → passesAt u v (bit q) (bit f) R ≡ true → Passed u v q f R
@@ -88,7 +88,7 @@ module _ (u v Y X G H R : ℕ) (m : R ≤ half) (cu : Cut u Y G H) (cv : Cut v X
         above = residual u v Y X G H w z cu cv _ _ _ _ _ _ _ _ posH large (cosine-up-beside R m) up (cosine-down-beside R m) down (t .above);
         below = residual u v Y X G H w z cu cv _ _ _ _ _ _ _ _ posH large (cosine-down-beside R m) down (cosine-up-beside R m) up (t .below);
         forward = pointing v u X Y G H w z cv cu _ _ _ _ _ _ _ _ posH posG w-pos z-pos (le-trans large (le-of-eq (add-comm u v)))
-            (cosine-other R m q) (sine-other R m f) (cosine-is R m (not q)) (sine-is R m (not f)) (subst (λ (n : ℕ). against u v (not q) (not f) R + 900 * n ≤ along u v (not q) (not f) R) (add-comm u v) (t .forward))
+            (cosine-other R m q) (sine-other R m f) (cosine-is R m (not q)) (sine-is R m (not f)) (subst (λ (n : ℕ). against u v (not q) (not f) R + 900 * n ≤ along u v (not q) (not f) R) (add-comm u v) (t .forward));
       }
 
 -- ---- the same in units of 2 ^ -149: every product grows by one factor
@@ -125,6 +125,7 @@ grow-close k a b c d s o {A} {B} {C} {D} {O} eA eB eC eD eO h = rw (eA, eB, eC, 
   where
     left : 2 ^ 20 * (k * a + k * b) ≡ k * (2 ^ 20 * (a + b))
     left = ap (λ (x : ℕ). 2 ^ 20 * x) (sym (mul-add k a b)) ∙ mul-left-comm (2 ^ 20) k (a + b)
+
     right : k * (2 ^ 20 * (c + d) + s * o) ≡ 2 ^ 20 * (k * c + k * d) + s * (k * o)
     right = mul-add k (2 ^ 20 * (c + d)) (s * o) ∙ ap (λ (x : ℕ). x + k * (s * o)) (mul-left-comm k (2 ^ 20) (c + d) ∙ ap (λ (x : ℕ). 2 ^ 20 * x) (mul-add k c d)) ∙ ap (λ (x : ℕ). 2 ^ 20 * (k * c + k * d) + x) (mul-left-comm k s o)
 
@@ -141,7 +142,7 @@ kept-scaled q f Y X R k =
     record {
       above = grow-close factor _ _ _ _ (X + Y) (w * z) c1 s1 c0 s0 over-scaled (k .above);
       below = grow-close factor _ _ _ _ (X + Y) (w * z) c0 s0 c1 s1 over-scaled (k .below);
-      forward = grow-less factor _ _ _ _ factor-pos (cosine-scaled X R q) (sine-scaled Y R f) (cosine-scaled X R (not q)) (sine-scaled Y R (not f)) (k .forward)
+      forward = grow-less factor _ _ _ _ factor-pos (cosine-scaled X R q) (sine-scaled Y R f) (cosine-scaled X R (not q)) (sine-scaled Y R (not f)) (k .forward);
     }
 
 -- ---- y's sign, which is a's too

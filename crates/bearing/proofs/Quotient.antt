@@ -72,8 +72,8 @@ module _ (s : Bool) (Y X : ℕ) (pos : 0 < X) (flat : Y * 2 ^ 29 ≤ X * 65538) 
   units-small : q * 2 ^ k < 2 ^ 137
   units-small =
       lt-of-not-le (λ (f : 2 ^ 137 ≤ q * 2 ^ k).
-        not-le-of-lt (lt-of-le-of-lt (le-trans units-above (le-trans (add-le-add n-le (le-of-eq (mul-comm (2 ^ 113) X))) (le-of-eq (sym (mul-add X (65538 * 2 ^ 120) (2 ^ 113)))))) (mul-lt-mul-of-pos-left {n = 2 ^ 137} (lit< tt) pos))
-        (le-trans (le-of-eq (mul-comm X (2 ^ 137))) (mul-le-mul-right X f)))
+      not-le-of-lt (lt-of-le-of-lt (le-trans units-above (le-trans (add-le-add n-le (le-of-eq (mul-comm (2 ^ 113) X))) (le-of-eq (sym (mul-add X (65538 * 2 ^ 120) (2 ^ 113)))))) (mul-lt-mul-of-pos-left {n = 2 ^ 137} (lit< tt) pos))
+      (le-trans (le-of-eq (mul-comm X (2 ^ 137))) (mul-le-mul-right X f)))
 
   weaker : (a b c : ℕ) → a ≤ b + 2 ^ 113 * c → a ≤ b + 2 ^ 127 * c
   weaker a b c h = le-trans h (add-le-add (le-refl b) (mul-le-mul-right c (lit≤ tt)))
@@ -87,7 +87,7 @@ module _ (s : Bool) (Y X : ℕ) (pos : 0 < X) (flat : Y * 2 ^ 29 ≤ X * 65538) 
     value = round-value;
     small = units-small;
     above = weaker (2 ^ 149 * Y) (q * 2 ^ k * X) X (le-trans (le-of-eq (mul-comm (2 ^ 149) Y)) units-below);
-    below = weaker (q * 2 ^ k * X) (2 ^ 149 * Y) X (le-trans units-above (add-le-add (le-of-eq (mul-comm Y (2 ^ 149))) (le-refl (2 ^ 113 * X))))
+    below = weaker (q * 2 ^ k * X) (2 ^ 149 * Y) X (le-trans units-above (add-le-add (le-of-eq (mul-comm Y (2 ^ 149))) (le-refl (2 ^ 113 * X))));
   }
 
 -- ---- the division itself
@@ -111,8 +111,10 @@ div-is (fin t m e) (fin r n d) s Y X hy hx pos =
       where
         no-less : (a : ℕ) → a ≡ 0 → 0 < a → ⊥
         no-less a h g = omega arith
+
     n-pos : 0 < n
     n-pos = pos-of-ne-zero some
+
     same : m * up e * down d * X ≡ Y * (n * up d * down e)
     same =
         mul-assoc (m * up e) (down d) X ∙ ap (λ (a : ℕ). m * up e * a) (mul-comm (down d) X ∙ sym (hx .1))
@@ -120,6 +122,7 @@ div-is (fin t m e) (fin r n d) s Y X hy hx pos =
       where
         shuffle : (a b c : ℕ) → a * (b * c) ≡ a * c * b
         shuffle a b c = simp (mul-assoc, mul-comm)
+
         last : (a b c : ℕ) → a * b * c ≡ a * (c * b)
         last a b c = simp (mul-assoc, mul-comm)
 

@@ -19,10 +19,10 @@ use Rattle.bearing.specs.Steps.{plain, signBit, field, topOf, partOf}
 use Rattle.bearing.proofs.Exact.{Cut}
 
 -- ---- the bits of N units as an f64: the 53 leading digits, and how many are dropped
-abbrev dropped : ℕ → ℕ
+abbrev pub dropped : ℕ → ℕ
 dropped n = size n - 53
 
-abbrev wideBits : ℕ → ℕ
+abbrev pub wideBits : ℕ → ℕ
 wideBits n = dropped n * 2 ^ 52 + n / 2 ^ dropped n
 
 few : (N : ℕ) → N < 2 ^ 277 → dropped (N * 2 ^ 925) ≤ 1149
@@ -164,6 +164,7 @@ part-of zero top h l =
   where
     no-less : 0 < 0 → ⊥
     no-less p = omega arith
+
     none : partOf (wideBits (0 * 2 ^ 925)) top ≡ 0
     none =
         ap (λ (b : ℕ). partOf b top) (ap wideBits (zero-mul (2 ^ 925)) ∙ wide-zero)
@@ -185,7 +186,7 @@ pub record Pair (Y X u v : ℕ) : Type 0 where
   pub run-under : v < 2 ^ 30
   pub large : 2 ^ 29 ≤ u + v
 
-field-low : (N : ℕ) → 0 < N → 874 ≤ field (wideBits (N * 2 ^ 925))
+pub field-low : (N : ℕ) → 0 < N → 874 ≤ field (wideBits (N * 2 ^ 925))
 field-low N h = let a = dropped-low (N * 2 ^ 925) (above-none N h) in let e = field-is (N * 2 ^ 925) (above-none N h) in omega arith
 
 -- the larger field, and whose it is
@@ -240,5 +241,5 @@ pair Y X some =
       large = elim (top-is a b) [
         | inl e ↦ le-trans (p .large e (field-pos Y (le-trans far (le-of-eq (sym e))))) (le-add-right (partOf a top) (partOf b top))
         | inr e ↦ le-trans (q .large e (field-pos X (le-trans far (le-of-eq (sym e))))) (le-add-left (partOf b top) (partOf a top))
-      ]
+      ];
     }

@@ -21,6 +21,7 @@ module _ (D e k Y X A w z p m a b : ℕ) (same : D ≡ k * 2 ^ 20) (twice : e + 
     where
       left : D * n * (w * z) + D * (n * m * z) ≡ n * z * (D * w + D * m)
       left = simp (mul-add, mul-assoc, mul-comm, mul-left-comm)
+
       right : n * z * (D * p + e * w) ≡ D * (n * p * z) + e * n * (w * z)
       right = simp (mul-add, mul-assoc, mul-comm, mul-left-comm)
 
@@ -29,6 +30,7 @@ module _ (D e k Y X A w z p m a b : ℕ) (same : D ≡ k * 2 ^ 20) (twice : e + 
     where
       left : D * (n * p * z) ≡ n * z * (D * p)
       left = simp (mul-assoc, mul-comm, mul-left-comm)
+
       right : n * z * (D * w + D * m + e * w) ≡ D * n * (w * z) + D * (n * m * z) + e * n * (w * z)
       right = simp (mul-add, mul-assoc, mul-comm, mul-left-comm)
 
@@ -37,6 +39,7 @@ module _ (D e k Y X A w z p m a b : ℕ) (same : D ≡ k * 2 ^ 20) (twice : e + 
     where
       left : A * n * (w * z) + D * (n * b * w) ≡ n * w * (A * z + D * b)
       left = simp (mul-add, mul-assoc, mul-comm, mul-left-comm)
+
       right : n * w * (D * a + e * z) ≡ D * (n * a * w) + e * n * (w * z)
       right = simp (mul-add, mul-assoc, mul-comm, mul-left-comm)
 
@@ -45,6 +48,7 @@ module _ (D e k Y X A w z p m a b : ℕ) (same : D ≡ k * 2 ^ 20) (twice : e + 
     where
       left : D * (n * a * w) ≡ n * w * (D * a)
       left = simp (mul-assoc, mul-comm, mul-left-comm)
+
       right : n * w * (A * z + D * b + e * z) ≡ A * n * (w * z) + D * (n * b * w) + e * n * (w * z)
       right = simp (mul-add, mul-assoc, mul-comm, mul-left-comm)
 
@@ -93,6 +97,7 @@ module _ (D e k Y X A w z p m a b : ℕ) (same : D ≡ k * 2 ^ 20) (twice : e + 
     where
       strict : (e + e) * (X * (w * z)) < D * (X * (w * z))
       strict = mul-lt-mul-of-pos-right small (mul-pos posX posW)
+
       none : D * (X * p * z + Y * a * w) ≤ D * (X * m * z + Y * b * w) → ⊥
       none g =
           let g1 : D * (X * p * z + Y * a * w) ≡ D * (X * p * z) + D * (Y * a * w) = mul-add D (X * p * z) (Y * a * w) in
@@ -123,5 +128,5 @@ tiny-kept Y X A small pos order ra rb =
     record {
       above = tiny-above D (2 ^ 127) (2 ^ 129) Y X A w z p m a b refl (lit≤ tt) (c .above) (c .below) (s .above) (s .below) ra rb (lit≤ tt);
       below = tiny-below D (2 ^ 127) (2 ^ 129) Y X A w z p m a b refl (lit≤ tt) (c .above) (c .below) (s .above) (s .below) ra rb (lit≤ tt);
-      forward = tiny-forward D (2 ^ 127) (2 ^ 129) Y X A w z p m a b refl (lit≤ tt) (c .above) (c .below) (s .above) (s .below) ra rb order (lit≤ tt) pos over-pos
+      forward = tiny-forward D (2 ^ 127) (2 ^ 129) Y X A w z p m a b refl (lit≤ tt) (c .above) (c .below) (s .above) (s .below) ra rb order (lit≤ tt) pos over-pos;
     }

@@ -30,14 +30,15 @@ whole-of m (negsuc k) h =
       where
         le-of-lt-suc : {a b : ℕ} → a < suc b → a ≤ b
         le-of-lt-suc l = omega arith
+
     together : 149 - suc k + suc k ≡ 149
     together = let s = short in omega arith
 
 few-units : (a d N : ℕ) → 0 < d → a < 2 ^ 128 * d → a * 2 ^ 149 ≡ N * d → N < 2 ^ 277
 few-units a d N posd h e =
     lt-of-not-le (λ (g : 2 ^ 277 ≤ N).
-      not-le-of-lt (lt-of-lt-of-le (mul-lt-mul-of-pos-right h (pow-pos 149)) (le-of-eq (mul-right-comm (2 ^ 128) d (2 ^ 149))))
-      (le-trans (mul-le-mul-right d g) (le-of-eq (sym e))))
+    not-le-of-lt (lt-of-lt-of-le (mul-lt-mul-of-pos-right h (pow-pos 149)) (le-of-eq (mul-right-comm (2 ^ 128) d (2 ^ 149))))
+    (le-trans (mul-le-mul-right d g) (le-of-eq (sym e))))
 
 pub whole : (x : Float) → T (fits binary32 x) → T (finite x) → Whole x
 whole nan f t = absurd t
