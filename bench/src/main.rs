@@ -1,0 +1,67 @@
+//! The speed of the proved library beside the original Rust's, both in one run on the same inputs. Each side is
+//! called and not inlined, as a C caller has it. A ratio is the Rust's time over ours: above 1 we are faster.
+
+mod clock;
+
+use animato_path::math::open;
+use clock::{latency, throughput};
+
+const INPUTS: usize = 4096;
+
+fn main() {
+    println!("{:28} {:>9} {:>9} {:>7}", "ns per call, best of 25", "ours", "the Rust", "ratio");
+    root();
+    length();
+}
+
+fn row(name: &str, [ours, theirs]: [f64; 2]) {
+    println!("{name:28} {ours:9.2} {theirs:9.2} {:7.2}", theirs / ours);
+}
+
+// ---- the sides, each behind a call
+
+#[inline(never)]
+fn original_sqrt(x: f32) -> f32 {
+    open::sqrt(x)
+}
+
+#[inline(never)]
+fn original_length(v: [f32; 2]) -> f32 {
+    open::length(v)
+}
+
+#[inline(never)]
+fn first(v: [f32; 2]) -> f32 {
+    v[0]
+}
+
+// ---- the rows
+
+// positive numbers of all sizes between 2^-60 and 2^60
+fn root() {
+    let inputs: Vec<f32> = patterns().map(|bits| f32::from_bits(bits & 0x7F_FFFF | (67 + bits % 121) << 23)).collect();
+    let (ours, theirs) = (|x| kihavute::sqrt(x).to_bits(), |x| original_sqrt(x).to_bits());
+    row("root, throughput", throughput(&inputs, ours, theirs));
+    let after = |x: f32, zero| f32::from_bits(x.to_bits() | zero);
+    row("root, latency", latency(&inputs, after, |x| first([x, x]).to_bits(), ours, theirs));
+}
+
+// legs of up to 16 km in metres
+fn length() {
+    let metres = |bits: u32| (bits % (1 << 25)) as f32 / 1000.0 - 16_777.0;
+    let inputs: Vec<[f32; 2]> = patterns().map(|bits| [metres(bits), metres(bits.rotate_left(16))]).collect();
+    let (ours, theirs) = (kihavute::length, |v| original_length(v).to_bits());
+    row("length, throughput", throughput(&inputs, ours, theirs));
+    let after = |v: [f32; 2], zero| [f32::from_bits(v[0].to_bits() | zero), v[1]];
+    row("length, latency", latency(&inputs, after, |v| first(v).to_bits(), ours, theirs));
+}
+
+// fixed pseudo-random patterns
+fn patterns() -> impl Iterator<Item = u32> {
+    let mut state = 20_260_214u64;
+    std::iter::repeat_with(move || {
+        state = state.wrapping_mul(6_364_136_223_846_793_005).wrapping_add(1_442_695_040_888_963_407);
+        (state >> 32) as u32
+    })
+    .take(INPUTS)
+}

@@ -1,0 +1,18 @@
+-- `kihavute_clamp` meets its contract: the bits of what the entry below ensures. Assumes nothing.
+use borrow.Author.Needs.{needs}
+use mathlib.Core.Path.{ap, _∙_}
+use Rattle.floats.specs.Floats.{bitsOf}
+use Rattle.kihavute.proofs.numbers.kihavute_clamp.Statement.{statement}
+use Rattle.kihavute.proofs.numbers.kihavute_clamp.Tie as tie
+
+clamp-requires : tie.Need-clamp-requires
+clamp-requires c κs = search needs
+
+bits-requires : tie.Need-bits-requires
+bits-requires c κs = search needs
+
+returns : tie.Need-returns
+returns c = c .bits .ensures ∙ ap bitsOf (c .before .clamp .ensures)
+
+pub kihavute-clamp-spec : {M : Type 1} → statement M
+kihavute-clamp-spec = tie.close (tie.spec clamp-requires bits-requires returns)

@@ -1,0 +1,18 @@
+-- `kihavute_deg_to_rad` meets its contract: the bits of what the entry below ensures. Assumes nothing.
+use borrow.Author.Needs.{needs}
+use mathlib.Core.Path.{ap, _∙_}
+use Rattle.floats.specs.Floats.{bitsOf}
+use Rattle.kihavute.proofs.numbers.kihavute_deg_to_rad.Statement.{statement}
+use Rattle.kihavute.proofs.numbers.kihavute_deg_to_rad.Tie as tie
+
+deg-to-rad-requires : tie.Need-deg-to-rad-requires
+deg-to-rad-requires c κs = search needs
+
+bits-requires : tie.Need-bits-requires
+bits-requires c κs = search needs
+
+returns : tie.Need-returns
+returns c = c .bits .ensures ∙ ap bitsOf (c .before .deg-to-rad .ensures)
+
+pub kihavute-deg-to-rad-spec : {M : Type 1} → statement M
+kihavute-deg-to-rad-spec = tie.close (tie.spec deg-to-rad-requires bits-requires returns)

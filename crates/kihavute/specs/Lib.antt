@@ -1,0 +1,2 @@
+-- What the C interface gives besides the definitions of the crates below.
+pub mod Pair

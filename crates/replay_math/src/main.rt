@@ -1,0 +1,117 @@
+// Runs recorded answers of the Rust through the proved crates, and prints how many there were and
+// how many differ. `oracle/record math` writes the records to this crate's stdin.
+ghost use Prim.Native.Nat.{_+_, _≤_, _<_};
+ghost use lib.ListN.{length};
+use math::Point;
+
+// The bytes of a record, which is a line: the helper's letter, then five operands and two answers as
+// patterns of eight hexadecimal digits, a space before each. Places that a helper does not use hold
+// zeros.
+const RECORD: usize = 65;
+
+fn main() {
+    let mut space = io::large_buffer();
+    let n = io::read_full(0, &mut space);
+    let different = differing(&space[..n]);
+    io::write_all(1, b"replayed ");
+    io::print_decimal(1, (n / RECORD) as u64);
+    io::write_all(1, b", different ");
+    io::print_decimal(1, different);
+    io::write_all(1, b"\n");
+}
+
+// How many whole records hold another answer than the proved crates give.
+fn differing(text: &[u8]) -> u64 {
+    let mut different = 0;
+    for i in 0..text.len() / RECORD {
+        different += missed(text, i * RECORD);
+    }
+    different
+}
+
+// 1 where the record at this place holds another answer, else 0.
+fn missed(text: &[u8], at: usize) -> u64
+    requires { ⌜ at + 65 ≤ length (now text) ⌝ }
+    ensures { λ r. ⌜ r ≤ 1 ⌝ }
+{
+    if agrees(text, at) { 0 } else { 1 }
+}
+
+// Whether the record at this place holds what the proved crates answer.
+fn agrees(text: &[u8], at: usize) -> bool
+    requires { ⌜ at + 65 ≤ length (now text) ⌝ }
+{
+    let a = float(pattern(text, at + 2));
+    let b = float(pattern(text, at + 11));
+    let c = float(pattern(text, at + 20));
+    let d = float(pattern(text, at + 29));
+    let e = float(pattern(text, at + 38));
+    let x = pattern(text, at + 47);
+    let y = pattern(text, at + 56);
+    let p = Point { x: a, y: b };
+    let q = Point { x: c, y: d };
+    match text[at] {
+        b'r' => number(root::sqrt(a), x),
+        b't' => number(floats::tidy(a), x),
+        b'm' => number(floats::min(a, b), x),
+        b'M' => number(floats::max(a, b), x),
+        b'c' => number(floats::clamp(a, b, c), x),
+        b'C' => number(math::clamp01(a), x),
+        b'l' => number(math::lerp(a, b, c), x),
+        b'd' => number(math::deg_to_rad(a), x),
+        b'D' => number(math::rad_to_deg(a), x),
+        b'a' => point(math::add(p, q), x, y),
+        b's' => point(math::sub(p, q), x, y),
+        b'k' => point(math::scale(p, c), x, y),
+        b'p' => number(math::dot(p, q), x),
+        b'n' => number(math::length(p), x),
+        b'w' => number(math::distance(p, q), x),
+        b'u' => point(math::normalize(p), x, y),
+        b'L' => point(math::lerp_point(p, q, e), x, y),
+        _ => false,
+    }
+}
+
+fn number(found: f32, due: u32) -> bool {
+    floats::bits(found) == due
+}
+
+fn point(found: Point, x: u32, y: u32) -> bool {
+    number(found.x, x) && number(found.y, y)
+}
+
+// The float of a pattern, for every NaN's pattern the one NaN.
+fn float(bits: u32) -> f32 {
+    if bits % 0x8000_0000 > 0x7f80_0000 {
+        return 0.0 / 0.0;
+    }
+    f32::from_bits(bits)
+}
+
+// The eight hexadecimal digits from this place on.
+fn pattern(text: &[u8], at: usize) -> u32
+    requires { ⌜ at + 8 ≤ length (now text) ⌝ }
+{
+    half(text, at) * 65536 + half(text, at + 4)
+}
+
+fn half(text: &[u8], at: usize) -> u32
+    requires { ⌜ at + 4 ≤ length (now text) ⌝ }
+    ensures { λ r. ⌜ r < 65536 ⌝ }
+{
+    digit(text[at]) * 4096
+        + digit(text[at + 1]) * 256
+        + digit(text[at + 2]) * 16
+        + digit(text[at + 3])
+}
+
+// What an upper-case hexadecimal digit stands for, and 0 for any other byte.
+fn digit(byte: u8) -> u32
+    ensures { λ r. ⌜ r < 16 ⌝ }
+{
+    match byte {
+        b'0'..=b'9' => (byte - b'0') as u32,
+        b'A'..=b'F' => (byte - b'A') as u32 + 10,
+        _ => 0,
+    }
+}

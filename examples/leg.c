@@ -1,0 +1,27 @@
+/* Prints the length and the direction of a leg, in the unit of its ends. ./run compiles and runs it; four numbers
+ * (x and y of the start, then of the end) take the place of the leg below. */
+
+#include <stdio.h>
+#include <stdlib.h>
+
+#include "kihavute.h"
+
+int main(int count, char **words) {
+    /* from the landing site to the first corner of a stand, in metres */
+    float leg[4] = {120.5f, 40, 480.5f, 520};
+    if (count == 5) {
+        for (int i = 0; i < 4; i++) leg[i] = strtof(words[i + 1], NULL);
+    } else if (count != 1) {
+        fprintf(stderr, "usage: leg [START-X START-Y END-X END-Y]\n");
+        return 2;
+    }
+
+    uint64_t way = kihavute_sub(leg[2], leg[3], leg[0], leg[1]);
+    float x = kihavute_x(way), y = kihavute_y(way);
+    uint64_t direction = kihavute_normalize(x, y);
+
+    printf("leg from (%g, %g) to (%g, %g)\n", leg[0], leg[1], leg[2], leg[3]);
+    printf("length %g\n", kihavute_float(kihavute_length(x, y)));
+    printf("direction (%g, %g)\n", kihavute_x(direction), kihavute_y(direction));
+    return 0;
+}

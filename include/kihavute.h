@@ -1,0 +1,102 @@
+/* Kihavute: the path library of a lidar flight controller, proved in Rattle. This is its C interface.
+ *
+ * Build:  ./run makes target/native/libkihavute.a for this machine; link it, nothing else is needed.
+ * Limits: no function allocates, blocks, keeps state or reads anything but its arguments. Each is defined for
+ *         every bit pattern of its arguments and may be called from any thread.
+ * Units:  coordinates and lengths are in the unit of the path, times t are pure numbers, angles say theirs.
+ * Bits:   a function that returns uint32_t gives the bits of a float, as IEEE 754 binary32 lays them out. A NaN is
+ *         always 0x7FC00000 there, whatever NaN went in. A function that returns uint64_t gives two such
+ *         patterns: x in the low half, y in the high half.
+ * Order:  each operation rounds once, to nearest with ties to even, in the order written beside each name. No
+ *         multiplication is fused with an addition.
+ *
+ * Example: the length and the direction of a leg from (1, 2) to (4, 6).
+ *
+ *     uint64_t way = kihavute_sub(4, 6, 1, 2);
+ *     float x = kihavute_x(way), y = kihavute_y(way);
+ *     float length = kihavute_float(kihavute_length(x, y));        // 5
+ *     uint64_t direction = kihavute_normalize(x, y);               // (0.6, 0.8)
+ */
+#ifndef KIHAVUTE_H
+#define KIHAVUTE_H
+
+#include <stdint.h>
+#include <string.h>
+
+#ifdef __cplusplus
+extern "C" {
+#endif
+
+/* ---- Roots ---- */
+
+/* The float nearest to the exact square root of x, ties to even. -0, +0 and infinity give themselves. NaN and
+ * every x below zero give the NaN 0x7FC00000. */
+float kihavute_sqrt(float x);
+
+/* ---- Single numbers ---- */
+
+/* x itself, and for any NaN the one NaN 0x7FC00000: what every float passes through before it is stored. */
+float kihavute_tidy(float x);
+
+/* The smaller and the larger of a and b. A NaN loses against a number; zeros of either sign are equal, and of
+ * two equals the first is kept. */
+uint32_t kihavute_min(float a, float b);
+uint32_t kihavute_max(float a, float b);
+
+/* low where x is below low, else high where x is above high, else x. A NaN x stays NaN. The bounds are the
+ * caller's: where low is above high, an x below low gives low and an x from low on gives high. A NaN bound
+ * bounds nothing. */
+uint32_t kihavute_clamp(float x, float low, float high);
+
+/* x held to 0 and 1. A NaN is 0, and -0 stays -0. */
+uint32_t kihavute_clamp01(float x);
+
+/* a + (b - a) * t. t is not clamped. */
+uint32_t kihavute_lerp(float a, float b, float t);
+
+/* deg * PI / 180 and rad * 180 / PI, with the float 0x40490FDB for PI. */
+uint32_t kihavute_deg_to_rad(float deg);
+uint32_t kihavute_rad_to_deg(float rad);
+
+/* ---- Points ---- */
+
+/* (ax + bx, ay + by) and (ax - bx, ay - by). */
+uint64_t kihavute_add(float ax, float ay, float bx, float by);
+uint64_t kihavute_sub(float ax, float ay, float bx, float by);
+
+/* (x * factor, y * factor). */
+uint64_t kihavute_scale(float x, float y, float factor);
+
+/* ax * bx + ay * by. */
+uint32_t kihavute_dot(float ax, float ay, float bx, float by);
+
+/* The root of x * x + y * y. It overflows to infinity from about 1.8e19 up, and squares below 2^-149 are lost. */
+uint32_t kihavute_length(float x, float y);
+
+/* The length of (bx - ax, by - ay). */
+uint32_t kihavute_distance(float ax, float ay, float bx, float by);
+
+/* (x / length, y / length), and (0, 0) where the length is at most 2^-23. */
+uint64_t kihavute_normalize(float x, float y);
+
+/* Each coordinate's lerp from a to b. */
+uint64_t kihavute_lerp_point(float ax, float ay, float bx, float by, float t);
+
+/* ---- From bits to floats ---- */
+
+/* The float that has these bits. */
+static inline float kihavute_float(uint32_t bits) {
+    float value;
+    memcpy(&value, &bits, sizeof value);
+    return value;
+}
+
+/* The two coordinates of a returned point. */
+static inline float kihavute_x(uint64_t point) { return kihavute_float((uint32_t)point); }
+static inline float kihavute_y(uint64_t point) { return kihavute_float((uint32_t)(point >> 32)); }
+
+#ifdef __cplusplus
+}
+#endif
+
+#endif

@@ -1,0 +1,34 @@
+//! Copies each of the original's files unchanged into the build folder and appends what accessors/ has for it, so
+//! that its private functions and fields can be called. The files come from the folder $ANIMATO_SRC, else from
+//! ../shared/docs/src beside the repository.
+
+use std::path::{Path, PathBuf};
+use std::{env, fs};
+
+const FILES: [&str; 5] = ["math", "svg", "bezier", "poly", "morph"];
+
+fn main() {
+    let here = PathBuf::from(env::var("CARGO_MANIFEST_DIR").expect("cargo names the package's folder"));
+    let out = PathBuf::from(env::var("OUT_DIR").expect("cargo names the build folder"));
+    let sources = env::var_os("ANIMATO_SRC").map_or_else(|| here.join("../../../shared/docs/src"), PathBuf::from);
+    println!("cargo:rerun-if-env-changed=ANIMATO_SRC");
+
+    let mut root = String::new();
+    for name in FILES {
+        let mut text = read(&sources.join(format!("{name}.rs")));
+        let accessors = here.join(format!("accessors/{name}.rs"));
+        if accessors.is_file() {
+            text.push('\n');
+            text.push_str(&read(&accessors));
+        }
+        let copy = out.join(format!("{name}.rs"));
+        fs::write(&copy, text).expect("the build folder takes a file");
+        root.push_str(&format!("#[path = {copy:?}]\npub mod {name};\n"));
+    }
+    fs::write(out.join("root.rs"), root).expect("the build folder takes a file");
+}
+
+fn read(file: &Path) -> String {
+    println!("cargo:rerun-if-changed={}", file.display());
+    fs::read_to_string(file).unwrap_or_else(|error| panic!("{}: {error}", file.display()))
+}

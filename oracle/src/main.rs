@@ -1,0 +1,38 @@
+//! The comparison of the proved library with the original Rust, by bits. `oracle/run` says what it takes.
+
+mod compare;
+mod math;
+mod record;
+mod root_all;
+mod samples;
+
+use compare::Report;
+use std::process::ExitCode;
+
+const SEED: u64 = 20_260_214;
+
+fn main() -> ExitCode {
+    let words: Vec<String> = std::env::args().skip(1).collect();
+    let words: Vec<&str> = words.iter().map(String::as_str).collect();
+    let mut report = Report::new();
+    match words[..] {
+        ["gate"] => {
+            math::compare(&mut report, SEED, 200_000);
+            record::compare(&mut report, SEED);
+        }
+        ["math"] => math::compare(&mut report, SEED, 2_000_000),
+        ["math", seed] => match seed.parse() {
+            Ok(seed) => math::compare(&mut report, seed, 2_000_000),
+            Err(_) => return usage(),
+        },
+        ["root_all"] => root_all::compare(&mut report),
+        ["record", "math"] => record::write(&mut report, SEED),
+        _ => return usage(),
+    }
+    if report.finish() { ExitCode::SUCCESS } else { ExitCode::FAILURE }
+}
+
+fn usage() -> ExitCode {
+    eprintln!("oracle/run gate | math [SEED] | root_all | record math");
+    ExitCode::from(2)
+}

@@ -1,0 +1,176 @@
+//! The proved library from Rust: each function of `include/kihavute.h`, safe to call with any argument.
+//!
+//! A `Bits` answer is a float's bit pattern, where every NaN is 7FC00000. A point is `[x, y]`.
+//!
+//! ```
+//! let way = kihavute::sub([4.0, 6.0], [1.0, 2.0]).map(f32::from_bits);
+//! assert_eq!(f32::from_bits(kihavute::length(way)), 5.0);
+//! ```
+
+/// The bit pattern of a float; a NaN's is 7FC00000.
+pub type Bits = u32;
+
+unsafe extern "C" {
+    safe fn kihavute_sqrt(x: f32) -> f32;
+    safe fn kihavute_tidy(x: f32) -> f32;
+    safe fn kihavute_min(a: f32, b: f32) -> u32;
+    safe fn kihavute_max(a: f32, b: f32) -> u32;
+    safe fn kihavute_clamp(x: f32, low: f32, high: f32) -> u32;
+    safe fn kihavute_clamp01(x: f32) -> u32;
+    safe fn kihavute_lerp(a: f32, b: f32, t: f32) -> u32;
+    safe fn kihavute_deg_to_rad(deg: f32) -> u32;
+    safe fn kihavute_rad_to_deg(rad: f32) -> u32;
+    safe fn kihavute_add(ax: f32, ay: f32, bx: f32, by: f32) -> u64;
+    safe fn kihavute_sub(ax: f32, ay: f32, bx: f32, by: f32) -> u64;
+    safe fn kihavute_scale(x: f32, y: f32, factor: f32) -> u64;
+    safe fn kihavute_dot(ax: f32, ay: f32, bx: f32, by: f32) -> u32;
+    safe fn kihavute_length(x: f32, y: f32) -> u32;
+    safe fn kihavute_distance(ax: f32, ay: f32, bx: f32, by: f32) -> u32;
+    safe fn kihavute_normalize(x: f32, y: f32) -> u64;
+    safe fn kihavute_lerp_point(ax: f32, ay: f32, bx: f32, by: f32, t: f32) -> u64;
+}
+
+// the two patterns of a packed point
+fn apart(point: u64) -> [Bits; 2] {
+    [point as u32, (point >> 32) as u32]
+}
+
+/// The float nearest to the exact square root, ties to even; NaN and below zero give NaN.
+#[inline]
+pub fn sqrt(x: f32) -> f32 {
+    kihavute_sqrt(x)
+}
+
+/// `x`, and for every NaN the one NaN 7FC00000.
+#[inline]
+pub fn tidy(x: f32) -> f32 {
+    kihavute_tidy(x)
+}
+
+/// The smaller: a NaN loses against a number, and of two equals the first is kept.
+#[inline]
+pub fn min(a: f32, b: f32) -> Bits {
+    kihavute_min(a, b)
+}
+
+/// The larger: a NaN loses against a number, and of two equals the first is kept.
+#[inline]
+pub fn max(a: f32, b: f32) -> Bits {
+    kihavute_max(a, b)
+}
+
+/// `x` held to `low` and `high`; a NaN stays.
+#[inline]
+pub fn clamp(x: f32, low: f32, high: f32) -> Bits {
+    kihavute_clamp(x, low, high)
+}
+
+/// `x` held to 0 and 1; a NaN is 0.
+#[inline]
+pub fn clamp01(x: f32) -> Bits {
+    kihavute_clamp01(x)
+}
+
+/// `a + (b - a) * t`.
+#[inline]
+pub fn lerp(a: f32, b: f32, t: f32) -> Bits {
+    kihavute_lerp(a, b, t)
+}
+
+/// Degrees to radians.
+#[inline]
+pub fn deg_to_rad(deg: f32) -> Bits {
+    kihavute_deg_to_rad(deg)
+}
+
+/// Radians to degrees.
+#[inline]
+pub fn rad_to_deg(rad: f32) -> Bits {
+    kihavute_rad_to_deg(rad)
+}
+
+/// `a + b`.
+#[inline]
+pub fn add(a: [f32; 2], b: [f32; 2]) -> [Bits; 2] {
+    apart(kihavute_add(a[0], a[1], b[0], b[1]))
+}
+
+/// `a - b`.
+#[inline]
+pub fn sub(a: [f32; 2], b: [f32; 2]) -> [Bits; 2] {
+    apart(kihavute_sub(a[0], a[1], b[0], b[1]))
+}
+
+/// Both coordinates times `factor`.
+#[inline]
+pub fn scale(v: [f32; 2], factor: f32) -> [Bits; 2] {
+    apart(kihavute_scale(v[0], v[1], factor))
+}
+
+/// The sum of the coordinates' products.
+#[inline]
+pub fn dot(a: [f32; 2], b: [f32; 2]) -> Bits {
+    kihavute_dot(a[0], a[1], b[0], b[1])
+}
+
+/// The root of the dot product of `v` with itself.
+#[inline]
+pub fn length(v: [f32; 2]) -> Bits {
+    kihavute_length(v[0], v[1])
+}
+
+/// The length of `b - a`.
+#[inline]
+pub fn distance(a: [f32; 2], b: [f32; 2]) -> Bits {
+    kihavute_distance(a[0], a[1], b[0], b[1])
+}
+
+/// `v` over its length, and (0, 0) where that is at most 2^-23.
+#[inline]
+pub fn normalize(v: [f32; 2]) -> [Bits; 2] {
+    apart(kihavute_normalize(v[0], v[1]))
+}
+
+/// Each coordinate's `lerp` from `a` to `b`.
+#[inline]
+pub fn lerp_point(a: [f32; 2], b: [f32; 2], t: f32) -> [Bits; 2] {
+    apart(kihavute_lerp_point(a[0], a[1], b[0], b[1], t))
+}
+
+#[cfg(test)]
+mod tests {
+    use super::*;
+
+    const NAN: Bits = 0x7FC0_0000;
+
+    fn bits(point: [f32; 2]) -> [Bits; 2] {
+        point.map(f32::to_bits)
+    }
+
+    #[test]
+    fn numbers() {
+        assert_eq!(sqrt(2.0).to_bits(), 0x3FB5_04F3);
+        assert_eq!(sqrt(-1.0).to_bits(), NAN);
+        assert_eq!(tidy(f32::from_bits(0xFF81_2345)).to_bits(), NAN);
+        assert_eq!(min(0.0, -0.0), 0);
+        assert_eq!(max(f32::NAN, 1.0), 1.0f32.to_bits());
+        assert_eq!(clamp(3.0, 1.0, 2.0), 2.0f32.to_bits());
+        assert_eq!(clamp01(f32::NAN), 0);
+        assert_eq!(lerp(1.0, 3.0, 0.5), 2.0f32.to_bits());
+        assert_eq!(deg_to_rad(180.0), 0x4049_0FDB);
+        assert_eq!(rad_to_deg(f32::from_bits(0x4049_0FDB)), 180.0f32.to_bits());
+    }
+
+    #[test]
+    fn points() {
+        assert_eq!(add([1.0, 2.0], [3.0, 5.0]), bits([4.0, 7.0]));
+        assert_eq!(sub([1.0, 2.0], [3.0, 5.0]), bits([-2.0, -3.0]));
+        assert_eq!(scale([1.0, f32::NAN], 2.0), [2.0f32.to_bits(), NAN]);
+        assert_eq!(dot([1.0, 2.0], [3.0, 5.0]), 13.0f32.to_bits());
+        assert_eq!(length([3.0, 4.0]), 5.0f32.to_bits());
+        assert_eq!(distance([1.0, 2.0], [4.0, 6.0]), 5.0f32.to_bits());
+        assert_eq!(normalize([3.0, 4.0]), bits([0.6, 0.8]));
+        assert_eq!(normalize([0.0, 1.1920929e-7]), [0, 0]);
+        assert_eq!(lerp_point([0.0, 2.0], [4.0, 4.0], 0.25), bits([1.0, 2.5]));
+    }
+}

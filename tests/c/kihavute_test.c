@@ -1,0 +1,125 @@
+/* Calls each function of include/kihavute.h from C and compares bits. tests/c/run compiles and runs it. */
+
+#include <stdio.h>
+
+#include "kihavute.h"
+
+static int passed, failed;
+
+static uint32_t bits(float x) {
+    uint32_t pattern;
+    memcpy(&pattern, &x, sizeof pattern);
+    return pattern;
+}
+
+static void same(const char *what, uint64_t found, uint64_t due) {
+    if (found == due) {
+        passed++;
+    } else {
+        failed++;
+        printf("  %s: found %llX, due %llX\n", what, (unsigned long long)found, (unsigned long long)due);
+    }
+}
+
+static uint64_t point(float x, float y) { return (uint64_t)bits(y) << 32 | bits(x); }
+
+#define NAN_BITS 0x7FC00000u
+#define LEAST 0x00000001u
+#define GREATEST 0x7F7FFFFFu
+#define INFINITE 0x7F800000u
+#define MINUS_ZERO 0x80000000u
+
+/* quiet and signalling NaNs, of either sign, with and without a payload */
+static const uint32_t nans[] = {0x7FC00000, 0xFFC00000, 0x7F800001, 0xFF800001, 0x7FFFFFFF, 0xFFFFFFFF, 0x7FA00000, 0xFF812345};
+
+static void roots(void) {
+    same("sqrt of 4", bits(kihavute_sqrt(4)), bits(2));
+    same("sqrt of 2", bits(kihavute_sqrt(2)), 0x3FB504F3);
+    same("sqrt of 3", bits(kihavute_sqrt(3)), 0x3FDDB3D7);
+    same("sqrt of +0", bits(kihavute_sqrt(0)), 0);
+    same("sqrt of -0", bits(kihavute_sqrt(kihavute_float(MINUS_ZERO))), MINUS_ZERO);
+    same("sqrt of infinity", bits(kihavute_sqrt(kihavute_float(INFINITE))), INFINITE);
+    same("sqrt of -infinity", bits(kihavute_sqrt(kihavute_float(0xFF800000))), NAN_BITS);
+    same("sqrt of -1", bits(kihavute_sqrt(-1)), NAN_BITS);
+    same("sqrt of the greatest below 0", bits(kihavute_sqrt(kihavute_float(0x80000001))), NAN_BITS);
+    same("sqrt of the least above 0", bits(kihavute_sqrt(kihavute_float(LEAST))), 0x1A3504F3);
+    same("sqrt of the greatest subnormal", bits(kihavute_sqrt(kihavute_float(0x007FFFFF))), 0x1FFFFFFF);
+    same("sqrt of the greatest", bits(kihavute_sqrt(kihavute_float(GREATEST))), 0x5F7FFFFF);
+    same("sqrt of the next below 1", bits(kihavute_sqrt(kihavute_float(0x3F7FFFFF))), 0x3F7FFFFF);
+    same("sqrt of the next above 1", bits(kihavute_sqrt(kihavute_float(0x3F800001))), 0x3F800000);
+    for (size_t i = 0; i < sizeof nans / sizeof *nans; i++) {
+        same("sqrt of a NaN", bits(kihavute_sqrt(kihavute_float(nans[i]))), NAN_BITS);
+    }
+}
+
+static void numbers(void) {
+    const float nan = kihavute_float(NAN_BITS), minus_zero = kihavute_float(MINUS_ZERO);
+
+    for (size_t i = 0; i < sizeof nans / sizeof *nans; i++) {
+        same("tidy of a NaN", bits(kihavute_tidy(kihavute_float(nans[i]))), NAN_BITS);
+        same("min of NaNs", kihavute_min(kihavute_float(nans[i]), kihavute_float(nans[i])), NAN_BITS);
+        same("clamp of a NaN", kihavute_clamp(kihavute_float(nans[i]), 0, 1), NAN_BITS);
+        same("clamp01 of a NaN", kihavute_clamp01(kihavute_float(nans[i])), 0);
+        same("lerp of a NaN", kihavute_lerp(kihavute_float(nans[i]), 1, 0), NAN_BITS);
+    }
+    same("tidy of a number", bits(kihavute_tidy(-1.5f)), bits(-1.5f));
+    same("tidy of -0", bits(kihavute_tidy(minus_zero)), MINUS_ZERO);
+    same("tidy of the least above 0", bits(kihavute_tidy(kihavute_float(LEAST))), LEAST);
+
+    same("min of 1 and 2", kihavute_min(1, 2), bits(1));
+    same("min of NaN and 2", kihavute_min(nan, 2), bits(2));
+    same("min of 2 and NaN", kihavute_min(2, nan), bits(2));
+    same("min of +0 and -0", kihavute_min(0, minus_zero), 0);
+    same("min of -0 and +0", kihavute_min(minus_zero, 0), MINUS_ZERO);
+    same("max of 1 and 2", kihavute_max(1, 2), bits(2));
+    same("max of NaN and 2", kihavute_max(nan, 2), bits(2));
+    same("max of 2 and NaN", kihavute_max(2, nan), bits(2));
+    same("max of +0 and -0", kihavute_max(0, minus_zero), 0);
+    same("max of -0 and +0", kihavute_max(minus_zero, 0), MINUS_ZERO);
+
+    same("clamp below", kihavute_clamp(-3, -2, 5), bits(-2));
+    same("clamp within", kihavute_clamp(3, -2, 5), bits(3));
+    same("clamp above", kihavute_clamp(7, -2, 5), bits(5));
+    same("clamp below crossed bounds", kihavute_clamp(0, 2, 1), bits(2));
+    same("clamp above crossed bounds", kihavute_clamp(3, 2, 1), bits(1));
+    same("clamp01 below", kihavute_clamp01(-3), 0);
+    same("clamp01 of -0", kihavute_clamp01(minus_zero), MINUS_ZERO);
+    same("clamp01 above", kihavute_clamp01(3), bits(1));
+
+    same("lerp halfway", kihavute_lerp(1, 3, 0.5f), bits(2));
+    same("lerp is not clamped", kihavute_lerp(1, 3, 2), bits(5));
+    same("lerp to the end need not reach it", kihavute_lerp(16777216, 0.5f, 1), 0);
+    same("180 degrees", kihavute_deg_to_rad(180), 0x40490FDB);
+    same("PI in degrees", kihavute_rad_to_deg(kihavute_float(0x40490FDB)), bits(180));
+}
+
+static void points(void) {
+    const float epsilon = kihavute_float(0x34000000);
+
+    same("add", kihavute_add(1, 2, 3, 5), point(4, 7));
+    same("add, a tie", kihavute_add(16777216, 16777218, 1, 1), point(16777216, 16777220));
+    same("sub", kihavute_sub(1, 2, 3, 5), point(-2, -3));
+    same("scale", kihavute_scale(3, -4, 0.5f), point(1.5f, -2));
+    same("scale, overflow", kihavute_scale(kihavute_float(GREATEST), 1, 2), (uint64_t)bits(2) << 32 | INFINITE);
+    same("dot", kihavute_dot(1, 2, 3, 5), bits(13));
+    /* fused, the sum would be -2^-46 */
+    same("dot is not fused", kihavute_dot(1 + epsilon, -1, 1 - epsilon, 1), 0);
+    same("length", kihavute_length(3, 4), bits(5));
+    same("length, overflow", kihavute_length(2e19f, 0), INFINITE);
+    same("length, underflow", kihavute_length(1e-23f, 0), 0);
+    same("distance", kihavute_distance(1, 2, 4, 6), bits(5));
+    same("normalize", kihavute_normalize(3, 4), point(0.6f, 0.8f));
+    same("normalize at 2^-23", kihavute_normalize(0, epsilon), 0);
+    same("normalize above 2^-23", kihavute_normalize(0, kihavute_float(0x34000001)), point(0, 1));
+    same("normalize of an infinity", kihavute_normalize(kihavute_float(INFINITE), 1), (uint64_t)0 << 32 | NAN_BITS);
+    same("lerp_point", kihavute_lerp_point(0, 2, 4, 4, 0.25f), point(1, 2.5f));
+    same("x and y apart", point(kihavute_x(point(3, -7)), kihavute_y(point(3, -7))), point(3, -7));
+}
+
+int main(void) {
+    roots();
+    numbers();
+    points();
+    printf("%d passed, %d failed\n", passed, failed);
+    return failed != 0;
+}
