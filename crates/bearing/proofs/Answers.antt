@@ -138,7 +138,7 @@ guess-range a b steep left = near-range _
 
 -- ---- the guess or the bisection's answer
 not-tiny : (u v : ℕ) (q : Bool) → tiny u v (bit q) ≡ false → bit q ≡ 0 → v < 8192 * u
-not-tiny u v false h e = let k = leb-false (u * 8192) v h in omega arith
+not-tiny u v false h e = let k = leb-false (u * 8192 + 0 * 2 ^ 30) v h in omega arith
 not-tiny u v true h e = omega arith
 
 module _ (y x : Float) (p q : Bool) (Y X u v : ℕ) (hy : Is y p Y) (hx : Is x q X) (pr : Pair Y X u v) where

@@ -65,8 +65,14 @@ module _ (y x : Float) (p q : Bool) (Y X : ℕ) (hy : Is y p Y) (hx : Is x q X) 
       ∙ ap (λ (s : ℕ). cond (tiny u v (bit q)) (div binary32 y x) (ofBits binary32 (s * 2147483648 + angleBits u v (bit q) (guessOf (plain y) (plain x) (ltb v u) (bit q))))) (sign-is y p Y hy sy)
 
   tiny-right : (r : Bool) (u v : ℕ) → tiny u v (bit r) ≡ true → Is x r X → Pair Y X u v → Atan2Rule y x (div binary32 y x)
-  tiny-right false u v e h pr = tiny-rule y x p Y X u v hy h pr (leb-true (u * 8192) v e)
-  tiny-right true u v e h pr = absurd (subst T (sym e) tt)
+  tiny-right false u v e h pr = tiny-rule y x p Y X u v hy h pr (let k = leb-true (u * 8192 + 0 * 2 ^ 30) v e in near u v k)
+    where
+      near : (u v : ℕ) → u * 8192 + 0 * 2 ^ 30 ≤ v → u * 8192 ≤ v
+      near u v k = omega arith
+  tiny-right true u v e h pr = absurd (none u v (leb-true (u * 8192 + 1 * 2 ^ 30) v e) (pr .run-under))
+    where
+      none : (u v : ℕ) → u * 8192 + 1 * 2 ^ 30 ≤ v → v < 2 ^ 30 → ⊥
+      none u v k l = omega arith
 
   slanted-meets : (u v : ℕ) → Pair Y X u v → Atan2Rule y x (slanted y x u v)
   slanted-meets u v pr = subst (λ (z : Float). Atan2Rule y x z) (sym (slanted-is u v)) (go (tiny u v (bit q)) refl)
@@ -210,7 +216,9 @@ atan2-tiny y x p Y X fy fx hy hx pos h =
     let pr : Pair Y X u v = pair Y X (le-trans pos (le-add-right Y X)) in
     slanted-answer y x p false Y X hy hx sy sx pos ∙ slanted-is y x p false Y X hy hx sy sx u v
     ∙ ap (λ (t : Bool). cond t (div binary32 y x) (ofBits binary32 (bit p * 2147483648 + angleBits u v 0 (guessOf (plain y) (plain x) (ltb v u) 0))))
-    (le-leb (u * 8192) v (tiny-parts Y X u v (pr .scale) (2 ^ 925) (pr .scale-pos) (pr .rise) (pr .run) h))
+    (le-leb (u * 8192 + 0 * 2 ^ 30) v (near u v (tiny-parts Y X u v (pr .scale) (2 ^ 925) (pr .scale-pos) (pr .rise) (pr .run) h)))
   where
+    near : (u v : ℕ) → u * 8192 ≤ v → u * 8192 + 0 * 2 ^ 30 ≤ v
+    near u v k = omega arith
     under : (z : Float) (s : Bool) (N : ℕ) → T (fits binary32 z) → Is z s N → N < 2 ^ 277
     under z s N f i = let w = whole z f (finite-of z s N i) in subst (λ (n : ℕ). n < 2 ^ 277) (sym (units-same z s (w .minus) N (w .units) i (w .is))) (w .small)

@@ -139,9 +139,9 @@ fallbackOf u v left = cond (ltb v u) (betweenOf u v left quarter threeQuarters) 
 abbrev pub angleBits : ℕ → ℕ → ℕ → ℕ → ℕ
 angleBits u v left guess = cond (passes u v left guess) guess (fallbackOf u v left)
 
--- below 2 ^ -13 the angle is the quotient, with all its digits
+-- below 2 ^ -13 the angle is the quotient, with all its digits: v is below 2 ^ 30, so that no point on the left side is near
 abbrev pub tiny : ℕ → ℕ → ℕ → Bool
-tiny u v left = eqb left 0 && leb (u * 8192) v
+tiny u v left = leb (u * 8192 + left * 2 ^ 30) v
 
 abbrev pub slanted : Float → Float → ℕ → ℕ → Float
 slanted y x u v =
