@@ -3,7 +3,7 @@ use mathlib.Core.Path.{_≡_, refl, sym, ap, _∙_, subst}
 use Prim.Native.Nat.{ℕ, _+_, _*_, _^_, _≤_, _<_}
 use native.Mathlib.Nat.{add-le-add, le-refl, le-trans, le-of-eq, mul-assoc, mul-comm, mul-add, add-mul, mul-le-mul-left, mul-le-mul-right}
 use native.Mathlib.Omega.{arith}
-use Rattle.sums.specs.Rule.{Within}
+use Rattle.sums.specs.Rule.{tolerance, Within}
 
 -- ---- a and t lie under A and T by e at most, and g is a - t: then g is within e of A - T
 pub apart-above : (g a t e A T : ℕ) → g + t ≡ a → a ≤ A → T ≤ t + e → g + T ≤ A + e
@@ -19,7 +19,7 @@ sum-above mw gw lt la s c b h k l = omega arith
 sum-below : (mw gw lt la s c b : ℕ) → gw ≤ mw + c → la ≤ gw + lt + s → s + c ≤ b → la ≤ mw + lt + b
 sum-below mw gw lt la s c b h k l = omega arith
 
-module _ (m L u g e c a t w : ℕ) (unit : L * u ≡ 2 ^ 149) (ga : g * w + u * t ≤ u * a + e * w) (gb : u * a ≤ g * w + u * t + e * w) (ma : m ≤ L * g + c) (mb : L * g ≤ m + c) (room : L * e + c ≤ 2 ^ 127) where
+module _ (m L u g e c a t w : ℕ) (unit : L * u ≡ 2 ^ 149) (ga : g * w + u * t ≤ u * a + e * w) (gb : u * a ≤ g * w + u * t + e * w) (ma : m ≤ L * g + c) (mb : L * g ≤ m + c) (room : L * e + c ≤ tolerance) where
   side : (x : ℕ) → L * (u * x) ≡ 2 ^ 149 * x
   side x = sym (mul-assoc L u x) ∙ ap (λ (n : ℕ). n * x) unit
 
@@ -29,16 +29,16 @@ module _ (m L u g e c a t w : ℕ) (unit : L * u ≡ 2 ^ 149) (ga : g * w + u * 
   right : (x : ℕ) → L * (x + e * w) ≡ L * x + L * e * w
   right x = mul-add L x (e * w) ∙ ap (λ (n : ℕ). L * x + n) (sym (mul-assoc L e w))
 
-  fits : L * e * w + c * w ≤ 2 ^ 127 * w
+  fits : L * e * w + c * w ≤ tolerance * w
   fits = le-trans (le-of-eq (sym (add-mul (L * e) c w))) (mul-le-mul-right w room)
 
   pub within : Within m a t w
   within =
       record {
-        above = sum-above (m * w) (L * g * w) (2 ^ 149 * t) (2 ^ 149 * a) (L * e * w) (c * w) (2 ^ 127 * w)
+        above = sum-above (m * w) (L * g * w) (2 ^ 149 * t) (2 ^ 149 * a) (L * e * w) (c * w) (tolerance * w)
             (le-trans (mul-le-mul-right w ma) (le-of-eq (add-mul (L * g) c w)))
             (le-trans (le-of-eq (sym left)) (le-trans (mul-le-mul-left L ga) (le-of-eq (right (u * a) ∙ ap (λ (n : ℕ). n + L * e * w) (side a))))) fits;
-        below = sum-below (m * w) (L * g * w) (2 ^ 149 * t) (2 ^ 149 * a) (L * e * w) (c * w) (2 ^ 127 * w)
+        below = sum-below (m * w) (L * g * w) (2 ^ 149 * t) (2 ^ 149 * a) (L * e * w) (c * w) (tolerance * w)
             (le-trans (mul-le-mul-right w mb) (le-of-eq (add-mul m c w)))
             (le-trans (le-of-eq (sym (side a))) (le-trans (mul-le-mul-left L gb) (le-of-eq (right (g * w + u * t) ∙ ap (λ (n : ℕ). n + L * e * w) left)))) fits;
       }

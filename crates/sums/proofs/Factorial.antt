@@ -5,7 +5,7 @@ use native.Mathlib.Nat.{le-trans, le-of-eq, le-of-lt, mul-assoc, mul-comm, add-m
 use native.Mathlib.Omega.{arith}
 use lib.Pow.{pow-add}
 use Rattle.sums.specs.Sums.{factorial}
-use Rattle.sums.specs.Steps.{coefficient}
+use Rattle.sums.specs.Steps.{weight, coefficient}
 
 pub factorial-pos : (j : ℕ) → 0 < factorial j
 unfolding factorial
@@ -29,10 +29,6 @@ factorial-divides N j h =
   where
     back : N ≡ j + (N - j)
     back = omega arith
-
--- the weight of a coefficient: U times 16 for each r ^ 2
-abbrev pub weight : ℕ → ℕ → ℕ
-weight U j = U * 16 ^ (j / 2)
 
 pub weight-next : (U j : ℕ) → weight U (j + 4) ≡ 256 * weight U j
 weight-next U j =

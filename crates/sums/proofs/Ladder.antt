@@ -9,8 +9,8 @@ use mathlib.Core.Bool.{Bool, true, false, _&&_}
 use lib.Dec.{T, leb, leb→le, lit≤, lit<}
 use lib.Ieee.Fits.{and-l, and-r}
 use Rattle.sums.specs.Sums.{factorial}
-use Rattle.sums.specs.Steps.{coefficient, risen, ladder}
-use Rattle.sums.proofs.Factorial.{weight, weight-next, coefficient-low, coefficient-high}
+use Rattle.sums.specs.Steps.{weight, coefficient, risen, ladder}
+use Rattle.sums.proofs.Factorial.{weight-next, coefficient-low, coefficient-high}
 use Rattle.sums.proofs.Nested.{follows, follows-head, follows-tail, wide, nested}
 
 -- ---- one product: v / t stands for Q / D, and h for s. b is the weight that t lacks, so that b * D is t * K

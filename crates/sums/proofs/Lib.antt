@@ -15,3 +15,6 @@ pub mod Angles
 pub mod Reach
 pub mod Little
 pub mod Ruled
+pub mod Tiny
+pub mod Symmetry
+pub mod Answers

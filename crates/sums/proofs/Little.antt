@@ -11,7 +11,7 @@ use lib.Pow.{pow-add, pow-mono}
 use lib.Ieee.Fits.{and-l, and-r}
 use Rattle.sums.specs.Sums.{factorial, term, terms, whole, sineSide, cosineSide}
 use Rattle.sums.specs.Reduction.{turn, turnUnits, apart, Reduced}
-use Rattle.sums.specs.Rule.{Within}
+use Rattle.sums.specs.Rule.{tolerance, Within}
 use Rattle.sums.proofs.Factorial.{factorial-pos, factorial-divides}
 use Rattle.sums.proofs.Ladder.{upTo}
 use Rattle.sums.proofs.Scaled.{pow-product}
@@ -90,20 +90,20 @@ module _ (N n d : ℕ) (small : n * 2 ^ 12 ≤ d) where
           next = omega arith
 
   -- eight of them at most
-  rest-small : (js : List ℕ) → T (twoUp js) → T (upTo N js) → length js ≤ 8 → 2 ^ 149 * terms N n d js ≤ 2 ^ 127 * whole N d
+  rest-small : (js : List ℕ) → T (twoUp js) → T (upTo N js) → length js ≤ 8 → 2 ^ 149 * terms N n d js ≤ tolerance * whole N d
   rest-small js t u l =
       le-trans (le-of-eq (mul-assoc (2 ^ 124) (2 ^ 25) (terms N n d js)))
-      (le-trans (mul-le-mul-left (2 ^ 124) (le-trans (terms-small js t u) (mul-le-mul-right (whole N d) l))) (le-of-eq (sym (mul-assoc (2 ^ 124) 8 (whole N d)))))
+      (le-trans (mul-le-mul-left (2 ^ 124) (le-trans (terms-small js t u) (mul-le-mul-right (whole N d) l))) (le-trans (le-of-eq (sym (mul-assoc (2 ^ 124) 8 (whole N d)))) (mul-le-mul-right (whole N d) (lit≤ tt))))
 
 -- ---- m is the first term, and the others are small
 add-three : (x y z b : ℕ) → y ≤ b → x + y ≤ x + z + b
 add-three x y z b h = omega arith
 
-first-only : (m t1 a t w : ℕ) → 2 ^ 149 * t1 ≡ m * w → 2 ^ 149 * a ≤ 2 ^ 127 * w → 2 ^ 149 * t ≤ 2 ^ 127 * w → Within m (t1 + a) t w
+first-only : (m t1 a t w : ℕ) → 2 ^ 149 * t1 ≡ m * w → 2 ^ 149 * a ≤ tolerance * w → 2 ^ 149 * t ≤ tolerance * w → Within m (t1 + a) t w
 first-only m t1 a t w e ha ht =
     record {
-      above = le-trans (add-three (m * w) (2 ^ 149 * t) (2 ^ 149 * a) (2 ^ 127 * w) ht) (le-of-eq (ap (λ (x : ℕ). x + 2 ^ 127 * w) (ap (λ (x : ℕ). x + 2 ^ 149 * a) (sym e) ∙ sym (mul-add (2 ^ 149) t1 a))));
-      below = le-trans (le-of-eq (mul-add (2 ^ 149) t1 a ∙ ap (λ (x : ℕ). x + 2 ^ 149 * a) e)) (add-three (m * w) (2 ^ 149 * a) (2 ^ 149 * t) (2 ^ 127 * w) ha);
+      above = le-trans (add-three (m * w) (2 ^ 149 * t) (2 ^ 149 * a) (tolerance * w) ht) (le-of-eq (ap (λ (x : ℕ). x + tolerance * w) (ap (λ (x : ℕ). x + 2 ^ 149 * a) (sym e) ∙ sym (mul-add (2 ^ 149) t1 a))));
+      below = le-trans (le-of-eq (mul-add (2 ^ 149) t1 a ∙ ap (λ (x : ℕ). x + 2 ^ 149 * a) e)) (add-three (m * w) (2 ^ 149 * a) (2 ^ 149 * t) (tolerance * w) ha);
     }
 
 small-angle : (n : ℕ) → n < 2 ^ 137 → n * 2 ^ 12 ≤ 2 ^ 149

@@ -9,7 +9,7 @@ use lib.Dec.{T, leb, leb→le}
 use lib.Pow.{pow-add}
 use lib.Ieee.Fits.{and-l, and-r}
 use Rattle.sums.specs.Sums.{factorial, term, terms, whole, sineSide, cosineSide}
-use Rattle.sums.specs.Rule.{Within}
+use Rattle.sums.specs.Rule.{tolerance, Within}
 use Rattle.sums.proofs.Ladder.{upTo}
 
 pub pow-product : (c n j : ℕ) → (c * n) ^ j ≡ c ^ j * n ^ j
@@ -61,8 +61,8 @@ module _ (k m a t w : ℕ) (h : Within m a t w) where
   pub within-scaled : Within m (k * a) (k * t) (k * w)
   within-scaled =
       record {
-        above = le-trans (le-of-eq (sym scaled-left)) (le-trans (mul-le-mul-left k (h .above)) (le-of-eq (mul-add k (2 ^ 149 * a) (2 ^ 127 * w) ∙ ap (λ (n : ℕ). n + k * (2 ^ 127 * w)) (mul-left-comm k (2 ^ 149) a) ∙ ap (λ (n : ℕ). 2 ^ 149 * (k * a) + n) (mul-left-comm k (2 ^ 127) w))));
-        below = le-trans (le-of-eq (mul-left-comm (2 ^ 149) k a)) (le-trans (mul-le-mul-left k (h .below)) (le-of-eq (mul-add k (m * w + 2 ^ 149 * t) (2 ^ 127 * w) ∙ ap (λ (n : ℕ). n + k * (2 ^ 127 * w)) scaled-left ∙ ap (λ (n : ℕ). m * (k * w) + 2 ^ 149 * (k * t) + n) (mul-left-comm k (2 ^ 127) w))));
+        above = le-trans (le-of-eq (sym scaled-left)) (le-trans (mul-le-mul-left k (h .above)) (le-of-eq (mul-add k (2 ^ 149 * a) (tolerance * w) ∙ ap (λ (n : ℕ). n + k * (tolerance * w)) (mul-left-comm k (2 ^ 149) a) ∙ ap (λ (n : ℕ). 2 ^ 149 * (k * a) + n) (mul-left-comm k (tolerance) w))));
+        below = le-trans (le-of-eq (mul-left-comm (2 ^ 149) k a)) (le-trans (mul-le-mul-left k (h .below)) (le-of-eq (mul-add k (m * w + 2 ^ 149 * t) (tolerance * w) ∙ ap (λ (n : ℕ). n + k * (tolerance * w)) scaled-left ∙ ap (λ (n : ℕ). m * (k * w) + 2 ^ 149 * (k * t) + n) (mul-left-comm k (tolerance) w))));
       }
 
 pub sine-rescaled : (m R : ℕ) (b : Bool) → Within m (sineSide b R (2 ^ 56)) (sineSide (not b) R (2 ^ 56)) (whole 31 (2 ^ 56))

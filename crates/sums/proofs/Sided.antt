@@ -9,8 +9,7 @@ use lib.Dec.{T, leb, leb→le, lit≤, lit<}
 use lib.ListN.{length}
 use lib.Pow.{pow-add}
 use Rattle.sums.specs.Sums.{factorial, terms}
-use Rattle.sums.specs.Steps.{half, squareOf, fourthOf, ladder}
-use Rattle.sums.proofs.Factorial.{weight}
+use Rattle.sums.specs.Steps.{half, squareOf, fourthOf, weight, ladder}
 use Rattle.sums.proofs.Nested.{follows, wide, wide-is, nested, nested-is}
 use Rattle.sums.proofs.Ladder.{product-low, product-high, most, peak, slack, lost, lack, upTo, Held, ladder-le, held}
 

@@ -14,10 +14,14 @@ inReach x = le (ofBits binary32 3263168512) x && le x (ofBits binary32 111568486
 abbrev pub Is : Float → Bool → ℕ → Type 0
 Is x s n = HasValue x s n (2 ^ 149)
 
+-- "within 2^-22", in units of 2 ^ -149
+abbrev pub tolerance : ℕ
+tolerance = 2 ^ 127
+
 -- m / 2 ^ 149 is within 2 ^ -22 of (a - t) / w, both sides multiplied by 2 ^ 149 * w
 pub record Within (m a t w : ℕ) : Type 0 where
-  pub above : m * w + 2 ^ 149 * t ≤ 2 ^ 149 * a + 2 ^ 127 * w
-  pub below : 2 ^ 149 * a ≤ m * w + 2 ^ 149 * t + 2 ^ 127 * w
+  pub above : m * w + 2 ^ 149 * t ≤ 2 ^ 149 * a + tolerance * w
+  pub below : 2 ^ 149 * a ≤ m * w + 2 ^ 149 * t + tolerance * w
 
 -- The sine of x is the sum at r, and its opposite where just one of the angle and what the turns leave of its size is negative.
 -- Where the answer's sign differs from that one, what is added and what is taken away change places.

@@ -7,6 +7,7 @@ use crate::inner::fixed;
 use crate::inner::reduce;
 use crate::inner::sine_at;
 ghost use mathlib.Core.Path.{_≡_};
+ghost use Rattle.sums.specs.Rule.{inReach};
 ghost use Rattle.sums.specs.Steps.{sineOf, cosineOf};
 
 pub struct SinCos {
@@ -14,60 +15,61 @@ pub struct SinCos {
     pub cos: f32,
 }
 
+// Whether x is at most 64 in size. A NaN is not.
+fn in_reach(x: f32) -> bool
+    ensures { λ r. ⌜ r ≡ inReach x ⌝ }
+{
+    -64.0 <= x && x <= 64.0
+}
+
 // The sine of an angle of at most 64 in size, and NaN for any other.
 pub fn sin(x: f32) -> f32
     ensures { λ r. ⌜ r ≡ sineOf x ⌝ }
 {
-    if -64.0 <= x {
-        if x <= 64.0 {
-            let b = f32::to_bits(x);
-            let a = b % 0x8000_0000;
-            if a < 0x3980_0000 {
-                return x;
-            }
-            let r = reduce(fixed(a));
-            return f32::from_bits(sine_at(b / 0x8000_0000 + r.flip, r.size));
-        }
+    if !in_reach(x) {
+        return 0.0 / 0.0;
     }
-    0.0 / 0.0
+    let b = f32::to_bits(x);
+    let a = b % 0x8000_0000;
+    if a < 0x3980_0000 {
+        return x;
+    }
+    let r = reduce(fixed(a));
+    f32::from_bits(sine_at(b / 0x8000_0000 + r.flip, r.size))
 }
 
 // The cosine of an angle of at most 64 in size, and NaN for any other.
 pub fn cos(x: f32) -> f32
     ensures { λ r. ⌜ r ≡ cosineOf x ⌝ }
 {
-    if -64.0 <= x {
-        if x <= 64.0 {
-            let a = f32::to_bits(x) % 0x8000_0000;
-            if a < 0x3980_0000 {
-                return 1.0;
-            }
-            let r = reduce(fixed(a));
-            return f32::from_bits(cosine_at(r.size));
-        }
+    if !in_reach(x) {
+        return 0.0 / 0.0;
     }
-    0.0 / 0.0
+    let a = f32::to_bits(x) % 0x8000_0000;
+    if a < 0x3980_0000 {
+        return 1.0;
+    }
+    let r = reduce(fixed(a));
+    f32::from_bits(cosine_at(r.size))
 }
 
-// Both at once, for one reduction.
+// Both at once, with one reduction.
 pub fn sin_cos(x: f32) -> SinCos
     ensures { λ r. ⌜ (r .sin ≡ sineOf x) × (r .cos ≡ cosineOf x) ⌝ }
 {
-    if -64.0 <= x {
-        if x <= 64.0 {
-            let b = f32::to_bits(x);
-            let a = b % 0x8000_0000;
-            if a < 0x3980_0000 {
-                return SinCos { sin: x, cos: 1.0 };
-            }
-            let r = reduce(fixed(a));
-            let s = f32::from_bits(sine_at(b / 0x8000_0000 + r.flip, r.size));
-            let c = f32::from_bits(cosine_at(r.size));
-            return SinCos { sin: s, cos: c };
-        }
+    if !in_reach(x) {
+        return SinCos {
+            sin: 0.0 / 0.0,
+            cos: 0.0 / 0.0,
+        };
     }
-    SinCos {
-        sin: 0.0 / 0.0,
-        cos: 0.0 / 0.0,
+    let b = f32::to_bits(x);
+    let a = b % 0x8000_0000;
+    if a < 0x3980_0000 {
+        return SinCos { sin: x, cos: 1.0 };
     }
+    let r = reduce(fixed(a));
+    let s = f32::from_bits(sine_at(b / 0x8000_0000 + r.flip, r.size));
+    let c = f32::from_bits(cosine_at(r.size));
+    SinCos { sin: s, cos: c }
 }

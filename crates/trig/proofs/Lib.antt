@@ -1,0 +1,3 @@
+-- Laws that more than one function cites.
+pub mod Rungs
+pub mod Frame
