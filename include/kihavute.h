@@ -7,6 +7,11 @@
  * Bits:   a function that returns uint32_t gives the bits of a float, as IEEE 754 binary32 lays them out. A NaN is
  *         always 0x7FC00000 there, whatever NaN went in. A function that returns uint64_t gives two such
  *         patterns: x in the low half, y in the high half.
+ * Answer: a function that ends in `answer, answer_len` returns 0 where it accepts, else the number of a refusal in the
+ *         table below. What it gives, or what the refusal carries, is written to the first places of answer, and to
+ *         no other place: lend it 8 places. Into fewer nothing is written, and 255 is returned.
+ * Slices: a pointer, which is never null, and the count of elements behind it, which may be 0. An answer or an output
+ *         overlaps nothing else that the call is lent.
  * Order:  each operation rounds once, to nearest with ties to even, in the order written beside each name. No
  *         multiplication is fused with an addition.
  *
@@ -20,12 +25,34 @@
 #ifndef KIHAVUTE_H
 #define KIHAVUTE_H
 
+#include <stddef.h>
 #include <stdint.h>
 #include <string.h>
 
 #ifdef __cplusplus
 extern "C" {
 #endif
+
+/* ---- Refusals ---- */
+
+/* Offsets count bytes of the text, commands and segments count from 0; beside each number: what it carries. */
+enum kihavute_refusal {
+    KIHAVUTE_ACCEPTED = 0,
+    KIHAVUTE_TOO_LONG = 1,            /* the text's length */
+    KIHAVUTE_UNEXPECTED_END = 2,      /* offset, the text's length */
+    KIHAVUTE_EXPECTED_NUMBER = 3,     /* offset */
+    KIHAVUTE_INVALID_NUMBER = 4,      /* offset */
+    KIHAVUTE_EXPECTED_FLAG = 5,       /* offset */
+    KIHAVUTE_UNSUPPORTED_COMMAND = 6, /* letter, offset */
+    KIHAVUTE_MISSING_MOVE_TO = 7,     /* offset */
+    KIHAVUTE_NO_ROOM = 8,             /* the count needed of each output, in the call's order */
+    KIHAVUTE_BAD_LIST = 9,            /* the first bad command, or half the count of numbers rounded down */
+    KIHAVUTE_ROTATION_RANGE = 10,     /* segment */
+    KIHAVUTE_NOT_FINITE = 11,         /* the first such segment, point or entry */
+    KIHAVUTE_BAD_PATH = 12,           /* nothing */
+    KIHAVUTE_RANGE = 13,              /* the number out of range */
+    KIHAVUTE_SHORT_ANSWER = 255       /* nothing */
+};
 
 /* ---- Roots ---- */
 
@@ -81,6 +108,21 @@ uint64_t kihavute_normalize(float x, float y);
 
 /* Each coordinate's lerp from a to b. */
 uint64_t kihavute_lerp_point(float ax, float ay, float bx, float by, float t);
+
+/* ---- Lookup: a progress is how far along by length, from 0 to 1; a NaN counts as 0, the rest is clamped ---- */
+
+/* The raw parameter of a curve at this progress: answer[0] gets its bits. The table has the curve's running lengths
+ * at the parameters 0, 1/n, .. 1, for n + 1 entries (32 for a quad, a cubic or an arc), and their total. Refused with
+ * 12 where the entries do not start at 0, fall, are not finite, are none or more than 65,521, or where the total is not
+ * the last of them. A total of at most 2^-23 gives the clamped progress. */
+uint32_t kihavute_raw_parameter(const float *entries, size_t entries_len, float total, float progress,
+                                uint64_t *answer, size_t answer_len);
+
+/* The segment of a path at this progress, counted from 0, and how far along it: answer[0] gets the segment, answer[1]
+ * the bits of the progress on it. lengths has the path's running length at the end of each segment. Refused with 12
+ * where one is below 0, below the one before it, or not finite. A path without segments (lengths_len is 0) is accepted
+ * and writes nothing: it has no segment to give. A total of at most 2^-23 gives the last segment at 1. */
+uint32_t kihavute_spot(const float *lengths, size_t lengths_len, float progress, uint64_t *answer, size_t answer_len);
 
 /* ---- From bits to floats ---- */
 

@@ -5,6 +5,8 @@ mod math;
 mod record;
 mod root_all;
 mod samples;
+mod simple;
+mod table;
 
 use compare::Report;
 use std::process::ExitCode;
@@ -18,21 +20,28 @@ fn main() -> ExitCode {
     match words[..] {
         ["gate"] => {
             math::compare(&mut report, SEED, 200_000);
-            record::compare(&mut report, SEED);
+            table::compare(&mut report, SEED, 20_000);
+            for recording in record::RECORDINGS {
+                recording.compare(&mut report, SEED);
+            }
         }
         ["math"] => math::compare(&mut report, SEED, 2_000_000),
         ["math", seed] => match seed.parse() {
             Ok(seed) => math::compare(&mut report, seed, 2_000_000),
             Err(_) => return usage(),
         },
+        ["table"] => table::compare(&mut report, SEED, 1_000_000),
         ["root_all"] => root_all::compare(&mut report),
-        ["record", "math"] => record::write(&mut report, SEED),
+        ["record", name] => match record::RECORDINGS.iter().find(|recording| recording.name == name) {
+            Some(recording) => recording.write(&mut report, SEED),
+            None => return usage(),
+        },
         _ => return usage(),
     }
     if report.finish() { ExitCode::SUCCESS } else { ExitCode::FAILURE }
 }
 
 fn usage() -> ExitCode {
-    eprintln!("oracle/run gate | math [SEED] | root_all | record math");
+    eprintln!("oracle/run gate | math [SEED] | table | root_all | record NAME");
     ExitCode::from(2)
 }

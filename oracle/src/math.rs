@@ -2,6 +2,7 @@
 
 use crate::compare::{Input, Report};
 use crate::samples::{KINDS, SPECIALS, Stream, combinations, draw};
+use crate::simple::simpler_floats;
 use animato_path::math::open;
 use std::fmt;
 
@@ -185,7 +186,8 @@ fn point(v: [f32; 2]) -> Answer {
     Point(v.map(alike))
 }
 
-fn alike(x: f32) -> u32 {
+/// The bits of a float, NaNs all alike.
+pub fn alike(x: f32) -> u32 {
     if x.is_nan() { 0x7FC0_0000 } else { x.to_bits() }
 }
 
@@ -228,48 +230,6 @@ pub fn compare(report: &mut Report, seed: u64, calls: u32) {
 }
 
 // ---- making a failing input small
-
-// floats from the simplest on
-const SIMPLE: [u32; 12] = [
-    0x0000_0000,
-    0x3F80_0000,
-    0x4000_0000,
-    0x3F00_0000,
-    0x4040_0000,
-    0xBF80_0000,
-    0x8000_0000,
-    0x7F80_0000,
-    0x7FC0_0000,
-    0x3400_0000,
-    0x0080_0000,
-    0x0000_0001,
-];
-
-// how hard a float is to read: its place among the simple ones, else by its digits, size and sign
-fn effort(bits: u32) -> u32 {
-    let place = SIMPLE.iter().position(|simple| *simple == bits);
-    place.map_or(32 + 512 * significant(bits) + (bits >> 23 & 0xFF).abs_diff(127) * 2 + (bits >> 31), |place| {
-        place as u32
-    })
-}
-
-// how many leading digits of the fraction are in use
-fn significant(bits: u32) -> u32 {
-    let fraction = bits & 0x7F_FFFF;
-    if fraction == 0 { 0 } else { 23 - fraction.trailing_zeros() }
-}
-
-fn simpler_floats(bits: u32) -> impl Iterator<Item = u32> {
-    let shorter = (0..23).map(move |kept| bits & !((1u32 << (23 - kept)) - 1));
-    let exponent = bits >> 23 & 0xFF;
-    let nearer = [64, 16, 4, 1].into_iter().filter_map(move |step: u32| {
-        let away = exponent.abs_diff(127);
-        let moved = if exponent > 127 { exponent.checked_sub(step)? } else { exponent + step };
-        (moved.abs_diff(127) < away).then_some(bits & 0x807F_FFFF | moved << 23)
-    });
-    let unsigned = bits & 0x7FFF_FFFF;
-    SIMPLE.into_iter().chain([unsigned]).chain(shorter).chain(nearer).filter(move |other| effort(*other) < effort(bits))
-}
 
 impl Input for Operands {
     fn simpler(&self) -> Vec<Operands> {

@@ -1,6 +1,7 @@
 //! The proved library from Rust: each function of `include/kihavute.h`, safe to call with any argument.
 //!
-//! A `Bits` answer is a float's bit pattern, where every NaN is 7FC00000. A point is `[x, y]`.
+//! A `Bits` answer is a float's bit pattern, where every NaN is 7FC00000. A point is `[x, y]`. A call that can
+//! refuse gives a `Result`.
 //!
 //! ```
 //! let way = kihavute::sub([4.0, 6.0], [1.0, 2.0]).map(f32::from_bits);
@@ -9,6 +10,13 @@
 
 /// The bit pattern of a float; a NaN's is 7FC00000.
 pub type Bits = u32;
+
+/// A refusal: its number in the table of `include/kihavute.h`, and the values that it carries, zeros after them.
+#[derive(Clone, Copy, Debug, PartialEq, Eq)]
+pub struct Refusal {
+    pub number: u32,
+    pub carried: [u64; 8],
+}
 
 unsafe extern "C" {
     safe fn kihavute_sqrt(x: f32) -> f32;
@@ -28,6 +36,30 @@ unsafe extern "C" {
     safe fn kihavute_distance(ax: f32, ay: f32, bx: f32, by: f32) -> u32;
     safe fn kihavute_normalize(x: f32, y: f32) -> u64;
     safe fn kihavute_lerp_point(ax: f32, ay: f32, bx: f32, by: f32, t: f32) -> u64;
+    fn kihavute_raw_parameter(
+        entries: *const f32,
+        entries_len: usize,
+        total: f32,
+        progress: f32,
+        answer: *mut u64,
+        answer_len: usize,
+    ) -> u32;
+    fn kihavute_spot(
+        lengths: *const f32,
+        lengths_len: usize,
+        progress: f32,
+        answer: *mut u64,
+        answer_len: usize,
+    ) -> u32;
+}
+
+// what a call with an answer gives: the values that it wrote, zeros after them
+fn judged(call: impl FnOnce(*mut u64, usize) -> u32) -> Result<[u64; 8], Refusal> {
+    let mut answer = [0; 8];
+    match call(answer.as_mut_ptr(), answer.len()) {
+        0 => Ok(answer),
+        number => Err(Refusal { number, carried: answer }),
+    }
 }
 
 // the two patterns of a packed point
@@ -137,6 +169,25 @@ pub fn lerp_point(a: [f32; 2], b: [f32; 2], t: f32) -> [Bits; 2] {
     apart(kihavute_lerp_point(a[0], a[1], b[0], b[1], t))
 }
 
+/// The raw parameter of a curve with this table at a progress.
+#[inline]
+pub fn raw_parameter(entries: &[f32], total: f32, progress: f32) -> Result<Bits, Refusal> {
+    // SAFETY: both slices are whole, and the answer is the call's own
+    let given = judged(|answer, places| unsafe {
+        kihavute_raw_parameter(entries.as_ptr(), entries.len(), total, progress, answer, places)
+    })?;
+    Ok(given[0] as Bits)
+}
+
+/// The segment of a path with these running lengths at a progress, and the progress on it; `None` without segments.
+#[inline]
+pub fn spot(lengths: &[f32], progress: f32) -> Result<Option<(usize, Bits)>, Refusal> {
+    // SAFETY: both slices are whole, and the answer is the call's own
+    let given =
+        judged(|answer, places| unsafe { kihavute_spot(lengths.as_ptr(), lengths.len(), progress, answer, places) })?;
+    Ok((!lengths.is_empty()).then_some((given[0] as usize, given[1] as Bits)))
+}
+
 #[cfg(test)]
 mod tests {
     use super::*;
@@ -172,5 +223,17 @@ mod tests {
         assert_eq!(normalize([3.0, 4.0]), bits([0.6, 0.8]));
         assert_eq!(normalize([0.0, 1.1920929e-7]), [0, 0]);
         assert_eq!(lerp_point([0.0, 2.0], [4.0, 4.0], 0.25), bits([1.0, 2.5]));
+    }
+
+    #[test]
+    fn lookups() {
+        let entries: [f32; 32] = std::array::from_fn(|i| i as f32);
+        assert_eq!(raw_parameter(&entries, 31.0, 0.0), Ok(0));
+        assert_eq!(raw_parameter(&entries, 31.0, 0.5), Ok(0.5f32.to_bits()));
+        assert_eq!(raw_parameter(&entries, 31.0, 2.0), Ok(1.0f32.to_bits()));
+        assert_eq!(raw_parameter(&entries, 30.0, 0.5), Err(Refusal { number: 12, carried: [0; 8] }));
+        assert_eq!(spot(&[2.0, 2.0, 4.0], 0.75), Ok(Some((2, 0.5f32.to_bits()))));
+        assert_eq!(spot(&[], 0.5), Ok(None));
+        assert_eq!(spot(&[2.0, 1.0], 0.5), Err(Refusal { number: 12, carried: [0; 8] }));
     }
 }

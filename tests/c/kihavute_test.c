@@ -116,10 +116,69 @@ static void points(void) {
     same("x and y apart", point(kihavute_x(point(3, -7)), kihavute_y(point(3, -7))), point(3, -7));
 }
 
+/* ---- calls with an answer */
+
+#define PLACES 10
+#define UNTOUCHED 0xA5A5A5A5A5A5A5A5u
+
+static uint64_t answer[PLACES];
+
+/* every place of the answer holds what no call writes */
+static void fresh(void) {
+    for (size_t i = 0; i < PLACES; i++) answer[i] = UNTOUCHED;
+}
+
+/* the number returned, the values from the answer's start, and every place past them as it was */
+static void answered(const char *what, uint32_t found, uint32_t due, size_t count, const uint64_t *values) {
+    same(what, found, due);
+    for (size_t i = 0; i < PLACES; i++) same(what, answer[i], i < count ? values[i] : UNTOUCHED);
+}
+
+static void lookups(void) {
+    const float nan = kihavute_float(NAN_BITS), infinite = kihavute_float(INFINITE);
+    float entries[32], lengths[] = {2, 2, 4};
+    for (int i = 0; i < 32; i++) entries[i] = (float)i;
+
+    fresh();
+    answered("raw parameter halfway", kihavute_raw_parameter(entries, 32, 31, 0.5f, answer, PLACES), 0, 1, (uint64_t[]){bits(0.5f)});
+    fresh();
+    answered("raw parameter at a NaN", kihavute_raw_parameter(entries, 32, 31, nan, answer, PLACES), 0, 1, (uint64_t[]){0});
+    fresh();
+    answered("raw parameter beyond", kihavute_raw_parameter(entries, 32, 31, infinite, answer, 8), 0, 1, (uint64_t[]){bits(1)});
+    fresh();
+    answered("raw parameter, another total", kihavute_raw_parameter(entries, 32, 30, 0.5f, answer, PLACES), 12, 0, NULL);
+    fresh();
+    answered("raw parameter, entries that do not start at 0", kihavute_raw_parameter(entries + 1, 31, 31, 0.5f, answer, PLACES), 12, 0, NULL);
+    fresh();
+    answered("raw parameter, no entries", kihavute_raw_parameter(entries, 0, 0, 0.5f, answer, PLACES), 12, 0, NULL);
+    fresh();
+    answered("raw parameter, a single 0", kihavute_raw_parameter(entries, 1, 0, 0.25f, answer, PLACES), 0, 1, (uint64_t[]){bits(0.25f)});
+    fresh();
+    answered("raw parameter, a short answer", kihavute_raw_parameter(entries, 32, 31, 0.5f, answer, 7), 255, 0, NULL);
+    entries[9] = 11;
+    fresh();
+    answered("raw parameter, entries that fall", kihavute_raw_parameter(entries, 32, 31, 0.5f, answer, PLACES), 12, 0, NULL);
+
+    fresh();
+    answered("spot halfway: the first that is not below", kihavute_spot(lengths, 3, 0.5f, answer, PLACES), 0, 2, (uint64_t[]){0, bits(1)});
+    fresh();
+    answered("spot past the halfway", kihavute_spot(lengths, 3, 0.75f, answer, PLACES), 0, 2, (uint64_t[]){2, bits(0.5f)});
+    fresh();
+    answered("spot at a NaN", kihavute_spot(lengths, 3, nan, answer, PLACES), 0, 2, (uint64_t[]){0, 0});
+    fresh();
+    answered("spot without segments", kihavute_spot(lengths, 0, 0.5f, answer, PLACES), 0, 0, NULL);
+    fresh();
+    answered("spot, a short answer", kihavute_spot(lengths, 3, 0.5f, answer, 0), 255, 0, NULL);
+    lengths[2] = infinite;
+    fresh();
+    answered("spot, not finite", kihavute_spot(lengths, 3, 0.5f, answer, PLACES), 12, 0, NULL);
+}
+
 int main(void) {
     roots();
     numbers();
     points();
+    lookups();
     printf("%d passed, %d failed\n", passed, failed);
     return failed != 0;
 }

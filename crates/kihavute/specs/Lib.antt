@@ -1,2 +1,4 @@
 -- What the C interface gives besides the definitions of the crates below.
 pub mod Pair
+pub mod Given
+pub mod StrictReading

@@ -21,8 +21,8 @@ use Rattle.table.proofs.Lengths.{Sound, path-sound, entry-nonneg, total-nonneg}
 use Rattle.table.proofs.Before.{path-total}
 use Rattle.table.proofs.Enclosure.{Within, path-within}
 use Rattle.order.specs.Stated.{F32Path, NoStepBack}
-use Rattle.order.proofs.Part.{share-at-least, share-at-most, share-mono}
-use Rattle.order.proofs.Targets.{first-mono}
+use Rattle.order.proofs.Steady.{Between}
+use Rattle.order.proofs.Division.{first-mono, division-shares}
 
 -- a segment no earlier, and within one segment a share no smaller
 pub no-step-back : (i j : ℕ) (x y : Float) → i ≤ j → (i ≡ j → T (le x y)) → NoStepBack i x j y
@@ -61,17 +61,26 @@ module _ {xs : List Float} (f : F32Path xs) where
     abbrev own : ℕ
     own = firstNotBelow t xs
 
-    reached : T (le (before xs own) t)
-    reached = lt→le (before xs own) t (w .lower)
+    segment : (u : Float) → Held binary32 u → T (le t u) → T (le u (at xs own)) → Between (before xs own) (at xs own) u
+    segment u K on upto = record {
+      start = start-nonneg own (w .inside);
+      end = end-held own (w .inside);
+      target = K;
+      from = le-le-trans (before xs own) t u (lt→le (before xs own) t (w .lower)) on;
+      upto = upto;
+    }
+
+    here : Between (before xs own) (at xs own) t
+    here = segment t H (le-self t (nonneg-real t (H .nn))) (w .upper)
 
     own-at-least : T (le zeroF (shareIn t own))
-    own-at-least = share-at-least (before xs own) (at xs own) (start-nonneg own (w .inside)) (end-held own (w .inside)) (segment-rises own (w .inside)) t H reached
+    own-at-least = division-shares .low (before xs own) (at xs own) t here
 
     own-at-most : T (le (shareIn t own) oneF)
-    own-at-most = share-at-most (before xs own) (at xs own) (start-nonneg own (w .inside)) (end-held own (w .inside)) (segment-rises own (w .inside)) t H reached
+    own-at-most = division-shares .high (before xs own) (at xs own) t here
 
-    own-mono : (u : Float) → Held binary32 u → T (le t u) → T (le (shareIn t own) (shareIn u own))
-    own-mono u K order = share-mono (before xs own) (at xs own) (start-nonneg own (w .inside)) (end-held own (w .inside)) (segment-rises own (w .inside)) t u H K reached order
+    own-mono : (u : Float) → Held binary32 u → T (le t u) → T (le u (at xs own)) → T (le (shareIn t own) (shareIn u own))
+    own-mono u K order upto = division-shares .grows (before xs own) (at xs own) t u here (segment u K order upto) order
 
   -- ---- any two targets
   pub spot-at-mono : (t u : Float) → Held binary32 t → Held binary32 u → T (le t u)
@@ -107,4 +116,6 @@ module _ {xs : List Float} (f : F32Path xs) where
       go false true false false t-above t-ended t-short u-none u-above u-short = absurd (clashing (le (pathTotal xs) u) (le-le-trans (pathTotal xs) t u (t-ended tt) h) (u-short tt))
       go false false false false t-above t-ended t-short u-none u-above u-short =
           no-step-back i j (shareIn t i) (shareIn u j) (first-mono xs t u h)
-          (λ e. subst (λ (k : ℕ). T (le (shareIn t i) (shareIn u k))) e (own-mono t H (inside t H (t-above tt) (t-short tt)) u K h))
+          (λ e.
+          subst (λ (k : ℕ). T (le (shareIn t i) (shareIn u k))) e
+          (own-mono t H (inside t H (t-above tt) (t-short tt)) u K h (subst (λ (k : ℕ). T (le u (at xs k))) (sym e) (inside u K (u-above tt) (u-short tt) .upper))))

@@ -2,7 +2,8 @@
 -- clamped, so `clamp01Of p` is the progress that counts. Assumes nothing.
 use mathlib.Core.Path.{_≡_, refl, sym, ap, _∙_, subst}
 use mathlib.Core.Logic.{_⊎_, inl, inr}
-use Prim.Native.Nat.{ℕ, _-_, _≤_, _<_}
+use Prim.Native.Nat.{ℕ, suc, _-_, _≤_, _<_}
+use native.Mathlib.Omega.{arith}
 use mathlib.Core.Bool.{Bool, true, false, not, cond}
 use mathlib.Core.List.{List}
 use lib.Dec.{T}
@@ -15,12 +16,13 @@ use Rattle.floats.proofs.Fractions.{nonneg-real}
 use Rattle.floats.proofs.Constants.{one-held}
 use Rattle.floats.proofs.Clamping.{clamp01-at-least, clamp01-at-most}
 use Rattle.table.specs.declared.tables.Spot.{Spot}
-use Rattle.table.specs.Lookup.{at, lastOf, firstNotBelow, targetOf, markOf, placeOf, rawAt, rawOf}
+use Rattle.table.specs.Lookup.{at, lastOf, firstNotBelow, targetOf, shareOf, markOf, placeOf, rawAt, rawOf}
 use Rattle.table.specs.Spots.{before, pathTotal, spotted, spotWithin, spotAt, spotOf}
 use Rattle.table.proofs.Enclosure.{Encloses, Within, enclosed, path-encloses}
 use Rattle.order.specs.Stated.{F32Table, F32Path, NoStepBack}
-use Rattle.order.proofs.Places.{sound-of, total-held, place-at-least-mark, place-at-most-mark}
-use Rattle.order.proofs.Targets.{target-held, target-mono, raw-at-least, raw-at-most, raw-at-mono}
+use Rattle.order.proofs.Steady.{Between, Part, sound-of, entry-held, total-held}
+use Rattle.order.proofs.Division.{quotientOf, division-shares, quotient-from, quotient-upto}
+use Rattle.order.proofs.Targets.{target-held, target-mono, long-parts, raw-at-least, raw-at-most, raw-at-mono}
 use Rattle.order.proofs.Ends.{clamped-zero, clamped-one, target-of-zero, target-of-one, target-of-one-above}
 use Rattle.order.proofs.Spots.{path-total-held, spot-at-mono}
 
@@ -28,28 +30,28 @@ use Rattle.order.proofs.Spots.{path-total-held, spot-at-mono}
 -- In every sound table, also one whose total is at most 2^-23: of two progresses, the one that counts for no more has a raw parameter that is no larger.
 pub raw-order : {xs : List Float} {total : Float} → F32Table xs total → (p q : Float) → T (le (clamp01Of p) (clamp01Of q)) → T (le (rawOf xs total p) (rawOf xs total q))
 unfolding rawOf
-raw-order {xs} {total} f p q h = go (le total epsilonF)
+raw-order {xs} {total} f p q h = go (le total epsilonF) (λ n. n)
   where
-    go : (b : Bool) → T (le (cond b (clamp01Of p) (rawAt xs total (targetOf total p))) (cond b (clamp01Of q) (rawAt xs total (targetOf total q))))
-    go true = h
-    go false = raw-at-mono f (targetOf total p) (targetOf total q) (target-held total (total-held f) p) (target-held total (total-held f) q) (target-mono total (total-held f) p q h)
+    go : (b : Bool) → (T (not b) → T (not (le total epsilonF))) → T (le (cond b (clamp01Of p) (rawAt xs total (targetOf total p))) (cond b (clamp01Of q) (rawAt xs total (targetOf total q))))
+    go true long = h
+    go false long = raw-at-mono f (long-parts f (long tt)) (targetOf total p) (targetOf total q) (target-held total (total-held f) p) (target-held total (total-held f) q) (target-mono total (total-held f) p q h)
 
 -- Every raw parameter lies between 0 and 1.
 pub raw-from-zero : {xs : List Float} {total : Float} → F32Table xs total → (p : Float) → T (le zeroF (rawOf xs total p))
 unfolding rawOf
-raw-from-zero {xs} {total} f p = go (le total epsilonF)
+raw-from-zero {xs} {total} f p = go (le total epsilonF) (λ n. n)
   where
-    go : (b : Bool) → T (le zeroF (cond b (clamp01Of p) (rawAt xs total (targetOf total p))))
-    go true = clamp01-at-least p
-    go false = raw-at-least f (targetOf total p) (target-held total (total-held f) p)
+    go : (b : Bool) → (T (not b) → T (not (le total epsilonF))) → T (le zeroF (cond b (clamp01Of p) (rawAt xs total (targetOf total p))))
+    go true long = clamp01-at-least p
+    go false long = raw-at-least f (long-parts f (long tt)) (targetOf total p) (target-held total (total-held f) p)
 
 pub raw-to-one : {xs : List Float} {total : Float} → F32Table xs total → (p : Float) → T (le (rawOf xs total p) oneF)
 unfolding rawOf
-raw-to-one {xs} {total} f p = go (le total epsilonF)
+raw-to-one {xs} {total} f p = go (le total epsilonF) (λ n. n)
   where
-    go : (b : Bool) → T (le (cond b (clamp01Of p) (rawAt xs total (targetOf total p))) oneF)
-    go true = clamp01-at-most p
-    go false = raw-at-most f (targetOf total p) (target-held total (total-held f) p)
+    go : (b : Bool) → (T (not b) → T (not (le total epsilonF))) → T (le (cond b (clamp01Of p) (rawAt xs total (targetOf total p))) oneF)
+    go true long = clamp01-at-most p
+    go false long = raw-at-most f (long-parts f (long tt)) (targetOf total p) (target-held total (total-held f) p)
 
 -- ---- 2. Ends: "it starts at the first segment's 0 and ends at the last one's 1"
 -- The raw parameter of 0 is +0 and that of 1 is 1, bit for bit, whatever the total.
@@ -102,15 +104,29 @@ raw-placed {xs} {total} f p long above below =
     let t = targetOf total p in
     let i = firstNotBelow t xs in
     let e = target-enclosed f p above below in
-    let H = target-held total (total-held f) p in
-    let reached = lt→le (at xs (i - 1)) t (e .lower) in
+    let B : Between (at xs (i - 1)) (at xs i) t =
+    record { start = entry-held f (i - 1) (under i (lastOf xs) (e .upto)) .nn; end = entry-held f i (e .upto); target = target-held total (total-held f) p; from = lt→le (at xs (i - 1)) t (e .lower); upto = e .upper } in
+    let x = shareOf (at xs (i - 1)) (at xs i) t in
+    let P : Part x = record { low = division-shares .low (at xs (i - 1)) (at xs i) t B; high = division-shares .high (at xs (i - 1)) (at xs i) t B } in
+    let some = long-parts f (lt→not-le total epsilonF long) in
+    let inside : i - 1 < lastOf xs = less i (lastOf xs) (e .from) (e .upto) in
     record {
       enclosing = e;
       same = is;
-      from = subst (λ (x : Float). T (le (markOf (lastOf xs) (i - 1)) x)) (sym is) (place-at-least-mark f i (e .from) (e .upto) t H reached);
-      upto = subst (λ (x : Float). T (le x (markOf (lastOf xs) i))) (sym is) (place-at-most-mark f i (e .from) (e .upto) t H reached);
+      from = subst (λ (r : Float). T (le (markOf (lastOf xs) (i - 1)) r)) (sym is) (unfold placeOf in (quotient-from (lastOf xs) some (f .table .counted) (i - 1) x inside P));
+      upto = subst (λ (r : Float). T (le r (markOf (lastOf xs) i))) (sym is)
+          (unfold placeOf in (subst (λ (k : ℕ). T (le (quotientOf (lastOf xs) (i - 1) x) (markOf (lastOf xs) k))) (one-more i (e .from)) (quotient-upto (lastOf xs) some (f .table .counted) (i - 1) x inside P)));
     }
   where
+    under : (i n : ℕ) → i ≤ n → i - 1 ≤ n
+    under i n h = omega arith
+
+    less : (i n : ℕ) → 1 ≤ i → i ≤ n → i - 1 < n
+    less i n h k = omega arith
+
+    one-more : (i : ℕ) → 1 ≤ i → suc (i - 1) ≡ i
+    one-more i h = omega arith
+
     is : rawOf xs total p ≡ placeOf xs (targetOf total p) (firstNotBelow (targetOf total p) xs)
     is =
         let t = targetOf total p in

@@ -20,6 +20,10 @@ pub either-way : (b : Bool) → (b ≡ true) ⊎ (b ≡ false)
 either-way true = inl refl
 either-way false = inr refl
 
+pub both-true : (a b : Bool) → (a && b) ≡ true → (a ≡ true) × (b ≡ true)
+both-true true b e = (refl, e)
+both-true false b e = absurd (clash e refl)
+
 and-left : (a b : Bool) → T (a && b) → T a
 and-left true b t = tt
 and-left false b t = t
@@ -42,7 +46,7 @@ not-true : (b : Bool) → T (not b) → b ≡ true → ⊥
 not-true true t e = t
 not-true false t e = clash e refl
 
-either-of : (a b : Bool) → (a || b) ≡ true → (a ≡ true) ⊎ (b ≡ true)
+pub either-of : (a b : Bool) → (a || b) ≡ true → (a ≡ true) ⊎ (b ≡ true)
 either-of true b e = inl refl
 either-of false b e = inr e
 

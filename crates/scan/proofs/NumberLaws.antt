@@ -6,7 +6,7 @@ use mathlib.Core.Logic.{_⊎_, inl, inr, ⊎-elim}
 use mathlib.Core.List.{List, [], _∷_}
 use native.Mathlib.Omega.{arith}
 use lib.Dec.{ltb, eqb}
-use borrow.Author.Tests.{eq-eqb, eqb-false, ltb-true, ltb-false}
+use borrow.Author.Tests.{eq-eqb, eqb-true, eqb-false, ltb-true, ltb-false}
 use lib.ListN.{length, getD}
 use Rattle.scan.specs.Bytes.{among, digits, signs, points, exponentMarks}
 use Rattle.scan.specs.Runs.{stands, pastOne, pastAll, pastDigitsOf, pastSignOf, pastPointOf, pastMarkOf}
@@ -14,7 +14,7 @@ use Rattle.scan.specs.Numbers.{wholeOf, pointOf, fractionOf, markOf, exp
 use Rattle.scan.specs.declared.numbers.Places.{Places}
 use Rattle.scan.specs.declared.numbers.Number.{Number}
 use Rattle.scan.specs.declared.numbers.Number.the-variants.{Scanned, NoDigit, NoExponentDigit}
-use Rattle.scan.proofs.ByteLaws.{clash, either-way}
+use Rattle.scan.proofs.ByteLaws.{clash, either-way, both-true}
 use Rattle.scan.proofs.RunLaws.{stands-inside, stands-past, stands-within, one-end, one-onward, one-within, all-end, all-onward, all-within, all-passed, all-again}
 
 -- ---- the e of an exponent
@@ -101,6 +101,11 @@ abbrev placesIn : Places → Number → Places
 placesIn q (Scanned p) = p
 placesIn q (NoDigit at) = q
 placesIn q (NoExponentDigit at) = q
+
+abbrev carried : Number → ℕ
+carried (Scanned p) = 0
+carried (NoDigit at) = at
+carried (NoExponentDigit at) = at
 
 different : {a b : Number} → a ≡ b → (variant a ≡ variant b → ⊥) → ⊥
 different e h = h (ap variant e)
@@ -208,6 +213,14 @@ module _ (text : List ℕ) (at : ℕ) where
       go true e false g h = omega (arith, eqb-false (fractionOf text at) (markOf text at) g, point-onward, mark-onward)
       go false e b g h = omega (arith, eqb-false (wholeOf text at) (pointOf text at) e, point-onward, mark-onward)
 
+  pub digit-in-none : noDigit text at ≡ true → (wholeOf text at ≡ pointOf text at) × (fractionOf text at ≡ markOf text at)
+  unfolding noDigit
+  digit-in-none h = let p = both-true _ _ h in (eqb-true _ _ (p .0), eqb-true _ _ (p .1))
+
+  pub exponent-in-none : noExponentDigit text at ≡ true → (markOf text at < exponentOf text at) × (exponentOf text at ≡ endOf text at)
+  unfolding noExponentDigit
+  exponent-in-none h = let p = both-true _ _ h in (ltb-true _ _ (p .0), eqb-true _ _ (p .1))
+
   -- without an e the number ends where its e would stand
   no-mark : exponentOf text at ≡ markOf text at → endOf text at ≡ markOf text at
   unfolding endOf markOf
@@ -262,6 +275,31 @@ module _ (text : List ℕ) (at : ℕ) where
       ltb-le : ltb at (length text) ≡ true → at ≤ length text
       ltb-le e = omega (arith, ltb-true at (length text) e)
 
+  -- what each answer says of the text
+  pub scanned-flags : (p : Places) → scanNumberOf text at ≡ Scanned p → (noDigit text at ≡ false) × (noExponentDigit text at ≡ false)
+  scanned-flags p e = go way
+    where
+      go : Way (scanNumberOf text at) → (noDigit text at ≡ false) × (noExponentDigit text at ≡ false)
+      go (scanned some whole h) = (some, whole)
+      go (without-digit _ h) = absurd (different (sym e ∙ h) (λ z. omega arith))
+      go (without-exponent-digit _ _ h) = absurd (different (sym e ∙ h) (λ z. omega arith))
+
+  pub bare-flags : (m : ℕ) → scanNumberOf text at ≡ NoExponentDigit m → (noDigit text at ≡ false) × (noExponentDigit text at ≡ true) × (m ≡ markOf text at)
+  bare-flags m e = go way
+    where
+      go : Way (scanNumberOf text at) → (noDigit text at ≡ false) × (noExponentDigit text at ≡ true) × (m ≡ markOf text at)
+      go (scanned _ _ h) = absurd (different (sym e ∙ h) (λ z. omega arith))
+      go (without-digit _ h) = absurd (different (sym e ∙ h) (λ z. omega arith))
+      go (without-exponent-digit some bare h) = (some, bare, ap carried (sym e ∙ h))
+
+  pub none-flags : (i : ℕ) → scanNumberOf text at ≡ NoDigit i → (noDigit text at ≡ true) × (i ≡ at)
+  none-flags i e = go way
+    where
+      go : Way (scanNumberOf text at) → (noDigit text at ≡ true) × (i ≡ at)
+      go (scanned _ _ h) = absurd (different (sym e ∙ h) (λ z. omega arith))
+      go (without-digit none h) = (none, ap carried (sym e ∙ h))
+      go (without-exponent-digit _ _ h) = absurd (different (sym e ∙ h) (λ z. omega arith))
+
   -- its places are those of the definition
   pub scanned-places : (p : Places) → scanNumberOf text at ≡ Scanned p → p ≡ placesOf text at
   scanned-places p e = go way
@@ -272,12 +310,9 @@ module _ (text : List ℕ) (at : ℕ) where
       go (without-exponent-digit _ _ h) = absurd (different (sym e ∙ h) (λ z. omega arith))
 
   pub scanned-number : (p : Places) → scanNumberOf text at ≡ Scanned p → NumberAt text p
-  scanned-number p e = go way
-    where
-      go : Way (scanNumberOf text at) → NumberAt text p
-      go (scanned some whole h) = subst (NumberAt text) (sym (scanned-places p e)) (places-number some whole)
-      go (without-digit _ h) = absurd (different (sym e ∙ h) (λ z. omega arith))
-      go (without-exponent-digit _ _ h) = absurd (different (sym e ∙ h) (λ z. omega arith))
+  scanned-number p e =
+      let f = scanned-flags p e in
+      subst (NumberAt text) (sym (scanned-places p e)) (places-number (f .0) (f .1))
 
   -- it starts where it was looked for, and ends further on
   pub scanned-start : (p : Places) → scanNumberOf text at ≡ Scanned p → p .start ≡ at

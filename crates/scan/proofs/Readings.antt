@@ -1,13 +1,11 @@
 -- Worked examples that hold the definitions of `specs/` to document 01: antt computes each side. Assumes nothing.
-use Prim.Native.Nat.{ℕ}
-use mathlib.Core.Path.{_≡_, refl, sym, _∙_}
-use mathlib.Core.Bool.{Bool, true, false}
-use mathlib.Core.List.{List, [], _∷_}
+use mathlib.Core.Path.{_≡_, refl}
+use mathlib.Core.Bool.{true, false}
+use mathlib.Core.List.{[], _∷_}
 use Rattle.scan.specs.Scan.{leading, scan}
-use Rattle.scan.specs.Bytes.{among, digits, whiteSpace, separators}
-use Rattle.scan.specs.Runs.{stands, pastOne, pastAll, pastSeparatorsOf, pastWhiteOf, pastMarkOf}
+use Rattle.scan.specs.Bytes.{among, whiteSpace, separators}
+use Rattle.scan.specs.Runs.{stands, pastOne, pastAll, pastSeparatorsOf, pastMarkOf}
 use Rattle.scan.specs.Numbers.{wholeOf, pointOf, fractionOf, markOf, exponentOf, endOf, placesOf, noDigit, noExponentDigit, scanNumberOf}
-use Rattle.scan.specs.declared.numbers.Number.{Number}
 use Rattle.scan.specs.declared.numbers.Number.the-variants.{Scanned, NoDigit, NoExponentDigit}
 
 -- a form feed separates and is no white space of strict reading; a vertical tab is neither
@@ -48,7 +46,3 @@ pub refused-numbers-read :
     × (scanNumberOf (77 ∷ []) 1 ≡ NoDigit 1)
 unfolding scanNumberOf placesOf noDigit noExponentDigit endOf exponentOf markOf fractionOf pointOf wholeOf pastMarkOf pastOne pastAll scan leading stands among
 refused-numbers-read = (refl, refl, refl)
-
--- every contract of this crate is an equation with its definition, and so settles its answer
-pub settled : {A : Type 0} (definition r s : A) → r ≡ definition → s ≡ definition → r ≡ s
-settled definition r s p q = p ∙ sym q

@@ -85,6 +85,18 @@ module _ (class text : List ℕ) (at : ℕ) where
   all-passed k from upto = scan-passed (λ byte. among byte class) text 0 at k from upto
 
 module _ (class text : List ℕ) (at : ℕ) where
+  -- at every place of a run a byte of the class stands
+  pub all-stands : (k : ℕ) → at ≤ k → k < pastAll class text at → stands text k class ≡ true
+  all-stands k from upto = ⊎-elim within (λ e. absurd (past (ltb-false at (length text) e))) (either-way (ltb at (length text)))
+    where
+      within : ltb at (length text) ≡ true → stands text k class ≡ true
+      within e =
+          let h = all-within class text at (omega (arith, ltb-true at (length text) e)) in
+          stands-inside class text k (omega arith) ∙ all-passed class text at k from upto
+
+      past : length text ≤ at → ⊥
+      past h = omega (arith, all-end class text at h)
+
   all-fails : pastAll class text at < length text → among (getD text (pastAll class text at) 0) class ≡ false
   unfolding pastAll
   all-fails inside = scan-stopped (λ byte. among byte class) text 0 at inside

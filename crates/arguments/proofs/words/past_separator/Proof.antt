@@ -1,0 +1,26 @@
+-- `arguments::past_separator` meets its contract: its three steps are those of the definition. Assumes nothing.
+use mathlib.Core.Path.{ap, _∙_}
+use borrow.Author.Needs.{needs}
+use Rattle.scan.specs.Runs.{pastWhiteOf, pastCommaOf}
+use Rattle.grammar.specs.Words.{pastSeparatorOf}
+use Rattle.arguments.proofs.words.past_separator.Statement.{statement}
+use Rattle.arguments.proofs.words.past_separator.Tie as tie
+
+past-white-requires : tie.Need-past-white-requires
+past-white-requires c κs = search needs
+
+past-comma-requires : tie.Need-past-comma-requires
+past-comma-requires c κs = search needs
+
+past-white-requires-2 : tie.Need-past-white-requires-2
+past-white-requires-2 c κs = search needs
+
+returns : tie.Need-returns
+unfolding pastSeparatorOf
+returns c =
+    let text = c .before .before .before .before .args .text .now in
+    c .past-white2 .ensures
+    ∙ ap (pastWhiteOf text) (c .before .past-comma .ensures ∙ ap (pastCommaOf text) (c .before .before .past-white .ensures))
+
+pub past-separator-spec : {M : Type 1} → statement M
+past-separator-spec = tie.close (tie.spec past-white-requires past-comma-requires past-white-requires-2 returns)

@@ -1,0 +1,31 @@
+-- `arguments::read_number` meets its contract: each answer of `scan_number` says where the grammar's number ends. Assumes nothing.
+use mathlib.Core.Path.{sym, _∙_}
+use borrow.Author.Needs.{needs}
+use Rattle.arguments.proofs.Steps.{scanned-reads, bare-reads, none-reads}
+use Rattle.arguments.proofs.words.read_number.Statement.{statement}
+use Rattle.arguments.proofs.words.read_number.Tie as tie
+
+scan-number-requires : tie.Need-scan-number-requires
+scan-number-requires c κs = search needs
+
+enum-known-places : tie.Need-enum-known-places
+enum-known-places c = search needs
+
+enum-known-mark : tie.Need-enum-known-mark
+enum-known-mark c = search needs
+
+enum-told : tie.Need-enum-told
+enum-told c = search needs
+
+returns : tie.Need-returns
+returns c = scanned-reads _ _ _ (sym (c .before .before .before .scan-number .ensures) ∙ c .before .places .given .1)
+
+returns-2 : tie.Need-returns-2
+returns-2 c = bare-reads _ _ _ (sym (c .before .before .before .scan-number .ensures) ∙ c .before .mark .given .1)
+
+returns-3 : tie.Need-returns-3
+returns-3 c = none-reads _ _ _ (sym (c .before .before .scan-number .ensures) ∙ c .enum-told .given .1)
+
+pub read-number-spec : {M : Type 1} → statement M
+read-number-spec =
+    tie.close (tie.spec scan-number-requires enum-known-places enum-known-mark enum-told returns returns-2 returns-3)

@@ -1,0 +1,2 @@
+-- What a reader of one argument promises. Definitions only.
+pub mod Reading

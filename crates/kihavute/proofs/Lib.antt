@@ -1,0 +1,2 @@
+-- The laws of what is given through C.
+pub mod Giving

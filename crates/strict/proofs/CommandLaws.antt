@@ -1,0 +1,241 @@
+-- Commands by their letters: a letter, white space and a sequence of arguments; that each command has its letter and a byte; and what the
+-- reader's answer says of the production. Assumes nothing.
+use Prim.Native.Nat.{ℕ, _+_, _≤_, _<_}
+use mathlib.Core.Path.{_≡_, refl, sym, subst, _∙_, ap}
+use mathlib.Core.Bool.{Bool, true, false}
+use mathlib.Core.List.{List, [], _∷_}
+use mathlib.Core.Logic.{_⊎_, inl, inr, ⊎-elim}
+use native.Mathlib.Omega.{arith}
+use lib.Dec.{T}
+use Rattle.scan.specs.Bytes.{among, whiteSpace, numberStarts}
+use Rattle.scan.specs.Runs.{stands, pastWhiteOf}
+use Rattle.scan.proofs.ByteLaws.{withinb, clash, either-way}
+use Rattle.grammar.specs.Spans.{Span, Byte, _·_, _∥_, opt, star, none, more, longest, sequence, last, then}
+use Rattle.grammar.specs.Grammar.{wsp, comma-wsp, moveto, moveto-argument-sequence, lineto, horizontal-lineto, vertical-lineto, curveto, smooth-curveto, quadratic-bezier-curveto, smooth-quadratic-bezier-curveto, closepath, elliptical-arc, drawto-command}
+use Rattle.grammar.specs.Words.{Past, Lacks, Only, Goes}
+use Rattle.grammar.proofs.SpanLaws.{standing, not-byte, not-both, other, wider, star-le, run-same, run-found}
+use Rattle.arguments.specs.Reading.{Reads, argumentOf}
+use Rattle.arguments.specs.declared.words.Word.{Word}
+use Rattle.arguments.specs.declared.words.Word.the-variants.{Ends, Missing}
+use Rattle.arguments.specs.declared.groups.Kind.{Kind}
+use Rattle.arguments.specs.declared.groups.Kind.the-variants.{Coordinate, Pair, TwoPairs, ThreePairs, Arc}
+use Rattle.arguments.proofs.Starts.{argument-starts, argument-grows}
+use Rattle.strict.specs.Commands.{moveLetters, closeLetters, lettersOf, commandLetters, Reaches, Command}
+use Rattle.strict.proofs.Sequences.{to-star, of-star, Item, items-le}
+use Rattle.strict.proofs.Letters.{kinds-apart, close-apart, move-apart, kind-within, halves}
+
+module _ (text : List ℕ) where
+  not-white : (q : ℕ) → stands text q numberStarts ≡ true → stands text q whiteSpace ≡ false
+  unfolding among
+  not-white q h = other {l = numberStarts} whiteSpace tt (standing numberStarts q h)
+
+  -- ---- white space and a sequence of arguments
+
+  abbrev pub Arguments : Kind → Span
+  Arguments kind = star (wsp text) · sequence (argumentOf text kind) (opt (comma-wsp text))
+
+  module _ (kind : Kind) (i m : ℕ) (found : m ≡ pastWhiteOf text i) where
+    the-white : longest (star (wsp text)) i m
+    the-white = subst (λ (y : ℕ). longest (star (wsp text)) i y) (sym found) (run-found whiteSpace text i)
+
+    at-white : (x n : ℕ) → star (wsp text) i x → argumentOf text kind x n → x ≡ m
+    at-white x n w p = run-same the-white w (not-white x (argument-starts text kind x n p))
+
+    pub arguments-missing : (w : Word) → Reads (argumentOf text kind) m w → w ≡ Missing → Lacks (Arguments kind) i
+    arguments-missing r h e q (x, w, u) =
+        let v = to-star u in
+        subst (Reads (argumentOf text kind) m) e h (v .0) (subst (λ (a : ℕ). argumentOf text kind a (v .0)) (at-white x (v .0) w (v .1)) (v .1))
+
+    pub arguments-past :
+        (w : Word) (j n : ℕ) → Reads (argumentOf text kind) m w → w ≡ Ends j → Past (star (Item text kind)) (Goes text) j n
+        → Past (Arguments kind) (Goes text) i n
+    arguments-past r j n h e t = go (subst (Reads (argumentOf text kind) m) e h)
+      where
+        word : Only (argumentOf text kind) m j → (q : ℕ) → Arguments kind i q → (q ≡ n) ⊎ Goes text q
+        word p q (x, w, u) =
+            let v = to-star u in
+            let y = p .1 (v .0) (subst (λ (a : ℕ). argumentOf text kind a (v .0)) (at-white x (v .0) w (v .1)) (v .1)) in
+            t .1 q (subst (λ (a : ℕ). star (Item text kind) a q) y (v .2))
+
+        go : Only (argumentOf text kind) m j → Past (Arguments kind) (Goes text) i n
+        go p = ((m, the-white .0, of-star (p .0) (t .0)), word p)
+
+  arguments-grow : (kind : Kind) (i j : ℕ) → Arguments kind i j → i < j
+  arguments-grow kind i j (x, w, u) =
+      let v = to-star u in
+      let a = star-le w in
+      let b = argument-grows text kind x (v .0) (v .1) in
+      let c = items-le text kind (v .0) j (v .2) in
+      omega arith
+
+  -- ---- a letter, and then the rest
+
+  module _ (class : List ℕ) (R : Span) (i : ℕ) where
+    past-letter : (q : ℕ) → (Byte text class · R) i q → R (i + 1) q
+    past-letter q (x, b, u) = subst (λ (y : ℕ). R y q) (b .next) u
+
+    letter-taken : stands text i class ≡ true → (r : Word) → Reaches R (Goes text) (i + 1) r → Reaches (Byte text class · R) (Goes text) i r
+    letter-taken h (Ends j) w = ((i + 1, standing class i h, w .0), λ q v. w .1 q (past-letter q v))
+    letter-taken h Missing w = λ q v. w q (past-letter q v)
+
+    has-letter : T (withinb class commandLetters) → (q : ℕ) → (Byte text class · R) i q → stands text i commandLetters ≡ true
+    has-letter t q v = wider {m = commandLetters} t (v .1) .there
+
+  -- ---- the moveto, and the drawto-commands by kind
+
+  -- a letter of a kind, and its arguments
+  abbrev Drawn : Kind → Span
+  Drawn kind = Byte text (lettersOf kind) · Arguments kind
+
+  abbrev Moved : Span
+  Moved = Byte text moveLetters · Arguments Pair
+
+  -- a moveto's arguments are a sequence of pairs
+  to-moveto : (i q : ℕ) → Moved i q → moveto text i q
+  unfolding moveto moveto-argument-sequence
+  to-moveto i q (x, b, (y, w, last p)) = (x, b, (y, w, inl p))
+  to-moveto i q (x, b, (y, w, then {k = k} {m = m} p c u)) = (x, b, (y, w, inr (k, p, (m, c, u))))
+
+  of-moveto : (i q : ℕ) → moveto text i q → Moved i q
+  unfolding moveto moveto-argument-sequence
+  of-moveto i q (x, b, (y, w, inl p)) = (x, b, (y, w, last p))
+  of-moveto i q (x, b, (y, w, inr (k, p, (m, c, u)))) = (x, b, (y, w, then p c u))
+
+  -- a drawto-command is a closepath, or a letter of a kind and its arguments
+  by-letter : (i q : ℕ) → drawto-command text i q → Byte text closeLetters i q ⊎ ((kind : Kind) × Drawn kind i q)
+  unfolding drawto-command closepath lineto horizontal-lineto vertical-lineto curveto smooth-curveto quadratic-bezier-curveto smooth-quadratic-bezier-curveto elliptical-arc among
+  by-letter i q (inl b) = inl b
+  by-letter i q (inr (inl (x, b, u))) = inr (Pair, (x, wider tt b, u))
+  by-letter i q (inr (inr (inl (x, b, u)))) = inr (Coordinate, (x, wider tt b, u))
+  by-letter i q (inr (inr (inr (inl (x, b, u))))) = inr (Coordinate, (x, wider tt b, u))
+  by-letter i q (inr (inr (inr (inr (inl (x, b, u)))))) = inr (ThreePairs, (x, b, u))
+  by-letter i q (inr (inr (inr (inr (inr (inl (x, b, u))))))) = inr (TwoPairs, (x, wider tt b, u))
+  by-letter i q (inr (inr (inr (inr (inr (inr (inl (x, b, u)))))))) = inr (TwoPairs, (x, wider tt b, u))
+  by-letter i q (inr (inr (inr (inr (inr (inr (inr (inl (x, b, u))))))))) = inr (Pair, (x, wider tt b, u))
+  by-letter i q (inr (inr (inr (inr (inr (inr (inr (inr (x, b, u))))))))) = inr (Arc, (x, b, u))
+
+  of-kind : (kind : Kind) (i q : ℕ) → Drawn kind i q → drawto-command text i q
+  unfolding drawto-command closepath lineto horizontal-lineto vertical-lineto curveto smooth-curveto quadratic-bezier-curveto smooth-quadratic-bezier-curveto elliptical-arc
+  of-kind Coordinate i q (x, b, u) = ⊎-elim (λ a. inr (inr (inl (x, a, u)))) (λ a. inr (inr (inr (inl (x, a, u))))) (halves b)
+  of-kind Pair i q (x, b, u) =
+      ⊎-elim (λ a. inr (inl (x, a, u))) (λ a. inr (inr (inr (inr (inr (inr (inr (inl (x, a, u))))))))) (halves b)
+  of-kind TwoPairs i q (x, b, u) =
+      ⊎-elim (λ a. inr (inr (inr (inr (inr (inl (x, a, u))))))) (λ a. inr (inr (inr (inr (inr (inr (inl (x, a, u)))))))) (halves b)
+  of-kind ThreePairs i q w = inr (inr (inr (inr (inl w))))
+  of-kind Arc i q w = inr (inr (inr (inr (inr (inr (inr (inr w)))))))
+
+  of-close : (i q : ℕ) → Byte text closeLetters i q → drawto-command text i q
+  unfolding drawto-command closepath
+  of-close i q b = inl b
+
+  -- ---- each command has its letter and a byte
+
+  draw-letter : (i q : ℕ) → drawto-command text i q → stands text i commandLetters ≡ true
+  unfolding among
+  draw-letter i q d =
+      ⊎-elim (λ b. wider {l = closeLetters} {m = commandLetters} tt b .there)
+      (λ p. has-letter (lettersOf (p .0)) (Arguments (p .0)) i (kind-within (p .0)) q (p .1)) (by-letter i q d)
+
+  move-letter : (i q : ℕ) → moveto text i q → stands text i commandLetters ≡ true
+  unfolding among
+  move-letter i q w = has-letter moveLetters (Arguments Pair) i tt q (of-moveto i q w)
+
+  pub command-letter : (begun : Bool) (i q : ℕ) → Command text begun i q → stands text i commandLetters ≡ true
+  command-letter true i q (inl w) = move-letter i q w
+  command-letter true i q (inr w) = draw-letter i q w
+  command-letter false i q w = move-letter i q w
+
+  lettered-grows : (class : List ℕ) (kind : Kind) (i q : ℕ) → (Byte text class · Arguments kind) i q → i < q
+  lettered-grows class kind i q (x, b, u) = let y = b .next in let z = arguments-grow kind x q u in omega arith
+
+  move-grows : (i q : ℕ) → moveto text i q → i < q
+  move-grows i q w = lettered-grows moveLetters Pair i q (of-moveto i q w)
+
+  draw-grows : (i q : ℕ) → drawto-command text i q → i < q
+  draw-grows i q d =
+      ⊎-elim (λ b. let y = b .next in omega arith) (λ p. lettered-grows (lettersOf (p .0)) (p .0) i q (p .1)) (by-letter i q d)
+
+  pub command-grows : (begun : Bool) (i q : ℕ) → Command text begun i q → i < q
+  command-grows true i q (inl w) = move-grows i q w
+  command-grows true i q (inr w) = draw-grows i q w
+  command-grows false i q w = move-grows i q w
+
+  -- ---- what the reader answers, by the letter
+
+  module _ (i : ℕ) where
+    -- M: a moveto and no other command
+    module _ (h : stands text i moveLetters ≡ true) where
+      no-draw : Lacks (drawto-command text) i
+      unfolding among
+      no-draw q d =
+          ⊎-elim (λ b. not-both {l = moveLetters} {m = closeLetters} tt (standing moveLetters i h) b)
+          (λ p. not-both (move-apart (p .0)) (standing moveLetters i h) (p .1 .1)) (by-letter i q d)
+
+      moved : (begun : Bool) (q : ℕ) → Command text begun i q → Moved i q
+      moved true q (inl w) = of-moveto i q w
+      moved true q (inr d) = absurd (no-draw q d)
+      moved false q w = of-moveto i q w
+
+      of-moved : (begun : Bool) (q : ℕ) → Moved i q → Command text begun i q
+      of-moved true q w = inl (to-moveto i q w)
+      of-moved false q w = to-moveto i q w
+
+      pub moves : (begun : Bool) (r : Word) → Reaches (Arguments Pair) (Goes text) (i + 1) r → Reaches (Command text begun) (Goes text) i r
+      moves begun r w = go r (letter-taken moveLetters (Arguments Pair) i h r w)
+        where
+          go : (r : Word) → Reaches Moved (Goes text) i r → Reaches (Command text begun) (Goes text) i r
+          go (Ends j) v = (of-moved begun j (v .0), λ q c. v .1 q (moved begun q c))
+          go Missing v = λ q c. v q (moved begun q c)
+
+    -- another letter: no moveto
+    no-move : stands text i moveLetters ≡ false → Lacks (moveto text) i
+    no-move h q w = not-byte h (of-moveto i q w .1)
+
+    drawn : stands text i moveLetters ≡ false → (q : ℕ) → Command text true i q → drawto-command text i q
+    drawn h q (inl w) = absurd (no-move h q w)
+    drawn h q (inr d) = d
+
+    pub not-begun : stands text i moveLetters ≡ false → Lacks (Command text false) i
+    not-begun h = no-move h
+
+    close-no-move : stands text i closeLetters ≡ true → stands text i moveLetters ≡ false
+    unfolding among
+    close-no-move h = other {l = closeLetters} moveLetters tt (standing closeLetters i h)
+
+    -- Z: one byte
+    pub closes : stands text i closeLetters ≡ true → Past (Command text true) (Goes text) i (i + 1)
+    closes h = (inr (of-close i (i + 1) (standing closeLetters i h)), λ q c. word q (by-letter i q (drawn (close-no-move h) q c)))
+      where
+        word : (q : ℕ) → Byte text closeLetters i q ⊎ ((kind : Kind) × Drawn kind i q) → (q ≡ i + 1) ⊎ Goes text q
+        word q (inl b) = inl (b .next)
+        word q (inr p) = absurd (not-both (close-apart (p .0)) (standing closeLetters i h) (p .1 .1))
+
+    pub closes-not-begun : stands text i closeLetters ≡ true → Lacks (Command text false) i
+    closes-not-begun h = not-begun (close-no-move h)
+
+    -- a letter that takes arguments
+    module _ (kind : Kind) (h : stands text i (lettersOf kind) ≡ true) where
+      kind-no-move : stands text i moveLetters ≡ false
+      kind-no-move = ⊎-elim (λ g. absurd (not-both (move-apart kind) (standing moveLetters i g) (standing (lettersOf kind) i h))) (λ g. g) (either-way (stands text i moveLetters))
+
+      same-kind : (q : ℕ) → Byte text closeLetters i q ⊎ ((other-kind : Kind) × Drawn other-kind i q) → Drawn kind i q
+      same-kind q (inl b) = absurd (not-both (close-apart kind) b (standing (lettersOf kind) i h))
+      same-kind q (inr (m, v)) =
+          ⊎-elim (λ z. subst (λ (y : Kind). Drawn y i q) (sym z) v) (λ t. absurd (not-both t (standing (lettersOf kind) i h) (v .1))) (kinds-apart kind m)
+
+      pub takes : (r : Word) → Reaches (Arguments kind) (Goes text) (i + 1) r → Reaches (Command text true) (Goes text) i r
+      takes r w = go r (letter-taken (lettersOf kind) (Arguments kind) i h r w)
+        where
+          word : (q : ℕ) → Command text true i q → Drawn kind i q
+          word q c = same-kind q (by-letter i q (drawn kind-no-move q c))
+
+          go : (r : Word) → Reaches (Drawn kind) (Goes text) i r → Reaches (Command text true) (Goes text) i r
+          go (Ends j) v = (inr (of-kind kind i j (v .0)), λ q c. v .1 q (word q c))
+          go Missing v = λ q c. v q (word q c)
+
+      pub takes-not-begun : Lacks (Command text false) i
+      takes-not-begun = not-begun kind-no-move
+
+    -- no letter of a command
+    pub no-letter : (begun : Bool) → stands text i commandLetters ≡ false → Lacks (Command text begun) i
+    no-letter begun h q c = clash (command-letter begun i q c) h

@@ -1,0 +1,84 @@
+-- Any two verdicts that strict reading may give are equal, and a yes is given exactly where a derivation of the whole text exists. Assumes nothing.
+use Prim.Native.Nat.{ℕ, _≤_, _<_}
+use mathlib.Core.Path.{_≡_, refl, sym, ap, _∙_}
+use mathlib.Core.List.{List, [], _∷_}
+use native.Mathlib.Omega.{arith}
+use lib.Dec.{lit<}
+use lib.ListN.{length, getD}
+use Rattle.answers.specs.Answers.{Answer, refused, accepted, numberOf}
+use Rattle.answers.specs.declared.refusals.Refusal.{Refusal}
+use Rattle.answers.specs.declared.refusals.Refusal.the-variants.{TooLong, UnexpectedEnd, ExpectedNumber, InvalidNumber, ExpectedFlag, UnsupportedCommand, MissingMoveTo, NoRoom, BadList, RotationRange, NotFinite, BadPath, Range}
+use Rattle.answers.proofs.Settled.{refusal-settled}
+use Rattle.grammar.specs.Grammar.{Matches}
+use Rattle.strict.specs.Verdicts.{Judged, yes, no, tooLong, answerOf, mostBytes}
+use Rattle.strict.specs.declared.texts.Verdict.{Verdict}
+use Rattle.strict.specs.declared.texts.Verdict.the-variants.{Yes, No, Refused}
+
+pub answer-settled : (text : List ℕ) (a b : Answer) → Judged text a → Judged text b → a ≡ b
+answer-settled text a b (yes _ _ e) (yes _ _ f) = e ∙ sym f
+answer-settled text a b (yes _ m e) (no _ n f) = absurd (n m)
+answer-settled text a b (yes h _ e) (tooLong g f) = absurd (omega arith)
+answer-settled text a b (no _ n e) (yes _ m f) = absurd (n m)
+answer-settled text a b (no _ _ e) (no _ _ f) = e ∙ sym f
+answer-settled text a b (no h _ e) (tooLong g f) = absurd (omega arith)
+answer-settled text a b (tooLong g e) (yes h _ f) = absurd (omega arith)
+answer-settled text a b (tooLong g e) (no h _ f) = absurd (omega arith)
+answer-settled text a b (tooLong _ e) (tooLong _ f) = e ∙ sym f
+
+-- ---- from answers to verdicts
+
+-- every refusal has a number of its own, and none is that of an accepted call
+numbered : (r : Refusal) → 0 < numberOf r
+numbered (TooLong size) = lit< tt
+numbered (UnexpectedEnd at) = lit< tt
+numbered (ExpectedNumber at) = lit< tt
+numbered (InvalidNumber at) = lit< tt
+numbered (ExpectedFlag at) = lit< tt
+numbered (UnsupportedCommand letter at) = lit< tt
+numbered (MissingMoveTo at) = lit< tt
+numbered (NoRoom needs) = lit< tt
+numbered (BadList command) = lit< tt
+numbered (RotationRange segment) = lit< tt
+numbered (NotFinite place) = lit< tt
+numbered BadPath = lit< tt
+numbered (Range found) = lit< tt
+
+refused-apart : (r : Refusal) (values : List ℕ) → refused r ≡ accepted values → ⊥
+refused-apart r values e = let n : numberOf r ≡ 0 = ap (λ (a : Answer). a .number) e in let h = numbered r in omega arith
+
+first : Answer → ℕ
+first a = getD (a .values) 0 0
+
+yes-apart : accepted (1 ∷ []) ≡ accepted (0 ∷ []) → ⊥
+unfolding first
+yes-apart e = let n : _≡_ {A = ℕ} 1 0 = ap first e in omega arith
+
+-- a verdict is settled by its answer
+pub answer-tells : (r s : Verdict) → answerOf r ≡ answerOf s → r ≡ s
+answer-tells Yes Yes e = refl
+answer-tells Yes No e = absurd (yes-apart e)
+answer-tells Yes (Refused s) e = absurd (refused-apart s _ (sym e))
+answer-tells No Yes e = absurd (yes-apart (sym e))
+answer-tells No No e = refl
+answer-tells No (Refused s) e = absurd (refused-apart s _ (sym e))
+answer-tells (Refused r) Yes e = absurd (refused-apart r _ e)
+answer-tells (Refused r) No e = absurd (refused-apart r _ e)
+answer-tells (Refused r) (Refused s) e =
+    ap Refused (refusal-settled r s (ap (λ (a : Answer). a .number) e) (ap (λ (a : Answer). a .values) e))
+
+-- any two verdicts that the contract allows are equal
+pub verdict-settled : (text : List ℕ) (r s : Verdict) → Judged text (answerOf r) → Judged text (answerOf s) → r ≡ s
+verdict-settled text r s p q = answer-tells r s (answer-settled text (answerOf r) (answerOf s) p q)
+
+-- of a text that is not too long the verdict is yes exactly where a derivation of the whole text exists
+module _ (text : List ℕ) (r : Verdict) (short : length text ≤ mostBytes) (judged : Judged text (answerOf r)) where
+  pub yes-derives : r ≡ Yes → Matches text
+  yes-derives e = go judged
+    where
+      go : Judged text (answerOf r) → Matches text
+      go (yes _ m _) = m
+      go (no _ _ f) = absurd (yes-apart (sym (ap answerOf e) ∙ f))
+      go (tooLong h _) = absurd (omega arith)
+
+  pub derives-yes : Matches text → r ≡ Yes
+  derives-yes m = verdict-settled text r Yes judged (yes short m refl)

@@ -1,0 +1,37 @@
+-- `strict::read_arguments` meets its contract: a first argument after the white space, and the further ones after it. Assumes nothing.
+use borrow.Author.Needs.{needs}
+use Rattle.strict.proofs.CommandLaws.{arguments-missing, arguments-past}
+use Rattle.strict.proofs.commands.read_arguments.Statement.{statement}
+use Rattle.strict.proofs.commands.read_arguments.Tie as tie
+
+past-white-requires : tie.Need-past-white-requires
+past-white-requires c κs = search needs
+
+read-argument-requires : tie.Need-read-argument-requires
+read-argument-requires c κs = search needs
+
+enum-known-end : tie.Need-enum-known-end
+enum-known-end c = search needs
+
+enum-told : tie.Need-enum-told
+enum-told c = search needs
+
+returns : tie.Need-returns
+returns c =
+    let first = c .before .before in
+    let a = first .before .before .before .args in
+    arguments-missing (a .text .now) (a .kind) (a .at) _ (first .before .past-white .ensures) _ (first .read-argument .ensures) (c .enum-told .given .1)
+
+past-arguments-requires : tie.Need-past-arguments-requires
+past-arguments-requires c κs = search needs
+
+returns-2 : tie.Need-returns-2
+returns-2 c =
+    let first = c .before .before .before .before in
+    let a = first .before .before .before .args in
+    arguments-past (a .text .now) (a .kind) (a .at) _ (first .before .past-white .ensures) _ _ _ (first .read-argument .ensures)
+    (c .before .before .end .given .1) (c .past-arguments .ensures)
+
+pub read-arguments-spec : {M : Type 1} → statement M
+read-arguments-spec =
+    tie.close (tie.spec past-white-requires read-argument-requires enum-known-end enum-told returns past-arguments-requires returns-2)

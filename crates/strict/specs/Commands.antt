@@ -1,0 +1,59 @@
+-- The letters of the commands, and what a reader of one command promises. Definitions only.
+use Prim.Native.Nat.{ℕ}
+use mathlib.Core.Path.{_≡_}
+use mathlib.Core.Bool.{Bool, true, false}
+use mathlib.Core.List.{List, [], _∷_, _++_}
+use Rattle.scan.specs.Bytes.{among}
+use Rattle.scan.specs.Runs.{stands}
+use Rattle.grammar.specs.Spans.{Span, _∥_}
+use Rattle.grammar.specs.Grammar.{moveto, drawto-command}
+use Rattle.grammar.specs.Words.{Past, Lacks}
+use Rattle.arguments.specs.declared.words.Word.{Word}
+use Rattle.arguments.specs.declared.words.Word.the-variants.{Ends, Missing}
+use Rattle.arguments.specs.declared.groups.Kind.{Kind}
+use Rattle.arguments.specs.declared.groups.Kind.the-variants.{Coordinate, Pair, TwoPairs, ThreePairs, Arc}
+use Rattle.strict.specs.declared.commands.Letter.{Letter}
+use Rattle.strict.specs.declared.commands.Letter.the-variants.{Moves, Closes, Takes, Other}
+
+-- M and Z in both cases
+abbrev pub moveLetters : List ℕ
+moveLetters = 77 ∷ 109 ∷ []
+
+abbrev pub closeLetters : List ℕ
+closeLetters = 90 ∷ 122 ∷ []
+
+-- the letters that take arguments of a kind: H V, L T, S Q, C and A in both cases
+abbrev pub lettersOf : Kind → List ℕ
+lettersOf Coordinate = 72 ∷ 104 ∷ 86 ∷ 118 ∷ []
+lettersOf Pair = 76 ∷ 108 ∷ 84 ∷ 116 ∷ []
+lettersOf TwoPairs = 83 ∷ 115 ∷ 81 ∷ 113 ∷ []
+lettersOf ThreePairs = 67 ∷ 99 ∷ []
+lettersOf Arc = 65 ∷ 97 ∷ []
+
+-- all of them
+abbrev pub commandLetters : List ℕ
+commandLetters = moveLetters ++ closeLetters ++ lettersOf Coordinate ++ lettersOf Pair ++ lettersOf TwoPairs ++ lettersOf ThreePairs ++ lettersOf Arc
+
+-- what a byte begins
+abbrev pub LetterOf : ℕ → Letter → Type 0
+LetterOf byte Moves = among byte moveLetters ≡ true
+LetterOf byte Closes = among byte closeLetters ≡ true
+LetterOf byte (Takes kind) = among byte (lettersOf kind) ≡ true
+LetterOf byte Other = among byte commandLetters ≡ false
+
+-- what the byte at a place begins
+abbrev pub LetterAt : List ℕ → ℕ → Letter → Type 0
+LetterAt text at Moves = stands text at moveLetters ≡ true
+LetterAt text at Closes = stands text at closeLetters ≡ true
+LetterAt text at (Takes kind) = stands text at (lettersOf kind) ≡ true
+LetterAt text at Other = stands text at commandLetters ≡ false
+
+-- an answer is right for a production at a place: a word of it ends there, and where another one ends C holds; or it has none
+abbrev pub Reaches : Span → (ℕ → Type 0) → ℕ → Word → Type 0
+Reaches P C i (Ends j) = Past P C i j
+Reaches P C i Missing = Lacks P i
+
+-- what may stand where a command is due: a moveto, and after one also a drawto-command
+abbrev pub Command : List ℕ → Bool → Span
+Command text true = moveto text ∥ drawto-command text
+Command text false = moveto text

@@ -1,0 +1,3 @@
+-- What strict reading promises. Definitions only.
+pub mod Commands
+pub mod Verdicts

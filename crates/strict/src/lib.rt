@@ -1,0 +1,6 @@
+// Strict reading of path data: whether a text matches the grammar of SVG 1.1 Second Edition, 8.3.9.
+mod commands;
+mod texts;
+
+pub use texts::Verdict;
+pub use texts::strict;
