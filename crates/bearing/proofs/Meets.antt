@@ -26,11 +26,10 @@ use Rattle.bearing.proofs.Answers.{signed-value, guess-range, slanted-r
 both-finite : (y x : Float) → T (finite y) → T (finite x) → finite y && finite x ≡ true
 both-finite y x fy fx = ap (λ (b : Bool). b && finite x) (is-true (finite y) fy) ∙ is-true (finite x) fx
 
-at-finite : (y x : Float) → T (finite y) → T (finite x)
-    → atan2Of y x ≡ cond (eqb (plain y) 0) (level y x) (slanted y x (partOf (plain y) (topOf (plain y) (plain x))) (partOf (plain x) (topOf (plain y) (plain x))))
+at-finite : (y x : Float) → T (finite y) → T (finite x) → atan2Of y x ≡ cond (eqb (plain y) 0) (level y (plain x) (signBit y) (signBit x)) (slanted y x (plain y) (plain x) (signBit y) (signBit x))
 unfolding atan2Of
 at-finite y x fy fx =
-    ap (λ (b : Bool). cond b (cond (eqb (plain y) 0) (level y x) (slanted y x (partOf (plain y) (topOf (plain y) (plain x))) (partOf (plain x) (topOf (plain y) (plain x))))) nan) (both-finite y x fy fx)
+    ap (λ (t : Bool). cond t (cond (eqb (plain y) 0) (level y (plain x) (signBit y) (signBit x)) (slanted y x (plain y) (plain x) (signBit y) (signBit x))) nan) (both-finite y x fy fx)
 
 finite-of : (x : Float) (s : Bool) (N : ℕ) → Is x s N → T (finite x)
 finite-of nan s N h = h
@@ -51,19 +50,22 @@ module _ (y x : Float) (p q : Bool) (Y X : ℕ) (hy : Is y p Y) (hx : Is x q X) 
   abbrev b : ℕ
   b = wideBits (X * 2 ^ 925)
 
+  abbrev u : ℕ
+  u = partOf (wideBits (Y * 2 ^ 925)) (topOf (wideBits (Y * 2 ^ 925)) (wideBits (X * 2 ^ 925)))
+
+  abbrev v : ℕ
+  v = partOf (wideBits (X * 2 ^ 925)) (topOf (wideBits (Y * 2 ^ 925)) (wideBits (X * 2 ^ 925)))
+
   -- the definition, with the bits by the sizes
-  by-sizes : atan2Of y x ≡ cond (eqb a 0) (level y x) (slanted y x (partOf a (topOf a b)) (partOf b (topOf a b)))
+  by-sizes : atan2Of y x ≡ cond (eqb a 0) (level y b (bit p) (bit q)) (slanted y x a b (bit p) (bit q))
   by-sizes =
       at-finite y x (finite-of y p Y hy) (finite-of x q X hx)
-      ∙ ap (λ (c : ℕ). cond (eqb c 0) (level y x) (slanted y x (partOf c (topOf c (plain x))) (partOf (plain x) (topOf c (plain x))))) (plain-is y p Y hy sy)
-      ∙ ap (λ (c : ℕ). cond (eqb a 0) (level y x) (slanted y x (partOf a (topOf a c)) (partOf c (topOf a c)))) (plain-is x q X hx sx)
+      ∙ ap (λ (n : ℕ). cond (eqb n 0) (level y (plain x) (signBit y) (signBit x)) (slanted y x n (plain x) (signBit y) (signBit x))) (plain-is y p Y hy sy)
+      ∙ ap (λ (n : ℕ). cond (eqb a 0) (level y n (signBit y) (signBit x)) (slanted y x a n (signBit y) (signBit x))) (plain-is x q X hx sx)
+      ∙ ap (λ (n : ℕ). cond (eqb a 0) (level y b n (signBit x)) (slanted y x a b n (signBit x))) (sign-is y p Y hy sy)
+      ∙ ap (λ (n : ℕ). cond (eqb a 0) (level y b (bit p) n) (slanted y x a b (bit p) n)) (sign-is x q X hx sx)
 
   -- ---- y above or below the axis
-  slanted-is : (u v : ℕ) → slanted y x u v ≡ cond (tiny u v (bit q)) (div binary32 y x) (ofBits binary32 (bit p * 2147483648 + angleBits u v (bit q) (guessOf (plain y) (plain x) (ltb v u) (bit q))))
-  slanted-is u v =
-      ap (λ (s : ℕ). cond (tiny u v s) (div binary32 y x) (ofBits binary32 (signBit y * 2147483648 + angleBits u v s (guessOf (plain y) (plain x) (ltb v u) s)))) (sign-is x q X hx sx)
-      ∙ ap (λ (s : ℕ). cond (tiny u v (bit q)) (div binary32 y x) (ofBits binary32 (s * 2147483648 + angleBits u v (bit q) (guessOf (plain y) (plain x) (ltb v u) (bit q))))) (sign-is y p Y hy sy)
-
   tiny-right : (r : Bool) (u v : ℕ) → tiny u v (bit r) ≡ true → Is x r X → Pair Y X u v → Atan2Rule y x (div binary32 y x)
   tiny-right false u v e h pr = tiny-rule y x p Y X u v hy h pr (let k = leb-true (u * 8192 + 0 * 2 ^ 30) v e in near u v k)
     where
@@ -74,28 +76,25 @@ module _ (y x : Float) (p q : Bool) (Y X : ℕ) (hy : Is y p Y) (hx : Is x q X) 
       none : (u v : ℕ) → u * 8192 + 1 * 2 ^ 30 ≤ v → v < 2 ^ 30 → ⊥
       none u v k l = omega arith
 
-  slanted-meets : (u v : ℕ) → Pair Y X u v → Atan2Rule y x (slanted y x u v)
-  slanted-meets u v pr = subst (λ (z : Float). Atan2Rule y x z) (sym (slanted-is u v)) (go (tiny u v (bit q)) refl)
+  slanted-meets : Pair Y X u v → Atan2Rule y x (slanted y x a b (bit p) (bit q))
+  slanted-meets pr = go (tiny u v (bit q)) refl
     where
       g : ℕ
-      g = guessOf (plain y) (plain x) (ltb v u) (bit q)
+      g = guessOf a b (ltb v u) (bit q)
 
       go : (t : Bool) → tiny u v (bit q) ≡ t → Atan2Rule y x (cond t (div binary32 y x) (ofBits binary32 (bit p * 2147483648 + angleBits u v (bit q) g)))
       go true e = tiny-right q u v e hx pr
-      go false e = let r = guess-range (plain y) (plain x) (ltb v u) (bit q) in slanted-rule y x p q Y X u v hy hx pr g (r .0) (r .1) e
+      go false e = let r = guess-range a b (ltb v u) (bit q) in slanted-rule y x p q Y X u v hy hx pr g (r .0) (r .1) e
 
-  slanted-answer : 0 < Y → atan2Of y x ≡ slanted y x (partOf a (topOf a b)) (partOf b (topOf a b))
-  slanted-answer h = by-sizes ∙ ap (λ (t : Bool). cond t (level y x) (slanted y x (partOf a (topOf a b)) (partOf b (topOf a b)))) (ne-eqb a 0 (wide-pos Y h))
+  slanted-answer : 0 < Y → atan2Of y x ≡ slanted y x a b (bit p) (bit q)
+  slanted-answer h = by-sizes ∙ ap (λ (t : Bool). cond t (level y b (bit p) (bit q)) (slanted y x a b (bit p) (bit q))) (ne-eqb a 0 (wide-pos Y h))
 
   -- ---- y on the axis
-  level-answer : Y ≡ 0 → atan2Of y x ≡ level y x
-  level-answer e = by-sizes ∙ ap (λ (t : Bool). cond t (level y x) (slanted y x (partOf a (topOf a b)) (partOf b (topOf a b)))) (eq-eqb a 0 (ap (λ (n : ℕ). wideBits (n * 2 ^ 925)) e ∙ ap wideBits (zero-mul (2 ^ 925)) ∙ wide-zero))
+  level-answer : Y ≡ 0 → atan2Of y x ≡ level y b (bit p) (bit q)
+  level-answer e = by-sizes ∙ ap (λ (t : Bool). cond t (level y b (bit p) (bit q)) (slanted y x a b (bit p) (bit q))) (eq-eqb a 0 (ap (λ (n : ℕ). wideBits (n * 2 ^ 925)) e ∙ ap wideBits (zero-mul (2 ^ 925)) ∙ wide-zero))
 
-  level-is : 0 < X → level y x ≡ cond (eqb (bit q) 0) y (ofBits binary32 (bit p * 2147483648 + piBits))
-  level-is h =
-      ap (λ (t : Bool). cond t (ofBits binary32 0) (cond (eqb (signBit x) 0) y (ofBits binary32 (signBit y * 2147483648 + piBits)))) (ne-eqb (plain x) 0 (λ (e : plain x ≡ 0). wide-pos X h (sym (plain-is x q X hx sx) ∙ e)))
-      ∙ ap (λ (s : ℕ). cond (eqb s 0) y (ofBits binary32 (signBit y * 2147483648 + piBits))) (sign-is x q X hx sx)
-      ∙ ap (λ (s : ℕ). cond (eqb (bit q) 0) y (ofBits binary32 (s * 2147483648 + piBits))) (sign-is y p Y hy sy)
+  level-is : 0 < X → level y b (bit p) (bit q) ≡ cond (eqb (bit q) 0) y (ofBits binary32 (bit p * 2147483648 + piBits))
+  level-is h = ap (λ (t : Bool). cond t (ofBits binary32 0) (cond (eqb (bit q) 0) y (ofBits binary32 (bit p * 2147483648 + piBits)))) (ne-eqb b 0 (wide-pos X h))
 
 -- ---- the sizes as variables, so that y's may be 0
 zero-le : (n : ℕ) → 0 ≤ n
@@ -112,7 +111,7 @@ meets y x p q zero X hy hx sy sx some =
     subst (λ (z : Float). Atan2Rule y x z) (sym (level-answer y x p q 0 X hy hx sy sx refl ∙ level-is y x p q 0 X hy hx sy sx pos)) (level-meets y x p q X hy hx sx pos)
 meets y x p q (suc Y) X hy hx sy sx some =
     subst (λ (z : Float). Atan2Rule y x z) (sym (slanted-answer y x p q (suc Y) X hy hx sy sx (omega arith)))
-    (slanted-meets y x p q (suc Y) X hy hx sy sx _ _ (pair (suc Y) X some))
+    (slanted-meets y x p q (suc Y) X hy hx sy sx (pair (suc Y) X some))
 
 -- ---- zeros
 zero-units : (x : Float) (s : Bool) (N : ℕ) → Is x s N → T (isZero x) → N ≡ 0
@@ -175,8 +174,8 @@ atan2-both-zero y x fy fx ny nx zy zx =
     let ez : a .units ≡ 0 = zero-units y p (a .units) (a .is) zy in
     let fz : b .units ≡ 0 = zero-units x q (b .units) (b .is) zx in
     level-answer y x p q (a .units) (b .units) (a .is) (b .is) (a .small) (b .small) ez
-    ∙ ap (λ (t : Bool). cond t (ofBits binary32 0) (cond (eqb (signBit x) 0) y (ofBits binary32 (signBit y * 2147483648 + piBits))))
-    (eq-eqb (plain x) 0 (plain-is x q (b .units) (b .is) (b .small) ∙ ap (λ (n : ℕ). wideBits (n * 2 ^ 925)) fz ∙ ap wideBits (zero-mul (2 ^ 925)) ∙ wide-zero))
+    ∙ ap (λ (t : Bool). cond t (ofBits binary32 0) (cond (eqb (bit q) 0) y (ofBits binary32 (bit p * 2147483648 + piBits))))
+    (eq-eqb (wideBits (b .units * 2 ^ 925)) 0 (ap (λ (n : ℕ). wideBits (n * 2 ^ 925)) fz ∙ ap wideBits (zero-mul (2 ^ 925)) ∙ wide-zero))
 
 -- "for y zero it is zero with x above 0 and PI in size with x below": y is a zero of the sign p, and x is X units, above 0 or below
 module _ (y x : Float) (p : Bool) (X : ℕ) (hy : Is y p 0) (fx : T (fits binary32 x)) (pos : 0 < X) where
@@ -214,11 +213,12 @@ atan2-tiny y x p Y X fy fx hy hx pos h =
     let u = partOf a (topOf a b) in
     let v = partOf b (topOf a b) in
     let pr : Pair Y X u v = pair Y X (le-trans pos (le-add-right Y X)) in
-    slanted-answer y x p false Y X hy hx sy sx pos ∙ slanted-is y x p false Y X hy hx sy sx u v
-    ∙ ap (λ (t : Bool). cond t (div binary32 y x) (ofBits binary32 (bit p * 2147483648 + angleBits u v 0 (guessOf (plain y) (plain x) (ltb v u) 0))))
+    slanted-answer y x p false Y X hy hx sy sx pos
+    ∙ ap (λ (t : Bool). cond t (div binary32 y x) (ofBits binary32 (bit p * 2147483648 + angleBits u v 0 (guessOf a b (ltb v u) 0))))
     (le-leb (u * 8192 + 0 * 2 ^ 30) v (near u v (tiny-parts Y X u v (pr .scale) (2 ^ 925) (pr .scale-pos) (pr .rise) (pr .run) h)))
   where
     near : (u v : ℕ) → u * 8192 ≤ v → u * 8192 + 0 * 2 ^ 30 ≤ v
     near u v k = omega arith
+
     under : (z : Float) (s : Bool) (N : ℕ) → T (fits binary32 z) → Is z s N → N < 2 ^ 277
     under z s N f i = let w = whole z f (finite-of z s N i) in subst (λ (n : ℕ). n < 2 ^ 277) (sym (units-same z s (w .minus) N (w .units) i (w .is))) (w .small)

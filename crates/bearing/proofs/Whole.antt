@@ -4,14 +4,17 @@ use Prim.Native.Nat.{ℕ, zero, suc, _+_, _-_, _*_, _/_, _%_, _^_, _≤_, _<_}
 use native.Mathlib.Nat.{le-trans, le-of-eq, lt-of-lt-of-le, lt-of-le-of-lt, lt-of-not-le, not-le-of-lt, mul-one, zero-mul, mul-assoc, mul-comm, mul-right-comm, mul-lt-mul-of-pos-right, mul-le-mul-right}
 use native.Mathlib.Omega.{arith}
 use mathlib.Core.Bool.{Bool, true, false}
-use lib.Dec.{T, lit≤}
+use lib.Dec.{T, ltb, lit≤}
 use lib.Pow.{pow-pos, pow-lt, pow-mono, pow-add}
 use lib.IntN.{ℤ, pos, negsuc}
-use lib.Ieee.{Float, nan, inf, fin, up, down, binary32, fits}
+use lib.Ieee.{Float, nan, inf, fin, up, down, binary32, fits, toBits}
 use lib.Ieee.Fits.{down-pos}
 use lib.Ieee.Scale.{finite}
 use Rattle.floats.proofs.Held.{fits-bounds}
+use borrow.Author.Tests.{lt-ltb}
 use Rattle.sums.specs.Rule.{Is}
+use Rattle.bearing.specs.Steps.{plain}
+use Rattle.bearing.proofs.Sizes.{wide-lt, plain-is}
 
 pub record Whole (x : Float) : Type 0 where
   pub minus : Bool
@@ -48,3 +51,13 @@ whole (fin s (suc m) e) f t =
     let b = fits-bounds binary32 s m e f in
     let w = whole-of (suc m) e (b .1) in
     record { minus = s; units = w .0; is = (refl, w .1); small = few-units (suc m * up e) (down e) (w .0) (down-pos e) (b .2) (w .1) }
+
+-- ---- what is not finite has the bits of an infinity, or more
+pub bits-finite : (x : Float) → T (fits binary32 x) → ltb (plain x) 9218868437227405312 ≡ finite x
+unfolding toBits
+bits-finite nan f = refl
+bits-finite (inf true) f = refl
+bits-finite (inf false) f = refl
+bits-finite (fin s m e) f =
+    let w = whole (fin s m e) f tt in
+    lt-ltb (plain (fin s m e)) 9218868437227405312 (lt-of-le-of-lt (le-of-eq (plain-is (fin s m e) (w .minus) (w .units) (w .is) (w .small))) (lt-of-lt-of-le (wide-lt (w .units) (w .small)) (lit≤ tt)))

@@ -143,17 +143,20 @@ angleBits u v left guess = cond (passes u v left guess) guess (fallbackOf u v le
 abbrev pub tiny : ℕ → ℕ → ℕ → Bool
 tiny u v left = leb (u * 8192 + left * 2 ^ 30) v
 
-abbrev pub slanted : Float → Float → ℕ → ℕ → Float
-slanted y x u v =
-    cond (tiny u v (signBit x)) (div binary32 y x)
-    (ofBits binary32 (signBit y * 2147483648 + angleBits u v (signBit x) (guessOf (plain y) (plain x) (ltb v u) (signBit x))))
+-- a and b are the bits of y and x without their signs s and t
+abbrev pub slanted : Float → Float → ℕ → ℕ → ℕ → ℕ → Float
+slanted y x a b s t =
+    let u = partOf a (topOf a b) in
+    let v = partOf b (topOf a b) in
+    cond (tiny u v t) (div binary32 y x) (ofBits binary32 (s * 2147483648 + angleBits u v t (guessOf a b (ltb v u) t)))
 
 -- "for y zero it is zero with x above 0 and PI in size with x below. Both zero: 0."
-abbrev pub level : Float → Float → Float
-level y x = cond (eqb (plain x) 0) (ofBits binary32 0) (cond (eqb (signBit x) 0) y (ofBits binary32 (signBit y * 2147483648 + piBits)))
+abbrev pub level : Float → ℕ → ℕ → ℕ → Float
+level y b s t = cond (eqb b 0) (ofBits binary32 0) (cond (eqb t 0) y (ofBits binary32 (s * 2147483648 + piBits)))
 
 -- "Not finite: NaN."
 unfoldable pub atan2Of : Float → Float → Float
 atan2Of y x =
-    let top = topOf (plain y) (plain x) in
-    cond (finite y && finite x) (cond (eqb (plain y) 0) (level y x) (slanted y x (partOf (plain y) top) (partOf (plain x) top))) nan
+    cond (finite y && finite x)
+    (cond (eqb (plain y) 0) (level y (plain x) (signBit y) (signBit x)) (slanted y x (plain y) (plain x) (signBit y) (signBit x)))
+    nan
