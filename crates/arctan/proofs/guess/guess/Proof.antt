@@ -1,0 +1,105 @@
+-- The bits that make floats are none of a NaN: a field of 2047 ones is out of reach. Assumes nothing.
+use borrow.Author.Needs.{needs}
+use borrow.Author.Tests.{ne-eqb}
+use native.Mathlib.Omega.{arith}
+use native.Mathlib.Nat.{le-trans}
+use Prim.Native.Nat.{ℕ, _+_, _-_, _*_, _/_, _%_, _^_, _≤_, _<_}
+use mathlib.Core.Path.{_≡_, refl, sym, ap, subst, _∙_}
+use mathlib.Core.Bool.{Bool, true, false, not, cond, _&&_}
+use lib.Dec.{T, eqb, le→leb, lit≤}
+use lib.IntN.{pos}
+use lib.Ieee.{binary64, nanBits, inFloat}
+use Rattle.bearing.specs.Steps.{guessOf}
+use Rattle.arctan.proofs.guess.guess.Statement.{statement}
+use Rattle.arctan.proofs.guess.guess.Tie as tie
+
+no-nan : (b : ℕ) → b % 9223372036854775808 < 9218868437227405312 → T (not (nanBits binary64 b))
+unfolding nanBits
+no-nan b h = subst (λ (t : Bool). T (not (t && not (eqb (b % 4503599627370496) 0)))) (sym (ne-eqb (b % 9223372036854775808 / 4503599627370496) 2047 (λ (e : b % 9223372036854775808 / 4503599627370496 ≡ 2047). omega arith))) tt
+
+picked-le : (t : Bool) (a b p m : ℕ) → p ≡ cond t a b → a ≤ m → b ≤ m → p ≤ m
+picked-le true a b p m e h k = omega arith
+picked-le false a b p m e h k = omega arith
+
+signed : (s p : ℕ) → s ≤ 1 → p ≤ 9218868437227405311 → (s * 9223372036854775808 + p) % 9223372036854775808 < 9218868437227405312
+signed s p h k = omega arith
+
+whole-float : (n : ℕ) → n ≤ 2 → T (inFloat binary64 (pos n))
+unfolding inFloat
+whole-float n h = le→leb n (2 ^ 53) (le-trans h (lit≤ tt))
+
+sub-pick : tie.Need-sub-pick
+sub-pick c = search needs
+
+pick-requires : tie.Need-pick-requires
+pick-requires c κs = search needs
+
+mul-n : tie.Need-mul-n
+mul-n c = let s = picked-le (c .before .args .steep) (1 - c .before .args .left) (c .before .args .left) (c .pick .result) 1 (c .pick .ensures) (omega arith) (omega arith) in record { fits = omega arith }
+
+pick-requires-2 : tie.Need-pick-requires-2
+pick-requires-2 c κs = search needs
+
+add-n : tie.Need-add-n
+add-n c =
+    let at = c .before .before in
+    let s = picked-le (at .args .steep) (1 - at .args .left) (at .args .left) (c .before .pick .result) 1 (c .before .pick .ensures) (omega arith) (omega arith) in
+    let p = picked-le (at .args .steep) (at .args .b) (at .args .a) (c .pick2 .result) 9218868437227405311 (c .pick2 .ensures) (omega arith) (omega arith) in
+    record { fits = omega arith }
+
+float-from-bits-n : tie.Need-float-from-bits-n
+float-from-bits-n c =
+    let at = c .before .before in
+    no-nan _
+    (signed (c .before .pick .result) (c .pick2 .result)
+    (picked-le (at .args .steep) (1 - at .args .left) (at .args .left) (c .before .pick .result) 1 (c .before .pick .ensures) (omega arith) (omega arith))
+    (picked-le (at .args .steep) (at .args .b) (at .args .a) (c .pick2 .result) 9218868437227405311 (c .pick2 .ensures) (omega arith) (omega arith)))
+
+pick-requires-3 : tie.Need-pick-requires-3
+pick-requires-3 c κs = search needs
+
+float-from-bits-d : tie.Need-float-from-bits-d
+float-from-bits-d c =
+    let at = c .before .before .before in
+    let p = picked-le (at .args .steep) (at .args .a) (at .args .b) (c .pick3 .result) 9218868437227405311 (c .pick3 .ensures) (omega arith) (omega arith) in
+    no-nan _ (omega arith)
+
+mul-pick : tie.Need-mul-pick
+mul-pick c = search needs
+
+pick-requires-4 : tie.Need-pick-requires-4
+pick-requires-4 c κs = search needs
+
+int-to-float-k : tie.Need-int-to-float-k
+int-to-float-k c =
+    let at = c .before .before .before .before .before in
+    whole-float _ (picked-le (at .args .steep) 1 (2 * at .args .left) (c .before .pick4 .result) 2 (c .before .pick4 .ensures) (omega arith) (omega arith))
+
+bend-requires : tie.Need-bend-requires
+bend-requires c κs = search needs
+
+near-bits-requires : tie.Need-near-bits-requires
+near-bits-requires c κs = search needs
+
+returns : tie.Need-returns
+unfolding guessOf
+returns c = (cc, c .near-bits .ensures .1, c .near-bits .ensures .2)
+
+pub guess-spec : {M : Type 1} → statement M
+guess-spec =
+    tie.close
+    (tie.spec
+    sub-pick
+    pick-requires
+    mul-n
+    pick-requires-2
+    add-n
+    float-from-bits-n
+    pick-requires-3
+    float-from-bits-d
+    mul-pick
+    pick-requires-4
+    int-to-float-k
+    bend-requires
+    near-bits-requires
+    returns)

@@ -1,0 +1,57 @@
+// The guess, in f64. Any answer in range is safe: the test decides.
+ghost use mathlib.Core.Path.{_≡_};
+ghost use mathlib.Core.Bool.{cond};
+ghost use Prim.Native.Nat.{_+_, _-_, _*_, _/_, _%_, _^_, _≤_, _<_};
+ghost use Rattle.bearing.specs.Steps.{bendOf, nearOf, guessOf};
+
+// atan t by a polynomial in t·t, for t from -1 to 1: within 4.4e-10.
+fn bend(t: f64) -> f64
+    ensures { λ r. ⌜ r ≡ bendOf t ⌝ }
+{
+    let s = t * t;
+    let q = s * s;
+    let o = q * q;
+    let a = (0.9999999995535376 - 0.33333322488911593 * s)
+        + q * (0.19999558100363982 - 0.14278576024807985 * s);
+    let b = (0.1105077127584966 - 0.08785043282362845 * s)
+        + q * (0.06685281517877424 - 0.04392841073326746 * s);
+    let c = (0.021912945865448393 - 0.007030669470424213 * s) + q * 0.001057607438057242;
+    t * (a + o * (b + o * c))
+}
+
+// The bits of the f32 nearest to g, which is from 2^-14 to PI. For any other g it is PI.
+fn near_bits(g: f64) -> u32
+    ensures { λ r. ⌜ (r ≡ nearOf g) × (947912704 ≤ r) × (r ≤ 1078530011) ⌝ }
+{
+    if g != g {
+        return 0x4049_0FDB;
+    }
+    let b = f64::to_bits(g);
+    if b < 0x3F10_0000_0000_0000 {
+        return 0x4049_0FDB;
+    }
+    if b > 0x4009_21FB_6000_0000 {
+        return 0x4049_0FDB;
+    }
+    ((b - 0x3800_0000_0000_0000 + 0x1000_0000) >> 29) as u32
+}
+
+// a where `first` is true, else b.
+fn pick(first: bool, a: u64, b: u64) -> u64
+    ensures { λ r. ⌜ r ≡ cond first a b ⌝ }
+{
+    if first { a } else { b }
+}
+
+// The angle from the bits a and b of the sizes of y and x, `steep` where y is the larger. Where the
+// point is on the left side or y is the larger, but not both, the small angle is taken away.
+pub fn guess(a: u64, b: u64, steep: bool, left: u32) -> u32
+    requires { ⌜ (a < 9218868437227405312) × (b < 9218868437227405312) × (left ≤ 1) ⌝ }
+    ensures { λ r. ⌜ (r ≡ guessOf a b steep left) × (947912704 ≤ r) × (r ≤ 1078530011) ⌝ }
+{
+    let l = left as u64;
+    let n = f64::from_bits(pick(steep, 1 - l, l) * 0x8000_0000_0000_0000 + pick(steep, b, a));
+    let d = f64::from_bits(pick(steep, a, b));
+    let k = pick(steep, 1, 2 * l) as f64;
+    near_bits(k * 1.5707963267948966 + bend(n / d))
+}
