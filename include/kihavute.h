@@ -20,6 +20,7 @@
 #ifndef KIHAVUTE_H
 #define KIHAVUTE_H
 
+#include <stddef.h>
 #include <stdint.h>
 #include <string.h>
 
@@ -81,6 +82,15 @@ uint64_t kihavute_normalize(float x, float y);
 
 /* Each coordinate's lerp from a to b. */
 uint64_t kihavute_lerp_point(float ax, float ay, float bx, float by, float t);
+
+/* ---- Texts ----
+ * A text is a pointer to its bytes, which is never null, and their count. It may hold any bytes and needs no end
+ * mark. A function that can refuse returns the refusal's number, 0 where it accepts, and writes what goes with
+ * that to the start of answer, an array of at least 8 places. Into a shorter one it writes nothing and returns 255. */
+
+/* Whether the text matches the path grammar of SVG 1.1 Second Edition, 8.3.9, with an arc's radii signed: answer[0]
+ * is 1 for a yes and 0 for a no. Refused with 1: above 65,536 bytes; answer[0] is the count. The time is linear. */
+uint32_t kihavute_strict(const uint8_t *text, size_t text_len, uint64_t *answer, size_t answer_len);
 
 /* ---- From bits to floats ---- */
 

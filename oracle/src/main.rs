@@ -1,10 +1,13 @@
 //! The comparison of the proved library with the original Rust, by bits. `oracle/run` says what it takes.
 
+mod bnf;
 mod compare;
+mod earley;
 mod math;
 mod record;
 mod root_all;
 mod samples;
+mod strict;
 
 use compare::Report;
 use std::process::ExitCode;
@@ -19,6 +22,7 @@ fn main() -> ExitCode {
         ["gate"] => {
             math::compare(&mut report, SEED, 200_000);
             record::compare(&mut report, SEED);
+            strict::compare_some(&mut report, SEED);
         }
         ["math"] => math::compare(&mut report, SEED, 2_000_000),
         ["math", seed] => match seed.parse() {
@@ -26,6 +30,11 @@ fn main() -> ExitCode {
             Err(_) => return usage(),
         },
         ["root_all"] => root_all::compare(&mut report),
+        ["strict"] => strict::compare_all(&mut report),
+        ["strict", seed, count] => match (seed.parse(), count.parse()) {
+            (Ok(seed), Ok(count)) => strict::compare_derivations(&mut report, seed, count),
+            _ => return usage(),
+        },
         ["record", "math"] => record::write(&mut report, SEED),
         _ => return usage(),
     }
@@ -33,6 +42,6 @@ fn main() -> ExitCode {
 }
 
 fn usage() -> ExitCode {
-    eprintln!("oracle/run gate | math [SEED] | root_all | record math");
+    eprintln!("oracle/run gate | math [SEED] | root_all | strict [SEED COUNT] | record math");
     ExitCode::from(2)
 }

@@ -28,6 +28,7 @@ unsafe extern "C" {
     safe fn kihavute_distance(ax: f32, ay: f32, bx: f32, by: f32) -> u32;
     safe fn kihavute_normalize(x: f32, y: f32) -> u64;
     safe fn kihavute_lerp_point(ax: f32, ay: f32, bx: f32, by: f32, t: f32) -> u64;
+    fn kihavute_strict(text: *const u8, text_len: usize, answer: *mut u64, answer_len: usize) -> u32;
 }
 
 // the two patterns of a packed point
@@ -137,6 +138,28 @@ pub fn lerp_point(a: [f32; 2], b: [f32; 2], t: f32) -> [Bits; 2] {
     apart(kihavute_lerp_point(a[0], a[1], b[0], b[1], t))
 }
 
+/// What strict reading says of a text.
+#[derive(Clone, Copy, Debug, PartialEq, Eq)]
+pub enum Strict {
+    Yes,
+    No,
+    /// The text has this many bytes, more than 65,536.
+    TooLong(u64),
+}
+
+/// Whether a text of any bytes matches the path grammar of SVG 1.1 Second Edition, 8.3.9, with an arc's radii signed.
+#[inline]
+pub fn strict(text: &[u8]) -> Strict {
+    let mut answer = [0; 8];
+    // SAFETY: both pointers are good for the lengths beside them, and the library keeps neither.
+    let code = unsafe { kihavute_strict(text.as_ptr(), text.len(), answer.as_mut_ptr(), answer.len()) };
+    match (code, answer[0]) {
+        (0, 1) => Strict::Yes,
+        (0, _) => Strict::No,
+        (_, length) => Strict::TooLong(length),
+    }
+}
+
 #[cfg(test)]
 mod tests {
     use super::*;
@@ -172,5 +195,13 @@ mod tests {
         assert_eq!(normalize([3.0, 4.0]), bits([0.6, 0.8]));
         assert_eq!(normalize([0.0, 1.1920929e-7]), [0, 0]);
         assert_eq!(lerp_point([0.0, 2.0], [4.0, 4.0], 0.25), bits([1.0, 2.5]));
+    }
+
+    #[test]
+    fn texts() {
+        assert_eq!(strict(b"M0 0L1 2"), Strict::Yes);
+        assert_eq!(strict(b""), Strict::Yes);
+        assert_eq!(strict(b"M0 0,"), Strict::No);
+        assert_eq!(strict(&[b' '; 65_537]), Strict::TooLong(65_537));
     }
 }
