@@ -124,6 +124,15 @@ uint32_t kihavute_raw_parameter(const float *entries, size_t entries_len, float 
  * and writes nothing: it has no segment to give. A total of at most 2^-23 gives the last segment at 1. */
 uint32_t kihavute_spot(const float *lengths, size_t lengths_len, float progress, uint64_t *answer, size_t answer_len);
 
+/* ---- Texts ----
+ * A text is a pointer to its bytes, which is never null, and their count. It may hold any bytes and needs no end
+ * mark. A function that can refuse returns the refusal's number, 0 where it accepts, and writes what goes with
+ * that to the start of answer, an array of at least 8 places. Into a shorter one it writes nothing and returns 255. */
+
+/* Whether the text matches the path grammar of SVG 1.1 Second Edition, 8.3.9, with an arc's radii signed: answer[0]
+ * is 1 for a yes and 0 for a no. Refused with 1: above 65,536 bytes; answer[0] is the count. The time is linear. */
+uint32_t kihavute_strict(const uint8_t *text, size_t text_len, uint64_t *answer, size_t answer_len);
+
 /* ---- From bits to floats ---- */
 
 /* The float that has these bits. */
