@@ -1,0 +1,3 @@
+-- What quads and cubics give.
+pub mod Curves
+pub mod Quads
