@@ -2,23 +2,23 @@
 use lib.Ieee.{Float, binary32, ofBits, sub, mul}
 use Rattle.floats.specs.Floats.{oneF, clamp01Of}
 use Rattle.math.specs.declared.points.Point.{Point}
-use Rattle.samples.specs.Samples.{tableOf}
+use Rattle.math.specs.Math.{addOf, subOf, scaleOf, normalizeOf, lerpPointOf}
 use Rattle.table.specs.Lookup.{rawOf}
+use Rattle.samples.specs.Samples.{tableOf}
+use Rattle.bezier.specs.declared.curves.Placed.{Placed}
 use Rattle.bezier.specs.declared.quads.MadeQuad.{MadeQuad}
 use Rattle.bezier.specs.declared.quads.QuadBezier.{QuadBezier}
-use Rattle.bezier.specs.declared.curves.Placed.{Placed}
 use Rattle.bezier.specs.Curves.{verdictOf, aheadOf, secondTry, placedOf}
-use Rattle.math.specs.Math.{addOf, subOf, scaleOf, normalizeOf, lerpPointOf}
 
 -- 2
 unfoldable pub twoF : Float
 twoF = ofBits binary32 0x4000_0000
 
--- the two points between which the last interpolation goes, at an already clamped t
+-- `sample` at an already clamped t: between the two points at t of the legs
 abbrev pub quadAt : Point → Point → Point → Float → Point
 quadAt start control end t = lerpPointOf (lerpPointOf start control t) (lerpPointOf control end t) t
 
--- `sample`
+-- `sample`, which clamps what it is given
 unfoldable pub quadSampleOf : Point → Point → Point → Float → Point
 quadSampleOf start control end raw = quadAt start control end (clamp01Of raw)
 

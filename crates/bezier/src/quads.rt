@@ -5,6 +5,7 @@ use crate::curves::tidied;
 use crate::curves::verdict_of;
 use crate::inner;
 use answers::Refusal;
+use floats::tidy;
 use math::Point;
 use math::add;
 use math::clamp01;
@@ -115,4 +116,11 @@ pub fn quad_tangent(curve: QuadBezier, progress: Progress) -> Placed
         return Placed::At(tidied(inner::quad_tangent(curve, progress)));
     }
     Placed::Refused(Refusal::BadPath)
+}
+
+// How long a quad is: its table's total.
+pub fn quad_length(curve: QuadBezier) -> f32
+    ensures { λ r. ⌜ r ≡ curve .table .total ⌝ }
+{
+    tidy(curve.table.total)
 }
