@@ -8,6 +8,7 @@ mod record;
 mod root_all;
 mod samples;
 mod strict;
+mod strict_record;
 
 use compare::Report;
 use std::process::ExitCode;
@@ -23,6 +24,7 @@ fn main() -> ExitCode {
             math::compare(&mut report, SEED, 200_000);
             record::compare(&mut report, SEED);
             strict::compare_some(&mut report, SEED);
+            strict_record::compare(&mut report, SEED);
         }
         ["math"] => math::compare(&mut report, SEED, 2_000_000),
         ["math", seed] => match seed.parse() {
@@ -31,17 +33,19 @@ fn main() -> ExitCode {
         },
         ["root_all"] => root_all::compare(&mut report),
         ["strict"] => strict::compare_all(&mut report),
+        ["strict", "time"] => strict::compare_time(&mut report),
         ["strict", seed, count] => match (seed.parse(), count.parse()) {
             (Ok(seed), Ok(count)) => strict::compare_derivations(&mut report, seed, count),
             _ => return usage(),
         },
         ["record", "math"] => record::write(&mut report, SEED),
+        ["record", "strict"] => strict_record::write(&mut report, SEED),
         _ => return usage(),
     }
     if report.finish() { ExitCode::SUCCESS } else { ExitCode::FAILURE }
 }
 
 fn usage() -> ExitCode {
-    eprintln!("oracle/run gate | math [SEED] | root_all | strict [SEED COUNT] | record math");
+    eprintln!("oracle/run gate | math [SEED] | root_all | strict [time | SEED COUNT] | record math|strict");
     ExitCode::from(2)
 }
