@@ -9,6 +9,7 @@ mod root_all;
 mod samples;
 mod simple;
 mod strict;
+mod strict_record;
 mod table;
 
 use compare::Report;
@@ -28,6 +29,7 @@ fn main() -> ExitCode {
                 recording.compare(&mut report, SEED);
             }
             strict::compare_some(&mut report, SEED);
+            strict_record::compare(&mut report, SEED);
         }
         ["math"] => math::compare(&mut report, SEED, 2_000_000),
         ["math", seed] => match seed.parse() {
@@ -37,10 +39,12 @@ fn main() -> ExitCode {
         ["table"] => table::compare(&mut report, SEED, 1_000_000),
         ["root_all"] => root_all::compare(&mut report),
         ["strict"] => strict::compare_all(&mut report),
+        ["strict", "time"] => strict::compare_time(&mut report),
         ["strict", seed, count] => match (seed.parse(), count.parse()) {
             (Ok(seed), Ok(count)) => strict::compare_derivations(&mut report, seed, count),
             _ => return usage(),
         },
+        ["record", "strict"] => strict_record::write(&mut report, SEED),
         ["record", name] => match record::RECORDINGS.iter().find(|recording| recording.name == name) {
             Some(recording) => recording.write(&mut report, SEED),
             None => return usage(),
@@ -51,6 +55,6 @@ fn main() -> ExitCode {
 }
 
 fn usage() -> ExitCode {
-    eprintln!("oracle/run gate | math [SEED] | table | root_all | strict [SEED COUNT] | record NAME");
+    eprintln!("oracle/run gate | math [SEED] | table | root_all | strict [time | SEED COUNT] | record NAME");
     ExitCode::from(2)
 }

@@ -8,6 +8,8 @@ use crate::samples::Stream;
 use animato_path::svg::SvgPathParser;
 use kihavute::Strict;
 use std::fmt;
+use std::hint::black_box;
+use std::time::Instant;
 
 /// A text of any bytes.
 #[derive(Clone, PartialEq)]
@@ -251,6 +253,54 @@ fn derivations(report: &mut Report, grammar: &Grammar, paths: &Paths, seed: u64,
 
 fn original_reads(text: &[u8]) -> bool {
     std::str::from_utf8(text).is_ok_and(|text| SvgPathParser::try_parse(text).is_ok())
+}
+
+// ---- the time of long texts
+
+// what is repeated between a beginning and an end, and so makes the reader go over most bytes again, or go furthest
+// before it answers
+const WORST: [(&str, &str, &str, &str); 12] = [
+    ("white space", "", " ", ""),
+    ("white space before a comma", "M0 0", " ", ","),
+    ("white space between commands", "M0 0", "z    ", ""),
+    ("white space between numbers", "M0 0", "     0", ""),
+    ("one number of digits", "M0 ", "1", ""),
+    ("one number with a bare exponent", "M0 ", "1", "e"),
+    ("zeros of an exponent", "M0 1e", "0", ""),
+    ("pairs", "M0 0", " 1.5-.5", ""),
+    ("curves, one number short", "M0 0C", "1 2 3 4 5 6 ", "1 2 3 4 5"),
+    ("arcs, one number short", "M0 0A", "1 1 0 0 1 3 4 ", "1 1 0 0 1 3"),
+    ("closed paths", "", "M0 0z", ""),
+    ("commas", "M0 0", ",0,0", ","),
+];
+
+/// The time for each byte of texts of 1,024 and of 65,536 bytes: linear time is as long for both.
+pub fn compare_time(report: &mut Report) {
+    println!("  {:34} {:>13} {:>13}   ns per byte", "", "1,024 bytes", "65,536 bytes");
+    for (name, start, middle, end) in WORST {
+        let [short, long] = [1_024, 65_536].map(|size| {
+            let text = stretched(start, middle, end, size);
+            let turns = 16 * 65_536 / size;
+            let times = (0..8).map(|_| {
+                let began = Instant::now();
+                for _ in 0..turns {
+                    black_box(kihavute::strict(black_box(&text)));
+                }
+                began.elapsed().as_secs_f64() * 1e9 / (turns * size) as f64
+            });
+            times.fold(f64::INFINITY, f64::min)
+        });
+        println!("  {name:34} {short:13.2} {long:13.2}");
+        report.count(2, long < 4.0 * short + 10.0);
+    }
+}
+
+// a text of this size
+fn stretched(start: &str, middle: &str, end: &str, size: usize) -> Vec<u8> {
+    let between = size - start.len() - end.len();
+    let repeated = middle.bytes().cycle().take(between / middle.len() * middle.len());
+    let left = between % middle.len();
+    start.bytes().chain(repeated).chain(std::iter::repeat_n(b' ', left)).chain(end.bytes()).collect()
 }
 
 // ---- the runs
