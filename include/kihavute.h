@@ -85,6 +85,22 @@ uint32_t kihavute_lerp(float a, float b, float t);
 uint32_t kihavute_deg_to_rad(float deg);
 uint32_t kihavute_rad_to_deg(float rad);
 
+/* ---- Angles ---- */
+
+/* Sine and cosine of an angle in radians of at most 64 in size, and the NaN 0x7FC00000 for any other. Within 2^-22 of the
+ * Taylor sums of the angle less its nearest whole turns. */
+float kihavute_sin(float angle);
+float kihavute_cos(float angle);
+
+/* The angle of the point (x, y) in radians, from -PI to PI, with the sign of y. Both zero: 0. Not finite: the NaN. */
+float kihavute_atan2(float y, float x);
+
+/* The heading of the direction (x, y) in degrees, from the x axis towards the y axis. (0, 0) has none and gives 0. */
+uint32_t kihavute_rotation_deg(float x, float y);
+
+/* The signed angle from (ux, uy) to (vx, vy) in radians. */
+uint32_t kihavute_angle_between(float ux, float uy, float vx, float vy);
+
 /* ---- Points ---- */
 
 /* (ax + bx, ay + by) and (ax - bx, ay - by). */
