@@ -16,7 +16,7 @@ fn bend(t: f64) -> f64
     let b = (0.1105077127584966 - 0.08785043282362845 * s)
         + q * (0.06685281517877424 - 0.04392841073326746 * s);
     let c = (0.021912945865448393 - 0.007030669470424213 * s) + q * 0.001057607438057242;
-    t * (a + o * (b + o * c))
+    t * (a + o * b + o * o * c)
 }
 
 // The bits of the f32 nearest to g, which is from 2^-14 to PI. For any other g it is PI.
@@ -52,6 +52,6 @@ pub fn guess(a: u64, b: u64, steep: bool, left: u32) -> u32
     let l = left as u64;
     let n = f64::from_bits(pick(steep, 1 - l, l) * 0x8000_0000_0000_0000 + pick(steep, b, a));
     let d = f64::from_bits(pick(steep, a, b));
-    let k = pick(steep, 1, 2 * l) as f64;
-    near_bits(k * 1.5707963267948966 + bend(n / d))
+    let base = f64::from_bits(pick(steep, 4609753056924675352, l * 4614256656552045848));
+    near_bits(base + bend(n / d))
 }

@@ -8,8 +8,8 @@ ghost use Prim.Native.Nat.{_+_, _-_, _*_, _/_, _%_, _^_, _≤_, _<_};
 ghost use lib.Dec.{leb};
 ghost use Rattle.sums.specs.Reduction.{turn};
 ghost use Rattle.sums.specs.Steps.{half, fixedOf};
-ghost use Rattle.bearing.specs.Steps.{passesAt, passes};
-ghost use Rattle.arctan.specs.Sums.{SumsAt};
+ghost use Rattle.bearing.specs.Steps.{passes};
+ghost use Rattle.arctan.specs.Sums.{SumsAt, Bounded, judgedOf};
 
 // What cosine and sine add and take away.
 pub struct Sums {
@@ -68,12 +68,11 @@ fn near(a: u64, b: u64, l: u64) -> bool
     if a <= b + l { b <= a + l } else { false }
 }
 
-// The test at the rest r of a turn, or at -r where `flip` is 1.
-fn passes_at(u: u64, v: u64, left: u32, flip: u32, r: u64) -> bool
-    requires { ⌜ (u < 2 ^ 30) × (v < 2 ^ 30) × (r ≤ half) ⌝ }
-    ensures { λ t. ⌜ t ≡ passesAt u v left flip r ⌝ }
+// The test at an angle with the sides s. It is a negative rest of a turn where `flip` is 1.
+fn judged(u: u64, v: u64, left: u32, flip: u32, s: Sums) -> bool
+    requires { ⌜ (u < 2 ^ 30) × (v < 2 ^ 30) × Bounded (s .«cosine_up») (s .«cosine_down») (s .«sine_up») (s .«sine_down») ⌝ }
+    ensures { λ t. ⌜ t ≡ judgedOf u v left flip (s .«cosine_up») (s .«cosine_down») (s .«sine_up») (s .«sine_down») ⌝ }
 {
-    let s = sides(r);
     let same = left == flip;
     let right = left == 0;
     let straight = flip == 0;
@@ -99,6 +98,18 @@ fn passes_at(u: u64, v: u64, left: u32, flip: u32, r: u64) -> bool
     }
 }
 
+// The sides at a turn less PI.
+fn past_pi() -> Sums
+    ensures { λ s. ⌜ SumsAt (turn - fixedOf 1078530011) (s .«cosine_up») (s .«cosine_down») (s .«sine_up») (s .«sine_down») ⌝ }
+{
+    Sums {
+        cosine_up: 5686511060,
+        cosine_down: 6760252892,
+        sine_up: 6200181727,
+        sine_down: 6200181607,
+    }
+}
+
 // The test of the angle with the bits b. PI is above half a turn, and the rest of it is negative.
 pub fn passes(u: u64, v: u64, left: u32, b: u32) -> bool
     requires { ⌜ (u < 2 ^ 30) × (v < 2 ^ 30) × (947912704 ≤ b) × (b ≤ 1078530011) ⌝ }
@@ -106,8 +117,8 @@ pub fn passes(u: u64, v: u64, left: u32, b: u32) -> bool
 {
     let x = placed(b);
     if x <= 226375608064910088 {
-        passes_at(u, v, left, 0, x)
+        judged(u, v, left, 0, sides(x))
     } else {
-        passes_at(u, v, left, 1, 452751216129820177 - x)
+        judged(u, v, left, 1, past_pi())
     }
 }

@@ -3,8 +3,7 @@
 use Prim.Native.Nat.{ℕ, zero, suc, _+_, _-_, _*_, _/_, _%_, _^_}
 use mathlib.Core.Bool.{Bool, true, false, cond, _&&_}
 use lib.Dec.{leb, ltb, eqb}
-use lib.IntN.{pos}
-use lib.Ieee.{Float, nan, binary32, binary64, toBits, ofBits, ofInt, isNan, add, sub, mul, div}
+use lib.Ieee.{Float, nan, binary32, binary64, toBits, ofBits, isNan, add, sub, mul, div}
 use lib.Ieee.Scale.{finite}
 use Rattle.sums.specs.Reduction.{turn}
 use Rattle.sums.specs.Steps.{half, fixedOf, sinePlus, sineMinus, cosinePlus, cosineMinus}
@@ -77,7 +76,7 @@ bendOf t =
     let a = add binary64 (sub binary64 (ofBits binary64 4607182418795996032) (mul binary64 (ofBits binary64 4599676417467509233) s)) (mul binary64 q (sub binary64 (ofBits binary64 4596373620483205329) (mul binary64 (ofBits binary64 4594312419463711947) s))) in
     let b = add binary64 (sub binary64 (ofBits binary64 4592627340567176626) (mul binary64 (ofBits binary64 4590994711487626206) s)) (mul binary64 q (sub binary64 (ofBits binary64 4589481673679609669) (mul binary64 (ofBits binary64 4586491572210492718) s))) in
     let c = add binary64 (sub binary64 (ofBits binary64 4581973198037814223) (mul binary64 (ofBits binary64 4574755832177917852) s)) (mul binary64 q (ofBits binary64 4562520176334015345)) in
-    mul binary64 t (add binary64 a (mul binary64 o (add binary64 b (mul binary64 o c))))
+    mul binary64 t (add binary64 (add binary64 a (mul binary64 o b)) (mul binary64 (mul binary64 o o) c))
 
 -- the bits of PI, and of the f32 nearest to an f64 from 2 ^ -14 to PI; for any other it is PI, which then fails the test
 abbrev pub piBits : ℕ
@@ -93,7 +92,7 @@ nearOf g = cond (isNan g) piBits (narrowed (toBits binary64 g))
 unfoldable pub guessOf : ℕ → ℕ → Bool → ℕ → ℕ
 guessOf a b steep left =
     let t = div binary64 (ofBits binary64 (cond steep (1 - left) left * 2 ^ 63 + cond steep b a)) (ofBits binary64 (cond steep a b)) in
-    nearOf (add binary64 (mul binary64 (ofInt binary64 (pos (cond steep 1 (2 * left)))) (ofBits binary64 4609753056924675352)) (bendOf t))
+    nearOf (add binary64 (ofBits binary64 (cond steep 4609753056924675352 (left * 4614256656552045848))) (bendOf t))
 
 -- ---- the bisection, over bits below PI's
 -- u·cos - x·sin is not negative at the angle with the bits b, and how large it is there

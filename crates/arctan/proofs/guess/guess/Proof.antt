@@ -2,13 +2,11 @@
 use borrow.Author.Needs.{needs}
 use borrow.Author.Tests.{ne-eqb}
 use native.Mathlib.Omega.{arith}
-use native.Mathlib.Nat.{le-trans}
 use Prim.Native.Nat.{ℕ, _+_, _-_, _*_, _/_, _%_, _^_, _≤_, _<_}
 use mathlib.Core.Path.{_≡_, refl, sym, ap, subst, _∙_}
 use mathlib.Core.Bool.{Bool, true, false, not, cond, _&&_}
-use lib.Dec.{T, eqb, le→leb, lit≤}
-use lib.IntN.{pos}
-use lib.Ieee.{binary64, nanBits, inFloat}
+use lib.Dec.{T, eqb}
+use lib.Ieee.{binary64, nanBits}
 use Rattle.bearing.specs.Steps.{guessOf}
 use Rattle.arctan.proofs.guess.guess.Statement.{statement}
 use Rattle.arctan.proofs.guess.guess.Tie as tie
@@ -23,10 +21,6 @@ picked-le false a b p m e h k = omega arith
 
 signed : (s p : ℕ) → s ≤ 1 → p ≤ 9218868437227405311 → (s * 9223372036854775808 + p) % 9223372036854775808 < 9218868437227405312
 signed s p h k = omega arith
-
-whole-float : (n : ℕ) → n ≤ 2 → T (inFloat binary64 (pos n))
-unfolding inFloat
-whole-float n h = le→leb n (2 ^ 53) (le-trans h (lit≤ tt))
 
 sub-pick : tie.Need-sub-pick
 sub-pick c = search needs
@@ -70,10 +64,11 @@ mul-pick c = search needs
 pick-requires-4 : tie.Need-pick-requires-4
 pick-requires-4 c κs = search needs
 
-int-to-float-k : tie.Need-int-to-float-k
-int-to-float-k c =
-    let at = c .before .before .before .before .before in
-    whole-float _ (picked-le (at .args .steep) 1 (2 * at .args .left) (c .before .pick4 .result) 2 (c .before .pick4 .ensures) (omega arith) (omega arith))
+float-from-bits-base : tie.Need-float-from-bits-base
+float-from-bits-base c =
+    let at = c .before .before .before .before in
+    let p = picked-le (at .args .steep) 4609753056924675352 (at .args .left * 4614256656552045848) (c .pick4 .result) 4614256656552045848 (c .pick4 .ensures) (omega arith) (omega arith) in
+    no-nan _ (omega arith)
 
 bend-requires : tie.Need-bend-requires
 bend-requires c κs = search needs
@@ -99,7 +94,7 @@ guess-spec =
     float-from-bits-d
     mul-pick
     pick-requires-4
-    int-to-float-k
+    float-from-bits-base
     bend-requires
     near-bits-requires
     returns)

@@ -2,12 +2,16 @@
 use borrow.Author.Needs.{needs}
 use borrow.Author.Tests.{le-leb, lt-leb}
 use native.Mathlib.Omega.{arith}
+use native.Mathlib.Nat.{eq-or-lt-of-le, not-le-of-lt}
+use mathlib.Core.Logic.{inl, inr}
 use Prim.Native.Nat.{ℕ, _+_, _-_, _≤_, _<_}
 use mathlib.Core.Path.{_≡_, refl, sym, ap, subst, _∙_}
 use mathlib.Core.Bool.{Bool, true, false, cond}
 use Rattle.sums.specs.Reduction.{turn}
 use Rattle.sums.specs.Steps.{half, fixedOf}
 use Rattle.bearing.specs.Steps.{passesAt, passes}
+use Rattle.bearing.proofs.Places.{under-half}
+use Rattle.arctan.proofs.Weighed.{judged-is}
 use Rattle.arctan.proofs.test.passes.Statement.{statement}
 use Rattle.arctan.proofs.test.passes.Tie as tie
 
@@ -19,37 +23,54 @@ flipped : (u v left b : ℕ) → half < fixedOf b → passesAt u v left 1 (turn 
 unfolding passes
 flipped u v left b h = sym (ap (λ (t : Bool). cond t (passesAt u v left 0 (fixedOf b)) (passesAt u v left 1 (turn - fixedOf b))) (lt-leb (fixedOf b) half h))
 
+-- no other angle in range is above half a turn
+only-pi : (b : ℕ) → 947912704 ≤ b → b ≤ 1078530011 → half < fixedOf b → b ≡ 1078530011
+only-pi b l h k = elim (eq-or-lt-of-le h) [
+  | inl e ↦ e
+  | inr g ↦ absurd (not-le-of-lt k (under-half b l (before g)))
+]
+  where
+    before : b < 1078530011 → b ≤ 1078530010
+    before g = omega arith
+
 placed-requires : tie.Need-placed-requires
 placed-requires c κs = search needs
 
-passes-at-requires : tie.Need-passes-at-requires
-passes-at-requires c κs = search needs
+sides-requires : tie.Need-sides-requires
+sides-requires c κs = search needs
 
-sub-passes-at : tie.Need-sub-passes-at
-sub-passes-at c = search needs
+judged-requires : tie.Need-judged-requires
+judged-requires c κs = (c .before .before .before .pre .0, c .before .before .before .pre .1, c .sides .ensures .bounded)
 
-passes-at-requires-2 : tie.Need-passes-at-requires-2
-passes-at-requires-2 c κs = search needs
+past-pi-requires : tie.Need-past-pi-requires
+past-pi-requires c κs = search needs
+
+judged-requires-2 : tie.Need-judged-requires-2
+judged-requires-2 c κs = (c .before .before .before .pre .0, c .before .before .before .pre .1, c .past-pi .ensures .bounded)
 
 returns : tie.Need-returns
 returns c =
-    let at = c .before .before .before in
-    let place = c .before .before .placed .ensures .0 in
-    c .passes-at .ensures ∙ ap (passesAt (at .args .u) (at .args .v) (at .args .left) 0) place ∙ straight (at .args .u) (at .args .v) (at .args .left) (at .args .b) (subst (λ (n : ℕ). n ≤ half) place (c .before .if1 .taken))
+    let at = c .before .before .before .before .args in
+    let place = c .before .before .before .placed .ensures .0 in
+    c .judged .ensures ∙ judged-is _ _ _ _ _ (c .before .sides .ensures) (at .u) (at .v) (at .left) 0 ∙ ap (passesAt (at .u) (at .v) (at .left) 0) place
+    ∙ straight (at .u) (at .v) (at .left) (at .b) (subst (λ (n : ℕ). n ≤ half) place (c .before .before .if1 .taken))
 
 returns-2 : tie.Need-returns-2
 returns-2 c =
-    let at = c .before .before .before in
-    let place = c .before .before .placed .ensures .0 in
-    c .passes-at2 .ensures ∙ ap (λ (n : ℕ). passesAt (at .args .u) (at .args .v) (at .args .left) 1 (turn - n)) place ∙ flipped (at .args .u) (at .args .v) (at .args .left) (at .args .b) (subst (λ (n : ℕ). half < n) place (c .before .if1 .left))
+    let at = c .before .before .before .before .args in
+    let place = c .before .before .before .placed .ensures .0 in
+    let above : half < fixedOf (at .b) = subst (λ (n : ℕ). half < n) place (c .before .before .if1 .left) in
+    c .judged2 .ensures ∙ judged-is _ _ _ _ _ (c .before .past-pi .ensures) (at .u) (at .v) (at .left) 1
+    ∙ ap (λ (n : ℕ). passesAt (at .u) (at .v) (at .left) 1 (turn - fixedOf n)) (sym (only-pi (at .b) (c .before .before .before .before .pre .2) (c .before .before .before .before .pre .3) above)) ∙ flipped (at .u) (at .v) (at .left) (at .b) above
 
 pub passes-spec : {M : Type 1} → statement M
 passes-spec =
     tie.close
     (tie.spec
     placed-requires
-    passes-at-requires
-    sub-passes-at
-    passes-at-requires-2
+    sides-requires
+    judged-requires
+    past-pi-requires
+    judged-requires-2
     returns
     returns-2)

@@ -32,10 +32,12 @@ sums-at r cp cm sp sm h ecp ecm esp esm =
       cosine-down = b;
       sine-up = d;
       sine-down = e;
-      cosine-up-most = le-trans (le-of-eq a) (le-trans (cosine-up-most r h) (lit≤ tt));
-      cosine-down-most = le-trans (le-of-eq b) (le-trans (cosine-down-most r h) (lit≤ tt));
-      sine-up-most = le-trans (le-of-eq d) (le-trans (sine-up-most r h) (lit≤ tt));
-      sine-down-most = le-trans (le-of-eq e) (le-trans (sine-down-most r h) (lit≤ tt));
+      bounded = record {
+        cosine-up-most = le-trans (le-of-eq a) (le-trans (cosine-up-most r h) (lit≤ tt));
+        cosine-down-most = le-trans (le-of-eq b) (le-trans (cosine-down-most r h) (lit≤ tt));
+        sine-up-most = le-trans (le-of-eq d) (le-trans (sine-up-most r h) (lit≤ tt));
+        sine-down-most = le-trans (le-of-eq e) (le-trans (sine-down-most r h) (lit≤ tt));
+      };
     }
 
 cosine-sides-requires : tie.Need-cosine-sides-requires
