@@ -1,13 +1,13 @@
 // The numbers of digit runs, gathered while the run is passed.
 ghost use mathlib.Core.Path.{_≡_};
 ghost use Prim.Native.Nat.{ℕ, _+_, _-_, _*_, _≤_, _<_};
-ghost use lib.ListN.{length};
 ghost use Rattle.digits.specs.Leading.{Gathers};
 ghost use Rattle.digits.specs.Exponent.{capped, exponentOf};
 use scan::is_digit;
 use scan::past_digits;
 
-fn digit(byte: u8) -> u64
+// The number that a digit's byte stands for.
+pub fn digit(byte: u8) -> u64
     requires { ⌜ (48 ≤ byte) × (byte ≤ 57) ⌝ }
     ensures { λ r. ⌜ r ≡ byte - 48 ⌝ }
 {
@@ -25,7 +25,7 @@ pub struct Leading {
 // Passes the digits from a place on, and adds them to the digits before. As long as w has 18 digits
 // or fewer it takes another one, so that w has 19 where there are more.
 pub fn gather(text: &[u8], from: usize, w: u64, dropped: usize) -> Leading
-    requires { ⌜ (dropped ≤ from) × (from ≤ length (now text)) ⌝ }
+    requires { ⌜ dropped ≤ from ⌝ }
     ensures { λ r. ⌜ Gathers (now (text .entry)) from w dropped r ⌝ }
 {
     let mut at = from;

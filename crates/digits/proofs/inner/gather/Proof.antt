@@ -4,7 +4,7 @@ use mathlib.Core.Path.{_≡_, refl, ap, sym, _∙_, subst}
 use Prim.Native.Nat.{ℕ, _+_, _-_, _*_, _≤_, _<_, _^_}
 use mathlib.Core.List.{List}
 use mathlib.Core.Bool.{true}
-use native.Mathlib.Nat.{le-trans}
+use native.Mathlib.Nat.{le-trans, le-of-lt}
 use native.Mathlib.Omega.{arith}
 use borrow.Author.Needs.{needs}
 use borrow.Author.Tests.{not-true, not-false}
@@ -22,13 +22,13 @@ use Rattle.digits.proofs.inner.gather.Tie as tie
 
 abbrev Inv-loop : tie.InvT-loop
 Inv-loop text from w dropped at₀ held₀ at held =
-    (from ≤ at) × (at ≤ length text) × (pastDigitsOf text at ≡ pastDigitsOf text from) × ((start : ℕ) → start ≤ from → Leads (digitsIn text start from) w dropped → Leads (digitsIn text start at) held dropped)
+    (from ≤ at) × (pastDigitsOf text at ≡ pastDigitsOf text from) × ((start : ℕ) → start ≤ from → Leads (digitsIn text start from) w dropped → Leads (digitsIn text start at) held dropped)
 
 abbrev μ-loop : tie.MeasureT-loop
 μ-loop text from w dropped at₀ held₀ at held = length text - at
 
 loop-holds : tie.Need-loop-holds Inv-loop μ-loop
-loop-holds c = (search needs, search needs, refl, λ start h k. k)
+loop-holds c = (search needs, refl, λ start h k. k)
 
 shared-slice-read-is-digit : tie.Need-shared-slice-read-is-digit Inv-loop μ-loop
 shared-slice-read-is-digit c = search needs
@@ -45,13 +45,13 @@ record Rest (text : List ℕ) (at end : ℕ) : Type 0 where
   inside : end ≤ length text
   all : (i : ℕ) → at ≤ i → i < end → among (getD text i 0) digits ≡ true
 
-rest-is : (text : List ℕ) (at end : ℕ) → at ≤ length text → end ≡ pastDigitsOf text at → Rest text at end
+rest-is : (text : List ℕ) (at end : ℕ) → at < length text → end ≡ pastDigitsOf text at → Rest text at end
 rest-is text at end h e =
     subst (λ (z : ℕ). Rest text at z) (sym e)
-    (record { onward = all-onward digits text at; inside = all-within digits text at h; all = λ i from upto. all-passed digits text at i from upto })
+    (record { onward = all-onward digits text at; inside = all-within digits text at (le-of-lt h); all = λ i from upto. all-passed digits text at i from upto })
 
 dropped-rest : (c : tie.After-past-digits Inv-loop μ-loop) → Rest (c .before .before .before .before .before .before .before .before .args .text .now) (c .before .before .before .before .before .before .loop .at) (c .past-digits .result)
-dropped-rest c = rest-is _ _ _ (c .before .before .before .before .before .before .loop .inv .1) (c .past-digits .ensures)
+dropped-rest c = rest-is _ _ _ (c .before .before .before .before .before .loop-test .taken) (c .past-digits .ensures)
 
 sub-t13 : tie.Need-sub-t13 Inv-loop μ-loop
 sub-t13 c = dropped-rest c .onward
@@ -65,9 +65,9 @@ returns c =
     let at-loop = c .before .before .before .before .before .before in
     let inv = at-loop .loop .inv in
     record {
-      passed = c .past-digits .ensures ∙ inv .2;
-      held = λ start h k. leads-run _ start _ _ _ (le-trans h (inv .0)) (inv .3 start h k) _ (r .onward) (r .inside) (r .all) (c .before .if2 .taken);
-      few = omega (arith, r .onward, inv .0, at-loop .before .before .pre .0);
+      passed = c .past-digits .ensures ∙ inv .1;
+      held = λ start h k. leads-run _ start _ _ _ (le-trans h (inv .0)) (inv .2 start h k) _ (r .onward) (r .inside) (r .all) (c .before .if2 .taken);
+      few = omega (arith, r .onward, inv .0, at-loop .before .before .pre);
     }
 
 mul-held : tie.Need-mul-held Inv-loop μ-loop
@@ -98,19 +98,18 @@ loop-again c =
     let inside : at < length text = c .before .before .before .before .before .before .loop-test .taken in
     let is-one = sym (c .before .before .before .before .is-digit .ensures) ∙ not-false _ (c .before .before .before .if1 .left) in (
       omega arith,
-      omega arith,
-      all-pass digits text at inside is-one ∙ at-loop .loop .inv .2,
+      all-pass digits text at inside is-one ∙ at-loop .loop .inv .1,
       λ start h k. subst (λ (d : ℕ). Leads (digitsIn text start (at + 1)) (held * 10 + d) dropped) (sym (c .digit .ensures))
-          (leads-digit text start at held dropped (le-trans h (at-loop .loop .inv .0)) (at-loop .loop .inv .3 start h k) inside is-one (c .before .before .if2 .left)),
+          (leads-digit text start at held dropped (le-trans h (at-loop .loop .inv .0)) (at-loop .loop .inv .2 start h k) inside is-one (c .before .before .if2 .left)),
     )
 
 returns-2 : tie.Need-returns-2 Inv-loop μ-loop
 returns-2 c =
     let inv = c .before .loop .inv in
     record {
-      passed = sym (all-end digits _ _ (c .loop-test .left)) ∙ inv .2;
-      held = inv .3;
-      few = omega (arith, inv .0, c .before .before .before .pre .0);
+      passed = sym (all-end digits _ _ (c .loop-test .left)) ∙ inv .1;
+      held = inv .2;
+      few = omega (arith, inv .0, c .before .before .before .pre);
     }
 
 returns-3 : tie.Need-returns-3 Inv-loop μ-loop
@@ -118,9 +117,9 @@ returns-3 c =
     let at-loop = c .before .before .before .before in
     let inv = at-loop .loop .inv in
     record {
-      passed = sym (all-stop digits _ _ (c .before .before .before .loop-test .taken) (sym (c .before .is-digit .ensures) ∙ not-true _ (c .if1 .taken))) ∙ inv .2;
-      held = inv .3;
-      few = omega (arith, inv .0, at-loop .before .before .pre .0);
+      passed = sym (all-stop digits _ _ (c .before .before .before .loop-test .taken) (sym (c .before .is-digit .ensures) ∙ not-true _ (c .if1 .taken))) ∙ inv .1;
+      held = inv .2;
+      few = omega (arith, inv .0, at-loop .before .before .pre);
     }
 
 pub gather-spec : {M : Type 1} → statement M
