@@ -17,8 +17,8 @@ same-report :
     {m n : ℕ} {v w : Values} {before after : List ℕ} {r : ℕ} → m ≡ n → v ≡ w → Report m (listed v) before r after → Report n (listed w) before r after
 same-report {before = before} number values p =
     record {
-    code = p .code ∙ ap (cond (short before) 255) number;
-    places = p .places ∙ ap (λ (v : Values). cond (short before) before (written (listed v) before)) values
+      code = p .code ∙ ap (cond (short before) 255) number;
+      places = p .places ∙ ap (λ (v : Values). cond (short before) before (written (listed v) before)) values;
     }
 
 strict-requires : tie.Need-strict-requires
@@ -55,9 +55,9 @@ returns : tie.Need-returns
 returns c =
     let found = c .before .before .before .before .before .before in
     record {
-    answer = accepted (1 ∷ []);
-    judged = subst (λ (v : Verdict). Judged (found .before .before .before .args .text .now) (answerOf v)) (c .before .before .before .before .enum-told .given .1) (found .strict .ensures);
-    reported = c .before .before .report .ensures
+      answer = accepted (1 ∷ []);
+      judged = subst (λ (v : Verdict). Judged (found .before .before .before .args .text .now) (answerOf v)) (c .before .before .before .before .enum-told .given .1) (found .strict .ensures);
+      reported = c .before .before .report .ensures;
     }
 
 same-length-2 : tie.Need-same-length-2
@@ -67,9 +67,9 @@ returns-2 : tie.Need-returns-2
 returns-2 c =
     let found = c .before .before .before .before .before .before in
     record {
-    answer = accepted (0 ∷ []);
-    judged = subst (λ (v : Verdict). Judged (found .before .before .before .args .text .now) (answerOf v)) (c .before .before .before .before .enum-told2 .given .1) (found .strict .ensures);
-    reported = c .before .before .report2 .ensures
+      answer = accepted (0 ∷ []);
+      judged = subst (λ (v : Verdict). Judged (found .before .before .before .args .text .now) (answerOf v)) (c .before .before .before .before .enum-told2 .given .1) (found .strict .ensures);
+      reported = c .before .before .report2 .ensures;
     }
 
 same-length-3 : tie.Need-same-length-3
@@ -80,11 +80,11 @@ returns-3 c =
     let found = c .before .before .before .before .before .before .before .before .before in
     let refusal = c .before .before .before .before .before .before .before .refusal .given in
     record {
-    answer = refused (refusal .0 .0);
-    judged = subst (λ (v : Verdict). Judged (found .before .before .before .args .text .now) (answerOf v)) (refusal .1) (found .strict .ensures);
-    reported =
-        same-report (c .before .before .before .before .before .number .ensures) (c .before .before .before .before .carried .ensures)
-        (c .before .before .report3 .ensures)
+      answer = refused (refusal .0 .0);
+      judged = subst (λ (v : Verdict). Judged (found .before .before .before .args .text .now) (answerOf v)) (refusal .1) (found .strict .ensures);
+      reported =
+          same-report (c .before .before .before .before .before .number .ensures) (c .before .before .before .before .carried .ensures)
+          (c .before .before .report3 .ensures);
     }
 
 pub kihavute-strict-spec : {M : Type 1} → statement M
