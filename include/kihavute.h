@@ -85,6 +85,22 @@ uint32_t kihavute_lerp(float a, float b, float t);
 uint32_t kihavute_deg_to_rad(float deg);
 uint32_t kihavute_rad_to_deg(float rad);
 
+/* ---- Angles ---- */
+
+/* Sine and cosine of an angle in radians of at most 64 in size, and the NaN 0x7FC00000 for any other. Within 2^-22 of the
+ * Taylor sums of the angle less its nearest whole turns. */
+float kihavute_sin(float angle);
+float kihavute_cos(float angle);
+
+/* The angle of the point (x, y) in radians, from -PI to PI, with the sign of y. Both zero: 0. Not finite: the NaN. */
+float kihavute_atan2(float y, float x);
+
+/* The heading of the direction (x, y) in degrees, from the x axis towards the y axis. (0, 0) has none and gives 0. */
+uint32_t kihavute_rotation_deg(float x, float y);
+
+/* The signed angle from (ux, uy) to (vx, vy) in radians. */
+uint32_t kihavute_angle_between(float ux, float uy, float vx, float vy);
+
 /* ---- Points ---- */
 
 /* (ax + bx, ay + by) and (ax - bx, ay - by). */
@@ -123,6 +139,15 @@ uint32_t kihavute_raw_parameter(const float *entries, size_t entries_len, float 
  * where one is below 0, below the one before it, or not finite. A path without segments (lengths_len is 0) is accepted
  * and writes nothing: it has no segment to give. A total of at most 2^-23 gives the last segment at 1. */
 uint32_t kihavute_spot(const float *lengths, size_t lengths_len, float progress, uint64_t *answer, size_t answer_len);
+
+/* ---- Texts ----
+ * A text is a pointer to its bytes, which is never null, and their count. It may hold any bytes and needs no end
+ * mark. A function that can refuse returns the refusal's number, 0 where it accepts, and writes what goes with
+ * that to the start of answer, an array of at least 8 places. Into a shorter one it writes nothing and returns 255. */
+
+/* Whether the text matches the path grammar of SVG 1.1 Second Edition, 8.3.9, with an arc's radii signed: answer[0]
+ * is 1 for a yes and 0 for a no. Refused with 1: above 65,536 bytes; answer[0] is the count. The time is linear. */
+uint32_t kihavute_strict(const uint8_t *text, size_t text_len, uint64_t *answer, size_t answer_len);
 
 /* ---- From bits to floats ---- */
 

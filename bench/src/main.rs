@@ -4,6 +4,7 @@
 mod clock;
 
 use animato_path::math::open;
+use animato_path::svg::SvgPathParser;
 use clock::{latency, throughput};
 
 const INPUTS: usize = 4096;
@@ -12,6 +13,7 @@ fn main() {
     println!("{:28} {:>9} {:>9} {:>7}", "ns per call, best of 25", "ours", "the Rust", "ratio");
     root();
     length();
+    strict();
 }
 
 fn row(name: &str, [ours, theirs]: [f64; 2]) {
@@ -28,6 +30,12 @@ fn original_sqrt(x: f32) -> f32 {
 #[inline(never)]
 fn original_length(v: [f32; 2]) -> f32 {
     open::length(v)
+}
+
+#[inline(never)]
+fn original_reads(text: &[u8]) -> usize {
+    let text = std::str::from_utf8(text).expect("a drawing is ASCII");
+    SvgPathParser::try_parse(text).map_or(0, |commands| commands.len())
 }
 
 #[inline(never)]
@@ -54,6 +62,15 @@ fn length() {
     row("length, throughput", throughput(&inputs, ours, theirs));
     let after = |v: [f32; 2], zero| [f32::from_bits(v[0].to_bits() | zero), v[1]];
     row("length, latency", latency(&inputs, after, |v| first(v).to_bits(), ours, theirs));
+}
+
+// a hundred bytes of a drawing; the Rust reads them permissively, and has no strict reading
+fn strict() {
+    let text = b"M12.5 3.25c-4.14 0-7.5 3.36-7.5 7.5 0 1.94.74 3.7 1.95 5.03L3 20l1 1 4.23-3.95A7.46 7.46 0 0 0 1.5 8z";
+    let inputs: Vec<&[u8]> = std::iter::repeat_n(&text[..], 64).collect();
+    let ours = |text: &[u8]| u32::from(kihavute::strict(text) == kihavute::Strict::Yes);
+    let theirs = |text: &[u8]| original_reads(text) as u32;
+    row("strict reading, 100 bytes", throughput(&inputs, ours, theirs));
 }
 
 // fixed pseudo-random patterns

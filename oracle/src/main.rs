@@ -1,11 +1,15 @@
 //! The comparison of the proved library with the original Rust, by bits. `oracle/run` says what it takes.
 
+mod bnf;
 mod compare;
+mod earley;
 mod math;
 mod record;
 mod root_all;
 mod samples;
 mod simple;
+mod strict;
+mod strict_record;
 mod table;
 
 use compare::Report;
@@ -24,6 +28,8 @@ fn main() -> ExitCode {
             for recording in record::RECORDINGS {
                 recording.compare(&mut report, SEED);
             }
+            strict::compare_some(&mut report, SEED);
+            strict_record::compare(&mut report, SEED);
         }
         ["math"] => math::compare(&mut report, SEED, 2_000_000),
         ["math", seed] => match seed.parse() {
@@ -32,6 +38,13 @@ fn main() -> ExitCode {
         },
         ["table"] => table::compare(&mut report, SEED, 1_000_000),
         ["root_all"] => root_all::compare(&mut report),
+        ["strict"] => strict::compare_all(&mut report),
+        ["strict", "time"] => strict::compare_time(&mut report),
+        ["strict", seed, count] => match (seed.parse(), count.parse()) {
+            (Ok(seed), Ok(count)) => strict::compare_derivations(&mut report, seed, count),
+            _ => return usage(),
+        },
+        ["record", "strict"] => strict_record::write(&mut report, SEED),
         ["record", name] => match record::RECORDINGS.iter().find(|recording| recording.name == name) {
             Some(recording) => recording.write(&mut report, SEED),
             None => return usage(),
@@ -42,6 +55,6 @@ fn main() -> ExitCode {
 }
 
 fn usage() -> ExitCode {
-    eprintln!("oracle/run gate | math [SEED] | table | root_all | record NAME");
+    eprintln!("oracle/run gate | math [SEED] | table | root_all | strict [time | SEED COUNT] | record NAME");
     ExitCode::from(2)
 }

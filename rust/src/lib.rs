@@ -51,6 +51,7 @@ unsafe extern "C" {
         answer: *mut u64,
         answer_len: usize,
     ) -> u32;
+    fn kihavute_strict(text: *const u8, text_len: usize, answer: *mut u64, answer_len: usize) -> u32;
 }
 
 // what a call with an answer gives: the values that it wrote, zeros after them
@@ -188,6 +189,28 @@ pub fn spot(lengths: &[f32], progress: f32) -> Result<Option<(usize, Bits)>, Ref
     Ok((!lengths.is_empty()).then_some((given[0] as usize, given[1] as Bits)))
 }
 
+/// What strict reading says of a text.
+#[derive(Clone, Copy, Debug, PartialEq, Eq)]
+pub enum Strict {
+    Yes,
+    No,
+    /// The text has this many bytes, more than 65,536.
+    TooLong(u64),
+}
+
+/// Whether a text of any bytes matches the path grammar of SVG 1.1 Second Edition, 8.3.9, with an arc's radii signed.
+#[inline]
+pub fn strict(text: &[u8]) -> Strict {
+    let mut answer = [0; 8];
+    // SAFETY: both pointers are good for the lengths beside them, and the library keeps neither.
+    let code = unsafe { kihavute_strict(text.as_ptr(), text.len(), answer.as_mut_ptr(), answer.len()) };
+    match (code, answer[0]) {
+        (0, 1) => Strict::Yes,
+        (0, _) => Strict::No,
+        (_, length) => Strict::TooLong(length),
+    }
+}
+
 #[cfg(test)]
 mod tests {
     use super::*;
@@ -235,5 +258,13 @@ mod tests {
         assert_eq!(spot(&[2.0, 2.0, 4.0], 0.75), Ok(Some((2, 0.5f32.to_bits()))));
         assert_eq!(spot(&[], 0.5), Ok(None));
         assert_eq!(spot(&[2.0, 1.0], 0.5), Err(Refusal { number: 12, carried: [0; 8] }));
+    }
+
+    #[test]
+    fn texts() {
+        assert_eq!(strict(b"M0 0L1 2"), Strict::Yes);
+        assert_eq!(strict(b""), Strict::Yes);
+        assert_eq!(strict(b"M0 0,"), Strict::No);
+        assert_eq!(strict(&[b' '; 65_537]), Strict::TooLong(65_537));
     }
 }

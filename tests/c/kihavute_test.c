@@ -174,11 +174,43 @@ static void lookups(void) {
     answered("spot, not finite", kihavute_spot(lengths, 3, 0.5f, answer, PLACES), 12, 0, NULL);
 }
 
+/* the code returned, and what stands in the first place of an answer that held 77 */
+static uint64_t strict_says(const char *text, size_t length) {
+    uint64_t answer[8] = {77, 77, 77, 77, 77, 77, 77, 77};
+    uint64_t code = kihavute_strict((const uint8_t *)text, length, answer, 8);
+    for (size_t i = 1; i < 8; i++) {
+        same("strict leaves the other places", answer[i], 77);
+    }
+    return code << 32 | answer[0];
+}
+
+static void strict_reading(void) {
+    static char spaces[65537];
+    uint64_t seven[7] = {77, 77, 77, 77, 77, 77, 77};
+    memset(spaces, ' ', sizeof spaces);
+
+    same("strict, empty", strict_says("", 0), 1);
+    same("strict, a path", strict_says("M0 0L1 2z", 9), 1);
+    same("strict, a smooth curve", strict_says("M0 0S1 2 3 4", 12), 1);
+    same("strict, a signed radius", strict_says("M0 0A-1 1 0 0 0 3 4", 19), 1);
+    same("strict, a comma at the end", strict_says("M0 0,", 5), 0);
+    same("strict, a form feed", strict_says("M0 0\f", 5), 0);
+    same("strict, an exponent without digit", strict_says("M1e 2", 5), 0);
+    same("strict, a byte 0", strict_says("M0 0\0", 5), 0);
+    same("strict, 65,536 spaces", strict_says(spaces, 65536), 1);
+    same("strict, 65,537 spaces", strict_says(spaces, 65537), (uint64_t)1 << 32 | 65537);
+    same("strict, seven places", kihavute_strict((const uint8_t *)"", 0, seven, 7), 255);
+    for (size_t i = 0; i < 7; i++) {
+        same("strict leaves a short answer", seven[i], 77);
+    }
+}
+
 int main(void) {
     roots();
     numbers();
     points();
     lookups();
+    strict_reading();
     printf("%d passed, %d failed\n", passed, failed);
     return failed != 0;
 }

@@ -6,3 +6,4 @@ mod lookups;
 mod numbers;
 mod points;
 mod strict_reading;
+mod turns;

@@ -1,6 +1,5 @@
 -- The comparison made non-strict: the first running length above the target. The entry picked so stands with the one before to both sides of the target, though no longer strictly, and
 -- is picked in order. So a lookup with it does not step back either. Assumes nothing.
-use mathlib.Core.Path.{_≡_}
 use mathlib.Core.Logic.{inl, inr}
 use Prim.Native.Nat.{ℕ, zero, suc, _-_, _≤_, _<_}
 use native.Mathlib.Nat.{le-of-suc-le-suc, not-suc-le-zero, zero-lt-suc}
@@ -8,13 +7,13 @@ use native.Mathlib.Omega.{arith}
 use mathlib.Core.Bool.{Bool, true, false, cond, not}
 use mathlib.Core.List.{List, [], _∷_}
 use lib.Dec.{T, ltb, ltb→lt, nltb→le}
-use lib.Ieee.{Float, nan, lt, le, eq}
+use lib.Ieee.{Float, lt, le, eq}
 use Rattle.floats.specs.Floats.{zeroF}
 use Rattle.floats.proofs.Tests.{decide, clashing}
 use Rattle.floats.proofs.Order.{le-le-trans, le-lt-trans, lt-le-trans, lt→le, lt→not-le, not-le→lt, lt-real-r}
 use Rattle.floats.proofs.Fractions.{nonneg-real}
 use Rattle.table.specs.Lookup.{at, lastOf}
-use Rattle.table.proofs.Lengths.{Sound, start-at-most, entry-nonneg, total-at-most}
+use Rattle.table.proofs.Lengths.{start-at-most, entry-nonneg, total-at-most}
 use Rattle.order.specs.Stated.{F32Table}
 use Rattle.order.proofs.Steady.{Picks, sound-of}
 

@@ -1,7 +1,7 @@
 -- The way of document 01 has the three properties: the first entry that is not below the target is picked; the share is a clamped quotient, and lies between 0 and 1 and grows with
 -- the target; the sum of the number of the entry
 -- before and the share is divided by the number of the last entry, so that each part ends and the next starts at the place of the entry between. Assumes nothing.
-use mathlib.Core.Path.{_≡_, sym, _∙_, subst}
+use mathlib.Core.Path.{sym, _∙_, subst}
 use mathlib.Core.Logic.{inl, inr}
 use Prim.Native.Nat.{ℕ, suc, _*_, _-_, _≤_, _<_}
 use native.Mathlib.Nat.{le-trans, le-refl, mul-one, mul-pos}
@@ -25,7 +25,7 @@ use Rattle.floats.proofs.Between.{nonneg-between}
 use Rattle.floats.proofs.Constants.{zero-held, zero-num, one-held, one-num, epsilon-held, zero-le-one, zero-lt-epsilon}
 use Rattle.floats.proofs.Clamping.{clamp-at-least, clamp-at-most, clamp-mono, at-most-one}
 use Rattle.floats.proofs.Extremes.{max-right, max-nonneg}
-use Rattle.table.specs.Lookup.{at, lastOf, firstNotBelow, shareOf, markOf}
+use Rattle.table.specs.Lookup.{at, firstNotBelow, shareOf, markOf}
 use Rattle.table.specs.Sound.{countable}
 use Rattle.table.proofs.Search.{first-is}
 use Rattle.table.proofs.Enclosure.{enclosed}

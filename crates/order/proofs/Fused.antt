@@ -1,27 +1,24 @@
 -- A fused multiply-add, which the language cannot write: x * y + z rounded once. It is here to be ruled out, and to be judged where it does no harm. Assumes nothing.
 use mathlib.Core.Path.{_≡_, refl, sym, ap, _∙_, subst}
-use mathlib.Core.Logic.{_⊎_, inl, inr}
 use Prim.Native.Nat.{ℕ, zero-le, _+_, _-_, _*_, _^_, _≤_, _<_}
-use native.Mathlib.Nat.{le-trans, le-of-eq, mul-pos, zero-mul, mul-zero, mul-comm, mul-assoc, mul-left-comm, mul-sub, mul-le-mul, mul-le-mul-right, le-of-mul-le-mul-right, mul-mul-mul-comm}
+use native.Mathlib.Nat.{le-trans, le-of-eq, mul-pos, zero-mul, mul-comm, mul-le-mul-right, mul-mul-mul-comm}
 use native.Mathlib.Omega.{arith}
-use mathlib.Core.Bool.{Bool, true, false, not, _&&_, cond, true≢false}
-use lib.Dec.{T, ltb, eqb, ltb→lt, nltb→le, eqb→eq}
+use mathlib.Core.Bool.{Bool, true, false, not, cond, true≢false}
+use lib.Dec.{T, ltb, eqb, ltb→lt, nltb→le}
 use lib.IntN.{ℤ, pos}
 use lib.Ieee.{Float, ofBits, nan, inf, fin, binary32, prec, emax, low, up, down, unlike, odd, units, round, sum, neg, lt, le, eq}
 use lib.Ieee.Fits.{down-pos, round-is}
 use lib.Ieee.Exact.{HasValue, odd-sign}
 use lib.Ieee.Order.{drop, kept}
 use lib.Ieee.Positive.{num, den}
-use lib.Ieee.Scale.{finite}
 use Rattle.floats.specs.Floats.{zeroF}
-use Rattle.floats.specs.Kinds.{real, nonneg}
+use Rattle.floats.specs.Kinds.{nonneg}
 use Rattle.floats.proofs.Signs.{signed→le}
-use Rattle.floats.proofs.Order.{le-real-l}
 use Rattle.floats.proofs.Fractions.{zero-size, le→cross}
 use Rattle.floats.proofs.Rounded.{Rounds, rounds-mono}
 use Rattle.floats.proofs.Monotone.{cross-add}
-use Rattle.floats.proofs.Held.{held-above, rounds-real}
-use Rattle.floats.proofs.Constants.{zero-held, zero-num}
+use Rattle.floats.proofs.Held.{held-above}
+use Rattle.floats.proofs.Constants.{zero-held}
 
 -- The product and the sum are exact, and the sum is rounded. Only a finite product is asked for here.
 unfoldable pub fusedOf : Float → Float → Float → Float

@@ -1,4 +1,5 @@
--- The five theorems in Theorems.antt, and what leads to them: one part of a table, the places of its entries, the lookup of a target.
+-- Demand 3. Read Theorems.antt first: the five statements. Steady.antt has the reason, Division.antt that the lookup fits it; Variants.antt and Witnesses.antt
+-- settle what else fits it and what does not (docs/ORDER.md).
 pub mod Steady
 pub mod Division
 pub mod Targets

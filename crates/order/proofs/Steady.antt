@@ -2,7 +2,7 @@
 -- entry before and the share to a parameter. Three things suffice: the picked entries stand to both sides of the target and are picked in order; the share lies between 0 and 1 and grows
 -- with the target; the parameter grows with the share, and each part ends no later than the next one starts: the parts meet. Assumes nothing.
 use mathlib.Core.Path.{_≡_, sym, ap, subst}
-use mathlib.Core.Logic.{_⊎_, inl, inr}
+use mathlib.Core.Logic.{inl, inr}
 use Prim.Native.Nat.{ℕ, zero, suc, _+_, _-_, _≤_, _<_}
 use native.Mathlib.Nat.{add-zero, add-suc}
 use native.Mathlib.Omega.{arith}

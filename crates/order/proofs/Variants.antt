@@ -1,24 +1,24 @@
 -- The variants of the lookup that do not step back, each as one of the three parts of a way (Steady.antt); Witnesses.antt has those that do. R is 1/31 rounded, `inverse` the
 -- rounded reciprocal of the span. Assumes nothing.
-use mathlib.Core.Path.{_≡_, refl, sym, ap, _∙_, subst}
+use mathlib.Core.Path.{_≡_, refl, sym, _∙_, subst}
 use mathlib.Core.Logic.{_⊎_, inl, inr}
 use Prim.Native.Nat.{ℕ, zero, suc, _+_, _-_, _*_, _≤_, _<_}
-use native.Mathlib.Nat.{le-trans, le-of-eq, le-of-lt, mul-comm, mul-assoc, mul-left-comm, mul-sub, mul-le-mul-right, mul-mul-mul-comm, le-of-mul-le-mul-right, mul-pos, not-suc-le-zero}
+use native.Mathlib.Nat.{le-trans, le-of-eq, le-of-lt, mul-comm, mul-assoc, mul-left-comm, mul-sub, mul-le-mul-right, le-of-mul-le-mul-right, mul-pos, not-suc-le-zero}
 use native.Mathlib.Omega.{arith}
 use mathlib.Core.Bool.{Bool, true, false, not, _&&_, cond}
 use mathlib.Core.List.{List}
 use lib.Dec.{T, leb, leb→le, nleb→lt, ltb, ltb→lt, nltb→le}
-use lib.Ieee.{Float, nan, inf, fin, binary32, add, sub, mul, div, neg, lt, le, ne, eq, isNan, ofInt, ofBits, sum, round}
-use lib.Ieee.Fits.{and-l, and-r, mul-fits}
+use lib.Ieee.{Float, nan, inf, fin, binary32, add, sub, mul, div, neg, lt, le, eq, isNan, ofInt, ofBits, sum, round}
+use lib.Ieee.Fits.{and-l, and-r}
 use lib.Ieee.Positive.{num, den, den-pos}
-use Rattle.floats.specs.Floats.{zeroF, oneF, epsilonF, maxOf, clampOf, clamp01Of}
+use Rattle.floats.specs.Floats.{zeroF, oneF, epsilonF, clampOf, clamp01Of}
 use Rattle.floats.specs.Kinds.{real, nonneg}
 use Rattle.floats.proofs.Tests.{decide}
 use Rattle.floats.proofs.Order.{le-le-trans, le-self, le-real-l}
 use Rattle.floats.proofs.Fractions.{nonneg-real, le→cross}
-use Rattle.floats.proofs.Rounded.{Rounds, rounds-mono, mul-rounds, div-rounds}
+use Rattle.floats.proofs.Rounded.{rounds-mono, mul-rounds, div-rounds}
 use Rattle.floats.proofs.Monotone.{add-mono, mul-mono, div-mono, sub-mono}
-use Rattle.floats.proofs.Held.{Held, rounds-under, rounds-real, rounds-kind}
+use Rattle.floats.proofs.Held.{rounds-under, rounds-real, rounds-kind}
 use Rattle.floats.proofs.Bounds.{div-under, zero-under}
 use Rattle.floats.proofs.Whole.{whole-mono}
 use Rattle.floats.proofs.Constants.{zero-held, zero-num, one-held, one-num, epsilon-held, zero-le-one}
@@ -27,7 +27,7 @@ use Rattle.floats.proofs.Extremes.{max-left, max-right}
 use Rattle.table.specs.Lookup.{lastOf, targetOf}
 use Rattle.table.specs.Sound.{countable}
 use Rattle.order.specs.Stated.{F32Table}
-use Rattle.order.proofs.Fused.{fusedOf, Taken, fused-rounds, fused-taken, fused-mono}
+use Rattle.order.proofs.Fused.{fusedOf, fused-rounds, fused-taken, fused-mono}
 use Rattle.order.proofs.Steady.{Between, Picks, Shares, Part, Joins, all-is-part, byWay, total-held, never-back}
 use Rattle.order.proofs.Targets.{target-held, target-mono}
 use Rattle.order.proofs.Division.{whole, part-nonneg, whole-nonneg, sum-nonneg, spanOf, difference-nonneg, way-nonneg, way-mono, span-nonneg, span-above}

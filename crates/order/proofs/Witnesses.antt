@@ -1,10 +1,10 @@
 -- The variants of the lookup that step back, or that lose another promise, each with a sound table and progresses small enough to read: docs/ORDER.md works the same numbers out on
 -- paper, and oracle/order.rs on the machine. Every table here is a few lengths, each repeated. Assumes nothing.
 use mathlib.Core.Path.{_≡_, refl}
-use Prim.Native.Nat.{ℕ, suc, _-_}
-use mathlib.Core.Bool.{Bool, not, cond}
-use mathlib.Core.List.{List, [], _∷_, _++_}
-use lib.ListN.{length, replicate}
+use Prim.Native.Nat.{ℕ, _-_}
+use mathlib.Core.Bool.{not}
+use mathlib.Core.List.{List, _∷_, _++_}
+use lib.ListN.{replicate}
 use lib.Dec.{T}
 use lib.Ieee.{Float, binary32, ofBits, add, sub, mul, div, neg, lt, le, eq, ne, ofInt, sum, round}
 use Rattle.floats.specs.Floats.{zeroF, oneF, epsilonF, maxOf, clampOf, clamp01Of}

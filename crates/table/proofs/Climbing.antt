@@ -1,25 +1,23 @@
 -- The test of running lengths, one after the other: what is left to test is the same as from the start, and lengths that climb from 0 are finite where the last is at most the
 -- largest f32. Assumes nothing.
 use mathlib.Core.Path.{_≡_, refl, sym, ap, _∙_, subst}
-use mathlib.Core.Logic.{_⊎_, inl, inr}
+use mathlib.Core.Logic.{inl, inr}
 use Prim.Native.Nat.{ℕ, zero, suc, zero-le, _+_, _≤_, _<_}
 use native.Mathlib.Nat.{le-refl, le-antisymm}
 use native.Mathlib.Numerals.{add-one}
 use native.Mathlib.Omega.{arith}
-use mathlib.Core.Bool.{Bool, true, false, not, _&&_}
+use mathlib.Core.Bool.{Bool, true, false, _&&_}
 use mathlib.Core.List.{List, [], _∷_}
 use lib.ListN.{length, drop, drop-of-length-le}
 use lib.Seq.{drop-cons}
 use lib.Dec.{T, ltb, ltb→lt, nltb→le}
 use lib.Ieee.{Float, nan, binary32, le, fits, ofBits}
 use lib.Ieee.Scale.{finite}
-use lib.Ieee.Fits.{and-l, and-r, and-i}
 use Rattle.floats.specs.Floats.{zeroF, largestF}
-use Rattle.floats.specs.Kinds.{nonneg}
 use Rattle.floats.proofs.Tests.{decide, same-test}
 use Rattle.floats.proofs.Order.{le-le-trans}
 use Rattle.floats.proofs.Between.{nonneg-from}
-use Rattle.floats.proofs.Constants.{zero-held, largest-held}
+use Rattle.floats.proofs.Constants.{zero-held}
 use Rattle.floats.proofs.Largest.{largest-above, finite-under-largest}
 use Rattle.table.specs.Lookup.{at}
 use Rattle.table.specs.Sound.{allFinite, climbs, lengthsAreSound}

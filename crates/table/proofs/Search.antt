@@ -1,15 +1,14 @@
 -- The first running length that is not below a target, and a bracket that closes in on it by halves: for any list of floats that never falls. Assumes nothing.
-use mathlib.Core.Path.{_≡_, refl, sym, ap, _∙_, subst}
-use mathlib.Core.Logic.{_⊎_, inl, inr}
-use Prim.Native.Nat.{ℕ, zero, suc, zero-le, _+_, _-_, _≤_, _<_}
+use mathlib.Core.Path.{_≡_, sym, subst}
+use mathlib.Core.Logic.{inl, inr}
+use Prim.Native.Nat.{ℕ, zero, suc, zero-le, _+_, _≤_, _<_}
 use native.Mathlib.Nat.{le-of-suc-le-suc, not-suc-le-zero, le-refl}
 use native.Mathlib.Omega.{arith}
 use mathlib.Core.Bool.{Bool, true, false, cond, not}
 use mathlib.Core.List.{List, [], _∷_}
 use lib.ListN.{length, List·getD-eq-default}
 use lib.Dec.{T, ltb, ltb→lt, nltb→le}
-use lib.Ieee.{Float, nan, lt, le}
-use Rattle.floats.specs.Floats.{zeroF}
+use lib.Ieee.{Float, nan, lt}
 use Rattle.floats.proofs.Tests.{decide, clashing}
 use Rattle.floats.proofs.Order.{le-lt-trans}
 use Rattle.table.specs.Lookup.{at, firstNotBelow}

@@ -4,7 +4,7 @@ use borrow.Author.Needs.{needs}
 use denote.Ref.{now}
 use Rattle.floats.specs.Floats.{zeroF, oneF}
 use Rattle.floats.proofs.Tests.{failed}
-use Rattle.table.specs.Spots.{spotAt, pathTotal}
+use Rattle.table.specs.Spots.{spotAt}
 use Rattle.table.proofs.Before.{path-total}
 use Rattle.table.proofs.Enclosure.{Within, path-within}
 use Rattle.table.proofs.inner.spot_at.Statement.{statement}

@@ -1,0 +1,2 @@
+-- The cases of a heading.
+pub mod Heading

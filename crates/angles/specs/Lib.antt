@@ -1,0 +1,2 @@
+-- What the angles of math.rs are.
+pub mod Angles

@@ -1,0 +1,3 @@
+-- The laws of quads and cubics, cited by their functions.
+pub mod Finite
+pub mod Queries

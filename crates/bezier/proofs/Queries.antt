@@ -1,0 +1,30 @@
+-- The answers of a query and the second try at a direction, by the way their tests went. Assumes nothing.
+use mathlib.Core.Path.{_≡_}
+use mathlib.Core.Bool.{Bool, true, false}
+use Rattle.answers.specs.declared.refusals.Refusal.the-variants.{BadPath}
+use Rattle.math.specs.declared.points.Point.{Point}
+use Rattle.table.specs.declared.tables.Table.{Table}
+use Rattle.table.specs.Sound.{tableIsSound}
+use Rattle.bezier.specs.declared.curves.Placed.{Placed}
+use Rattle.bezier.specs.declared.curves.Placed.the-variants as Placed
+use Rattle.bezier.specs.Curves.{isNothing, secondTry, placedOf}
+
+-- ---- the table's test, by its result b
+module _ (table : Table) (p : Point) (b : Bool) (tested : b ≡ tableIsSound (table .entries) (table .total)) where
+  pub placed-at : b ≡ true → Placed.At p ≡ placedOf table p
+  unfolding placedOf
+  placed-at h = rw (← tested, h)
+
+  pub placed-refused : b ≡ false → Placed.Refused BadPath ≡ placedOf table p
+  unfolding placedOf
+  placed-refused h = rw (← tested, h)
+
+-- ---- the direction's test, by its result b
+module _ (first second : Point) (b : Bool) (tested : b ≡ isNothing first) where
+  pub tried-first : b ≡ false → first ≡ secondTry first second
+  unfolding secondTry
+  tried-first h = rw (← tested, h)
+
+  pub tried-second : b ≡ true → second ≡ secondTry first second
+  unfolding secondTry
+  tried-second h = rw (← tested, h)

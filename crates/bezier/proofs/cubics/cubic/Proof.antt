@@ -1,0 +1,18 @@
+-- The curve holds what it was given and the table that was made. Assumes nothing.
+use borrow.Author.Needs.{needs}
+use Rattle.bezier.specs.Cubics.{cubicOf, madeCubicOf}
+use Rattle.bezier.proofs.cubics.cubic.Statement.{statement}
+use Rattle.bezier.proofs.cubics.cubic.Tie as tie
+
+cubic-table-requires : tie.Need-cubic-table-requires
+cubic-table-requires c κs = search needs
+
+verdict-of-requires : tie.Need-verdict-of-requires
+verdict-of-requires c κs = search needs
+
+returns : tie.Need-returns
+unfolding madeCubicOf cubicOf
+returns c = cc
+
+pub cubic-spec : {M : Type 1} → statement M
+cubic-spec = tie.close (tie.spec cubic-table-requires verdict-of-requires returns)

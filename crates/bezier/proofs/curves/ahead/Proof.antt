@@ -1,0 +1,17 @@
+-- The sum is given to `min`, as the definition has it. Assumes nothing.
+use borrow.Author.Needs.{needs}
+use Rattle.floats.specs.Floats.{oneF}
+use Rattle.table.specs.Lookup.{thousandthF}
+use Rattle.bezier.specs.Curves.{aheadOf}
+use Rattle.bezier.proofs.curves.ahead.Statement.{statement}
+use Rattle.bezier.proofs.curves.ahead.Tie as tie
+
+min-requires : tie.Need-min-requires
+min-requires c κs = search needs
+
+returns : tie.Need-returns
+unfolding aheadOf oneF thousandthF
+returns c = c .min .ensures
+
+pub ahead-spec : {M : Type 1} → statement M
+ahead-spec = tie.close (tie.spec min-requires returns)

@@ -1,0 +1,73 @@
+-- The direction is the derivative's, normalized; where it is (0, 0), two positions tell (`tried-second`). Assumes nothing.
+use borrow.Author.Needs.{needs}
+use mathlib.Core.Path.{_≡_, ap, _∙_}
+use Rattle.math.specs.declared.points.Point.{Point}
+use Rattle.math.specs.Math.{normalizeOf, subOf}
+use Rattle.bezier.specs.Curves.{isNothing}
+use Rattle.bezier.specs.Quads.{quadRaw, quadDerivativeOf, quadPositionOf, quadTangentOf}
+use Rattle.bezier.proofs.Queries.{tried-first, tried-second}
+use Rattle.bezier.proofs.inner.quad_tangent.Statement.{statement}
+use Rattle.bezier.proofs.inner.quad_tangent.Tie as tie
+
+raw-parameter-requires : tie.Need-raw-parameter-requires
+raw-parameter-requires c κs = search needs
+
+quad-derivative-requires : tie.Need-quad-derivative-requires
+quad-derivative-requires c κs = search needs
+
+normalize-requires : tie.Need-normalize-requires
+normalize-requires c κs = search needs
+
+is-nothing-requires : tie.Need-is-nothing-requires
+is-nothing-requires c κs = search needs
+
+ahead-requires : tie.Need-ahead-requires
+ahead-requires c κs = search needs
+
+quad-position-requires : tie.Need-quad-position-requires
+quad-position-requires c κs = search needs
+
+quad-position-requires-2 : tie.Need-quad-position-requires-2
+quad-position-requires-2 c κs = search needs
+
+sub-requires : tie.Need-sub-requires
+sub-requires c κs = search needs
+
+normalize-requires-2 : tie.Need-normalize-requires-2
+normalize-requires-2 c κs = search needs
+
+-- the first direction, by its definition
+first : (c : tie.After-normalize)
+    → let start = c .before .before .before .before in
+    c .normalize .result ≡ normalizeOf (quadDerivativeOf (start .args .curve .start) (start .args .curve .control) (start .args .curve .end) (quadRaw (start .args .curve) (start .args .progress .value)))
+first c = c .normalize .ensures ∙ ap normalizeOf (c .before .quad-derivative .ensures ∙ ap (quadDerivativeOf _ _ _) (c .before .before .raw-parameter .ensures))
+
+returns : tie.Need-returns
+unfolding quadTangentOf
+returns c =
+    let at-test = c .before .before .before .before .before .before in
+    let there = c .before .before .before .quad-position .ensures ∙ ap (quadPositionOf _) (c .before .before .before .before .ahead .ensures) in
+    let second = c .normalize2 .ensures ∙ ap normalizeOf (c .before .sub .ensures ∙ ap (λ (p : Point). subOf p (c .before .before .quad-position2 .result)) there ∙ ap (subOf _) (c .before .before .quad-position2 .ensures)) in
+    second ∙ tried-second _ _ _ (at-test .is-nothing .ensures ∙ ap isNothing (first (at-test .before))) (c .before .before .before .before .before .if1 .taken)
+
+returns-2 : tie.Need-returns-2
+unfolding quadTangentOf
+returns-2 c =
+    let is = first (c .before .before) in
+    is ∙ tried-first _ _ _ (c .before .is-nothing .ensures ∙ ap isNothing is) (c .if1 .left)
+
+pub quad-tangent-spec : {M : Type 1} → statement M
+quad-tangent-spec =
+    tie.close
+    (tie.spec
+    raw-parameter-requires
+    quad-derivative-requires
+    normalize-requires
+    is-nothing-requires
+    ahead-requires
+    quad-position-requires
+    quad-position-requires-2
+    sub-requires
+    normalize-requires-2
+    returns
+    returns-2)

@@ -1,0 +1,31 @@
+-- The table's test decides; `tidied` keeps the point. Assumes nothing.
+use borrow.Author.Needs.{needs}
+use mathlib.Core.Path.{sym, ap, _∙_}
+use denote.Floats.{passes}
+use Rattle.bezier.specs.declared.curves.Placed.the-variants as Placed
+use Rattle.bezier.specs.Quads.{quadHeadingOf}
+use Rattle.bezier.proofs.Queries.{placed-at, placed-refused}
+use Rattle.bezier.proofs.quads.quad_tangent.Statement.{statement}
+use Rattle.bezier.proofs.quads.quad_tangent.Tie as tie
+
+table-is-sound-requires : tie.Need-table-is-sound-requires
+table-is-sound-requires c κs = search needs
+
+quad-tangent-requires : tie.Need-quad-tangent-requires
+quad-tangent-requires c κs = passes _ (sym (c .before .table-is-sound .ensures) ∙ c .if1 .taken)
+
+tidied-requires : tie.Need-tidied-requires
+tidied-requires c κs = search needs
+
+returns : tie.Need-returns
+unfolding quadHeadingOf
+returns c = ap Placed.At (c .tidied .ensures ∙ c .before .quad-tangent .ensures) ∙ placed-at _ _ _ (c .before .before .before .table-is-sound .ensures) (c .before .before .if1 .taken)
+
+returns-2 : tie.Need-returns-2
+unfolding quadHeadingOf
+returns-2 c = placed-refused _ _ _ (c .before .table-is-sound .ensures) (c .if1 .left)
+
+pub quad-tangent-spec : {M : Type 1} → statement M
+quad-tangent-spec =
+    tie.close
+    (tie.spec table-is-sound-requires quad-tangent-requires tidied-requires returns returns-2)

@@ -1,0 +1,4 @@
+-- What quads and cubics give.
+pub mod Curves
+pub mod Quads
+pub mod Cubics

@@ -1,0 +1,21 @@
+// Quadratic and cubic curves (bezier.rs): making one with its table of running lengths, and its position and direction at a
+// progress. What stands here asks nothing and refuses; `inner` has the same for a caller that knows the table to be sound.
+mod cubics;
+mod curves;
+pub mod inner;
+mod quads;
+
+pub use cubics::CubicBezierCurve;
+pub use cubics::MadeCubic;
+pub use cubics::cubic;
+pub use cubics::cubic_length;
+pub use cubics::cubic_position;
+pub use cubics::cubic_tangent;
+pub use curves::Placed;
+pub use curves::Verdict;
+pub use quads::MadeQuad;
+pub use quads::QuadBezier;
+pub use quads::quad;
+pub use quads::quad_length;
+pub use quads::quad_position;
+pub use quads::quad_tangent;

@@ -1,0 +1,3 @@
+-- An arc's ellipse, and points on it.
+pub mod Ends
+pub mod Shape

@@ -1,0 +1,48 @@
+-- Points and directions on the ellipse of an arc: `sample` and `tangent` of poly.rs (source document 002; F.6.3). Definitions only.
+use lib.Ieee.{Float, binary32, neg, add, sub, mul}
+use Rattle.floats.specs.Floats.{clamp01Of}
+use Rattle.sums.specs.Steps.{sineOf, cosineOf}
+use Rattle.math.specs.declared.points.Point.{Point}
+use Rattle.math.specs.Math.{pointOf, degToRadOf, normalizeOf}
+use Rattle.ellipse.specs.declared.ends.Arc.{Arc}
+
+-- a·b·c, the first product rounded before the second
+abbrev pub product : Float → Float → Float → Float
+product a b c = mul binary32 (mul binary32 a b) c
+
+-- the point at an angle, F.6.3, from the sines and cosines of rotation and angle
+unfoldable pub onEllipse : Point → Point → Float → Float → Float → Float → Point
+onEllipse center radii sin-phi cos-phi sin-angle cos-angle =
+    pointOf
+    (sub binary32 (add binary32 (center .x) (product cos-phi (radii .x) cos-angle)) (product sin-phi (radii .y) sin-angle))
+    (add binary32 (add binary32 (center .y) (product sin-phi (radii .x) cos-angle)) (product cos-phi (radii .y) sin-angle))
+
+-- its derivative, times how far the arc turns
+unfoldable pub slopeOf : Float → Point → Float → Float → Float → Float → Point
+slopeOf delta radii sin-phi cos-phi sin-angle cos-angle =
+    pointOf
+    (mul binary32 delta (sub binary32 (product (neg cos-phi) (radii .x) sin-angle) (product sin-phi (radii .y) cos-angle)))
+    (mul binary32 delta (add binary32 (product (neg sin-phi) (radii .x) sin-angle) (product cos-phi (radii .y) cos-angle)))
+
+module _ (arc : Arc) where
+  -- phi: the rotation in radians
+  abbrev pub phiOn : Float
+  phiOn = degToRadOf (arc .«x_axis_rotation»)
+
+  -- the angle at a share t of the turn
+  abbrev pub angleAt : Float → Float
+  angleAt t = add binary32 (arc .«start_angle») (mul binary32 (arc .«delta_angle») t)
+
+-- sample: the share is clamped
+unfoldable pub pointOn : Arc → Float → Point
+unfolding onEllipse
+pointOn arc t =
+    let angle = angleAt arc (clamp01Of t) in
+    onEllipse (arc .center) (arc .radii) (sineOf (phiOn arc)) (cosineOf (phiOn arc)) (sineOf angle) (cosineOf angle)
+
+-- tangent: the share as it is
+unfoldable pub directionOn : Arc → Float → Point
+unfolding slopeOf
+directionOn arc t =
+    let angle = angleAt arc t in
+    normalizeOf (slopeOf (arc .«delta_angle») (arc .radii) (sineOf (phiOn arc)) (cosineOf (phiOn arc)) (sineOf angle) (cosineOf angle))

@@ -1,0 +1,11 @@
+// The geometry of an SVG arc: from its two ends, radii, rotation and flags to a centre and two
+// angles (SVG 1.1, F.6.5 and F.6.6), in the order of operations of the Rust, and points and
+// directions on the ellipse. Lengths are in path units, angles in radians but for the rotation.
+mod ends;
+mod shape;
+
+pub use ends::Arc;
+pub use ends::Chord;
+pub use ends::from_ends;
+pub use shape::direction;
+pub use shape::point;

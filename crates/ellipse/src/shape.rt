@@ -1,0 +1,48 @@
+// Points and directions on the ellipse of an arc.
+ghost use mathlib.Core.Path.{_≡_};
+ghost use Rattle.ellipse.specs.Shape.{onEllipse, slopeOf, pointOn, directionOn};
+use crate::ends::Arc;
+use math::Point;
+use trig::SinCos;
+
+// The point of the ellipse at an angle, F.6.3, from the sines and cosines of rotation and angle.
+fn on_ellipse(center: Point, radii: Point, turn: SinCos, angle: SinCos) -> Point
+    ensures { λ r. ⌜ r ≡ onEllipse center radii (turn .sin) (turn .cos) (angle .sin) (angle .cos) ⌝ }
+{
+    Point {
+        x: center.x + turn.cos * radii.x * angle.cos - turn.sin * radii.y * angle.sin,
+        y: center.y + turn.sin * radii.x * angle.cos + turn.cos * radii.y * angle.sin,
+    }
+}
+
+// The derivative there, times how far the arc turns.
+fn slope(delta: f32, radii: Point, turn: SinCos, angle: SinCos) -> Point
+    ensures { λ r. ⌜ r ≡ slopeOf delta radii (turn .sin) (turn .cos) (angle .sin) (angle .cos) ⌝ }
+{
+    Point {
+        x: delta * (-turn.cos * radii.x * angle.sin - turn.sin * radii.y * angle.cos),
+        y: delta * (-turn.sin * radii.x * angle.sin + turn.cos * radii.y * angle.cos),
+    }
+}
+
+// The point where a share t of the turn is done: at the angle start_angle + delta_angle·t. t is
+// clamped, a NaN is 0.
+pub fn point(arc: Arc, t: f32) -> Point
+    ensures { λ r. ⌜ r ≡ pointOn arc t ⌝ }
+{
+    let center = arc.center;
+    let radii = arc.radii;
+    let angle = trig::sin_cos(arc.start_angle + arc.delta_angle * floats::clamp01(t));
+    let turn = trig::sin_cos(math::deg_to_rad(arc.x_axis_rotation));
+    on_ellipse(center, radii, turn, angle)
+}
+
+// The direction there: the derivative in t, normalized. t is taken as it is.
+pub fn direction(arc: Arc, t: f32) -> Point
+    ensures { λ r. ⌜ r ≡ directionOn arc t ⌝ }
+{
+    let radii = arc.radii;
+    let angle = trig::sin_cos(arc.start_angle + arc.delta_angle * t);
+    let turn = trig::sin_cos(math::deg_to_rad(arc.x_axis_rotation));
+    math::normalize(slope(arc.delta_angle, radii, turn, angle))
+}

@@ -1,0 +1,48 @@
+// Sine, cosine and atan2, and the angles of math.rs.
+use math::Point;
+ghost use mathlib.Core.Path.{_≡_};
+ghost use Rattle.floats.specs.Floats.{bitsOf};
+ghost use Rattle.sums.specs.Steps.{sineOf, cosineOf};
+ghost use Rattle.bearing.specs.Steps.{atan2Of};
+ghost use Rattle.math.specs.Math.{pointOf};
+ghost use Rattle.angles.specs.Angles.{rotationDegOf, angleBetweenOf};
+
+// The sine of an angle in radians of at most 64 in size, and NaN for any other.
+#[no_mangle]
+pub extern "C" fn kihavute_sin(angle: f32) -> f32
+    ensures { λ r. ⌜ r ≡ sineOf angle ⌝ }
+{
+    floats::tidy(trig::sin(angle))
+}
+
+// The cosine of an angle in radians of at most 64 in size, and NaN for any other.
+#[no_mangle]
+pub extern "C" fn kihavute_cos(angle: f32) -> f32
+    ensures { λ r. ⌜ r ≡ cosineOf angle ⌝ }
+{
+    floats::tidy(trig::cos(angle))
+}
+
+// The angle of the point (x, y) in radians.
+#[no_mangle]
+pub extern "C" fn kihavute_atan2(y: f32, x: f32) -> f32
+    ensures { λ r. ⌜ r ≡ atan2Of y x ⌝ }
+{
+    floats::tidy(arctan::atan2(y, x))
+}
+
+// The heading of a tangent in degrees.
+#[no_mangle]
+pub extern "C" fn kihavute_rotation_deg(x: f32, y: f32) -> u32
+    ensures { λ r. ⌜ r ≡ bitsOf (rotationDegOf (pointOf x y)) ⌝ }
+{
+    floats::bits(angles::rotation_deg(Point { x, y }))
+}
+
+// The angle from (ux, uy) to (vx, vy) in radians.
+#[no_mangle]
+pub extern "C" fn kihavute_angle_between(ux: f32, uy: f32, vx: f32, vy: f32) -> u32
+    ensures { λ r. ⌜ r ≡ bitsOf (angleBetweenOf (pointOf ux uy) (pointOf vx vy)) ⌝ }
+{
+    floats::bits(angles::angle_between(Point { x: ux, y: uy }, Point { x: vx, y: vy }))
+}

@@ -1,0 +1,68 @@
+// Runs recorded verdicts of a general parser through strict reading, and prints how many there were
+// and how many differ. `oracle/record strict` writes the records to this crate's stdin.
+ghost use Prim.Native.Nat.{_+_, _≤_, _<_};
+ghost use lib.ListN.{length};
+use strict::Verdict;
+
+// The bytes of a record: y or n, the text's length as two digits, the text, which has at most 60
+// bytes, blanks up to 60, and a line's end.
+const RECORD: usize = 64;
+
+fn main() {
+    let mut space = io::large_buffer();
+    let n = io::read_full(0, &mut space);
+    let different = differing(&space[..n]);
+    io::write_all(1, b"replayed ");
+    io::print_decimal(1, (n / RECORD) as u64);
+    io::write_all(1, b", different ");
+    io::print_decimal(1, different);
+    io::write_all(1, b"\n");
+}
+
+// How many whole records hold another verdict than strict reading gives.
+fn differing(records: &[u8]) -> u64 {
+    let mut different = 0;
+    for i in 0..records.len() / RECORD {
+        different += missed(records, i * RECORD);
+    }
+    different
+}
+
+// 1 where the record at this place holds another verdict, else 0.
+fn missed(records: &[u8], at: usize) -> u64
+    requires { ⌜ at + 64 ≤ length (now records) ⌝ }
+    ensures { λ r. ⌜ r ≤ 1 ⌝ }
+{
+    if agrees(records, at) { 0 } else { 1 }
+}
+
+// Whether the record at this place holds the verdict of strict reading.
+fn agrees(records: &[u8], at: usize) -> bool
+    requires { ⌜ at + 64 ≤ length (now records) ⌝ }
+{
+    let size = digit(records[at + 1]) * 10 + digit(records[at + 2]);
+    if 60 < size {
+        return false;
+    }
+    let from = at + 3;
+    let to = from + size;
+    letter(strict::strict(&records[from..to])) == records[at]
+}
+
+fn letter(verdict: Verdict) -> u8 {
+    match verdict {
+        Verdict::Yes => b'y',
+        Verdict::No => b'n',
+        Verdict::Refused(_) => b'r',
+    }
+}
+
+// What a digit stands for, and 9 for any other byte.
+fn digit(byte: u8) -> usize
+    ensures { λ r. ⌜ r < 10 ⌝ }
+{
+    match byte {
+        b'0'..=b'9' => (byte - b'0') as usize,
+        _ => 9,
+    }
+}

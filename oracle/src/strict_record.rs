@@ -1,0 +1,141 @@
+//! The list of recorded verdicts that the program replay_strict runs through strict reading.
+//!
+//! A record is 64 bytes: y or n, the text's length as two digits, the text, blanks up to 60 bytes, and a line's end.
+
+use crate::bnf::{Grammar, PATH};
+use crate::compare::Report;
+use crate::strict::{Derivations, Paths, Said, Text, ours};
+use std::fs;
+
+const FOLDER: &str = "crates/replay_strict";
+
+// the longest text that a record holds
+const LONGEST: usize = 60;
+
+// derived texts and damaged copies for each letter
+const WANTED: usize = 6;
+
+// what document 01 and the grammar's notes decide, and where a mistake would show
+const TELLING: [&[u8]; 60] = [
+    b"",
+    b" ",
+    b"\t\r\n ",
+    b"\x0C",
+    b",",
+    b"M",
+    b"M1",
+    b"M1e 2",
+    b"M1 2Z3 4",
+    b"m1 2 3 4",
+    b"ZL1 2",
+    b"M0 0S1 2 3 4",
+    b"M0 0A1 1 0 2 0 3 4",
+    b"M0 0",
+    b" M0 0 ",
+    b"M0 0,",
+    b"M0 0 ,",
+    b"M0 0, ",
+    b"M0 0\x0C",
+    b"M0\x0C0",
+    b"M 0,0",
+    b"M0 ,0",
+    b"M0 , 0",
+    b"M0,,0",
+    b"M,0 0",
+    b"M0 0,L1 1",
+    b"M0 0L,1 1",
+    b"M0 0L",
+    b"M0 0L1",
+    b"M0 0L1 1,",
+    b"M0 0L1 1 1",
+    b"M0 0L1 1 1 1",
+    b"M0 0ZZ",
+    b"M0 0Z Z M1 1",
+    b"M0 0Z1",
+    b"M100-200",
+    b"M0.6.5",
+    b"M1.5.5",
+    b"M-.5-.5",
+    b"M1. 2.",
+    b"M.1 .",
+    b"M1.0.",
+    b"M+1+2",
+    b"M+-1 2",
+    b"M1e1 2",
+    b"M1E+1e1 2",
+    b"M1e1e1 2",
+    b"M1e1.5",
+    b"M1e 1",
+    b"M0 0A1 1 0 0 1 3 4",
+    b"M0 0A1 1 0 013 4",
+    b"M0 0A1 1 0013 4",
+    b"M0 0A1 1 0 0134",
+    b"M0 0A1 1 0,0,1,3,4",
+    b"M0 0A-1 -1 -1 0 0 3 4",
+    b"M0 0A1 1 0 0 1 3 4 1 1 0 1 0 5 6",
+    b"M0 0A1 1 0 10 3 4",
+    b"M0 0A1 1 0 1 3 4",
+    b"M0 0X",
+    b"M0 0\xFF",
+];
+
+/// Writes the list and the line that the program is to print.
+pub fn write(report: &mut Report, seed: u64) {
+    let (list, count) = list(report, seed);
+    fs::write(format!("{FOLDER}/stdin"), list).expect("the list is written");
+    fs::write(format!("{FOLDER}/stdout"), due(count)).expect("the line is written");
+    println!("{FOLDER}/stdin: {count} verdicts of the general parser, seed {seed}");
+}
+
+/// Sees that the list in the repository is the one that would be written.
+pub fn compare(report: &mut Report, seed: u64) {
+    let (list, count) = list(report, seed);
+    let read = |name: &str| fs::read(format!("{FOLDER}/{name}")).unwrap_or_default();
+    let equal = read("stdin") == list && read("stdout") == due(count).into_bytes();
+    report.count(0, equal);
+    let state = if equal { "as it would be written" } else { "DIFFERENT: oracle/record strict writes it anew" };
+    println!("  {FOLDER}: {count} recorded verdicts, {state}");
+}
+
+fn due(count: usize) -> String {
+    format!("replayed {count}, different 0\n")
+}
+
+// the records, with the general parser's verdicts, and how many there are
+fn list(report: &mut Report, seed: u64) -> (Vec<u8>, usize) {
+    let grammar = Grammar::read(PATH);
+    let paths = Paths::new(&grammar);
+    let texts = chosen(&paths, Derivations::new(&grammar, seed));
+    let list = texts.iter().flat_map(|text| line(&text.0, paths.says(&text.0))).collect();
+    let count = texts.len();
+    report.group("verdicts, recorded", texts.into_iter(), |text| ours(&text.0), |text| paths.says(&text.0));
+    (list, count)
+}
+
+fn line(text: &[u8], said: Said) -> Vec<u8> {
+    let mut line = format!("{}{:02}", if said.0 { 'y' } else { 'n' }, text.len()).into_bytes();
+    line.extend(text);
+    line.resize(LONGEST + 3, b' ');
+    line.push(b'\n');
+    line
+}
+
+// the telling ones, then for each letter texts in which it stands: derived ones, and damaged ones with a no
+fn chosen(paths: &Paths, mut made: Derivations) -> Vec<Text> {
+    let mut found: Vec<Text> = TELLING.iter().map(|text| Text(text.to_vec())).collect();
+    for letter in *b"MmZzLlHhVvCcSsQqTtAa" {
+        for verdict in [true, false] {
+            let mut wanted = WANTED;
+            while wanted > 0 {
+                let derived = made.text();
+                let text = Text(if verdict { derived } else { made.damaged(&derived) });
+                let fits = text.0.len() <= LONGEST && text.0.contains(&letter) && paths.says(&text.0).0 == verdict;
+                if fits && !found.contains(&text) {
+                    found.push(text);
+                    wanted -= 1;
+                }
+            }
+        }
+    }
+    found
+}
