@@ -1,5 +1,5 @@
 -- The four sums of the test, from the sides that the code holds. Assumes nothing.
-use mathlib.Core.Path.{_≡_, refl, sym, ap, _∙_}
+use mathlib.Core.Path.{_≡_, ap, _∙_}
 use Prim.Native.Nat.{ℕ, _+_, _*_}
 use mathlib.Core.Bool.{Bool, cond}
 use Rattle.bearing.specs.Steps.{cosineUp, cosineDown, sineUp, sineDown, ahead, behind, along, against, passesAt}

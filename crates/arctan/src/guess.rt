@@ -1,6 +1,7 @@
 // The guess, in f64. Any answer in range is safe: the test decides.
 ghost use mathlib.Core.Path.{_≡_};
 ghost use mathlib.Core.Bool.{cond};
+ghost use lib.Dec.{ltb};
 ghost use Prim.Native.Nat.{_+_, _-_, _*_, _/_, _%_, _^_, _≤_, _<_};
 ghost use Rattle.bearing.specs.Steps.{bendOf, nearOf, guessOf};
 
@@ -43,15 +44,26 @@ fn pick(first: bool, a: u64, b: u64) -> u64
     if first { a } else { b }
 }
 
-// The angle from the bits a and b of the sizes of y and x, `steep` where y is the larger. Where the
+// The bits of a right angle where u is the larger, and else of two where l is 1, and of 0 where it is
+// 0: by products, since a branch on the larger one would be guessed wrong every other time.
+fn base(u: u64, v: u64, l: u64) -> u64
+    requires { ⌜ (u < 2 ^ 30) × (v < 2 ^ 30) × (l ≤ 1) ⌝ }
+    ensures { λ r. ⌜ (r ≡ cond (ltb v u) 4609753056924675352 (l * 4614256656552045848)) × (r ≤ 4614256656552045848) ⌝ }
+{
+    let flat = (0x8000_0000_0000_0000 + v - u) >> 63;
+    (1 - flat) * 4609753056924675352 + flat * l * 4614256656552045848
+}
+
+// The angle from the bits a and b of the sizes of y and x, which u and v are cut from. Where the
 // point is on the left side or y is the larger, but not both, the small angle is taken away.
-pub fn guess(a: u64, b: u64, steep: bool, left: u32) -> u32
-    requires { ⌜ (a < 9218868437227405312) × (b < 9218868437227405312) × (left ≤ 1) ⌝ }
-    ensures { λ r. ⌜ (r ≡ guessOf a b steep left) × (947912704 ≤ r) × (r ≤ 1078530011) ⌝ }
+pub fn guess(a: u64, b: u64, u: u64, v: u64, left: u32) -> u32
+    requires { ⌜ (a < 9218868437227405312) × (b < 9218868437227405312) × (u < 2 ^ 30) × (v < 2 ^ 30) × (left ≤ 1) ⌝ }
+    ensures { λ r. ⌜ (r ≡ guessOf a b (ltb v u) left) × (947912704 ≤ r) × (r ≤ 1078530011) ⌝ }
 {
     let l = left as u64;
+    let steep = v < u;
     let n = f64::from_bits(pick(steep, 1 - l, l) * 0x8000_0000_0000_0000 + pick(steep, b, a));
     let d = f64::from_bits(pick(steep, a, b));
-    let base = f64::from_bits(pick(steep, 4609753056924675352, l * 4614256656552045848));
-    near_bits(base + bend(n / d))
+    let start = f64::from_bits(base(u, v, l));
+    near_bits(start + bend(n / d))
 }

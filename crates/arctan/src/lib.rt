@@ -47,7 +47,7 @@ fn slant(y: f32, x: f32, a: u64, b: u64, sign: u32, left: u32) -> f32
     if u * 8192 + left as u64 * 0x4000_0000 <= v {
         return y / x;
     }
-    f32::from_bits(sign * 0x8000_0000 + angle(u, v, left, guess(a, b, v < u, left)))
+    f32::from_bits(sign * 0x8000_0000 + angle(u, v, left, guess(a, b, u, v, left)))
 }
 
 // The angle of a point on the x axis.

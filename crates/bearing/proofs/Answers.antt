@@ -1,16 +1,13 @@
 -- The answer by steps keeps the rule: bits that pass the test, the guess or the bisection's; the quotient of a tiny angle; and y on the axis. Assumes nothing.
 use mathlib.Core.Path.{_≡_, refl, sym, ap, _∙_, subst}
-use mathlib.Core.Logic.{_⊎_, inl, inr}
 use Prim.Native.Nat.{ℕ, zero, suc, _+_, _-_, _*_, _/_, _%_, _^_, _≤_, _<_}
 use native.Mathlib.Nat.{le-refl, le-trans, le-of-eq, le-of-lt, lt-of-lt-of-le, lt-of-le-of-lt, zero-mul, mul-assoc, mul-comm, mul-right-comm, mul-pos, mul-le-mul-right, le-of-mul-le-mul-left}
 use native.Mathlib.Omega.{arith}
-use native.Mathlib.Decide.{decLe}
-use mathlib.Core.Bool.{Bool, true, false, not, cond, _&&_}
-use lib.Dec.{T, leb, ltb, eqb, lit≤, lit<}
+use mathlib.Core.Bool.{Bool, true, false, not, cond}
+use lib.Dec.{leb, ltb, eqb, lit≤}
 use lib.Pow.{pow-pos, pow-add}
-use lib.Ieee.{Float, nan, inf, fin, binary32, binary64, toBits, ofBits, isNan, div, unlike}
-use lib.Ieee.Exact.{HasValue}
-use borrow.Author.Tests.{ltb-true, ltb-false, leb-true, leb-false, eqb-true, eqb-false, le-leb, lt-leb, eq-eqb, ne-eqb}
+use lib.Ieee.{Float, binary32, binary64, toBits, ofBits, isNan, div}
+use borrow.Author.Tests.{ltb-false, leb-true, leb-false, le-leb, lt-leb}
 use Rattle.sums.specs.Reduction.{turn, Reduced}
 use Rattle.sums.specs.Rule.{Is}
 use Rattle.sums.specs.Sums.{factorial}
@@ -19,15 +16,15 @@ use Rattle.sums.proofs.Patterns.{bit, with-sign, normal-value}
 use Rattle.sums.proofs.Turns.{reduced}
 use Rattle.sums.proofs.Little.{little-reduced}
 use Rattle.bearing.specs.Rule.{piUnits, Atan2Rule}
-use Rattle.bearing.specs.Steps.{sineUp, sineDown, along, against, passesAt, passes, piBits, narrowed, nearOf, guessOf, least, most, fallbackOf, angleBits, tiny}
+use Rattle.bearing.specs.Steps.{sineUp, sineDown, along, against, passesAt, passes, piBits, narrowed, nearOf, guessOf, least, fallbackOf, angleBits, tiny}
 use Rattle.bearing.proofs.Places.{fixed-mono}
 use Rattle.bearing.proofs.Regions.{Ends, ahead-right, behind-right, carry}
 use Rattle.bearing.proofs.Fallback.{Good, fallback-good, good-passes}
 use Rattle.bearing.proofs.Exact.{Cut}
-use Rattle.bearing.proofs.Pointed.{Kept, Passed, passed, kept, kept-scaled, points}
+use Rattle.bearing.proofs.Pointed.{Passed, passed, kept, kept-scaled, points}
 use Rattle.bearing.proofs.Sizes.{Pair}
 use Rattle.bearing.proofs.Tiny.{tiny-kept}
-use Rattle.bearing.proofs.Quotient.{Rounded, divided}
+use Rattle.bearing.proofs.Quotient.{divided}
 
 -- ---- the angle that bits from 2 ^ -33 up to PI's stand for
 module _ (b : ℕ) (low : least ≤ b) (high : b ≤ piBits) where

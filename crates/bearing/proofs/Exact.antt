@@ -1,10 +1,9 @@
 -- From the test on whole numbers to the exact sums at R / 2 ^ 56. In units of 2 ^ -30 a side by steps is at most 64 below its side of the sum, and u and v are cut from the sizes of y and x
 -- by less than 1. Together that is 92 · 2^-30 · (u + v), so that the test's 900 keep the rule's 1024. Assumes nothing.
-use mathlib.Core.Path.{_≡_, refl, sym, ap, _∙_, subst}
-use Prim.Native.Nat.{ℕ, zero, suc, _+_, _-_, _*_, _/_, _%_, _^_, _≤_, _<_}
-use native.Mathlib.Nat.{le-refl, le-trans, le-of-eq, le-of-lt, add-le-add, add-mul, mul-add, mul-comm, mul-assoc, mul-left-comm, mul-right-comm, add-assoc, add-comm, add-left-comm, one-mul, mul-le-mul, mul-le-mul-left, mul-le-mul-right, le-of-mul-le-mul-left, le-of-mul-le-mul-right, div-mul-le-self, lt-div-mul-add, mul-pos, lt-of-lt-of-le, lt-of-le-of-lt, lt-of-not-le, not-le-of-lt, mul-lt-mul-of-pos-left}
+use mathlib.Core.Path.{_≡_, sym, ap, _∙_}
+use Prim.Native.Nat.{ℕ, suc, _+_, _*_, _/_, _^_, _≤_, _<_}
+use native.Mathlib.Nat.{le-refl, le-trans, le-of-eq, le-of-lt, add-le-add, add-mul, mul-add, mul-comm, mul-assoc, mul-left-comm, mul-right-comm, one-mul, mul-le-mul-left, mul-le-mul-right, le-of-mul-le-mul-left, div-mul-le-self, lt-div-mul-add, mul-pos, lt-of-lt-of-le, lt-of-le-of-lt, lt-of-not-le, not-le-of-lt, mul-lt-mul-of-pos-left}
 use native.Mathlib.Omega.{arith}
-use mathlib.Core.Bool.{Bool, true, false}
 use lib.Dec.{lit≤}
 use Rattle.sums.specs.Sums.{whole, sineAdded, sineTaken, cosineAdded, cosineTaken}
 use Rattle.sums.specs.Steps.{half, sinePlus, sineMinus, cosinePlus, cosineMinus}

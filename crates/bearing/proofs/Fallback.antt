@@ -1,15 +1,15 @@
 -- The bisection's answer passes the test, for every u and v that reach it. Between two neighbours where the miss changes sign the two misses come to at most 1618 · (u + v),
 -- so that the smaller one is below 900 · (u + v). Assumes nothing.
 use mathlib.Core.Path.{_≡_, refl, sym, ap, _∙_, subst}
-use mathlib.Core.Logic.{_⊎_, inl, inr}
-use Prim.Native.Nat.{ℕ, zero, suc, _+_, _-_, _*_, _/_, _%_, _^_, _≤_, _<_}
-use native.Mathlib.Nat.{le-refl, le-trans, le-of-eq, le-of-lt, lt-of-lt-of-le, lt-of-le-of-lt, eq-or-lt-of-le, add-le-add, mul-add, mul-le-mul-left, le-add-right}
+use mathlib.Core.Logic.{inl, inr}
+use Prim.Native.Nat.{ℕ, _+_, _*_, _^_, _≤_, _<_}
+use native.Mathlib.Nat.{le-refl, le-trans, le-of-lt, lt-of-lt-of-le, eq-or-lt-of-le, mul-add, mul-le-mul-left, le-add-right}
 use native.Mathlib.Omega.{arith}
-use mathlib.Core.Bool.{Bool, true, false, cond, _&&_}
+use mathlib.Core.Bool.{Bool, true, false, cond}
 use lib.Dec.{leb, ltb, eqb, lit≤}
 use borrow.Author.Tests.{ltb-true, ltb-false, leb-true, leb-false, eqb-true, le-leb, lt-leb}
 use Rattle.sums.specs.Steps.{half, fixedOf}
-use Rattle.bearing.specs.Steps.{cosineUp, cosineDown, sineUp, sineDown, ahead, behind, along, against, passesAt, passes, aheadAt, missAt, apart, climb, nearer, betweenOf, fallbackOf, least, quarter, threeQuarters, most}
+use Rattle.bearing.specs.Steps.{cosineUp, cosineDown, sineUp, sineDown, ahead, behind, passes, aheadAt, missAt, climb, nearer, betweenOf, fallbackOf, least, quarter, threeQuarters, most}
 use Rattle.bearing.proofs.Sides.{cosine-up-mono, sine-up-mono, sine-down-mono, cosine-down-moves, sine-up-moves, sine-down-moves}
 use Rattle.bearing.proofs.Places.{fixed-mono, under-half, step-up, step-near}
 use Rattle.bearing.proofs.Search.{Held, climb-held, climb-from}

@@ -12,3 +12,4 @@ pub mod Quotient
 pub mod Whole
 pub mod Answers
 pub mod Meets
+pub mod Readings

@@ -1,11 +1,10 @@
 -- Atan2 by steps keeps the rule of document 01, for every pair of f32: the theorems that a reader looks for. Assumes nothing.
 use mathlib.Core.Path.{_≡_, refl, sym, ap, _∙_, subst}
-use mathlib.Core.Logic.{_⊎_, inl, inr}
-use Prim.Native.Nat.{ℕ, zero, suc, _+_, _-_, _*_, _/_, _%_, _^_, _≤_, _<_}
+use Prim.Native.Nat.{ℕ, zero, suc, _+_, _*_, _^_, _≤_, _<_}
 use native.Mathlib.Nat.{le-refl, le-trans, le-of-eq, lt-of-lt-of-le, zero-mul, mul-zero, mul-pos, zero-add, le-add-left, le-add-right, mul-right-comm, mul-le-mul-right, le-of-mul-le-mul-right, eq-of-mul-eq-mul-right}
 use native.Mathlib.Omega.{arith}
 use mathlib.Core.Bool.{Bool, true, false, not, cond, _&&_}
-use lib.Dec.{T, leb, ltb, eqb, eqb→eq, lit≤}
+use lib.Dec.{T, ltb, eqb, eqb→eq, lit≤}
 use lib.Pow.{pow-pos}
 use lib.Ieee.{Float, nan, inf, fin, up, down, binary32, fits, ofBits, div}
 use lib.Ieee.Bits.{is-true, is-false}
@@ -19,7 +18,7 @@ use Rattle.bearing.specs.Rule.{piUnits, Atan2Rule}
 use Rattle.bearing.specs.Steps.{plain, signBit, field, topOf, partOf, piBits, guessOf, angleBits, tiny, slanted, level, atan2Of}
 use Rattle.bearing.proofs.Sizes.{wideBits, plain-is, sign-is, wide-zero, field-low, Pair, pair}
 use Rattle.bearing.proofs.Exact.{Cut}
-use Rattle.bearing.proofs.Whole.{Whole, whole}
+use Rattle.bearing.proofs.Whole.{whole}
 use Rattle.bearing.proofs.Answers.{signed-value, guess-range, slanted-rule, small-rule, tiny-rule, pi-rule}
 
 -- ---- the definition's cases, for finite y and x

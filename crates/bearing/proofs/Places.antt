@@ -1,7 +1,7 @@
 -- The angle that the bits b stand for, in units of 2 ^ -56: from one f32 to the next it grows by the unit of its binade, at most 2 ^ -22 below PI. Assumes nothing.
-use mathlib.Core.Path.{_≡_, refl, sym, ap, _∙_, subst}
+use mathlib.Core.Path.{_≡_, sym, ap, _∙_, subst}
 use Prim.Native.Nat.{ℕ, zero, suc, _+_, _-_, _*_, _/_, _%_, _^_, _≤_, _<_}
-use native.Mathlib.Nat.{le-refl, le-trans, le-of-eq, le-dest, le-add-right, add-zero, add-suc, add-le-add, mul-assoc, add-mul, one-mul, pow-succ'}
+use native.Mathlib.Nat.{le-refl, le-trans, le-of-eq, le-dest, le-add-right, add-zero, add-le-add, add-mul, one-mul, pow-succ'}
 use native.Mathlib.Omega.{arith}
 use native.Mathlib.Decide.{ℕ-discrete}
 use lib.Dec.{lit≤}

@@ -1,10 +1,9 @@
 -- An angle that passes the test keeps the rule's inequalities: first for the sums at R / 2 ^ 56 and the two sizes, for each side of x and of the rest; then in units of 2 ^ -149, with y's sign. Assumes nothing.
 use mathlib.Core.Path.{_≡_, refl, sym, ap, _∙_, subst}
-use Prim.Native.Nat.{ℕ, zero, suc, _+_, _-_, _*_, _/_, _%_, _^_, _≤_, _<_}
-use native.Mathlib.Nat.{le-refl, le-trans, le-of-eq, add-comm, mul-add, mul-comm, mul-assoc, mul-left-comm, mul-pos, mul-le-mul-left, mul-lt-mul-of-pos-left, lt-of-lt-of-le, lt-of-le-of-lt}
-use native.Mathlib.Omega.{arith}
+use Prim.Native.Nat.{ℕ, _+_, _*_, _^_, _≤_, _<_}
+use native.Mathlib.Nat.{le-trans, le-of-eq, add-comm, mul-add, mul-assoc, mul-left-comm, mul-le-mul-left, mul-lt-mul-of-pos-left, lt-of-lt-of-le, lt-of-le-of-lt}
 use mathlib.Core.Bool.{Bool, true, false, not, cond, _&&_}
-use lib.Dec.{T, leb, eqb, leb→le, lit≤}
+use lib.Dec.{T, leb, leb→le, lit≤}
 use lib.Ieee.{unlike}
 use lib.Ieee.Fits.{and-l, and-r}
 use Rattle.sums.specs.Sums.{factorial, whole, sineSide, cosineSide}

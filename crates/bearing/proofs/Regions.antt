@@ -1,14 +1,14 @@
 -- The three intervals of the bisection: at its ends the miss is small, and wherever the miss is small the answer points forward. Assumes nothing.
-use mathlib.Core.Path.{_≡_, refl, sym, ap, _∙_, subst}
-use Prim.Native.Nat.{ℕ, zero, suc, _+_, _-_, _*_, _/_, _%_, _^_, _≤_, _<_}
-use native.Mathlib.Nat.{le-refl, le-trans, le-of-eq, add-le-add, add-mul, mul-add, mul-comm, mul-le-mul, mul-le-mul-left, mul-le-mul-right, le-of-mul-le-mul-left, le-add-right, lt-of-not-le, le-of-lt}
+use mathlib.Core.Path.{_≡_, refl, sym, ap, _∙_}
+use Prim.Native.Nat.{ℕ, _+_, _*_, _/_, _^_, _≤_, _<_}
+use native.Mathlib.Nat.{le-refl, le-trans, le-of-eq, add-le-add, mul-add, mul-le-mul-left, le-of-mul-le-mul-left, le-add-right, lt-of-not-le, le-of-lt}
 use native.Mathlib.Omega.{arith}
 use native.Mathlib.Decide.{decLe}
-use mathlib.Core.Bool.{Bool, true, false, cond}
+use mathlib.Core.Bool.{Bool, true, false}
 use mathlib.Core.List.{[], _∷_}
 use lib.Dec.{lit≤}
 use Rattle.sums.specs.Sums.{factorial}
-use Rattle.sums.specs.Steps.{half, fixedOf, squareOf, fourthOf, ladder, risen, sinePlus, sineMinus, cosinePlus, cosineMinus}
+use Rattle.sums.specs.Steps.{fixedOf, fourthOf, ladder, sinePlus, sineMinus}
 use Rattle.bearing.specs.Steps.{cosineUp, cosineDown, sineUp, sineDown, ahead, behind, along, against, least, quarter, threeQuarters, most}
 use Rattle.bearing.proofs.Sides.{sine-minus-mono, cosine-up-mono, cosine-down-mono}
 

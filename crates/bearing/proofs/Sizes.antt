@@ -3,11 +3,11 @@
 use mathlib.Core.Path.{_≡_, refl, sym, ap, _∙_, subst}
 use mathlib.Core.Logic.{_⊎_, inl, inr}
 use Prim.Native.Nat.{ℕ, zero, suc, _+_, _-_, _*_, _/_, _%_, _^_, _≤_, _<_}
-use native.Mathlib.Nat.{le-refl, le-trans, le-of-eq, le-of-lt, lt-of-lt-of-le, lt-of-le-of-lt, lt-of-not-le, not-le-of-lt, zero-add, le-add-right, le-add-left, add-mul, one-mul, zero-mul, mul-assoc, mul-comm, mul-right-comm, mul-le-mul-right, mul-le-mul-left, mul-lt-mul-of-pos-right, lt-of-mul-lt-mul-right, mul-div-cancel, div-mul-le-self, lt-div-mul-add, le-div-iff-mul-le, div-lt-iff-lt-mul, div-eq-of-lt}
+use native.Mathlib.Nat.{le-refl, le-trans, le-of-eq, le-of-lt, lt-of-lt-of-le, lt-of-le-of-lt, lt-of-not-le, not-le-of-lt, zero-add, le-add-right, le-add-left, add-mul, one-mul, zero-mul, mul-assoc, mul-right-comm, mul-le-mul-right, mul-div-cancel, div-mul-le-self, lt-div-mul-add, le-div-iff-mul-le, div-lt-iff-lt-mul, div-eq-of-lt}
 use native.Mathlib.Omega.{arith}
-use native.Mathlib.Decide.{decLe, decLt}
+use native.Mathlib.Decide.{decLe}
 use mathlib.Core.Bool.{Bool, true, false, cond}
-use lib.Dec.{T, ltb, eqb, lit≤}
+use lib.Dec.{ltb, lit≤}
 use lib.Pow.{pow-pos, pow-mono, pow-add, shl-lt, shr-shr}
 use lib.Ieee.{Float, nan, inf, fin, up, down, size, binary64, toBits}
 use lib.Ieee.Digits.{size-lt, size-reaches, size-le}

@@ -1,12 +1,11 @@
 -- Below 2 ^ -12 the angle may be y / x itself, to within 2 ^ -22: the sine is then the angle and the cosine 1, each to within 2 ^ -22 more. Assumes nothing.
-use mathlib.Core.Path.{_≡_, refl, sym, ap, _∙_, subst}
-use Prim.Native.Nat.{ℕ, zero, suc, _+_, _-_, _*_, _/_, _%_, _^_, _≤_, _<_}
-use native.Mathlib.Nat.{le-refl, le-trans, le-of-eq, lt-of-lt-of-le, lt-of-le-of-lt, lt-of-not-le, not-le-of-lt, add-le-add, mul-add, add-mul, mul-comm, mul-assoc, mul-left-comm, mul-pos, mul-le-mul-left, mul-le-mul-right, le-of-mul-le-mul-left, mul-lt-mul-of-pos-right}
+use mathlib.Core.Path.{_≡_, refl, sym, ap, _∙_}
+use Prim.Native.Nat.{ℕ, _+_, _*_, _^_, _≤_, _<_}
+use native.Mathlib.Nat.{le-trans, le-of-eq, lt-of-not-le, add-le-add, mul-add, add-mul, mul-comm, mul-assoc, mul-left-comm, mul-pos, mul-le-mul-left, mul-le-mul-right, le-of-mul-le-mul-left, mul-lt-mul-of-pos-right}
 use native.Mathlib.Omega.{arith}
-use mathlib.Core.Bool.{Bool, true, false}
+use mathlib.Core.Bool.{true, false}
 use lib.Dec.{lit≤}
 use Rattle.sums.specs.Sums.{factorial, whole, sineSide, cosineSide}
-use Rattle.sums.specs.Rule.{Within}
 use Rattle.sums.proofs.Little.{sine-little, cosine-little}
 use Rattle.bearing.proofs.Pointed.{Kept}
 

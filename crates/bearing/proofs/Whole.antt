@@ -1,11 +1,11 @@
 -- Every finite f32 is a whole number of 2 ^ -149, fewer than 2 ^ 277. Assumes nothing.
-use mathlib.Core.Path.{_≡_, refl, sym, ap, _∙_, subst}
-use Prim.Native.Nat.{ℕ, zero, suc, _+_, _-_, _*_, _/_, _%_, _^_, _≤_, _<_}
-use native.Mathlib.Nat.{le-trans, le-of-eq, lt-of-lt-of-le, lt-of-le-of-lt, lt-of-not-le, not-le-of-lt, mul-one, zero-mul, mul-assoc, mul-comm, mul-right-comm, mul-lt-mul-of-pos-right, mul-le-mul-right}
+use mathlib.Core.Path.{_≡_, refl, sym, ap, _∙_}
+use Prim.Native.Nat.{ℕ, zero, suc, _+_, _-_, _*_, _^_, _≤_, _<_}
+use native.Mathlib.Nat.{le-trans, le-of-eq, lt-of-lt-of-le, lt-of-le-of-lt, lt-of-not-le, not-le-of-lt, mul-one, zero-mul, mul-assoc, mul-right-comm, mul-lt-mul-of-pos-right, mul-le-mul-right}
 use native.Mathlib.Omega.{arith}
 use mathlib.Core.Bool.{Bool, true, false}
 use lib.Dec.{T, ltb, lit≤}
-use lib.Pow.{pow-pos, pow-lt, pow-mono, pow-add}
+use lib.Pow.{pow-pos, pow-lt, pow-add}
 use lib.IntN.{ℤ, pos, negsuc}
 use lib.Ieee.{Float, nan, inf, fin, up, down, binary32, fits, toBits}
 use lib.Ieee.Fits.{down-pos}

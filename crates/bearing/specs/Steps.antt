@@ -1,7 +1,7 @@
 -- Atan2 by steps: "Each of the three also equals, bit for bit, a definition by steps that you write" (document 01, "Arcs"). A guess in f64 is tested on whole numbers;
 -- where it fails, a bisection over the bits of f32 takes its place. Angles are counted in 2 ^ -56, sums in 2 ^ -30. Definitions only.
 use Prim.Native.Nat.{ℕ, zero, suc, _+_, _-_, _*_, _/_, _%_, _^_}
-use mathlib.Core.Bool.{Bool, true, false, cond, _&&_}
+use mathlib.Core.Bool.{Bool, cond, _&&_}
 use lib.Dec.{leb, ltb, eqb}
 use lib.Ieee.{Float, nan, binary32, binary64, toBits, ofBits, isNan, add, sub, mul, div}
 use lib.Ieee.Scale.{finite}

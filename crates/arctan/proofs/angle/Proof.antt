@@ -1,11 +1,9 @@
 -- The test picks the definition's case. Assumes nothing.
 use borrow.Author.Needs.{needs}
 use native.Mathlib.Omega.{arith}
-use native.Mathlib.Nat.{le-trans}
-use Prim.Native.Nat.{ℕ, _≤_}
-use mathlib.Core.Path.{_≡_, refl, sym, ap, subst, _∙_}
+use Prim.Native.Nat.{ℕ}
+use mathlib.Core.Path.{_≡_, sym, ap, _∙_}
 use mathlib.Core.Bool.{Bool, true, false, cond}
-use lib.Dec.{lit≤}
 use Rattle.bearing.specs.Steps.{passes, fallbackOf, angleBits}
 use Rattle.arctan.proofs.angle.Statement.{statement}
 use Rattle.arctan.proofs.angle.Tie as tie

@@ -2,10 +2,10 @@
 use borrow.Author.Needs.{needs}
 use borrow.Author.Tests.{ne-eqb}
 use native.Mathlib.Omega.{arith}
-use Prim.Native.Nat.{ℕ, _+_, _-_, _*_, _/_, _%_, _^_, _≤_, _<_}
-use mathlib.Core.Path.{_≡_, refl, sym, ap, subst, _∙_}
+use Prim.Native.Nat.{ℕ, _+_, _-_, _*_, _/_, _%_, _≤_, _<_}
+use mathlib.Core.Path.{_≡_, sym, subst}
 use mathlib.Core.Bool.{Bool, true, false, not, cond, _&&_}
-use lib.Dec.{T, eqb}
+use lib.Dec.{T, ltb, eqb}
 use lib.Ieee.{binary64, nanBits}
 use Rattle.bearing.specs.Steps.{guessOf}
 use Rattle.arctan.proofs.guess.guess.Statement.{statement}
@@ -29,7 +29,7 @@ pick-requires : tie.Need-pick-requires
 pick-requires c κs = search needs
 
 mul-n : tie.Need-mul-n
-mul-n c = let s = picked-le (c .before .args .steep) (1 - c .before .args .left) (c .before .args .left) (c .pick .result) 1 (c .pick .ensures) (omega arith) (omega arith) in record { fits = omega arith }
+mul-n c = let s = picked-le (ltb (c .before .args .v) (c .before .args .u)) (1 - c .before .args .left) (c .before .args .left) (c .pick .result) 1 (c .pick .ensures) (omega arith) (omega arith) in record { fits = omega arith }
 
 pick-requires-2 : tie.Need-pick-requires-2
 pick-requires-2 c κs = search needs
@@ -37,8 +37,8 @@ pick-requires-2 c κs = search needs
 add-n : tie.Need-add-n
 add-n c =
     let at = c .before .before in
-    let s = picked-le (at .args .steep) (1 - at .args .left) (at .args .left) (c .before .pick .result) 1 (c .before .pick .ensures) (omega arith) (omega arith) in
-    let p = picked-le (at .args .steep) (at .args .b) (at .args .a) (c .pick2 .result) 9218868437227405311 (c .pick2 .ensures) (omega arith) (omega arith) in
+    let s = picked-le (ltb (at .args .v) (at .args .u)) (1 - at .args .left) (at .args .left) (c .before .pick .result) 1 (c .before .pick .ensures) (omega arith) (omega arith) in
+    let p = picked-le (ltb (at .args .v) (at .args .u)) (at .args .b) (at .args .a) (c .pick2 .result) 9218868437227405311 (c .pick2 .ensures) (omega arith) (omega arith) in
     record { fits = omega arith }
 
 float-from-bits-n : tie.Need-float-from-bits-n
@@ -46,8 +46,8 @@ float-from-bits-n c =
     let at = c .before .before in
     no-nan _
     (signed (c .before .pick .result) (c .pick2 .result)
-    (picked-le (at .args .steep) (1 - at .args .left) (at .args .left) (c .before .pick .result) 1 (c .before .pick .ensures) (omega arith) (omega arith))
-    (picked-le (at .args .steep) (at .args .b) (at .args .a) (c .pick2 .result) 9218868437227405311 (c .pick2 .ensures) (omega arith) (omega arith)))
+    (picked-le (ltb (at .args .v) (at .args .u)) (1 - at .args .left) (at .args .left) (c .before .pick .result) 1 (c .before .pick .ensures) (omega arith) (omega arith))
+    (picked-le (ltb (at .args .v) (at .args .u)) (at .args .b) (at .args .a) (c .pick2 .result) 9218868437227405311 (c .pick2 .ensures) (omega arith) (omega arith)))
 
 pick-requires-3 : tie.Need-pick-requires-3
 pick-requires-3 c κs = search needs
@@ -55,20 +55,14 @@ pick-requires-3 c κs = search needs
 float-from-bits-d : tie.Need-float-from-bits-d
 float-from-bits-d c =
     let at = c .before .before .before in
-    let p = picked-le (at .args .steep) (at .args .a) (at .args .b) (c .pick3 .result) 9218868437227405311 (c .pick3 .ensures) (omega arith) (omega arith) in
+    let p = picked-le (ltb (at .args .v) (at .args .u)) (at .args .a) (at .args .b) (c .pick3 .result) 9218868437227405311 (c .pick3 .ensures) (omega arith) (omega arith) in
     no-nan _ (omega arith)
 
-mul-pick : tie.Need-mul-pick
-mul-pick c = search needs
+base-requires : tie.Need-base-requires
+base-requires c κs = search needs
 
-pick-requires-4 : tie.Need-pick-requires-4
-pick-requires-4 c κs = search needs
-
-float-from-bits-base : tie.Need-float-from-bits-base
-float-from-bits-base c =
-    let at = c .before .before .before .before in
-    let p = picked-le (at .args .steep) 4609753056924675352 (at .args .left * 4614256656552045848) (c .pick4 .result) 4614256656552045848 (c .pick4 .ensures) (omega arith) (omega arith) in
-    no-nan _ (omega arith)
+float-from-bits-start : tie.Need-float-from-bits-start
+float-from-bits-start c = no-nan _ (omega arith)
 
 bend-requires : tie.Need-bend-requires
 bend-requires c κs = search needs
@@ -92,9 +86,8 @@ guess-spec =
     float-from-bits-n
     pick-requires-3
     float-from-bits-d
-    mul-pick
-    pick-requires-4
-    float-from-bits-base
+    base-requires
+    float-from-bits-start
     bend-requires
     near-bits-requires
     returns)

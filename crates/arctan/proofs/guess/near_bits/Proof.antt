@@ -2,11 +2,10 @@
 use borrow.Author.Needs.{needs}
 use borrow.Author.Tests.{lt-ltb, le-ltb}
 use native.Mathlib.Omega.{arith}
-use Prim.Native.Nat.{ℕ, _+_, _-_, _/_, _≤_, _<_}
-use mathlib.Core.Path.{_≡_, refl, sym, ap, subst, _∙_}
+use mathlib.Core.Path.{_≡_, sym, ap, subst}
 use mathlib.Core.Bool.{Bool, true, false, not, cond}
-use lib.Dec.{T, ltb}
-use lib.Ieee.{Float, nan, inf, fin, binary64, isNan, ne, toBits}
+use lib.Dec.{T}
+use lib.Ieee.{Float, binary64, isNan, ne, toBits}
 use lib.Ieee.Compare.{differs-from-itself}
 use Rattle.bearing.specs.Steps.{piBits, narrowed, nearOf}
 use Rattle.arctan.proofs.Numbers.{is-number}

@@ -1,5 +1,4 @@
 -- The test picks the definition's case. Assumes nothing.
-use borrow.Author.Needs.{needs}
 use borrow.Author.Tests.{lt-ltb, le-ltb}
 use native.Mathlib.Omega.{arith}
 use Rattle.arctan.proofs.scale.larger.Statement.{statement}

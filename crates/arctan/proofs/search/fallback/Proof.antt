@@ -1,8 +1,6 @@
 -- Each test picks a case of the definition. Assumes nothing.
 use borrow.Author.Needs.{needs}
 use borrow.Author.Tests.{lt-ltb, le-ltb, eq-eqb, ne-eqb}
-use native.Mathlib.Omega.{arith}
-use mathlib.Core.Path.{_≡_, refl, sym, ap, subst, _∙_}
 use Rattle.bearing.specs.Steps.{fallbackOf}
 use Rattle.arctan.proofs.search.fallback.Statement.{statement}
 use Rattle.arctan.proofs.search.fallback.Tie as tie

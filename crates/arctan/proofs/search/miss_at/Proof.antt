@@ -1,9 +1,8 @@
 -- The larger of the two less the smaller. Assumes nothing.
 use borrow.Author.Needs.{needs}
 use borrow.Author.Tests.{le-leb, lt-leb}
-use native.Mathlib.Omega.{arith}
 use Prim.Native.Nat.{ℕ, _-_, _≤_, _<_}
-use mathlib.Core.Path.{_≡_, refl, sym, ap, subst, _∙_}
+use mathlib.Core.Path.{_≡_, sym, ap, _∙_}
 use mathlib.Core.Bool.{Bool, cond}
 use Rattle.bearing.specs.Steps.{apart, missAt}
 use Rattle.arctan.proofs.search.miss_at.Statement.{statement}

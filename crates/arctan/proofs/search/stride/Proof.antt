@@ -2,11 +2,11 @@
 use borrow.Author.Needs.{needs}
 use borrow.Author.Tests.{lt-ltb, le-ltb}
 use native.Mathlib.Omega.{arith}
-use native.Mathlib.Nat.{one-mul, mod-eq-of-lt, le-trans, lt-of-lt-of-le}
+use native.Mathlib.Nat.{one-mul, mod-eq-of-lt, lt-of-lt-of-le}
 use Prim.Native.Nat.{ℕ, _+_, _*_, _%_, _^_, _≤_, _<_}
 use mathlib.Core.Path.{_≡_, refl, sym, ap, subst, _∙_}
 use mathlib.Core.Bool.{Bool, true, false, cond, _&&_}
-use lib.Pow.{pow-mono, pow-lt}
+use lib.Pow.{pow-mono}
 use lib.Dec.{ltb, lit≤}
 use Rattle.bearing.specs.Steps.{aheadAt}
 use Rattle.arctan.proofs.search.stride.Statement.{statement}

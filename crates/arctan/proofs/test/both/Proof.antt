@@ -1,8 +1,7 @@
 -- Two products of 30 and 33 digits fit together. Assumes nothing.
-use borrow.Author.Needs.{needs}
 use native.Mathlib.Omega.{arith}
 use native.Mathlib.Nat.{mul-le-mul}
-use Prim.Native.Nat.{ℕ, _+_, _-_, _*_, _/_, _%_, _^_, _≤_, _<_}
+use Prim.Native.Nat.{ℕ, _*_, _^_, _≤_, _<_}
 use mathlib.Core.Path.{refl}
 use Rattle.arctan.proofs.test.both.Statement.{statement}
 use Rattle.arctan.proofs.test.both.Tie as tie

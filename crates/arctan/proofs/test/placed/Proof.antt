@@ -1,8 +1,7 @@
 -- The shift loses no digit: 24 digits are moved up by 34 places at most. Assumes nothing.
 use borrow.Author.Needs.{needs}
-use native.Mathlib.Omega.{arith}
 use native.Mathlib.Nat.{mod-eq-of-lt, mod-le, le-trans, lt-of-le-of-lt}
-use Prim.Native.Nat.{ℕ, _+_, _-_, _*_, _/_, _%_, _^_, _≤_, _<_}
+use Prim.Native.Nat.{ℕ, _≤_}
 use lib.Dec.{lit≤, lit<}
 use Rattle.sums.specs.Steps.{fixedOf}
 use Rattle.bearing.proofs.Places.{fixed-mono}

@@ -2,8 +2,8 @@
 use borrow.Author.Needs.{needs}
 use native.Mathlib.Omega.{arith}
 use native.Mathlib.Nat.{mul-le-mul, le-trans, le-of-eq}
-use Prim.Native.Nat.{ℕ, _+_, _-_, _*_, _/_, _%_, _^_, _≤_, _<_}
-use mathlib.Core.Path.{_≡_, refl, sym, ap, _∙_}
+use Prim.Native.Nat.{ℕ, _*_, _/_, _^_, _≤_, _<_}
+use mathlib.Core.Path.{_≡_, ap}
 use lib.Dec.{lit≤}
 use Rattle.sums.specs.Steps.{half, sinePlus, sineMinus, cosinePlus, cosineMinus}
 use Rattle.bearing.specs.Steps.{cosineUp, cosineDown, sineUp, sineDown}
