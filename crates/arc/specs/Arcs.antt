@@ -13,6 +13,8 @@ use Rattle.table.specs.Lookup.{rawOf}
 use Rattle.samples.specs.Samples.{tableOf}
 use Rattle.bezier.specs.declared.curves.Placed.{Placed}
 use Rattle.bezier.specs.declared.curves.Placed.the-variants as Placed
+use Rattle.bezier.specs.declared.curves.Turned.{Turned}
+use Rattle.bezier.specs.declared.curves.Turned.the-variants as Turned
 use Rattle.bezier.specs.declared.curves.Verdict.the-variants as Verdict
 use Rattle.bezier.specs.Curves.{verdictOf, placedOf}
 use Rattle.ellipse.specs.declared.ends.Chord.{Chord}
@@ -22,8 +24,6 @@ use Rattle.ellipse.specs.Shape.{pointOn, directionOn}
 use Rattle.arc.specs.declared.lines.LineSegment.{LineSegment}
 use Rattle.arc.specs.declared.arcs.EllipticalArc.{EllipticalArc}
 use Rattle.arc.specs.declared.arcs.MadeArc.{MadeArc}
-use Rattle.arc.specs.declared.arcs.Headed.{Headed}
-use Rattle.arc.specs.declared.arcs.Headed.the-variants as Headed
 use Rattle.arc.specs.Lines.{lineOf, lineLengthOf, linePositionOf, lineTangentOf}
 
 -- ---- making one
@@ -119,13 +119,13 @@ arcHeadingOf arc progress =
     cond (arc .«line_fallback») (Placed.At (lineTangentOf (chordLine (arc .shape)))) (placedOf (arc .table) (arcTangentOf (arc .shape) (arc .table) progress))
 
 -- `rotation_deg`: the tangent in degrees
-abbrev pub inDegrees : Placed → Headed
-inDegrees (Placed.At tangent) = Headed.Degrees (rotationDegOf tangent)
-inDegrees (Placed.Refused refusal) = Headed.Refused refusal
+abbrev pub inDegrees : Placed → Turned
+inDegrees (Placed.At tangent) = Turned.Degrees (rotationDegOf tangent)
+inDegrees (Placed.Refused refusal) = Turned.Refused refusal
 
-unfoldable pub arcRotationOf : EllipticalArc → Float → Headed
+unfoldable pub arcTurnedOf : EllipticalArc → Float → Turned
 unfolding arcHeadingOf
-arcRotationOf arc progress = inDegrees (arcHeadingOf arc progress)
+arcTurnedOf arc progress = inDegrees (arcHeadingOf arc progress)
 
 -- "`arc_length` of an arc is its table's total (a fallback's, the line's)"
 unfoldable pub arcLengthOf : EllipticalArc → Float

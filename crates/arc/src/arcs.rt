@@ -7,6 +7,7 @@ use crate::lines::line_tangent;
 use angles::rotation_deg;
 use answers::Refusal;
 use bezier::Placed;
+use bezier::Turned;
 use bezier::Verdict;
 use bezier::tidied;
 use bezier::verdict_of;
@@ -30,7 +31,7 @@ use table::table_of;
 ghost use mathlib.Core.Path.{_≡_};
 ghost use Rattle.samples.specs.Samples.{stepsOf, tableOf};
 ghost use Rattle.ellipse.specs.Shape.{pointOn, directionOn};
-ghost use Rattle.arc.specs.Arcs.{isFallback, inRange, fallbackShape, noTable, chordLine, fallenBack, fitted, outOfRange, madeArcOf, arcLengthOf, arcPlacedOf, arcHeadingOf, inDegrees, arcRotationOf};
+ghost use Rattle.arc.specs.Arcs.{isFallback, inRange, fallbackShape, noTable, chordLine, fallenBack, fitted, outOfRange, madeArcOf, arcLengthOf, arcPlacedOf, arcHeadingOf, inDegrees, arcTurnedOf};
 
 // An arc, with its running lengths unless it is a line fallback. `arc` makes one whose table is sound.
 pub struct EllipticalArc {
@@ -44,12 +45,6 @@ pub struct EllipticalArc {
 pub struct MadeArc {
     pub verdict: Verdict,
     pub arc: EllipticalArc,
-}
-
-// A heading in degrees, or why there is none.
-pub enum Headed {
-    Degrees(f32),
-    Refused(Refusal),
 }
 
 // Whether an arc is drawn as a line: its ends are within 2^-23 or a radius is that small. A NaN is not.
@@ -240,18 +235,18 @@ pub fn arc_tangent(arc: EllipticalArc, progress: Progress) -> Placed
 }
 
 // A direction in degrees.
-fn in_degrees(placed: Placed) -> Headed
+fn in_degrees(placed: Placed) -> Turned
     ensures { λ r. ⌜ r ≡ inDegrees placed ⌝ }
 {
     match placed {
-        Placed::At(tangent) => Headed::Degrees(tidy(rotation_deg(tangent))),
-        Placed::Refused(refusal) => Headed::Refused(refusal),
+        Placed::At(tangent) => Turned::Degrees(tidy(rotation_deg(tangent))),
+        Placed::Refused(refusal) => Turned::Refused(refusal),
     }
 }
 
 // The heading of an arc at a progress. A table that is not sound is refused.
-pub fn arc_rotation_deg(arc: EllipticalArc, progress: Progress) -> Headed
-    ensures { λ r. ⌜ r ≡ arcRotationOf arc (progress .value) ⌝ }
+pub fn arc_rotation_deg(arc: EllipticalArc, progress: Progress) -> Turned
+    ensures { λ r. ⌜ r ≡ arcTurnedOf arc (progress .value) ⌝ }
 {
     in_degrees(arc_tangent(arc, progress))
 }

@@ -5,7 +5,6 @@ pub mod inner;
 mod lines;
 
 pub use arcs::EllipticalArc;
-pub use arcs::Headed;
 pub use arcs::MadeArc;
 pub use arcs::arc;
 pub use arcs::arc_heading;

@@ -1,7 +1,7 @@
 -- The tangent is turned into degrees. Assumes nothing.
 use borrow.Author.Needs.{needs}
 use mathlib.Core.Path.{ap, _∙_}
-use Rattle.arc.specs.Arcs.{inDegrees, arcRotationOf}
+use Rattle.arc.specs.Arcs.{inDegrees, arcTurnedOf}
 use Rattle.arc.proofs.arcs.arc_rotation_deg.Statement.{statement}
 use Rattle.arc.proofs.arcs.arc_rotation_deg.Tie as tie
 
@@ -12,7 +12,7 @@ in-degrees-requires : tie.Need-in-degrees-requires
 in-degrees-requires c κs = search needs
 
 returns : tie.Need-returns
-unfolding arcRotationOf
+unfolding arcTurnedOf
 returns c = c .in-degrees .ensures ∙ ap inDegrees (c .before .arc-tangent .ensures)
 
 pub arc-rotation-deg-spec : {M : Type 1} → statement M
