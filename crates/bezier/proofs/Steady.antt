@@ -37,7 +37,7 @@ pub steady : {entries : List Float} {total : Float} → F32Table entries total �
 steady f = record { order = raw-order f; starts = raw-starts f; ends = raw-ends f; placed = raw-placed f }
 
 -- ---- a made table
-abbrev Made : (Float → Point) → Type 0
+abbrev pub Made : (Float → Point) → Type 0
 Made formula = F32Table (tableOf formula .entries) (tableOf formula .total)
 
 few : (n : ℕ) → n ≡ 32 → n - 1 ≤ 16777216
@@ -60,7 +60,7 @@ accepted-finite total = go (finite total)
     go true e = tt
     go false e = let z : _≡_ {A = ℕ} 0 1 = cc in absurd (omega arith)
 
-accepted-table : (formula : Float → Point) → verdictOf (tableOf formula .total) ≡ Verdict.Accepted → Made formula
+pub accepted-table : (formula : Float → Point) → verdictOf (tableOf formula .total) ≡ Verdict.Accepted → Made formula
 accepted-table formula e = made-table formula (unfold tableOf in accepted-finite (tableOf formula .total) e)
 
 -- ---- quads and cubics, stored and made

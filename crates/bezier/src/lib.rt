@@ -15,6 +15,8 @@ pub use cubics::cubic_tangent;
 pub use curves::Placed;
 pub use curves::Turned;
 pub use curves::Verdict;
+pub use curves::tidied;
+pub use curves::verdict_of;
 pub use quads::MadeQuad;
 pub use quads::QuadBezier;
 pub use quads::quad;
