@@ -151,6 +151,10 @@ units-same (inf r) s t M N h k = absurd h
 units-same (fin r m e) s t M N h k = eq-of-mul-eq-mul-right (down e) (down-pos e) M N (sym (h .1) ∙ k .1)
 
 -- ---- the theorems
+-- "PI is 40490FDB"
+pub pi-units : Is (ofBits binary32 1078530011) false piUnits
+pi-units = signed-value piBits (lit≤ tt) (le-refl piBits) false
+
 -- "Atan2 of finite y, x, not both 0, is an a in [-PI, PI] .."
 pub atan2-meets-rule : (y x : Float) → T (fits binary32 y) → T (fits binary32 x) → T (finite y) → T (finite x) → T (not (isZero y && isZero x)) → Atan2Rule y x (atan2Of y x)
 atan2-meets-rule y x fy fx ny nx n =

@@ -23,7 +23,7 @@ abbrev pub over : ℕ
 over = whole 30 (2 ^ 149) * whole 31 (2 ^ 149)
 
 -- y is Y units and x is X units, negative where p and q are true; a reduces to r units, and sin a is the sum at r, its opposite where t is true.
--- Both inequalities of |y·cos a - x·sin a| ≤ 2^-20·(|x|+|y|), and that of x·cos a + y·sin a > 0, are multiplied by 2 ^ 149 * over.
+-- The two inequalities of |y·cos a - x·sin a| ≤ 2^-20·(|x|+|y|) are multiplied by 2 ^ 20 * 2 ^ 149 * over, that of x·cos a + y·sin a > 0 by 2 ^ 149 * over.
 pub record Points (p : Bool) (Y : ℕ) (q : Bool) (X : ℕ) (t : Bool) (r : ℕ) : Type 0 where
   pub above : 2 ^ 20 * (timesCosine p Y r true + timesSine (unlike t q) X r false) ≤ 2 ^ 20 * (timesCosine p Y r false + timesSine (unlike t q) X r true) + (X + Y) * over
   pub below : 2 ^ 20 * (timesCosine p Y r false + timesSine (unlike t q) X r true) ≤ 2 ^ 20 * (timesCosine p Y r true + timesSine (unlike t q) X r false) + (X + Y) * over
