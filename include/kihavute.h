@@ -60,6 +60,22 @@ enum kihavute_refusal {
  * every x below zero give the NaN 0x7FC00000. */
 float kihavute_sqrt(float x);
 
+/* ---- Sine, cosine, atan2: the library's own, equal on every machine ---- */
+
+/* Sine and cosine of an angle in radians, at most 64 in size; else, and for a NaN, the NaN 0x7FC00000. Each lies
+ * within 2^-22 of the exact value of the angle less whole turns, a turn taken as 0x6487ED5110B4611 / 2^56. The sine of
+ * an angle below 2^-12 in size is the angle. */
+float kihavute_sin(float angle);
+float kihavute_cos(float angle);
+
+/* Both in one call: the cosine in the low half, the sine in the high half, as the point of the unit circle. */
+uint64_t kihavute_sin_cos(float angle);
+
+/* The angle of (x, y) in radians, from -PI to PI with the float 0x40490FDB for PI, and with the sign of y. For y zero
+ * it is zero with x above 0 and PI in size with x below; both zero give +0. A coordinate that is not finite gives the
+ * NaN 0x7FC00000. */
+float kihavute_atan2(float y, float x);
+
 /* ---- Single numbers ---- */
 
 /* x itself, and for any NaN the one NaN 0x7FC00000: what every float passes through before it is stored. */
@@ -85,22 +101,6 @@ uint32_t kihavute_lerp(float a, float b, float t);
 uint32_t kihavute_deg_to_rad(float deg);
 uint32_t kihavute_rad_to_deg(float rad);
 
-/* ---- Angles ---- */
-
-/* Sine and cosine of an angle in radians of at most 64 in size, and the NaN 0x7FC00000 for any other. Within 2^-22 of the
- * Taylor sums of the angle less its nearest whole turns. */
-float kihavute_sin(float angle);
-float kihavute_cos(float angle);
-
-/* The angle of the point (x, y) in radians, from -PI to PI, with the sign of y. Both zero: 0. Not finite: the NaN. */
-float kihavute_atan2(float y, float x);
-
-/* The heading of the direction (x, y) in degrees, from the x axis towards the y axis. (0, 0) has none and gives 0. */
-uint32_t kihavute_rotation_deg(float x, float y);
-
-/* The signed angle from (ux, uy) to (vx, vy) in radians. */
-uint32_t kihavute_angle_between(float ux, float uy, float vx, float vy);
-
 /* ---- Points ---- */
 
 /* (ax + bx, ay + by) and (ax - bx, ay - by). */
@@ -124,6 +124,14 @@ uint64_t kihavute_normalize(float x, float y);
 
 /* Each coordinate's lerp from a to b. */
 uint64_t kihavute_lerp_point(float ax, float ay, float bx, float by, float t);
+
+/* The heading of a tangent in degrees, counted from the x axis towards the y axis, from -180 to 180: the angle of
+ * (x, y), times 180 / PI. (0, 0) gives 0. */
+uint32_t kihavute_rotation_deg(float x, float y);
+
+/* The angle from u to v in radians, from -PI to PI, below 0 where ux * vy - uy * vx is: the angle of (c, s), where c is
+ * the product of u and v over the product of their lengths (at least 2^-23), held to -1 and 1, and s the root of 1 - c * c. */
+uint32_t kihavute_angle_between(float ux, float uy, float vx, float vy);
 
 /* ---- Lookup: a progress is how far along by length, from 0 to 1; a NaN counts as 0, the rest is clamped ---- */
 

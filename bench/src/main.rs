@@ -15,6 +15,7 @@ fn main() {
     println!("{:28} {:>9} {:>9} {:>7}", "ns per call, best of 25", "ours", "the Rust", "ratio");
     root();
     length();
+    angles();
     strict();
     lookup();
     spot();
@@ -76,6 +77,37 @@ fn length() {
     row("length, throughput", throughput(&inputs, ours, theirs));
     let after = |v: [f32; 2], zero| [f32::from_bits(v[0].to_bits() | zero), v[1]];
     row("length, latency", latency(&inputs, after, |v| first(v).to_bits(), ours, theirs));
+}
+
+// against the machine's own: angles of up to two turns, and legs of up to 16 km in metres
+fn angles() {
+    let inputs: Vec<f32> = patterns().map(|bits| (bits >> 8) as f32 / 1_335_088.0 - 6.2831855).collect();
+    let after = |x: f32, zero| f32::from_bits(x.to_bits() | zero);
+    let plain = |x: f32| first([x, x]).to_bits();
+    let (ours, theirs) = (|x: f32| kihavute::sin(x).to_bits(), |x: f32| x.sin().to_bits());
+    row("sine, libm", throughput(&inputs, ours, theirs));
+    row("sine, libm, latency", latency(&inputs, after, plain, ours, theirs));
+    let (ours, theirs) = (|x: f32| kihavute::cos(x).to_bits(), |x: f32| x.cos().to_bits());
+    row("cosine, libm", throughput(&inputs, ours, theirs));
+    row("cosine, libm, latency", latency(&inputs, after, plain, ours, theirs));
+    let ours = |x: f32| {
+        let [cos, sin] = kihavute::sin_cos(x);
+        cos ^ sin
+    };
+    let theirs = |x: f32| {
+        let (sin, cos) = x.sin_cos();
+        cos.to_bits() ^ sin.to_bits()
+    };
+    row("both, libm", throughput(&inputs, ours, theirs));
+    row("both, libm, latency", latency(&inputs, after, plain, ours, theirs));
+    let metres = |bits: u32| (bits % (1 << 25)) as f32 / 1000.0 - 16_777.0;
+    let inputs: Vec<[f32; 2]> = patterns().map(|bits| [metres(bits), metres(bits.rotate_left(16))]).collect();
+    let after = |v: [f32; 2], zero| [f32::from_bits(v[0].to_bits() | zero), v[1]];
+    let plain = |v: [f32; 2]| first(v).to_bits();
+    let ours = |v: [f32; 2]| kihavute::atan2(v[0], v[1]).to_bits();
+    let theirs = |v: [f32; 2]| v[0].atan2(v[1]).to_bits();
+    row("atan2, libm", throughput(&inputs, ours, theirs));
+    row("atan2, libm, latency", latency(&inputs, after, plain, ours, theirs));
 }
 
 // a hundred bytes of a drawing; the Rust reads them permissively, and has no strict reading

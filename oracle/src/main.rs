@@ -10,6 +10,7 @@ mod samples;
 mod simple;
 mod strict;
 mod table;
+mod trig;
 
 use compare::Report;
 use std::process::ExitCode;
@@ -22,18 +23,20 @@ fn main() -> ExitCode {
     let mut report = Report::new();
     match words[..] {
         ["gate"] => {
-            math::compare(&mut report, SEED, 200_000);
+            math::compare(&mut report, &math::FAMILY, SEED, 200_000);
+            math::compare(&mut report, &trig::FAMILY, SEED, 100_000);
             table::compare(&mut report, SEED, 20_000);
             strict::compare_some(&mut report, SEED);
             for recording in record::RECORDINGS {
                 recording.compare(&mut report, SEED);
             }
         }
-        ["math"] => math::compare(&mut report, SEED, 2_000_000),
+        ["math"] => math::compare(&mut report, &math::FAMILY, SEED, 2_000_000),
         ["math", seed] => match seed.parse() {
-            Ok(seed) => math::compare(&mut report, seed, 2_000_000),
+            Ok(seed) => math::compare(&mut report, &math::FAMILY, seed, 2_000_000),
             Err(_) => return usage(),
         },
+        ["trig"] => math::compare(&mut report, &trig::FAMILY, SEED, 2_000_000),
         ["table"] => table::compare(&mut report, SEED, 1_000_000),
         ["root_all"] => root_all::compare(&mut report),
         ["strict"] => strict::compare_all(&mut report),
@@ -52,6 +55,6 @@ fn main() -> ExitCode {
 }
 
 fn usage() -> ExitCode {
-    eprintln!("oracle/run gate | math [SEED] | table | root_all | strict [time | SEED COUNT] | record NAME");
+    eprintln!("oracle/run gate | math [SEED] | trig | table | root_all | strict [time | SEED COUNT] | record NAME");
     ExitCode::from(2)
 }

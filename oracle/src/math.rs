@@ -1,7 +1,7 @@
 //! The helpers of math.rs, and what stands below them, on both sides.
 
 use crate::compare::{Input, Report};
-use crate::samples::{KINDS, SPECIALS, Stream, combinations, draw};
+use crate::samples::{KINDS, Kind, SPECIALS, Stream, combinations, draw};
 use crate::simple::simpler_floats;
 use animato_path::math::open;
 use std::fmt;
@@ -27,13 +27,27 @@ pub struct Helper {
     pub count: usize,
     pub ours: fn(&[f32; 5]) -> Answer,
     pub theirs: fn(&[f32; 5]) -> Answer,
-    within: fn(&[f32; 5]) -> bool,
+    pub within: fn(&[f32; 5]) -> bool,
+}
+
+/// Helpers that are compared alike.
+pub struct Family {
+    pub helpers: &'static [Helper],
+    /// The ways to draw their operands.
+    pub kinds: &'static [(Kind, &'static str)],
+    /// Operands that are recorded in any case, with the helper's letter.
+    pub telling: &'static [(char, [u32; 5])],
+    /// How many records each case of each helper has at most.
+    pub recorded: usize,
 }
 
 use Answer::{Number, Point};
 
-/// Each helper with the letter that stands for it in the recorded list.
-pub const HELPERS: [Helper; 17] = [
+/// The helpers that need no trigonometry, and what stands below them.
+pub const FAMILY: Family = Family { helpers: &HELPERS, kinds: &KINDS, telling: &TIES, recorded: 4 };
+
+// each helper with the letter that stands for it in the recorded list.
+const HELPERS: [Helper; 17] = [
     Helper {
         name: "sqrt",
         letter: 'r',
@@ -173,16 +187,40 @@ pub const HELPERS: [Helper; 17] = [
     },
 ];
 
-fn anywhere(_: &[f32; 5]) -> bool {
+// exact results halfway between two floats, below and above the even one; and roots that lie nearest to halfway
+const TIES: [(char, [u32; 5]); 20] = [
+    ('r', [0x3F7F_FFFF, 0, 0, 0, 0]),
+    ('r', [0x3F80_0001, 0, 0, 0, 0]),
+    ('r', [0x3F80_0003, 0, 0, 0, 0]),
+    ('r', [0x407F_FFFF, 0, 0, 0, 0]),
+    ('r', [0x4000_0001, 0, 0, 0, 0]),
+    ('a', [0x4B80_0000, 0x4B80_0001, 0x3F80_0000, 0x3F80_0000, 0]),
+    ('a', [0xCB80_0000, 0xCB80_0001, 0xBF80_0000, 0xBF80_0000, 0]),
+    ('s', [0x4B80_0000, 0x4B80_0001, 0xBF80_0000, 0xBF80_0000, 0]),
+    ('s', [0x4B80_0000, 0x4B80_0000, 0x3F00_0000, 0x3F80_0000, 0]),
+    ('k', [0x4B00_0001, 0x4B00_0003, 0x3FC0_0000, 0, 0]),
+    ('k', [0x0000_0001, 0x0000_0003, 0x3F00_0000, 0, 0]),
+    ('k', [0x8000_0001, 0x8000_0003, 0x3F00_0000, 0, 0]),
+    ('p', [0x4B80_0000, 0x3F80_0000, 0x3F80_0000, 0x3F80_0000, 0]),
+    ('p', [0x4B80_0001, 0x3F80_0000, 0x3F80_0000, 0x3F80_0000, 0]),
+    ('l', [0x4B80_0000, 0x4B80_0001, 0x3F00_0000, 0, 0]),
+    ('l', [0x4B80_0001, 0x4B80_0002, 0x3F00_0000, 0, 0]),
+    ('L', [0x4B80_0000, 0x4B80_0001, 0x4B80_0001, 0x4B80_0002, 0x3F00_0000]),
+    ('n', [0x4580_0000, 0x3F80_0000, 0, 0, 0]),
+    ('w', [0x3F80_0000, 0x3F80_0000, 0x4580_0800, 0x4000_0000, 0]),
+    ('u', [0x4580_0000, 0x3F80_0000, 0, 0, 0]),
+];
+
+pub fn anywhere(_: &[f32; 5]) -> bool {
     true
 }
 
-// the Rust's answer as bits, its NaNs all alike
-fn number(x: f32) -> Answer {
+/// The Rust's answer as bits, its NaNs all alike.
+pub fn number(x: f32) -> Answer {
     Number(alike(x))
 }
 
-fn point(v: [f32; 2]) -> Answer {
+pub fn point(v: [f32; 2]) -> Answer {
     Point(v.map(alike))
 }
 
@@ -213,19 +251,19 @@ impl Operands {
     }
 }
 
-/// Compares every helper: the specials, and this many calls of each kind of operands.
-pub fn compare(report: &mut Report, seed: u64, calls: u32) {
-    println!("math.rs: {} helpers, seed {seed}, {calls} calls of each kind", HELPERS.len());
-    for (number, helper) in HELPERS.iter().enumerate() {
+/// Compares these helpers: the specials, and this many calls of each kind of operands.
+pub fn compare(report: &mut Report, family: &Family, seed: u64, calls: u32) {
+    println!("{} helpers, seed {seed}, {calls} calls of each kind", family.helpers.len());
+    for (number, helper) in family.helpers.iter().enumerate() {
         let ours = |operands: &Operands| (helper.ours)(&operands.floats());
         let theirs = |operands: &Operands| (helper.theirs)(&operands.floats());
         let mut made = report.group(&format!("{}, specials", helper.name), helper.specials(), ours, theirs);
-        for (kind, title) in KINDS {
-            let mut stream = Stream::new(seed ^ (number as u64) << 8 ^ kind as u64);
-            let inputs = (0..calls).filter_map(|_| helper.operands(draw(kind, &mut stream)));
+        for (kind, title) in family.kinds {
+            let mut stream = Stream::new(seed ^ (number as u64) << 8 ^ *kind as u64);
+            let inputs = (0..calls).filter_map(|_| helper.operands(draw(*kind, &mut stream)));
             made += report.group(&format!("{}, {title}", helper.name), inputs, ours, theirs);
         }
-        println!("  {:10} {made:9} calls", helper.name);
+        println!("  {:13} {made:9} calls", helper.name);
     }
 }
 

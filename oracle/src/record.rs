@@ -1,10 +1,11 @@
 //! The lists of recorded answers that the programs replay_NAME run through the proved crates.
 
-mod math;
+mod helpers;
 mod strict;
 mod table;
 
 use crate::compare::Report;
+use crate::{math, trig};
 use std::fs;
 
 /// The recorded answers of a part: a list as the program of its name reads it, and how many answers it has.
@@ -13,8 +14,9 @@ pub struct Recording {
     list: fn(&mut Report, u64) -> (Vec<u8>, u64),
 }
 
-pub const RECORDINGS: [Recording; 3] = [
-    Recording { name: "math", list: math::list },
+pub const RECORDINGS: [Recording; 4] = [
+    Recording { name: "math", list: |report, seed| helpers::list(report, &math::FAMILY, seed) },
+    Recording { name: "trig", list: |report, seed| helpers::list(report, &trig::FAMILY, seed) },
     Recording { name: "table", list: table::list },
     Recording { name: "strict", list: strict::list },
 ];

@@ -83,6 +83,7 @@ pub enum Kind {
     Close,
     Planned,
     Edge,
+    Angle,
 }
 
 pub const KINDS: [(Kind, &str); 5] = [
@@ -122,6 +123,11 @@ pub fn draw<const N: usize>(kind: Kind, stream: &mut Stream) -> [u32; N] {
                 0 => ((stream.below(1_000_001) as f32) / 1_000_000.0).to_bits(),
                 _ => ((stream.below(1 << 25) as f32 - 16_777_216.0) / 1000.0).to_bits(),
             },
+            // angles of up to 128 in size, of every binade from 2^-14 on
+            Kind::Angle => {
+                let exponent = stream.below(21) + 113;
+                stream.of_exponent(exponent)
+            }
             Kind::Edge => match stream.below(4) {
                 0 => SPECIALS[stream.below(SPECIALS.len() as u32) as usize],
                 _ => {

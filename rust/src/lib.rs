@@ -20,6 +20,10 @@ pub struct Refusal {
 
 unsafe extern "C" {
     safe fn kihavute_sqrt(x: f32) -> f32;
+    safe fn kihavute_sin(angle: f32) -> f32;
+    safe fn kihavute_cos(angle: f32) -> f32;
+    safe fn kihavute_sin_cos(angle: f32) -> u64;
+    safe fn kihavute_atan2(y: f32, x: f32) -> f32;
     safe fn kihavute_tidy(x: f32) -> f32;
     safe fn kihavute_min(a: f32, b: f32) -> u32;
     safe fn kihavute_max(a: f32, b: f32) -> u32;
@@ -36,6 +40,8 @@ unsafe extern "C" {
     safe fn kihavute_distance(ax: f32, ay: f32, bx: f32, by: f32) -> u32;
     safe fn kihavute_normalize(x: f32, y: f32) -> u64;
     safe fn kihavute_lerp_point(ax: f32, ay: f32, bx: f32, by: f32, t: f32) -> u64;
+    safe fn kihavute_rotation_deg(x: f32, y: f32) -> u32;
+    safe fn kihavute_angle_between(ux: f32, uy: f32, vx: f32, vy: f32) -> u32;
     fn kihavute_raw_parameter(
         entries: *const f32,
         entries_len: usize,
@@ -72,6 +78,30 @@ fn apart(point: u64) -> [Bits; 2] {
 #[inline]
 pub fn sqrt(x: f32) -> f32 {
     kihavute_sqrt(x)
+}
+
+/// The sine of an angle in radians of at most 64 in size, else NaN.
+#[inline]
+pub fn sin(angle: f32) -> f32 {
+    kihavute_sin(angle)
+}
+
+/// The cosine of an angle in radians of at most 64 in size, else NaN.
+#[inline]
+pub fn cos(angle: f32) -> f32 {
+    kihavute_cos(angle)
+}
+
+/// The cosine and the sine, as the point of the unit circle.
+#[inline]
+pub fn sin_cos(angle: f32) -> [Bits; 2] {
+    apart(kihavute_sin_cos(angle))
+}
+
+/// The angle of (x, y) in radians, with the sign of `y`.
+#[inline]
+pub fn atan2(y: f32, x: f32) -> f32 {
+    kihavute_atan2(y, x)
 }
 
 /// `x`, and for every NaN the one NaN 7FC00000.
@@ -170,6 +200,18 @@ pub fn lerp_point(a: [f32; 2], b: [f32; 2], t: f32) -> [Bits; 2] {
     apart(kihavute_lerp_point(a[0], a[1], b[0], b[1], t))
 }
 
+/// The heading of a tangent in degrees.
+#[inline]
+pub fn rotation_deg(tangent: [f32; 2]) -> Bits {
+    kihavute_rotation_deg(tangent[0], tangent[1])
+}
+
+/// The signed angle from `u` to `v` in radians.
+#[inline]
+pub fn angle_between(u: [f32; 2], v: [f32; 2]) -> Bits {
+    kihavute_angle_between(u[0], u[1], v[0], v[1])
+}
+
 /// The raw parameter of a curve with this table at a progress.
 #[inline]
 pub fn raw_parameter(entries: &[f32], total: f32, progress: f32) -> Result<Bits, Refusal> {
@@ -246,6 +288,18 @@ mod tests {
         assert_eq!(normalize([3.0, 4.0]), bits([0.6, 0.8]));
         assert_eq!(normalize([0.0, 1.1920929e-7]), [0, 0]);
         assert_eq!(lerp_point([0.0, 2.0], [4.0, 4.0], 0.25), bits([1.0, 2.5]));
+    }
+
+    #[test]
+    fn angles() {
+        assert_eq!(sin(0.0).to_bits(), 0);
+        assert_eq!(sin(64.5).to_bits(), NAN);
+        assert_eq!(cos(0.0), 1.0);
+        assert_eq!(sin_cos(1.0), [cos(1.0).to_bits(), sin(1.0).to_bits()]);
+        assert_eq!(atan2(0.0, -1.0).to_bits(), 0x4049_0FDB);
+        assert_eq!(rotation_deg([-2.0, 0.0]), 180.0f32.to_bits());
+        assert_eq!(rotation_deg([0.0, -0.0]), 0);
+        assert_eq!(angle_between([1.0, 0.0], [-1.0, 0.0]), 0x4049_0FDB);
     }
 
     #[test]

@@ -1,5 +1,6 @@
 /* Calls each function of include/kihavute.h from C and compares bits. tests/c/run compiles and runs it. */
 
+#include <math.h>
 #include <stdio.h>
 
 #include "kihavute.h"
@@ -50,6 +51,46 @@ static void roots(void) {
     for (size_t i = 0; i < sizeof nans / sizeof *nans; i++) {
         same("sqrt of a NaN", bits(kihavute_sqrt(kihavute_float(nans[i]))), NAN_BITS);
     }
+}
+
+static void angles(void) {
+    const uint32_t pi = 0x40490FDB, below_pi = 0x40490FDA, reach = 0x42800000, past = 0x42800001;
+
+    same("sine of +0", bits(kihavute_sin(0)), 0);
+    same("sine of -0", bits(kihavute_sin(kihavute_float(MINUS_ZERO))), MINUS_ZERO);
+    same("sine of a tiny angle", bits(kihavute_sin(1e-20f)), bits(1e-20f));
+    same("sine of the least angle", bits(kihavute_sin(kihavute_float(LEAST))), LEAST);
+    same("cosine of a tiny angle", bits(kihavute_cos(1e-20f)), bits(1));
+    same("sine past 64", bits(kihavute_sin(kihavute_float(past))), NAN_BITS);
+    same("cosine past -64", bits(kihavute_cos(kihavute_float(past | MINUS_ZERO))), NAN_BITS);
+    same("sine of infinity", bits(kihavute_sin(kihavute_float(INFINITE))), NAN_BITS);
+    same("a sine at 64", bits(kihavute_sin(kihavute_float(reach))) != NAN_BITS, 1);
+    same("a cosine at -64", bits(kihavute_cos(-64)) != NAN_BITS, 1);
+    for (int i = -640; i <= 640; i++) {
+        float angle = (float)i / 10, sine = kihavute_sin(angle), cosine = kihavute_cos(angle);
+        same("sine and cosine at once", kihavute_sin_cos(angle), point(cosine, sine));
+        same("odd sine", bits(kihavute_sin(-angle)), bits(sine) ^ MINUS_ZERO);
+        same("even cosine", bits(kihavute_cos(-angle)), bits(cosine));
+        same("on the circle", fabsf(sine * sine + cosine * cosine - 1) < 1e-6f, 1);
+    }
+    same("sine and cosine at once, past 64", kihavute_sin_cos(65), (uint64_t)NAN_BITS << 32 | NAN_BITS);
+
+    same("atan2 of zeros", bits(kihavute_atan2(kihavute_float(MINUS_ZERO), kihavute_float(MINUS_ZERO))), 0);
+    same("atan2 ahead", bits(kihavute_atan2(0, 2)), 0);
+    same("atan2 ahead, -0", bits(kihavute_atan2(kihavute_float(MINUS_ZERO), 2)), MINUS_ZERO);
+    same("atan2 behind", bits(kihavute_atan2(0, -2)), pi);
+    same("atan2 behind, -0", bits(kihavute_atan2(kihavute_float(MINUS_ZERO), -2)), pi | MINUS_ZERO);
+    same("atan2 is at most PI", bits(kihavute_atan2(1e-30f, -1)) <= pi, 1);
+    same("atan2 of a tiny ratio", bits(kihavute_atan2(kihavute_float(LEAST), 1)), LEAST);
+    same("atan2 of infinity", bits(kihavute_atan2(kihavute_float(INFINITE), 1)), NAN_BITS);
+    same("atan2 of a NaN", bits(kihavute_atan2(1, kihavute_float(NAN_BITS))), NAN_BITS);
+    same("a half turn is within a step", bits(kihavute_atan2(kihavute_sin(kihavute_float(below_pi)), -1)) >= below_pi - 4, 1);
+
+    same("heading behind", kihavute_rotation_deg(-2, 0), bits(180));
+    same("heading of no direction", kihavute_rotation_deg(0, kihavute_float(MINUS_ZERO)), 0);
+    same("heading of a NaN", kihavute_rotation_deg(kihavute_float(0xFF812345), 1), NAN_BITS);
+    same("angle to the opposite", kihavute_angle_between(1, 0, -1, 0), pi);
+    same("angle to itself", kihavute_angle_between(3, 4, 3, 4), 0);
 }
 
 static void numbers(void) {
@@ -207,6 +248,7 @@ static void strict_reading(void) {
 
 int main(void) {
     roots();
+    angles();
     numbers();
     points();
     lookups();

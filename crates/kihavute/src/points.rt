@@ -5,7 +5,7 @@ ghost use Rattle.math.specs.Math.{pointOf, addOf, subOf, scaleOf, dotOf, length
 ghost use Rattle.kihavute.specs.Pair.{pairOf};
 use math::Point;
 
-fn pair(p: Point) -> u64
+pub(crate) fn pair(p: Point) -> u64
     ensures { λ r. ⌜ r ≡ pairOf p ⌝ }
 {
     let x = p.x;

@@ -6,6 +6,7 @@ ghost use Rattle.sums.specs.Steps.{sineOf, cosineOf};
 ghost use Rattle.bearing.specs.Steps.{atan2Of};
 ghost use Rattle.math.specs.Math.{pointOf};
 ghost use Rattle.angles.specs.Angles.{rotationDegOf, angleBetweenOf};
+ghost use Rattle.kihavute.specs.Pair.{pairOf};
 
 // The sine of an angle in radians of at most 64 in size, and NaN for any other.
 #[no_mangle]
@@ -21,6 +22,18 @@ pub extern "C" fn kihavute_cos(angle: f32) -> f32
     ensures { λ r. ⌜ r ≡ cosineOf angle ⌝ }
 {
     floats::tidy(trig::cos(angle))
+}
+
+// Both at once, as the point of the unit circle: the cosine is x, the sine y.
+#[no_mangle]
+pub extern "C" fn kihavute_sin_cos(angle: f32) -> u64
+    ensures { λ r. ⌜ r ≡ pairOf (pointOf (cosineOf angle) (sineOf angle)) ⌝ }
+{
+    let both = trig::sin_cos(angle);
+    crate::points::pair(Point {
+        x: both.cos,
+        y: both.sin,
+    })
 }
 
 // The angle of the point (x, y) in radians.
