@@ -1,18 +1,21 @@
 -- The answer of a reader of one production, and the productions of the arguments by kind. Definitions only.
-use Prim.Native.Nat.{ℕ}
+use Prim.Native.Nat.{ℕ, _<_}
+use mathlib.Core.Path.{_≡_}
 use mathlib.Core.List.{List}
 use Rattle.grammar.specs.Spans.{Span, _·_, opt}
 use Rattle.grammar.specs.Grammar.{number, flag, comma-wsp, coordinate, coordinate-pair, smooth-curveto-argument, curveto-argument, elliptical-arc-argument}
 use Rattle.grammar.specs.Words.{Only, Lacks}
-use Rattle.arguments.specs.declared.words.Word.{Word}
-use Rattle.arguments.specs.declared.words.Word.the-variants.{Ends, Missing}
 use Rattle.arguments.specs.declared.groups.Kind.{Kind}
 use Rattle.arguments.specs.declared.groups.Kind.the-variants.{Coordinate, Pair, TwoPairs, ThreePairs, Arc}
 
--- an answer is right for a production at a place: the only place where a word of it ends, or missing where it has none
-abbrev pub Reads : Span → ℕ → Word → Type 0
-Reads P i (Ends j) = Only P i j
-Reads P i Missing = Lacks P i
+-- the place that stands for a missing word: no text is as long
+abbrev pub nowhere : ℕ
+nowhere = 0xffff_ffff_ffff_ffff
+
+-- an answer is right for a production at a place: the only place where a word of it ends, or `nowhere` where it has none
+pub data Reads (P : Span) (i r : ℕ) : Type 0 where
+  ends : r < nowhere → Only P i r → Reads P i r
+  missing : r ≡ nowhere → Lacks P i → Reads P i r
 
 module _ (text : List ℕ) where
   -- the ends of an arc's argument, from its second flag, its first flag, its rotation and its second radius

@@ -5,5 +5,5 @@ mod words;
 
 pub use groups::Kind;
 pub use groups::read_argument;
-pub use words::Word;
+pub use words::NOWHERE;
 pub use words::past_separator;

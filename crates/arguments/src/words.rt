@@ -9,12 +9,9 @@ ghost use Rattle.grammar.specs.Grammar.{number, flag};
 ghost use Rattle.grammar.specs.Words.{pastSeparatorOf};
 ghost use Rattle.arguments.specs.Reading.{Reads};
 
-// The word of a production that starts at a place.
-pub enum Word {
-    // The place where it ends. There is no other: each production read here has one word at most.
-    Ends(usize),
-    Missing,
-}
+// What a reader of a word answers where there is none: a place past every text, from which nothing
+// is read, so that a group whose first word is missing is missing with no test.
+pub const NOWHERE: usize = 0xffff_ffff_ffff_ffff;
 
 // Past white space, one comma if it stands there, and white space.
 pub fn past_separator(text: &[u8], at: usize) -> usize
@@ -24,24 +21,24 @@ pub fn past_separator(text: &[u8], at: usize) -> usize
 }
 
 // A number, the longest that there is: of `1e` it is the digit, and the e is left.
-pub fn read_number(text: &[u8], at: usize) -> Word
+pub fn read_number(text: &[u8], at: usize) -> usize
     ensures { λ r. ⌜ Reads (number (now (text .entry))) at r ⌝ }
 {
     match scan_number(text, at) {
-        Number::Scanned(places) => Word::Ends(places.end),
-        Number::NoExponentDigit(mark) => Word::Ends(mark),
-        Number::NoDigit(_) => Word::Missing,
+        Number::Scanned(places) => places.end,
+        Number::NoExponentDigit(mark) => mark,
+        Number::NoDigit(_) => NOWHERE,
     }
 }
 
 // A flag, which is one byte: of `10` it is the 1.
-pub fn read_flag(text: &[u8], at: usize) -> Word
+pub fn read_flag(text: &[u8], at: usize) -> usize
     ensures { λ r. ⌜ Reads (flag (now (text .entry))) at r ⌝ }
 {
     if at < text.len() {
         if is_flag(text[at]) {
-            return Word::Ends(at + 1);
+            return at + 1;
         }
     }
-    Word::Missing
+    NOWHERE
 }

@@ -6,10 +6,11 @@ use mathlib.Core.Bool.{Bool, true, false}
 use mathlib.Core.List.{List, [], _∷_}
 use mathlib.Core.Logic.{_⊎_, inl, inr, ⊎-elim}
 use native.Mathlib.Omega.{arith}
+use lib.ListN.{length}
 use Rattle.scan.specs.Bytes.{among, commas, whiteSpace, numberStarts}
 use Rattle.scan.specs.Runs.{stands, pastOne, pastAll, pastWhiteOf, pastCommaOf}
 use Rattle.scan.proofs.ByteLaws.{clash, either-way}
-use Rattle.scan.proofs.RunLaws.{one-step, all-again}
+use Rattle.scan.proofs.RunLaws.{one-step, one-end, all-end, all-again}
 use Rattle.grammar.specs.Spans.{Span, Byte, _·_, _∥_, opt, star, none, more, plus, longest}
 use Rattle.grammar.specs.Grammar.{wsp, comma, comma-wsp}
 use Rattle.grammar.specs.Words.{Past, pastSeparatorOf}
@@ -102,6 +103,13 @@ module _ (text : List ℕ) where
       left h =
           let e = ap (pastWhiteOf text) (one-step commas text (pastWhiteOf text i) .1 h) ∙ all-again whiteSpace text i in
           subst (λ (y : ℕ). Past (opt (comma-wsp text)) Separates i y) (sym e) (separator-left i (pastWhiteOf text i) (run-found whiteSpace text i) h)
+
+  -- past the text there is none
+  pub separator-end : (i : ℕ) → length text ≤ i → pastSeparatorOf text i ≡ i
+  unfolding pastSeparatorOf
+  separator-end i past =
+      let w = all-end whiteSpace text i past in
+      ap (pastWhiteOf text) (ap (pastCommaOf text) w ∙ sym (one-end commas text i past)) ∙ w
 
   -- a separator has a byte, and an optional one does not go back
   pub comma-grows : (i q : ℕ) → comma-wsp text i q → i < q

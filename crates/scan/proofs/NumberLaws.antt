@@ -32,6 +32,10 @@ module _ (text : List ℕ) (at : ℕ) where
   unfolding pastMarkOf
   mark-end past = sym (ap (λ t. cond t (pastSignOf text (at + 1)) at) (stands-past exponentMarks text at past))
 
+  pub mark-none : stands text at exponentMarks ≡ false → pastMarkOf text at ≡ at
+  unfolding pastMarkOf
+  mark-none h = ap (λ t. cond t (pastSignOf text (at + 1)) at) h
+
 -- ---- the ways out of `scan_number`
 
 module _ (text : List ℕ) (at w p f m : ℕ)
@@ -220,6 +224,16 @@ module _ (text : List ℕ) (at : ℕ) where
   pub exponent-in-none : noExponentDigit text at ≡ true → (markOf text at < exponentOf text at) × (exponentOf text at ≡ endOf text at)
   unfolding noExponentDigit
   exponent-in-none h = let p = both-true _ _ h in (ltb-true _ _ (p .0), eqb-true _ _ (p .1))
+
+  exponent-none : stands text (markOf text at) exponentMarks ≡ false → exponentOf text at ≡ markOf text at
+  unfolding exponentOf
+  exponent-none h = mark-none text (markOf text at) h
+
+  -- an e stands within the text
+  pub mark-before : noExponentDigit text at ≡ true → markOf text at < length text
+  mark-before h =
+      ⊎-elim (λ e. stands-within exponentMarks text _ e) (λ e. absurd (let lt = exponent-in-none h .0 in omega (arith, exponent-none e)))
+      (either-way (stands text (markOf text at) exponentMarks))
 
   -- without an e the number ends where its e would stand
   no-mark : exponentOf text at ≡ markOf text at → endOf text at ≡ markOf text at

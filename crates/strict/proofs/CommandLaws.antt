@@ -7,21 +7,22 @@ use mathlib.Core.List.{List, [], _∷_}
 use mathlib.Core.Logic.{_⊎_, inl, inr, ⊎-elim}
 use native.Mathlib.Omega.{arith}
 use lib.Dec.{T}
+use lib.ListN.{length}
 use Rattle.scan.specs.Bytes.{among, whiteSpace, numberStarts}
 use Rattle.scan.specs.Runs.{stands, pastWhiteOf}
 use Rattle.scan.proofs.ByteLaws.{withinb, clash, either-way}
+use Rattle.scan.proofs.RunLaws.{stands-within}
 use Rattle.grammar.specs.Spans.{Span, Byte, _·_, _∥_, opt, star, none, more, longest, sequence, last, then}
 use Rattle.grammar.specs.Grammar.{wsp, comma-wsp, moveto, moveto-argument-sequence, lineto, horizontal-lineto, vertical-lineto, curveto, smooth-curveto, quadratic-bezier-curveto, smooth-quadratic-bezier-curveto, closepath, elliptical-arc, drawto-command}
 use Rattle.grammar.specs.Words.{Past, Lacks, Only, Goes}
 use Rattle.grammar.proofs.SpanLaws.{standing, not-byte, not-both, other, wider, star-le, run-same, run-found}
-use Rattle.arguments.specs.Reading.{Reads, argumentOf}
-use Rattle.arguments.specs.declared.words.Word.{Word}
-use Rattle.arguments.specs.declared.words.Word.the-variants.{Ends, Missing}
+use Rattle.arguments.specs.Reading
+use Rattle.arguments.specs.Reading.{Reads, nowhere, argumentOf}
 use Rattle.arguments.specs.declared.groups.Kind.{Kind}
 use Rattle.arguments.specs.declared.groups.Kind.the-variants.{Coordinate, Pair, TwoPairs, ThreePairs, Arc}
 use Rattle.arguments.proofs.Starts.{argument-starts, argument-grows}
-use Rattle.strict.specs.Commands.{moveLetters, closeLetters, lettersOf, commandLetters, Reaches, Command}
-use Rattle.strict.proofs.Sequences.{to-star, of-star, Item, items-le}
+use Rattle.strict.specs.Commands.{moveLetters, closeLetters, lettersOf, commandLetters, Reaches, ends, missing, Arguments, Item, Further, Command}
+use Rattle.strict.proofs.Sequences.{to-star, of-star, items-le}
 use Rattle.strict.proofs.Letters.{kinds-apart, close-apart, move-apart, kind-within, halves}
 
 module _ (text : List ℕ) where
@@ -31,9 +32,6 @@ module _ (text : List ℕ) where
 
   -- ---- white space and a sequence of arguments
 
-  abbrev pub Arguments : Kind → Span
-  Arguments kind = star (wsp text) · sequence (argumentOf text kind) (opt (comma-wsp text))
-
   module _ (kind : Kind) (i m : ℕ) (found : m ≡ pastWhiteOf text i) where
     the-white : longest (star (wsp text)) i m
     the-white = subst (λ (y : ℕ). longest (star (wsp text)) i y) (sym found) (run-found whiteSpace text i)
@@ -41,26 +39,28 @@ module _ (text : List ℕ) where
     at-white : (x n : ℕ) → star (wsp text) i x → argumentOf text kind x n → x ≡ m
     at-white x n w p = run-same the-white w (not-white x (argument-starts text kind x n p))
 
-    pub arguments-missing : (w : Word) → Reads (argumentOf text kind) m w → w ≡ Missing → Lacks (Arguments kind) i
-    arguments-missing r h e q (x, w, u) =
-        let v = to-star u in
-        subst (Reads (argumentOf text kind) m) e h (v .0) (subst (λ (a : ℕ). argumentOf text kind a (v .0)) (at-white x (v .0) w (v .1)) (v .1))
+    pub arguments-missing : (w : ℕ) → Reads (argumentOf text kind) m w → w ≡ nowhere → Reaches (Arguments text kind) (Goes text) i nowhere
+    arguments-missing w (Reading.ends lt h) e = absurd (omega arith)
+    arguments-missing w (Reading.missing _ h) e = missing refl lacks
+      where
+        lacks : Lacks (Arguments text kind) i
+        lacks q (x, white, u) =
+            let v = to-star u in
+            h (v .0) (subst (λ (a : ℕ). argumentOf text kind a (v .0)) (at-white x (v .0) white (v .1)) (v .1))
 
     pub arguments-past :
-        (w : Word) (j n : ℕ) → Reads (argumentOf text kind) m w → w ≡ Ends j → Past (star (Item text kind)) (Goes text) j n
-        → Past (Arguments kind) (Goes text) i n
-    arguments-past r j n h e t = go (subst (Reads (argumentOf text kind) m) e h)
+        (j n : ℕ) → Reads (argumentOf text kind) m j → (j ≡ nowhere → ⊥) → Further text kind j n → Reaches (Arguments text kind) (Goes text) i n
+    arguments-past j n (Reading.missing e h) there t = absurd (there e)
+    arguments-past j n (Reading.ends lt p) there t =
+        ends (⊎-elim (λ e. omega arith) (λ l. l) (t .bounded)) ((m, the-white .0, of-star (p .0) (t .past .0)), word)
       where
-        word : Only (argumentOf text kind) m j → (q : ℕ) → Arguments kind i q → (q ≡ n) ⊎ Goes text q
-        word p q (x, w, u) =
+        word : (q : ℕ) → Arguments text kind i q → (q ≡ n) ⊎ Goes text q
+        word q (x, w, u) =
             let v = to-star u in
             let y = p .1 (v .0) (subst (λ (a : ℕ). argumentOf text kind a (v .0)) (at-white x (v .0) w (v .1)) (v .1)) in
-            t .1 q (subst (λ (a : ℕ). star (Item text kind) a q) y (v .2))
+            t .past .1 q (subst (λ (a : ℕ). star (Item text kind) a q) y (v .2))
 
-        go : Only (argumentOf text kind) m j → Past (Arguments kind) (Goes text) i n
-        go p = ((m, the-white .0, of-star (p .0) (t .0)), word p)
-
-  arguments-grow : (kind : Kind) (i j : ℕ) → Arguments kind i j → i < j
+  arguments-grow : (kind : Kind) (i j : ℕ) → Arguments text kind i j → i < j
   arguments-grow kind i j (x, w, u) =
       let v = to-star u in
       let a = star-le w in
@@ -74,9 +74,9 @@ module _ (text : List ℕ) where
     past-letter : (q : ℕ) → (Byte text class · R) i q → R (i + 1) q
     past-letter q (x, b, u) = subst (λ (y : ℕ). R y q) (b .next) u
 
-    letter-taken : stands text i class ≡ true → (r : Word) → Reaches R (Goes text) (i + 1) r → Reaches (Byte text class · R) (Goes text) i r
-    letter-taken h (Ends j) w = ((i + 1, standing class i h, w .0), λ q v. w .1 q (past-letter q v))
-    letter-taken h Missing w = λ q v. w q (past-letter q v)
+    letter-taken : stands text i class ≡ true → (r : ℕ) → Reaches R (Goes text) (i + 1) r → Reaches (Byte text class · R) (Goes text) i r
+    letter-taken h r (ends lt w) = ends lt ((i + 1, standing class i h, w .0), λ q v. w .1 q (past-letter q v))
+    letter-taken h r (missing e w) = missing e (λ q v. w q (past-letter q v))
 
     has-letter : T (withinb class commandLetters) → (q : ℕ) → (Byte text class · R) i q → stands text i commandLetters ≡ true
     has-letter t q v = wider {m = commandLetters} t (v .1) .there
@@ -85,10 +85,10 @@ module _ (text : List ℕ) where
 
   -- a letter of a kind, and its arguments
   abbrev Drawn : Kind → Span
-  Drawn kind = Byte text (lettersOf kind) · Arguments kind
+  Drawn kind = Byte text (lettersOf kind) · Arguments text kind
 
   abbrev Moved : Span
-  Moved = Byte text moveLetters · Arguments Pair
+  Moved = Byte text moveLetters · Arguments text Pair
 
   -- a moveto's arguments are a sequence of pairs
   to-moveto : (i q : ℕ) → Moved i q → moveto text i q
@@ -134,18 +134,18 @@ module _ (text : List ℕ) where
   unfolding among
   draw-letter i q d =
       ⊎-elim (λ b. wider {l = closeLetters} {m = commandLetters} tt b .there)
-      (λ p. has-letter (lettersOf (p .0)) (Arguments (p .0)) i (kind-within (p .0)) q (p .1)) (by-letter i q d)
+      (λ p. has-letter (lettersOf (p .0)) (Arguments text (p .0)) i (kind-within (p .0)) q (p .1)) (by-letter i q d)
 
   move-letter : (i q : ℕ) → moveto text i q → stands text i commandLetters ≡ true
   unfolding among
-  move-letter i q w = has-letter moveLetters (Arguments Pair) i tt q (of-moveto i q w)
+  move-letter i q w = has-letter moveLetters (Arguments text Pair) i tt q (of-moveto i q w)
 
   pub command-letter : (begun : Bool) (i q : ℕ) → Command text begun i q → stands text i commandLetters ≡ true
   command-letter true i q (inl w) = move-letter i q w
   command-letter true i q (inr w) = draw-letter i q w
   command-letter false i q w = move-letter i q w
 
-  lettered-grows : (class : List ℕ) (kind : Kind) (i q : ℕ) → (Byte text class · Arguments kind) i q → i < q
+  lettered-grows : (class : List ℕ) (kind : Kind) (i q : ℕ) → (Byte text class · Arguments text kind) i q → i < q
   lettered-grows class kind i q (x, b, u) = let y = b .next in let z = arguments-grow kind x q u in omega arith
 
   move-grows : (i q : ℕ) → moveto text i q → i < q
@@ -180,12 +180,12 @@ module _ (text : List ℕ) where
       of-moved true q w = inl (to-moveto i q w)
       of-moved false q w = to-moveto i q w
 
-      pub moves : (begun : Bool) (r : Word) → Reaches (Arguments Pair) (Goes text) (i + 1) r → Reaches (Command text begun) (Goes text) i r
-      moves begun r w = go r (letter-taken moveLetters (Arguments Pair) i h r w)
+      pub moves : (begun : Bool) (r : ℕ) → Reaches (Arguments text Pair) (Goes text) (i + 1) r → Reaches (Command text begun) (Goes text) i r
+      moves begun r w = go (letter-taken moveLetters (Arguments text Pair) i h r w)
         where
-          go : (r : Word) → Reaches Moved (Goes text) i r → Reaches (Command text begun) (Goes text) i r
-          go (Ends j) v = (of-moved begun j (v .0), λ q c. v .1 q (moved begun q c))
-          go Missing v = λ q c. v q (moved begun q c)
+          go : Reaches Moved (Goes text) i r → Reaches (Command text begun) (Goes text) i r
+          go (ends lt v) = ends lt (of-moved begun r (v .0), λ q c. v .1 q (moved begun q c))
+          go (missing e v) = missing e (λ q c. v q (moved begun q c))
 
     -- another letter: no moveto
     no-move : stands text i moveLetters ≡ false → Lacks (moveto text) i
@@ -195,23 +195,22 @@ module _ (text : List ℕ) where
     drawn h q (inl w) = absurd (no-move h q w)
     drawn h q (inr d) = d
 
-    pub not-begun : stands text i moveLetters ≡ false → Lacks (Command text false) i
-    not-begun h = no-move h
-
     close-no-move : stands text i closeLetters ≡ true → stands text i moveLetters ≡ false
     unfolding among
     close-no-move h = other {l = closeLetters} moveLetters tt (standing closeLetters i h)
 
     -- Z: one byte
-    pub closes : stands text i closeLetters ≡ true → Past (Command text true) (Goes text) i (i + 1)
-    closes h = (inr (of-close i (i + 1) (standing closeLetters i h)), λ q c. word q (by-letter i q (drawn (close-no-move h) q c)))
+    pub closes : length text < nowhere → stands text i closeLetters ≡ true → Reaches (Command text true) (Goes text) i (i + 1)
+    closes room h =
+        let w = stands-within closeLetters text i h in
+        ends (omega arith) (inr (of-close i (i + 1) (standing closeLetters i h)), λ q c. word q (by-letter i q (drawn (close-no-move h) q c)))
       where
         word : (q : ℕ) → Byte text closeLetters i q ⊎ ((kind : Kind) × Drawn kind i q) → (q ≡ i + 1) ⊎ Goes text q
         word q (inl b) = inl (b .next)
         word q (inr p) = absurd (not-both (close-apart (p .0)) (standing closeLetters i h) (p .1 .1))
 
-    pub closes-not-begun : stands text i closeLetters ≡ true → Lacks (Command text false) i
-    closes-not-begun h = not-begun (close-no-move h)
+    pub closes-not-begun : stands text i closeLetters ≡ true → Reaches (Command text false) (Goes text) i nowhere
+    closes-not-begun h = missing refl (no-move (close-no-move h))
 
     -- a letter that takes arguments
     module _ (kind : Kind) (h : stands text i (lettersOf kind) ≡ true) where
@@ -223,19 +222,29 @@ module _ (text : List ℕ) where
       same-kind q (inr (m, v)) =
           ⊎-elim (λ z. subst (λ (y : Kind). Drawn y i q) (sym z) v) (λ t. absurd (not-both t (standing (lettersOf kind) i h) (v .1))) (kinds-apart kind m)
 
-      pub takes : (r : Word) → Reaches (Arguments kind) (Goes text) (i + 1) r → Reaches (Command text true) (Goes text) i r
-      takes r w = go r (letter-taken (lettersOf kind) (Arguments kind) i h r w)
+      pub takes : (r : ℕ) → Reaches (Arguments text kind) (Goes text) (i + 1) r → Reaches (Command text true) (Goes text) i r
+      takes r w = go (letter-taken (lettersOf kind) (Arguments text kind) i h r w)
         where
           word : (q : ℕ) → Command text true i q → Drawn kind i q
           word q c = same-kind q (by-letter i q (drawn kind-no-move q c))
 
-          go : (r : Word) → Reaches (Drawn kind) (Goes text) i r → Reaches (Command text true) (Goes text) i r
-          go (Ends j) v = (inr (of-kind kind i j (v .0)), λ q c. v .1 q (word q c))
-          go Missing v = λ q c. v q (word q c)
+          go : Reaches (Drawn kind) (Goes text) i r → Reaches (Command text true) (Goes text) i r
+          go (ends lt v) = ends lt (inr (of-kind kind i r (v .0)), λ q c. v .1 q (word q c))
+          go (missing e v) = missing e (λ q c. v q (word q c))
 
-      pub takes-not-begun : Lacks (Command text false) i
-      takes-not-begun = not-begun kind-no-move
+      pub takes-not-begun : Reaches (Command text false) (Goes text) i nowhere
+      takes-not-begun = missing refl (no-move kind-no-move)
 
     -- no letter of a command
-    pub no-letter : (begun : Bool) → stands text i commandLetters ≡ false → Lacks (Command text begun) i
-    no-letter begun h q c = clash (command-letter begun i q c) h
+    pub no-letter : (begun : Bool) → stands text i commandLetters ≡ false → Reaches (Command text begun) (Goes text) i nowhere
+    no-letter begun h = missing refl (λ q c. clash (command-letter begun i q c) h)
+
+-- ---- the reader's answer, by the test for `nowhere`
+
+pub ends-past : (P : Span) (C : ℕ → Type 0) (i r : ℕ) → Reaches P C i r → (r ≡ nowhere → ⊥) → Past P C i r
+ends-past P C i r (ends lt h) there = h
+ends-past P C i r (missing e h) there = absurd (there e)
+
+pub missing-lacks : (P : Span) (C : ℕ → Type 0) (i r : ℕ) → Reaches P C i r → r ≡ nowhere → Lacks P i
+missing-lacks P C i r (ends lt h) e = absurd (omega arith)
+missing-lacks P C i r (missing _ h) e = h

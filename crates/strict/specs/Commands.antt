@@ -1,15 +1,15 @@
 -- The letters of the commands, and what a reader of one command promises. Definitions only.
-use Prim.Native.Nat.{ℕ}
+use Prim.Native.Nat.{ℕ, _<_}
 use mathlib.Core.Path.{_≡_}
 use mathlib.Core.Bool.{Bool, true, false}
+use mathlib.Core.Logic.{_⊎_}
 use mathlib.Core.List.{List, [], _∷_, _++_}
 use Rattle.scan.specs.Bytes.{among}
 use Rattle.scan.specs.Runs.{stands}
-use Rattle.grammar.specs.Spans.{Span, _∥_}
-use Rattle.grammar.specs.Grammar.{moveto, drawto-command}
-use Rattle.grammar.specs.Words.{Past, Lacks}
-use Rattle.arguments.specs.declared.words.Word.{Word}
-use Rattle.arguments.specs.declared.words.Word.the-variants.{Ends, Missing}
+use Rattle.grammar.specs.Spans.{Span, _·_, _∥_, opt, star, sequence}
+use Rattle.grammar.specs.Grammar.{wsp, comma-wsp, moveto, drawto-command}
+use Rattle.grammar.specs.Words.{Past, Lacks, Goes}
+use Rattle.arguments.specs.Reading.{nowhere, argumentOf}
 use Rattle.arguments.specs.declared.groups.Kind.{Kind}
 use Rattle.arguments.specs.declared.groups.Kind.the-variants.{Coordinate, Pair, TwoPairs, ThreePairs, Arc}
 use Rattle.strict.specs.declared.commands.Letter.{Letter}
@@ -48,10 +48,23 @@ LetterAt text at Closes = stands text at closeLetters ≡ true
 LetterAt text at (Takes kind) = stands text at (lettersOf kind) ≡ true
 LetterAt text at Other = stands text at commandLetters ≡ false
 
--- an answer is right for a production at a place: a word of it ends there, and where another one ends C holds; or it has none
-abbrev pub Reaches : Span → (ℕ → Type 0) → ℕ → Word → Type 0
-Reaches P C i (Ends j) = Past P C i j
-Reaches P C i Missing = Lacks P i
+-- an answer is right for a production at a place: a word of it ends there, and where another one ends C holds; or `nowhere`, where it has none
+pub data Reaches (P : Span) (C : ℕ → Type 0) (i r : ℕ) : Type 0 where
+  ends : r < nowhere → Past P C i r → Reaches P C i r
+  missing : r ≡ nowhere → Lacks P i → Reaches P C i r
+
+-- white space, and a sequence of arguments of a kind
+abbrev pub Arguments : List ℕ → Kind → Span
+Arguments text kind = star (wsp text) · sequence (argumentOf text kind) (opt (comma-wsp text))
+
+-- a separator or none, and an argument of a kind
+abbrev pub Item : List ℕ → Kind → Span
+Item text kind = opt (comma-wsp text) · argumentOf text kind
+
+-- past all further arguments: other items from the same place end where a sequence could go on
+pub record Further (text : List ℕ) (kind : Kind) (i r : ℕ) : Type 0 where
+  pub past : Past (star (Item text kind)) (Goes text) i r
+  pub bounded : (r ≡ i) ⊎ (r < nowhere)
 
 -- what may stand where a command is due: a moveto, and after one also a drawto-command
 abbrev pub Command : List ℕ → Bool → Span

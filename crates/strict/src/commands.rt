@@ -1,14 +1,11 @@
 // Commands: a letter, and the sequence of arguments that it takes.
 use arguments::Kind;
-use arguments::Word;
+use arguments::NOWHERE;
 use arguments::past_separator;
 use arguments::read_argument;
 use scan::past_white;
-ghost use Rattle.grammar.specs.Spans.{_·_, opt, star, sequence};
-ghost use Rattle.grammar.specs.Grammar.{wsp, comma-wsp};
-ghost use Rattle.grammar.specs.Words.{Past, Goes};
-ghost use Rattle.arguments.specs.Reading.{argumentOf};
-ghost use Rattle.strict.specs.Commands.{LetterOf, LetterAt, Reaches, Command};
+ghost use Rattle.grammar.specs.Words.{Goes};
+ghost use Rattle.strict.specs.Commands.{LetterOf, LetterAt, Reaches, Further, Arguments, Command};
 
 // What a byte begins where a command is due.
 enum Letter {
@@ -58,50 +55,48 @@ fn letter_at(text: &[u8], at: usize) -> Letter
 // Past all further arguments, each after a separator or none. A separator that no argument follows
 // is not passed.
 fn past_arguments(text: &[u8], at: usize, kind: Kind) -> usize
-    ensures { λ r. ⌜ Past (star (opt (comma-wsp (now (text .entry))) · argumentOf (now (text .entry)) kind)) (Goes (now (text .entry))) at r ⌝ }
+    ensures { λ r. ⌜ Further (now (text .entry)) kind at r ⌝ }
 {
     let mut end = at;
     loop {
         let start = past_separator(text, end);
-        match read_argument(text, start, kind) {
-            Word::Ends(next) => {
-                end = next;
-            }
-            Word::Missing => {
-                return end;
-            }
+        let next = read_argument(text, start, kind);
+        if next == NOWHERE {
+            return end;
         }
+        end = next;
     }
 }
 
 // White space, and a sequence of at least one argument.
-fn read_arguments(text: &[u8], at: usize, kind: Kind) -> Word
-    ensures { λ r. ⌜ Reaches (star (wsp (now (text .entry))) · sequence (argumentOf (now (text .entry)) kind) (opt (comma-wsp (now (text .entry))))) (Goes (now (text .entry))) at r ⌝ }
+fn read_arguments(text: &[u8], at: usize, kind: Kind) -> usize
+    ensures { λ r. ⌜ Reaches (Arguments (now (text .entry)) kind) (Goes (now (text .entry))) at r ⌝ }
 {
-    let Word::Ends(end) = read_argument(text, past_white(text, at), kind) else {
-        return Word::Missing;
-    };
-    Word::Ends(past_arguments(text, end, kind))
+    let end = read_argument(text, past_white(text, at), kind);
+    if end == NOWHERE {
+        return NOWHERE;
+    }
+    past_arguments(text, end, kind)
 }
 
 // One command. Before the first moveto no other command has begun, and none is read.
-pub fn read_command(text: &[u8], at: usize, begun: bool) -> Word
+pub fn read_command(text: &[u8], at: usize, begun: bool) -> usize
     ensures { λ r. ⌜ Reaches (Command (now (text .entry)) begun) (Goes (now (text .entry))) at r ⌝ }
 {
     match letter_at(text, at) {
         Letter::Moves => read_arguments(text, at + 1, Kind::Pair),
         Letter::Closes => {
             if begun {
-                return Word::Ends(at + 1);
+                return at + 1;
             }
-            Word::Missing
+            NOWHERE
         }
         Letter::Takes(kind) => {
             if begun {
                 return read_arguments(text, at + 1, kind);
             }
-            Word::Missing
+            NOWHERE
         }
-        Letter::Other => Word::Missing,
+        Letter::Other => NOWHERE,
     }
 }

@@ -1,7 +1,7 @@
 // A whole text against the grammar.
 use crate::commands::read_command;
 use answers::Refusal;
-use arguments::Word;
+use arguments::NOWHERE;
 use scan::past_white;
 ghost use mathlib.Core.Path.{_≡_};
 ghost use mathlib.Core.Bool.{true};
@@ -22,9 +22,10 @@ fn matches(text: &[u8]) -> bool
     let mut at = past_white(text, 0);
     let mut begun = false;
     while at < text.len() {
-        let Word::Ends(end) = read_command(text, at, begun) else {
+        let end = read_command(text, at, begun);
+        if end == NOWHERE {
             return false;
-        };
+        }
         at = past_white(text, end);
         begun = true;
     }

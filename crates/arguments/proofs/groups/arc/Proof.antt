@@ -1,8 +1,9 @@
 -- `arguments::arc` meets its contract: a number and the rest, with a separator or none between them. Assumes nothing.
+use native.Mathlib.Omega.{arith}
 use borrow.Author.Needs.{needs}
 use Rattle.grammar.specs.Grammar.{elliptical-arc-argument, number}
 use Rattle.arguments.specs.Reading.{arc-from-large-flag, arc-from-radius, arc-from-rotation, arc-from-sweep-flag}
-use Rattle.arguments.proofs.Steps.{step, step-missing}
+use Rattle.arguments.proofs.Steps.{step}
 use Rattle.arguments.proofs.Starts.{radius-starts}
 use Rattle.arguments.proofs.groups.arc.Statement.{statement}
 use Rattle.arguments.proofs.groups.arc.Tie as tie
@@ -10,32 +11,17 @@ use Rattle.arguments.proofs.groups.arc.Tie as tie
 read-number-requires : tie.Need-read-number-requires
 read-number-requires c κs = search needs
 
-enum-known-end : tie.Need-enum-known-end
-enum-known-end c = search needs
-
-enum-told : tie.Need-enum-told
-enum-told c = search needs
-
-returns : tie.Need-returns
-unfolding elliptical-arc-argument arc-from-radius arc-from-rotation arc-from-large-flag arc-from-sweep-flag
-returns c =
-    let first = c .before .before in
-    let text = first .before .before .args .text .now in
-    step-missing text (number text) (arc-from-radius text) (radius-starts text) _ _ (first .read-number .ensures) (c .enum-told .given .1)
-
 past-separator-requires : tie.Need-past-separator-requires
 past-separator-requires c κs = search needs
 
 arc-from-radius-requires : tie.Need-arc-from-radius-requires
 arc-from-radius-requires c κs = search needs
 
-returns-2 : tie.Need-returns-2
+returns : tie.Need-returns
 unfolding elliptical-arc-argument arc-from-radius arc-from-rotation arc-from-large-flag arc-from-sweep-flag
-returns-2 c =
-    let first = c .before .before .before .before .before in
-    let text = first .before .before .args .text .now in
-    step text (number text) (arc-from-radius text) (radius-starts text) _ _ (first .read-number .ensures) _ _ (c .before .before .before .end .given .1) (c .before .past-separator .ensures)
-    (c .arc-from-radius .result) (c .arc-from-radius .ensures)
+returns c =
+    let text = c .before .before .before .before .args .text .now in
+    step text (omega arith) (number text) (arc-from-radius text) (radius-starts text) _ _ _ _ (c .before .before .read-number .ensures) (c .before .past-separator .ensures) (c .arc-from-radius .ensures)
 
 pub arc-spec : {M : Type 1} → statement M
-arc-spec = tie.close (tie.spec read-number-requires enum-known-end enum-told returns past-separator-requires arc-from-radius-requires returns-2)
+arc-spec = tie.close (tie.spec read-number-requires past-separator-requires arc-from-radius-requires returns)

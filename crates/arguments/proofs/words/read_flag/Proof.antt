@@ -1,5 +1,6 @@
 -- `arguments::read_flag` meets its contract: a flag is one byte, and past the text there is none. Assumes nothing.
 use mathlib.Core.Path.{sym, _∙_}
+use native.Mathlib.Omega.{arith}
 use borrow.Author.Needs.{needs}
 use Rattle.scan.specs.Bytes.{flags}
 use Rattle.scan.proofs.RunLaws.{stands-inside, stands-past}
@@ -13,17 +14,17 @@ shared-slice-read-is-flag c = search needs
 is-flag-requires : tie.Need-is-flag-requires
 is-flag-requires c κs = search needs
 
-add-t8 : tie.Need-add-t8
-add-t8 c = search needs
+add-result : tie.Need-add-result
+add-result c = search needs
 
 returns : tie.Need-returns
-returns c = flag-taken _ _ (stands-inside flags _ _ (search needs) ∙ (sym (c .before .is-flag .ensures) ∙ c .if2 .taken))
+returns c = flag-taken (c .before .before .before .before .before .args .text .now) (omega arith) _ (stands-inside flags _ _ (search needs) ∙ (sym (c .before .is-flag .ensures) ∙ c .if2 .taken))
 
 returns-2 : tie.Need-returns-2
-returns-2 c = flag-left _ _ (stands-inside flags _ _ (search needs) ∙ (sym (c .before .is-flag .ensures) ∙ c .if2 .left))
+returns-2 c = flag-left (c .before .before .before .before .before .args .text .now) (omega arith) _ (stands-inside flags _ _ (search needs) ∙ (sym (c .before .is-flag .ensures) ∙ c .if2 .left))
 
 returns-3 : tie.Need-returns-3
-returns-3 c = flag-left _ _ (stands-past flags _ _ (search needs))
+returns-3 c = flag-left (c .before .before .args .text .now) (omega arith) _ (stands-past flags _ _ (search needs))
 
 pub read-flag-spec : {M : Type 1} → statement M
-read-flag-spec = tie.close (tie.spec shared-slice-read-is-flag is-flag-requires add-t8 returns returns-2 returns-3)
+read-flag-spec = tie.close (tie.spec shared-slice-read-is-flag is-flag-requires add-result returns returns-2 returns-3)

@@ -10,28 +10,19 @@ past-white-requires c κs = search needs
 read-argument-requires : tie.Need-read-argument-requires
 read-argument-requires c κs = search needs
 
-enum-known-end : tie.Need-enum-known-end
-enum-known-end c = search needs
-
-enum-told : tie.Need-enum-told
-enum-told c = search needs
-
 returns : tie.Need-returns
 returns c =
-    let first = c .before .before in
-    let a = first .before .before .before .args in
-    arguments-missing (a .text .now) (a .kind) (a .at) _ (first .before .past-white .ensures) _ (first .read-argument .ensures) (c .enum-told .given .1)
+    let a = c .before .before .before .before .args in
+    arguments-missing (a .text .now) (a .kind) (a .at) _ (c .before .before .past-white .ensures) _ (c .before .read-argument .ensures) (c .if1 .taken)
 
 past-arguments-requires : tie.Need-past-arguments-requires
 past-arguments-requires c κs = search needs
 
 returns-2 : tie.Need-returns-2
 returns-2 c =
-    let first = c .before .before .before .before in
-    let a = first .before .before .before .args in
-    arguments-past (a .text .now) (a .kind) (a .at) _ (first .before .past-white .ensures) _ _ _ (first .read-argument .ensures)
-    (c .before .before .end .given .1) (c .past-arguments .ensures)
+    let a = c .before .before .before .before .before .args in
+    arguments-past (a .text .now) (a .kind) (a .at) _ (c .before .before .before .past-white .ensures) _ _ (c .before .before .read-argument .ensures)
+    (c .before .if1 .left) (c .past-arguments .ensures)
 
 pub read-arguments-spec : {M : Type 1} → statement M
-read-arguments-spec =
-    tie.close (tie.spec past-white-requires read-argument-requires enum-known-end enum-told returns past-arguments-requires returns-2)
+read-arguments-spec = tie.close (tie.spec past-white-requires read-argument-requires returns past-arguments-requires returns-2)

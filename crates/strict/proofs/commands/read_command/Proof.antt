@@ -26,8 +26,8 @@ read-arguments-requires c κs = search needs
 enum-told-2 : tie.Need-enum-told-2
 enum-told-2 c = search needs
 
-add-t10 : tie.Need-add-t10
-add-t10 c =
+add-result : tie.Need-add-result
+add-result c =
     let found = c .before .before .before in
     let a = found .before .before .args in
     omega (arith, stands-within closeLetters (a .text .now) (a .at) (subst (LetterAt (a .text .now) (a .at)) (c .before .enum-told2 .given .1) (found .letter-at .ensures)))
@@ -36,7 +36,7 @@ returns : tie.Need-returns
 returns c =
     let found = c .before .before .before in
     let a = found .before .before .args in
-    rw (c .if1 .taken) (closes (a .text .now) (a .at) (subst (LetterAt (a .text .now) (a .at)) (c .before .enum-told2 .given .1) (found .letter-at .ensures)))
+    rw (c .if1 .taken) (closes (a .text .now) (a .at) (omega arith) (subst (LetterAt (a .text .now) (a .at)) (c .before .enum-told2 .given .1) (found .letter-at .ensures)))
 
 enum-known-kind : tie.Need-enum-known-kind
 enum-known-kind c = search needs
@@ -94,7 +94,7 @@ read-command-spec =
     add-read-arguments
     read-arguments-requires
     enum-told-2
-    add-t10
+    add-result
     returns
     enum-known-kind
     add-read-arguments-2

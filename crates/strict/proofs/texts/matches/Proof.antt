@@ -1,7 +1,7 @@
 -- `strict::matches` meets its contract. The invariant: the text matches exactly where it can be read to its end from `at`, at which a command is due.
 -- The measure is what is left of the text; a command has a byte, so it falls. Assumes nothing.
 use Prim.Native.Nat.{ℕ, _-_, _≤_, _<_}
-use mathlib.Core.Path.{_≡_, refl, subst}
+use mathlib.Core.Path.{_≡_, refl}
 use mathlib.Core.List.{List}
 use native.Mathlib.Omega.{arith}
 use borrow.Author.Needs.{needs}
@@ -13,8 +13,8 @@ use Rattle.scan.proofs.ByteLaws.{clash}
 use Rattle.scan.proofs.RunLaws.{all-onward}
 use Rattle.grammar.specs.Grammar.{Matches}
 use Rattle.grammar.specs.Words.{Goes}
-use Rattle.strict.specs.Commands.{Reaches, Command}
-use Rattle.strict.proofs.CommandLaws.{command-grows}
+use Rattle.strict.specs.Commands.{Command}
+use Rattle.strict.proofs.CommandLaws.{command-grows, ends-past, missing-lacks}
 use Rattle.strict.proofs.Rests.{Rest, ended, starts, goes-forth, goes-back, no-more, at-end}
 use Rattle.strict.proofs.texts.matches.Statement.{statement}
 use Rattle.strict.proofs.texts.matches.Tie as tie
@@ -40,37 +40,31 @@ loop-holds c = starts _ _ (c .past-white .ensures)
 read-command-requires : tie.Need-read-command-requires Inv-loop μ-loop
 read-command-requires c κs = search needs
 
-enum-known-end : tie.Need-enum-known-end Inv-loop μ-loop
-enum-known-end c = search needs
-
-enum-told : tie.Need-enum-told Inv-loop μ-loop
-enum-told c = search needs
-
 returns : tie.Need-returns Inv-loop μ-loop
 returns c =
-    let at-loop = c .before .before .before .before in
+    let at-loop = c .before .before .before in
     let text = at-loop .before .before .before .args .text .now in
-    let gone = subst (Reaches (Command text (at-loop .loop .begun)) (Goes text) (at-loop .loop .at)) (c .enum-told .given .1) (c .before .before .read-command .ensures) in
-    (λ z. absurd (clash z refl), λ m. absurd (no-more text _ _ (c .before .before .before .loop-test .taken) gone (at-loop .loop .inv .0 m)))
+    let none-due = missing-lacks (Command text (at-loop .loop .begun)) (Goes text) _ _ (c .before .read-command .ensures) (c .if1 .taken) in
+    (λ z. absurd (clash z refl), λ m. absurd (no-more text _ _ (c .before .before .loop-test .taken) none-due (at-loop .loop .inv .0 m)))
 
 past-white-requires-2 : tie.Need-past-white-requires-2 Inv-loop μ-loop
 past-white-requires-2 c κs = search needs
 
 loop-less : tie.Need-loop-less Inv-loop μ-loop
 loop-less c =
-    let at-loop = c .before .before .before .before .before .before in
+    let at-loop = c .before .before .before .before in
     let text = at-loop .before .before .before .args .text .now in
-    let one = subst (Reaches (Command text (at-loop .loop .begun)) (Goes text) (at-loop .loop .at)) (c .before .before .end .given .1) (c .before .before .before .before .read-command .ensures) in
-    falls _ _ _ _ (c .before .before .before .before .before .loop-test .taken) (command-grows text (at-loop .loop .begun) _ _ (one .0))
+    let one = ends-past (Command text (at-loop .loop .begun)) (Goes text) _ _ (c .before .before .read-command .ensures) (c .before .if1 .left) in
+    falls _ _ _ _ (c .before .before .before .loop-test .taken) (command-grows text (at-loop .loop .begun) _ _ (one .0))
     (onward text _ _ (c .past-white2 .ensures))
 
 loop-again : tie.Need-loop-again Inv-loop μ-loop
 loop-again c =
-    let at-loop = c .before .before .before .before .before .before in
+    let at-loop = c .before .before .before .before in
     let text = at-loop .before .before .before .args .text .now in
-    let one = subst (Reaches (Command text (at-loop .loop .begun)) (Goes text) (at-loop .loop .at)) (c .before .before .end .given .1) (c .before .before .before .before .read-command .ensures) in
+    let one = ends-past (Command text (at-loop .loop .begun)) (Goes text) _ _ (c .before .before .read-command .ensures) (c .before .if1 .left) in
     let inv = at-loop .loop .inv in (
-      λ m. goes-forth text _ _ _ _ (c .before .before .before .before .before .loop-test .taken) one (c .past-white2 .ensures) (inv .0 m),
+      λ m. goes-forth text _ _ _ _ (c .before .before .before .loop-test .taken) one (c .past-white2 .ensures) (inv .0 m),
       λ r. inv .1 (goes-back text _ _ _ _ one (c .past-white2 .ensures) r),
     )
 
@@ -89,8 +83,6 @@ matches-spec =
     past-white-requires
     loop-holds
     read-command-requires
-    enum-known-end
-    enum-told
     returns
     past-white-requires-2
     loop-less
