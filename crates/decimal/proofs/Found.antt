@@ -31,7 +31,10 @@ use Rattle.digits.proofs.Places.{none-in, join-in, other-in, run-in}
 use Rattle.digits.proofs.Holding.{leads-start, leads-other}
 use Rattle.digits.proofs.Capping.{size-start, capped-small}
 use Rattle.decimal.specs.Decimal.{digitsOf, placesOf, powerOf, falls, riseOf, fallOf, valueOf, readOf, numberOf, minus}
-use Rattle.decimal.specs.Bits.{Held}
+use Rattle.decimal.specs.Bits.{Held, SaysFound, Finds}
+use Rattle.decimal.specs.declared.numbers.Parts.{Parts}
+use Rattle.decimal.specs.declared.numbers.Found.{Found}
+use Rattle.decimal.specs.declared.numbers.Found.the-variants.{Number as FoundNumber, Nothing}
 use Rattle.decimal.specs.declared.numbers.Read.{Read}
 use Rattle.decimal.specs.declared.numbers.Read.the-variants.{Value, Refused}
 
@@ -92,11 +95,8 @@ module _ (text : List ℕ) (at whole fraction : ℕ) (first all : Leading)
     number-no-exponent h = read-is text at (NoExponentDigit (all .at)) (number-bare text at whole (first .at) fraction (all .at) w-is (before .passed) f-is (after .passed) x e x-is e-is some h)
 
     module _ (fine : (ltb (all .at) x && eqb x e) ≡ false) where
-      scanned : Scanned p ≡ scanNumberOf text at
+      pub scanned : Scanned p ≡ scanNumberOf text at
       scanned = number-found text at whole (first .at) fraction (all .at) w-is (before .passed) f-is (after .passed) x e x-is e-is some fine
-
-      pub number-value : (v : Float) → v ≡ valueOf text p → Value v e ≡ numberOf text at
-      number-value v h = ap (λ (z : Float). Value z e) h ∙ read-is text at (Scanned p) scanned
 
       fits : NumberAt text p
       fits = scanned-number text at p (sym scanned)
@@ -245,3 +245,15 @@ module _ (text : List ℕ) (at whole fraction : ℕ) (first all : Leading)
         let sign = falls-is text q false (end .ahead) e in
         held text at whole fraction first all w-is before f-is after some x (r .at) (end .x-is) (end .e-is) (end .fine digit) (r .size) 0
         (rise-rising text q (r .size) (end .size-is) sign) (fall-rising text q (r .size) (end .size-is) sign)
+
+-- ---- what is found, by its case
+
+module _ {text : List ℕ} {at : ℕ} {r : Found} (finds : Finds text at r) where
+  pub found-number : {q : Parts} → r ≡ FoundNumber q → (Scanned (q .places) ≡ scanNumberOf text at) × Held text (q .places) (q .w) (q .dropped) (q .rise) (q .fall)
+  found-number e = subst (λ (z : Found). SaysFound z text at) e (finds .said)
+
+  pub found-nothing : {refusal : Refusal} → r ≡ Nothing refusal → Refused refusal ≡ numberOf text at
+  found-nothing e = subst (λ (z : Found). SaysFound z text at) e (finds .said)
+
+pub number-value : (text : List ℕ) (at : ℕ) (p : Places) (v : Float) → Scanned p ≡ scanNumberOf text at → v ≡ valueOf text p → Value v (p .end) ≡ numberOf text at
+number-value text at p v s e = ap (λ (z : Float). Value z (p .end)) e ∙ read-is text at (Scanned p) s

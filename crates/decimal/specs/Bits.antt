@@ -6,14 +6,19 @@ use mathlib.Core.List.{List}
 use mathlib.Core.Bool.{Bool, cond}
 use lib.ListN.{length}
 use lib.Ieee.{binary32, round, ofBits}
+use Rattle.scan.specs.Numbers.{scanNumberOf}
 use Rattle.scan.specs.declared.numbers.Places.{Places}
+use Rattle.scan.specs.declared.numbers.Number.the-variants.{Scanned}
 use Rattle.digits.specs.Digits.{val}
 use Rattle.digits.specs.Leading.{Leads}
 use Rattle.digits.specs.Exponent.{most, capped}
 use Rattle.product.specs.Near.{Cell}
 use Rattle.middle.specs.Weighing.{orderOf}
 use Rattle.middle.specs.declared.inner.Order.{Order}
-use Rattle.decimal.specs.Decimal.{digitsOf, placesOf, riseOf, fallOf}
+use Rattle.decimal.specs.Decimal.{digitsOf, placesOf, riseOf, fallOf, numberOf}
+use Rattle.decimal.specs.declared.numbers.Read.the-variants.{Refused}
+use Rattle.decimal.specs.declared.numbers.Found.{Found}
+use Rattle.decimal.specs.declared.numbers.Found.the-variants.{Number, Nothing}
 
 -- the bits b of the nearest f32, but for the sign s
 pub record Nearest (num den b : ℕ) : Type 0 where
@@ -53,3 +58,11 @@ pub record Held (text : List ℕ) (p : Places) (w dropped rise fall : ℕ) : Typ
   pub count : length (digitsOf text p) ≡ (p .point - p .whole) + placesOf p
   pub rises : rise ≡ capped (riseOf text p)
   pub drops : fall ≡ capped (fallOf text p)
+
+-- what is found where a number is due: a scanned number with all that its value needs, or the refusal
+abbrev pub SaysFound : Found → List ℕ → ℕ → Type 0
+SaysFound (Number q) text at = (Scanned (q .places) ≡ scanNumberOf text at) × Held text (q .places) (q .w) (q .dropped) (q .rise) (q .fall)
+SaysFound (Nothing refusal) text at = Refused refusal ≡ numberOf text at
+
+pub record Finds (text : List ℕ) (at : ℕ) (r : Found) : Type 0 where
+  pub said : SaysFound r text at

@@ -12,7 +12,7 @@ use scan::past_sign;
 ghost use mathlib.Core.Path.{_≡_};
 ghost use Prim.Native.Nat.{ℕ, _+_, _*_, _≤_, _<_};
 ghost use Rattle.decimal.specs.Decimal.{valueOf, numberOf};
-ghost use Rattle.decimal.specs.Bits.{Held};
+ghost use Rattle.decimal.specs.Bits.{Held, Finds};
 
 // What stands where a number is due.
 pub enum Read {
@@ -21,11 +21,96 @@ pub enum Read {
     Refused(Refusal),
 }
 
-// The value of a number whose places are known, and of whose digits and exponent enough is.
-fn value(text: &[u8], p: Places, w: u64, dropped: usize, rise: u64, fall: u64) -> f32
-    requires { ⌜ Held (now text) p w dropped rise fall ⌝ }
-    ensures { λ r. ⌜ r ≡ valueOf (now (text .entry)) p ⌝ }
+// A number's places, and what its value is worked out from: the number of its leading digits, the
+// count of those after them, and by how many places its exponent moves the point right or left.
+pub struct Parts {
+    pub places: Places,
+    pub w: u64,
+    pub dropped: usize,
+    pub rise: u64,
+    pub fall: u64,
+}
+
+pub enum Found {
+    Number(Parts),
+    Nothing(Refusal),
+}
+
+// The number that starts at a place, not yet worked out. It is left to one caller, so that no memory
+// is passed between the two.
+fn find(text: &[u8], at: usize) -> Found
+    ensures { λ r. ⌜ Finds (now (text .entry)) at r ⌝ }
 {
+    let whole = past_sign(text, at);
+    let first = gather(text, whole, 0, 0);
+    let point = first.at;
+    let fraction = past_point(text, point);
+    let all = gather(text, fraction, first.w, first.dropped);
+    let mark = all.at;
+    if (whole == point) & (fraction == mark) {
+        return Found::Nothing(Refusal::ExpectedNumber(at));
+    }
+    if !is_exponent_mark(byte_at(text, mark)) {
+        let p = Places {
+            start: at,
+            whole,
+            point,
+            fraction,
+            mark,
+            exponent: mark,
+            end: mark,
+        };
+        return Found::Number(Parts {
+            places: p,
+            w: all.w,
+            dropped: all.dropped,
+            rise: 0,
+            fall: 0,
+        });
+    }
+    let digits = past_sign(text, mark + 1);
+    let power = exponent(text, digits);
+    let end = power.at;
+    if digits == end {
+        return Found::Nothing(Refusal::InvalidNumber(mark));
+    }
+    let p = Places {
+        start: at,
+        whole,
+        point,
+        fraction,
+        mark,
+        exponent: digits,
+        end,
+    };
+    let size = power.size;
+    if byte_at(text, mark + 1) == b'-' {
+        return Found::Number(Parts {
+            places: p,
+            w: all.w,
+            dropped: all.dropped,
+            rise: 0,
+            fall: size,
+        });
+    }
+    Found::Number(Parts {
+        places: p,
+        w: all.w,
+        dropped: all.dropped,
+        rise: size,
+        fall: 0,
+    })
+}
+
+// The value of a number whose parts are found.
+fn value(text: &[u8], parts: Parts) -> f32
+    requires { ⌜ Held (now text) (parts .places) (parts .w) (parts .dropped) (parts .rise) (parts .fall) ⌝ }
+    ensures { λ r. ⌜ r ≡ valueOf (now (text .entry)) (parts .places) ⌝ }
+{
+    let p = parts.places;
+    let w = parts.w;
+    let rise = parts.rise;
+    let fall = parts.fall;
     let negative = byte_at(text, p.start) == b'-';
     let places = (p.mark - p.fraction) as u64;
     if (w <= 16777216) & (rise == 0) & (fall == 0) & (places <= 10) {
@@ -39,7 +124,7 @@ fn value(text: &[u8], p: Places, w: u64, dropped: usize, rise: u64, fall: u64) -
         (p.point - p.whole) as u64,
         places,
         w,
-        dropped as u64,
+        parts.dropped as u64,
         rise,
         fall,
     );
@@ -54,45 +139,8 @@ fn value(text: &[u8], p: Places, w: u64, dropped: usize, rise: u64, fall: u64) -
 pub fn number(text: &[u8], at: usize) -> Read
     ensures { λ r. ⌜ r ≡ numberOf (now (text .entry)) at ⌝ }
 {
-    let whole = past_sign(text, at);
-    let first = gather(text, whole, 0, 0);
-    let point = first.at;
-    let fraction = past_point(text, point);
-    let all = gather(text, fraction, first.w, first.dropped);
-    let mark = all.at;
-    if (whole == point) & (fraction == mark) {
-        return Read::Refused(Refusal::ExpectedNumber(at));
+    match find(text, at) {
+        Found::Number(parts) => Read::Value(value(text, parts), parts.places.end),
+        Found::Nothing(refusal) => Read::Refused(refusal),
     }
-    if !is_exponent_mark(byte_at(text, mark)) {
-        let p = Places {
-            start: at,
-            whole,
-            point,
-            fraction,
-            mark,
-            exponent: mark,
-            end: mark,
-        };
-        return Read::Value(value(text, p, all.w, all.dropped, 0, 0), mark);
-    }
-    let digits = past_sign(text, mark + 1);
-    let power = exponent(text, digits);
-    let end = power.at;
-    if digits == end {
-        return Read::Refused(Refusal::InvalidNumber(mark));
-    }
-    let p = Places {
-        start: at,
-        whole,
-        point,
-        fraction,
-        mark,
-        exponent: digits,
-        end,
-    };
-    let size = power.size;
-    if byte_at(text, mark + 1) == b'-' {
-        return Read::Value(value(text, p, all.w, all.dropped, 0, size), end);
-    }
-    Read::Value(value(text, p, all.w, all.dropped, size, 0), end)
 }

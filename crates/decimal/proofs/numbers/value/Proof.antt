@@ -28,14 +28,14 @@ short-requires c κs =
 
 returns : tie.Need-returns
 returns c =
-    let start = c .before .before .before .before .before .before in
+    let start = c .before .before .before .before .before .before .before in
     let t = all-four _ _ _ _ (c .before .before .if1 .taken) in
     let size = c .before .short .ensures ∙ short-is _ _ _ _ _ _ (start .pre) (leb-true _ _ (t .0)) (eqb-true _ _ (t .1)) (eqb-true _ _ (t .2)) false in
     value-negative _ _ _ _ _ _ (start .pre) _ (ap (λ (n : ℕ). eqb n minus) (sym (c .before .before .before .before .byte-at .ensures)) ∙ c .if2 .taken) (ap neg size ∙ sym (round-neg binary32 _ _))
 
 returns-2 : tie.Need-returns-2
 returns-2 c =
-    let start = c .before .before .before .before .before .before in
+    let start = c .before .before .before .before .before .before .before in
     let t = all-four _ _ _ _ (c .before .before .if1 .taken) in
     let size = c .before .short .ensures ∙ short-is _ _ _ _ _ _ (start .pre) (leb-true _ _ (t .0)) (eqb-true _ _ (t .1)) (eqb-true _ _ (t .2)) false in
     value-plain _ _ _ _ _ _ (start .pre) _ (ap (λ (n : ℕ). eqb n minus) (sym (c .before .before .before .before .byte-at .ensures)) ∙ c .if2 .left) size
@@ -53,11 +53,11 @@ sub-magnitude-2 : tie.Need-sub-magnitude-2
 sub-magnitude-2 c = search needs
 
 magnitude-requires : tie.Need-magnitude-requires
-magnitude-requires c κs = gathered _ _ _ _ _ _ (c .before .before .before .before .before .before .pre) (omega (arith, c .before .before .before .before .before .before .good))
+magnitude-requires c κs = gathered _ _ _ _ _ _ (c .before .before .before .before .before .before .before .pre) (omega (arith, c .before .before .before .before .before .before .before .good))
 
 -- the bits are those of the number's size
-nearest : (c : tie.After-magnitude) → Nearest (numerator (c .before .before .before .before .before .before .before .args .text .now) (c .before .before .before .before .before .before .before .args .p)) (denominator (c .before .before .before .before .before .before .before .args .text .now) (c .before .before .before .before .before .before .before .args .p)) (c .magnitude .result)
-nearest c = let held = c .before .before .before .before .before .before .before .pre in c .magnitude .ensures .bits _ _ (held .rises) (held .drops) (one-way _ _)
+nearest : (c : tie.After-magnitude) → Nearest (numerator (c .before .before .before .before .before .before .before .before .args .text .now) (c .before .before .before .before .before .before .before .before .args .parts .places)) (denominator (c .before .before .before .before .before .before .before .before .args .text .now) (c .before .before .before .before .before .before .before .before .args .parts .places)) (c .magnitude .result)
+nearest c = let held = c .before .before .before .before .before .before .before .before .pre in c .magnitude .ensures .bits _ _ (held .rises) (held .drops) (one-way _ _)
 
 add-result : tie.Need-add-result
 add-result c = let m = nearest (c .before) in record { fits = omega (arith, m .finite-or-infinite) }
@@ -76,13 +76,13 @@ float-from-bits-result-2 c = plain-bits _ (nearest (c .before) .finite-or-infini
 
 returns-3 : tie.Need-returns-3
 returns-3 c =
-    let start = c .before .before .before .before .before .before .before .before in
+    let start = c .before .before .before .before .before .before .before .before .before in
     value-negative _ _ _ _ _ _ (start .pre) _ (ap (λ (n : ℕ). eqb n minus) (sym (c .before .before .before .before .before .before .byte-at .ensures)) ∙ c .if3 .taken)
     (ap (λ (n : ℕ). ofBits binary32 n) (add-comm (c .before .magnitude .result) 2147483648) ∙ sym (nearest (c .before) .is true))
 
 returns-4 : tie.Need-returns-4
 returns-4 c =
-    let start = c .before .before .before .before .before .before .before .before in
+    let start = c .before .before .before .before .before .before .before .before .before in
     value-plain _ _ _ _ _ _ (start .pre) _ (ap (λ (n : ℕ). eqb n minus) (sym (c .before .before .before .before .before .before .byte-at .ensures)) ∙ c .if3 .left)
     (ap (λ (n : ℕ). ofBits binary32 n) (sym (zero-add (c .before .magnitude .result))) ∙ sym (nearest (c .before) .is false))
 
