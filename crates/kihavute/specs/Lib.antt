@@ -2,3 +2,4 @@
 pub mod Pair
 pub mod Given
 pub mod StrictReading
+pub mod Curves
