@@ -1,5 +1,6 @@
 //! The comparison of the proved library with the original Rust, by bits. `oracle/run` says what it takes.
 
+mod bezier;
 mod bnf;
 mod compare;
 mod earley;
@@ -25,6 +26,7 @@ fn main() -> ExitCode {
         ["gate"] => {
             math::compare(&mut report, SEED, 200_000);
             table::compare(&mut report, SEED, 20_000);
+            bezier::compare(&mut report, SEED, 20_000);
             for recording in record::RECORDINGS {
                 recording.compare(&mut report, SEED);
             }
@@ -37,6 +39,7 @@ fn main() -> ExitCode {
             Err(_) => return usage(),
         },
         ["table"] => table::compare(&mut report, SEED, 1_000_000),
+        ["bezier"] => bezier::compare(&mut report, SEED, 250_000),
         ["root_all"] => root_all::compare(&mut report),
         ["strict"] => strict::compare_all(&mut report),
         ["strict", "time"] => strict::compare_time(&mut report),
@@ -55,6 +58,6 @@ fn main() -> ExitCode {
 }
 
 fn usage() -> ExitCode {
-    eprintln!("oracle/run gate | math [SEED] | table | root_all | strict [time | SEED COUNT] | record NAME");
+    eprintln!("oracle/run gate | math [SEED] | table | bezier | root_all | strict [time | SEED COUNT] | record NAME");
     ExitCode::from(2)
 }

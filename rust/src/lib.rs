@@ -20,6 +20,9 @@ pub struct Refusal {
 
 unsafe extern "C" {
     safe fn kihavute_sqrt(x: f32) -> f32;
+    safe fn kihavute_sin(angle: f32) -> f32;
+    safe fn kihavute_cos(angle: f32) -> f32;
+    safe fn kihavute_atan2(y: f32, x: f32) -> f32;
     safe fn kihavute_tidy(x: f32) -> f32;
     safe fn kihavute_min(a: f32, b: f32) -> u32;
     safe fn kihavute_max(a: f32, b: f32) -> u32;
@@ -36,6 +39,8 @@ unsafe extern "C" {
     safe fn kihavute_distance(ax: f32, ay: f32, bx: f32, by: f32) -> u32;
     safe fn kihavute_normalize(x: f32, y: f32) -> u64;
     safe fn kihavute_lerp_point(ax: f32, ay: f32, bx: f32, by: f32, t: f32) -> u64;
+    safe fn kihavute_rotation_deg(x: f32, y: f32) -> u32;
+    safe fn kihavute_angle_between(ux: f32, uy: f32, vx: f32, vy: f32) -> u32;
     fn kihavute_raw_parameter(
         entries: *const f32,
         entries_len: usize,
@@ -48,6 +53,100 @@ unsafe extern "C" {
         lengths: *const f32,
         lengths_len: usize,
         progress: f32,
+        answer: *mut u64,
+        answer_len: usize,
+    ) -> u32;
+    fn kihavute_quad_position(
+        sx: f32,
+        sy: f32,
+        cx: f32,
+        cy: f32,
+        ex: f32,
+        ey: f32,
+        progress: f32,
+        answer: *mut u64,
+        answer_len: usize,
+    ) -> u32;
+    fn kihavute_quad_tangent(
+        sx: f32,
+        sy: f32,
+        cx: f32,
+        cy: f32,
+        ex: f32,
+        ey: f32,
+        progress: f32,
+        answer: *mut u64,
+        answer_len: usize,
+    ) -> u32;
+    fn kihavute_quad_rotation_deg(
+        sx: f32,
+        sy: f32,
+        cx: f32,
+        cy: f32,
+        ex: f32,
+        ey: f32,
+        progress: f32,
+        answer: *mut u64,
+        answer_len: usize,
+    ) -> u32;
+    fn kihavute_quad_length(
+        sx: f32,
+        sy: f32,
+        cx: f32,
+        cy: f32,
+        ex: f32,
+        ey: f32,
+        answer: *mut u64,
+        answer_len: usize,
+    ) -> u32;
+    fn kihavute_cubic_position(
+        sx: f32,
+        sy: f32,
+        ax: f32,
+        ay: f32,
+        bx: f32,
+        by: f32,
+        ex: f32,
+        ey: f32,
+        progress: f32,
+        answer: *mut u64,
+        answer_len: usize,
+    ) -> u32;
+    fn kihavute_cubic_tangent(
+        sx: f32,
+        sy: f32,
+        ax: f32,
+        ay: f32,
+        bx: f32,
+        by: f32,
+        ex: f32,
+        ey: f32,
+        progress: f32,
+        answer: *mut u64,
+        answer_len: usize,
+    ) -> u32;
+    fn kihavute_cubic_rotation_deg(
+        sx: f32,
+        sy: f32,
+        ax: f32,
+        ay: f32,
+        bx: f32,
+        by: f32,
+        ex: f32,
+        ey: f32,
+        progress: f32,
+        answer: *mut u64,
+        answer_len: usize,
+    ) -> u32;
+    fn kihavute_cubic_length(
+        sx: f32,
+        sy: f32,
+        ax: f32,
+        ay: f32,
+        bx: f32,
+        by: f32,
+        ex: f32,
+        ey: f32,
         answer: *mut u64,
         answer_len: usize,
     ) -> u32;
@@ -72,6 +171,24 @@ fn apart(point: u64) -> [Bits; 2] {
 #[inline]
 pub fn sqrt(x: f32) -> f32 {
     kihavute_sqrt(x)
+}
+
+/// The sine of an angle in radians of at most 64 in size, else NaN.
+#[inline]
+pub fn sin(angle: f32) -> f32 {
+    kihavute_sin(angle)
+}
+
+/// The cosine of an angle in radians of at most 64 in size, else NaN.
+#[inline]
+pub fn cos(angle: f32) -> f32 {
+    kihavute_cos(angle)
+}
+
+/// The angle of (x, y) in radians, with the sign of `y`.
+#[inline]
+pub fn atan2(y: f32, x: f32) -> f32 {
+    kihavute_atan2(y, x)
 }
 
 /// `x`, and for every NaN the one NaN 7FC00000.
@@ -170,6 +287,18 @@ pub fn lerp_point(a: [f32; 2], b: [f32; 2], t: f32) -> [Bits; 2] {
     apart(kihavute_lerp_point(a[0], a[1], b[0], b[1], t))
 }
 
+/// The heading of a tangent in degrees.
+#[inline]
+pub fn rotation_deg(tangent: [f32; 2]) -> Bits {
+    kihavute_rotation_deg(tangent[0], tangent[1])
+}
+
+/// The signed angle from `u` to `v` in radians.
+#[inline]
+pub fn angle_between(u: [f32; 2], v: [f32; 2]) -> Bits {
+    kihavute_angle_between(u[0], u[1], v[0], v[1])
+}
+
 /// The raw parameter of a curve with this table at a progress.
 #[inline]
 pub fn raw_parameter(entries: &[f32], total: f32, progress: f32) -> Result<Bits, Refusal> {
@@ -187,6 +316,92 @@ pub fn spot(lengths: &[f32], progress: f32) -> Result<Option<(usize, Bits)>, Ref
     let given =
         judged(|answer, places| unsafe { kihavute_spot(lengths.as_ptr(), lengths.len(), progress, answer, places) })?;
     Ok((!lengths.is_empty()).then_some((given[0] as usize, given[1] as Bits)))
+}
+
+/// Where the quad of a start, a control and an end is at a progress.
+#[inline]
+pub fn quad_position(p: &[[f32; 2]; 3], progress: f32) -> Result<[Bits; 2], Refusal> {
+    // SAFETY: the answer is the call's own
+    let given = judged(|answer, places| unsafe {
+        kihavute_quad_position(p[0][0], p[0][1], p[1][0], p[1][1], p[2][0], p[2][1], progress, answer, places)
+    })?;
+    Ok([given[0] as Bits, given[1] as Bits])
+}
+
+/// Where the quad of these points heads at a progress, with the length 1.
+#[inline]
+pub fn quad_tangent(p: &[[f32; 2]; 3], progress: f32) -> Result<[Bits; 2], Refusal> {
+    // SAFETY: the answer is the call's own
+    let given = judged(|answer, places| unsafe {
+        kihavute_quad_tangent(p[0][0], p[0][1], p[1][0], p[1][1], p[2][0], p[2][1], progress, answer, places)
+    })?;
+    Ok([given[0] as Bits, given[1] as Bits])
+}
+
+/// Where the quad of these points heads at a progress, in degrees.
+#[inline]
+pub fn quad_rotation_deg(p: &[[f32; 2]; 3], progress: f32) -> Result<Bits, Refusal> {
+    // SAFETY: the answer is the call's own
+    let given = judged(|answer, places| unsafe {
+        kihavute_quad_rotation_deg(p[0][0], p[0][1], p[1][0], p[1][1], p[2][0], p[2][1], progress, answer, places)
+    })?;
+    Ok(given[0] as Bits)
+}
+
+/// How long the quad of these points is.
+#[inline]
+pub fn quad_length(p: &[[f32; 2]; 3]) -> Result<Bits, Refusal> {
+    // SAFETY: the answer is the call's own
+    let given = judged(|answer, places| unsafe {
+        kihavute_quad_length(p[0][0], p[0][1], p[1][0], p[1][1], p[2][0], p[2][1], answer, places)
+    })?;
+    Ok(given[0] as Bits)
+}
+
+/// Where the cubic of a start, two controls and an end is at a progress.
+#[inline]
+pub fn cubic_position(p: &[[f32; 2]; 4], progress: f32) -> Result<[Bits; 2], Refusal> {
+    // SAFETY: the answer is the call's own
+    let given = judged(|answer, places| unsafe {
+        kihavute_cubic_position(
+            p[0][0], p[0][1], p[1][0], p[1][1], p[2][0], p[2][1], p[3][0], p[3][1], progress, answer, places,
+        )
+    })?;
+    Ok([given[0] as Bits, given[1] as Bits])
+}
+
+/// Where the cubic of these points heads at a progress, with the length 1.
+#[inline]
+pub fn cubic_tangent(p: &[[f32; 2]; 4], progress: f32) -> Result<[Bits; 2], Refusal> {
+    // SAFETY: the answer is the call's own
+    let given = judged(|answer, places| unsafe {
+        kihavute_cubic_tangent(
+            p[0][0], p[0][1], p[1][0], p[1][1], p[2][0], p[2][1], p[3][0], p[3][1], progress, answer, places,
+        )
+    })?;
+    Ok([given[0] as Bits, given[1] as Bits])
+}
+
+/// Where the cubic of these points heads at a progress, in degrees.
+#[inline]
+pub fn cubic_rotation_deg(p: &[[f32; 2]; 4], progress: f32) -> Result<Bits, Refusal> {
+    // SAFETY: the answer is the call's own
+    let given = judged(|answer, places| unsafe {
+        kihavute_cubic_rotation_deg(
+            p[0][0], p[0][1], p[1][0], p[1][1], p[2][0], p[2][1], p[3][0], p[3][1], progress, answer, places,
+        )
+    })?;
+    Ok(given[0] as Bits)
+}
+
+/// How long the cubic of these points is.
+#[inline]
+pub fn cubic_length(p: &[[f32; 2]; 4]) -> Result<Bits, Refusal> {
+    // SAFETY: the answer is the call's own
+    let given = judged(|answer, places| unsafe {
+        kihavute_cubic_length(p[0][0], p[0][1], p[1][0], p[1][1], p[2][0], p[2][1], p[3][0], p[3][1], answer, places)
+    })?;
+    Ok(given[0] as Bits)
 }
 
 /// What strict reading says of a text.
@@ -249,6 +464,17 @@ mod tests {
     }
 
     #[test]
+    fn angles() {
+        assert_eq!(sin(0.0).to_bits(), 0);
+        assert_eq!(sin(64.5).to_bits(), NAN);
+        assert_eq!(cos(0.0), 1.0);
+        assert_eq!(atan2(0.0, -1.0).to_bits(), 0x4049_0FDB);
+        assert_eq!(rotation_deg([-2.0, 0.0]), 180.0f32.to_bits());
+        assert_eq!(rotation_deg([0.0, -0.0]), 0);
+        assert_eq!(angle_between([1.0, 0.0], [-1.0, 0.0]), 0x4049_0FDB);
+    }
+
+    #[test]
     fn lookups() {
         let entries: [f32; 32] = std::array::from_fn(|i| i as f32);
         assert_eq!(raw_parameter(&entries, 31.0, 0.0), Ok(0));
@@ -258,6 +484,23 @@ mod tests {
         assert_eq!(spot(&[2.0, 2.0, 4.0], 0.75), Ok(Some((2, 0.5f32.to_bits()))));
         assert_eq!(spot(&[], 0.5), Ok(None));
         assert_eq!(spot(&[2.0, 1.0], 0.5), Err(Refusal { number: 12, carried: [0; 8] }));
+    }
+
+    #[test]
+    fn curves() {
+        let refused = Refusal { number: 11, carried: [0; 8] };
+        let straight = [[0.0, 0.0], [1.0, 0.0], [2.0, 0.0]];
+        assert_eq!(quad_position(&straight, 0.5), Ok(bits([1.0, 0.0])));
+        assert_eq!(quad_tangent(&straight, f32::NAN), Ok(bits([1.0, 0.0])));
+        assert_eq!(quad_rotation_deg(&[[0.0, 0.0], [0.0, 1.0], [0.0, 2.0]], 0.5), Ok(90.0f32.to_bits()));
+        assert_eq!(quad_length(&[[1.0, 2.0]; 3]), Ok(0));
+        assert_eq!(quad_length(&[[0.0, 0.0], [2e19, 0.0], [4e19, 0.0]]), Err(refused));
+        let straight = [[0.0, 0.0], [0.0, 1.0], [0.0, 2.0], [0.0, 3.0]];
+        assert_eq!(cubic_position(&straight, 2.0), Ok(bits([0.0, 3.0])));
+        assert_eq!(cubic_tangent(&straight, 0.25), Ok(bits([0.0, 1.0])));
+        assert_eq!(cubic_rotation_deg(&straight, 0.25), Ok(90.0f32.to_bits()));
+        assert_eq!(cubic_length(&[[1.0, 2.0]; 4]), Ok(0));
+        assert_eq!(cubic_length(&[[f32::NAN; 2]; 4]), Err(refused));
     }
 
     #[test]

@@ -93,7 +93,8 @@ pub extern "C" fn kihavute_quad_position(
         Point { x: ex, y: ey },
     );
     let found = bezier::quad_position(made.curve, Progress { value: progress });
-    place(made.verdict, found, answer)
+    let verdict = made.verdict;
+    place(verdict, found, answer)
 }
 
 // Where it heads at a progress, with the length 1.
@@ -116,7 +117,8 @@ pub extern "C" fn kihavute_quad_tangent(
         Point { x: ex, y: ey },
     );
     let found = bezier::quad_tangent(made.curve, Progress { value: progress });
-    place(made.verdict, found, answer)
+    let verdict = made.verdict;
+    place(verdict, found, answer)
 }
 
 // Where it heads at a progress, in degrees.
@@ -139,7 +141,8 @@ pub extern "C" fn kihavute_quad_rotation_deg(
         Point { x: ex, y: ey },
     );
     let found = bezier::quad_rotation_deg(made.curve, Progress { value: progress });
-    turn(made.verdict, found, answer)
+    let verdict = made.verdict;
+    turn(verdict, found, answer)
 }
 
 // How long it is.
@@ -161,7 +164,8 @@ pub extern "C" fn kihavute_quad_length(
         Point { x: ex, y: ey },
     );
     let total = bezier::quad_length(made.curve);
-    measure(made.verdict, total, answer)
+    let verdict = made.verdict;
+    measure(verdict, total, answer)
 }
 
 // ---- A cubic from (sx, sy) to (ex, ey) with the controls (ax, ay) and (bx, by).
@@ -189,7 +193,8 @@ pub extern "C" fn kihavute_cubic_position(
         Point { x: ex, y: ey },
     );
     let found = bezier::cubic_position(made.curve, Progress { value: progress });
-    place(made.verdict, found, answer)
+    let verdict = made.verdict;
+    place(verdict, found, answer)
 }
 
 // Where it heads at a progress, with the length 1.
@@ -215,7 +220,8 @@ pub extern "C" fn kihavute_cubic_tangent(
         Point { x: ex, y: ey },
     );
     let found = bezier::cubic_tangent(made.curve, Progress { value: progress });
-    place(made.verdict, found, answer)
+    let verdict = made.verdict;
+    place(verdict, found, answer)
 }
 
 // Where it heads at a progress, in degrees.
@@ -241,7 +247,8 @@ pub extern "C" fn kihavute_cubic_rotation_deg(
         Point { x: ex, y: ey },
     );
     let found = bezier::cubic_rotation_deg(made.curve, Progress { value: progress });
-    turn(made.verdict, found, answer)
+    let verdict = made.verdict;
+    turn(verdict, found, answer)
 }
 
 // How long it is.
@@ -266,5 +273,6 @@ pub extern "C" fn kihavute_cubic_length(
         Point { x: ex, y: ey },
     );
     let total = bezier::cubic_length(made.curve);
-    measure(made.verdict, total, answer)
+    let verdict = made.verdict;
+    measure(verdict, total, answer)
 }
