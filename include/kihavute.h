@@ -148,6 +148,36 @@ uint32_t kihavute_raw_parameter(const float *entries, size_t entries_len, float 
  * and writes nothing: it has no segment to give. A total of at most 2^-23 gives the last segment at 1. */
 uint32_t kihavute_spot(const float *lengths, size_t lengths_len, float progress, uint64_t *answer, size_t answer_len);
 
+/* ---- Quads and cubics ----
+ * Each call makes the curve from (sx, sy) to (ex, ey), with the control (cx, cy) of a quad or the controls (ax, ay) and
+ * (bx, by) of a cubic, and asks it one thing at a progress. Refused with 11, and answer[0] is 0, where the curve's length
+ * is infinite or a NaN: the sum of the distances of 32 samples at the parameters 0, 1/31, .. 1. */
+
+/* The place at this progress: answer[0] gets the bits of x, answer[1] those of y. */
+uint32_t kihavute_quad_position(float sx, float sy, float cx, float cy, float ex, float ey, float progress,
+                                uint64_t *answer, size_t answer_len);
+uint32_t kihavute_cubic_position(float sx, float sy, float ax, float ay, float bx, float by, float ex, float ey,
+                                 float progress, uint64_t *answer, size_t answer_len);
+
+/* The direction at this progress, of length 1: answer[0] gets the bits of x, answer[1] those of y. Where the curve's
+ * derivative tells nothing, the direction to the place a thousandth further; (0, 0) where that tells nothing either. */
+uint32_t kihavute_quad_tangent(float sx, float sy, float cx, float cy, float ex, float ey, float progress,
+                               uint64_t *answer, size_t answer_len);
+uint32_t kihavute_cubic_tangent(float sx, float sy, float ax, float ay, float bx, float by, float ex, float ey,
+                                float progress, uint64_t *answer, size_t answer_len);
+
+/* The heading of that direction in degrees: answer[0] gets its bits. */
+uint32_t kihavute_quad_rotation_deg(float sx, float sy, float cx, float cy, float ex, float ey, float progress,
+                                    uint64_t *answer, size_t answer_len);
+uint32_t kihavute_cubic_rotation_deg(float sx, float sy, float ax, float ay, float bx, float by, float ex, float ey,
+                                     float progress, uint64_t *answer, size_t answer_len);
+
+/* The length: answer[0] gets its bits. */
+uint32_t kihavute_quad_length(float sx, float sy, float cx, float cy, float ex, float ey,
+                              uint64_t *answer, size_t answer_len);
+uint32_t kihavute_cubic_length(float sx, float sy, float ax, float ay, float bx, float by, float ex, float ey,
+                               uint64_t *answer, size_t answer_len);
+
 /* ---- Texts ----
  * A text is a pointer to its bytes, which is never null, and their count. It may hold any bytes and needs no end
  * mark. A function that can refuse returns the refusal's number, 0 where it accepts, and writes what goes with

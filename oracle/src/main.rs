@@ -1,5 +1,6 @@
 //! The comparison of the proved library with the original Rust, by bits. `oracle/run` says what it takes.
 
+mod bezier;
 mod bnf;
 mod compare;
 mod earley;
@@ -27,6 +28,7 @@ fn main() -> ExitCode {
             math::compare(&mut report, &trig::FAMILY, SEED, 100_000);
             table::compare(&mut report, SEED, 20_000);
             strict::compare_some(&mut report, SEED);
+            bezier::compare(&mut report, SEED, 20_000);
             for recording in record::RECORDINGS {
                 recording.compare(&mut report, SEED);
             }
@@ -38,6 +40,7 @@ fn main() -> ExitCode {
         },
         ["trig"] => math::compare(&mut report, &trig::FAMILY, SEED, 2_000_000),
         ["table"] => table::compare(&mut report, SEED, 1_000_000),
+        ["bezier"] => bezier::compare(&mut report, SEED, 250_000),
         ["root_all"] => root_all::compare(&mut report),
         ["strict"] => strict::compare_all(&mut report),
         ["strict", "time"] => strict::compare_time(&mut report),
@@ -55,6 +58,8 @@ fn main() -> ExitCode {
 }
 
 fn usage() -> ExitCode {
-    eprintln!("oracle/run gate | math [SEED] | trig | table | root_all | strict [time | SEED COUNT] | record NAME");
+    eprintln!(
+        "oracle/run gate | math [SEED] | trig | table | bezier | root_all | strict [time | SEED COUNT] | record NAME"
+    );
     ExitCode::from(2)
 }

@@ -57,6 +57,100 @@ unsafe extern "C" {
         answer: *mut u64,
         answer_len: usize,
     ) -> u32;
+    fn kihavute_quad_position(
+        sx: f32,
+        sy: f32,
+        cx: f32,
+        cy: f32,
+        ex: f32,
+        ey: f32,
+        progress: f32,
+        answer: *mut u64,
+        answer_len: usize,
+    ) -> u32;
+    fn kihavute_quad_tangent(
+        sx: f32,
+        sy: f32,
+        cx: f32,
+        cy: f32,
+        ex: f32,
+        ey: f32,
+        progress: f32,
+        answer: *mut u64,
+        answer_len: usize,
+    ) -> u32;
+    fn kihavute_quad_rotation_deg(
+        sx: f32,
+        sy: f32,
+        cx: f32,
+        cy: f32,
+        ex: f32,
+        ey: f32,
+        progress: f32,
+        answer: *mut u64,
+        answer_len: usize,
+    ) -> u32;
+    fn kihavute_quad_length(
+        sx: f32,
+        sy: f32,
+        cx: f32,
+        cy: f32,
+        ex: f32,
+        ey: f32,
+        answer: *mut u64,
+        answer_len: usize,
+    ) -> u32;
+    fn kihavute_cubic_position(
+        sx: f32,
+        sy: f32,
+        ax: f32,
+        ay: f32,
+        bx: f32,
+        by: f32,
+        ex: f32,
+        ey: f32,
+        progress: f32,
+        answer: *mut u64,
+        answer_len: usize,
+    ) -> u32;
+    fn kihavute_cubic_tangent(
+        sx: f32,
+        sy: f32,
+        ax: f32,
+        ay: f32,
+        bx: f32,
+        by: f32,
+        ex: f32,
+        ey: f32,
+        progress: f32,
+        answer: *mut u64,
+        answer_len: usize,
+    ) -> u32;
+    fn kihavute_cubic_rotation_deg(
+        sx: f32,
+        sy: f32,
+        ax: f32,
+        ay: f32,
+        bx: f32,
+        by: f32,
+        ex: f32,
+        ey: f32,
+        progress: f32,
+        answer: *mut u64,
+        answer_len: usize,
+    ) -> u32;
+    fn kihavute_cubic_length(
+        sx: f32,
+        sy: f32,
+        ax: f32,
+        ay: f32,
+        bx: f32,
+        by: f32,
+        ex: f32,
+        ey: f32,
+        answer: *mut u64,
+        answer_len: usize,
+    ) -> u32;
     fn kihavute_strict(text: *const u8, text_len: usize, answer: *mut u64, answer_len: usize) -> u32;
 }
 
@@ -231,6 +325,92 @@ pub fn spot(lengths: &[f32], progress: f32) -> Result<Option<(usize, Bits)>, Ref
     Ok((!lengths.is_empty()).then_some((given[0] as usize, given[1] as Bits)))
 }
 
+/// Where the quad of a start, a control and an end is at a progress.
+#[inline]
+pub fn quad_position(p: &[[f32; 2]; 3], progress: f32) -> Result<[Bits; 2], Refusal> {
+    // SAFETY: the answer is the call's own
+    let given = judged(|answer, places| unsafe {
+        kihavute_quad_position(p[0][0], p[0][1], p[1][0], p[1][1], p[2][0], p[2][1], progress, answer, places)
+    })?;
+    Ok([given[0] as Bits, given[1] as Bits])
+}
+
+/// Where the quad of these points heads at a progress, with the length 1.
+#[inline]
+pub fn quad_tangent(p: &[[f32; 2]; 3], progress: f32) -> Result<[Bits; 2], Refusal> {
+    // SAFETY: the answer is the call's own
+    let given = judged(|answer, places| unsafe {
+        kihavute_quad_tangent(p[0][0], p[0][1], p[1][0], p[1][1], p[2][0], p[2][1], progress, answer, places)
+    })?;
+    Ok([given[0] as Bits, given[1] as Bits])
+}
+
+/// Where the quad of these points heads at a progress, in degrees.
+#[inline]
+pub fn quad_rotation_deg(p: &[[f32; 2]; 3], progress: f32) -> Result<Bits, Refusal> {
+    // SAFETY: the answer is the call's own
+    let given = judged(|answer, places| unsafe {
+        kihavute_quad_rotation_deg(p[0][0], p[0][1], p[1][0], p[1][1], p[2][0], p[2][1], progress, answer, places)
+    })?;
+    Ok(given[0] as Bits)
+}
+
+/// How long the quad of these points is.
+#[inline]
+pub fn quad_length(p: &[[f32; 2]; 3]) -> Result<Bits, Refusal> {
+    // SAFETY: the answer is the call's own
+    let given = judged(|answer, places| unsafe {
+        kihavute_quad_length(p[0][0], p[0][1], p[1][0], p[1][1], p[2][0], p[2][1], answer, places)
+    })?;
+    Ok(given[0] as Bits)
+}
+
+/// Where the cubic of a start, two controls and an end is at a progress.
+#[inline]
+pub fn cubic_position(p: &[[f32; 2]; 4], progress: f32) -> Result<[Bits; 2], Refusal> {
+    // SAFETY: the answer is the call's own
+    let given = judged(|answer, places| unsafe {
+        kihavute_cubic_position(
+            p[0][0], p[0][1], p[1][0], p[1][1], p[2][0], p[2][1], p[3][0], p[3][1], progress, answer, places,
+        )
+    })?;
+    Ok([given[0] as Bits, given[1] as Bits])
+}
+
+/// Where the cubic of these points heads at a progress, with the length 1.
+#[inline]
+pub fn cubic_tangent(p: &[[f32; 2]; 4], progress: f32) -> Result<[Bits; 2], Refusal> {
+    // SAFETY: the answer is the call's own
+    let given = judged(|answer, places| unsafe {
+        kihavute_cubic_tangent(
+            p[0][0], p[0][1], p[1][0], p[1][1], p[2][0], p[2][1], p[3][0], p[3][1], progress, answer, places,
+        )
+    })?;
+    Ok([given[0] as Bits, given[1] as Bits])
+}
+
+/// Where the cubic of these points heads at a progress, in degrees.
+#[inline]
+pub fn cubic_rotation_deg(p: &[[f32; 2]; 4], progress: f32) -> Result<Bits, Refusal> {
+    // SAFETY: the answer is the call's own
+    let given = judged(|answer, places| unsafe {
+        kihavute_cubic_rotation_deg(
+            p[0][0], p[0][1], p[1][0], p[1][1], p[2][0], p[2][1], p[3][0], p[3][1], progress, answer, places,
+        )
+    })?;
+    Ok(given[0] as Bits)
+}
+
+/// How long the cubic of these points is.
+#[inline]
+pub fn cubic_length(p: &[[f32; 2]; 4]) -> Result<Bits, Refusal> {
+    // SAFETY: the answer is the call's own
+    let given = judged(|answer, places| unsafe {
+        kihavute_cubic_length(p[0][0], p[0][1], p[1][0], p[1][1], p[2][0], p[2][1], p[3][0], p[3][1], answer, places)
+    })?;
+    Ok(given[0] as Bits)
+}
+
 /// What strict reading says of a text.
 #[derive(Clone, Copy, Debug, PartialEq, Eq)]
 pub enum Strict {
@@ -312,6 +492,23 @@ mod tests {
         assert_eq!(spot(&[2.0, 2.0, 4.0], 0.75), Ok(Some((2, 0.5f32.to_bits()))));
         assert_eq!(spot(&[], 0.5), Ok(None));
         assert_eq!(spot(&[2.0, 1.0], 0.5), Err(Refusal { number: 12, carried: [0; 8] }));
+    }
+
+    #[test]
+    fn curves() {
+        let refused = Refusal { number: 11, carried: [0; 8] };
+        let straight = [[0.0, 0.0], [1.0, 0.0], [2.0, 0.0]];
+        assert_eq!(quad_position(&straight, 0.5), Ok(bits([1.0, 0.0])));
+        assert_eq!(quad_tangent(&straight, f32::NAN), Ok(bits([1.0, 0.0])));
+        assert_eq!(quad_rotation_deg(&[[0.0, 0.0], [0.0, 1.0], [0.0, 2.0]], 0.5), Ok(90.0f32.to_bits()));
+        assert_eq!(quad_length(&[[1.0, 2.0]; 3]), Ok(0));
+        assert_eq!(quad_length(&[[0.0, 0.0], [2e19, 0.0], [4e19, 0.0]]), Err(refused));
+        let straight = [[0.0, 0.0], [0.0, 1.0], [0.0, 2.0], [0.0, 3.0]];
+        assert_eq!(cubic_position(&straight, 2.0), Ok(bits([0.0, 3.0])));
+        assert_eq!(cubic_tangent(&straight, 0.25), Ok(bits([0.0, 1.0])));
+        assert_eq!(cubic_rotation_deg(&straight, 0.25), Ok(90.0f32.to_bits()));
+        assert_eq!(cubic_length(&[[1.0, 2.0]; 4]), Ok(0));
+        assert_eq!(cubic_length(&[[f32::NAN; 2]; 4]), Err(refused));
     }
 
     #[test]

@@ -215,6 +215,48 @@ static void lookups(void) {
     answered("spot, not finite", kihavute_spot(lengths, 3, 0.5f, answer, PLACES), 12, 0, NULL);
 }
 
+static void curves(void) {
+    const float nan = kihavute_float(NAN_BITS);
+
+    fresh();
+    answered("a quad's place halfway", kihavute_quad_position(0, 0, 1, 0, 2, 0, 0.5f, answer, PLACES), 0, 2, (uint64_t[]){bits(1), 0});
+    fresh();
+    answered("a quad's place at a NaN", kihavute_quad_position(3, 4, 1, 0, 2, 0, nan, answer, PLACES), 0, 2, (uint64_t[]){bits(3), bits(4)});
+    fresh();
+    answered("a quad's place beyond", kihavute_quad_position(3, 4, 1, 0, 2, 5, 7, answer, 8), 0, 2, (uint64_t[]){bits(2), bits(5)});
+    fresh();
+    answered("a quad's direction", kihavute_quad_tangent(0, 0, 0, 1, 0, 2, 0.25f, answer, PLACES), 0, 2, (uint64_t[]){0, bits(1)});
+    fresh();
+    answered("a quad's direction by the second try", kihavute_quad_tangent(0, 0, 0, 0, 4, 0, 0, answer, PLACES), 0, 2, (uint64_t[]){bits(1), 0});
+    fresh();
+    answered("a point's direction", kihavute_quad_tangent(1, 2, 1, 2, 1, 2, 0.5f, answer, PLACES), 0, 2, (uint64_t[]){0, 0});
+    fresh();
+    answered("a quad's heading", kihavute_quad_rotation_deg(0, 0, 0, 1, 0, 2, 0.25f, answer, PLACES), 0, 1, (uint64_t[]){bits(90)});
+    fresh();
+    answered("a point's length", kihavute_quad_length(1, 2, 1, 2, 1, 2, answer, PLACES), 0, 1, (uint64_t[]){0});
+    fresh();
+    answered("a quad's length, a short answer", kihavute_quad_length(1, 2, 1, 2, 1, 2, answer, 7), 255, 0, NULL);
+    fresh();
+    answered("a quad too long", kihavute_quad_length(0, 0, 2e19f, 0, 4e19f, 0, answer, PLACES), 11, 1, (uint64_t[]){0});
+    fresh();
+    answered("a quad too long has no place", kihavute_quad_position(0, 0, 2e19f, 0, 4e19f, 0, 0.5f, answer, PLACES), 11, 1, (uint64_t[]){0});
+    fresh();
+    answered("a quad of a NaN", kihavute_quad_tangent(0, 0, nan, 0, 1, 0, 0.5f, answer, PLACES), 11, 1, (uint64_t[]){0});
+
+    fresh();
+    answered("a cubic's place beyond", kihavute_cubic_position(0, 0, 0, 1, 0, 2, 0, 3, 2, answer, PLACES), 0, 2, (uint64_t[]){0, bits(3)});
+    fresh();
+    answered("a cubic's place before", kihavute_cubic_position(5, 6, 0, 1, 0, 2, 0, 3, -1, answer, PLACES), 0, 2, (uint64_t[]){bits(5), bits(6)});
+    fresh();
+    answered("a cubic's direction", kihavute_cubic_tangent(0, 0, 0, 1, 0, 2, 0, 3, 0.25f, answer, PLACES), 0, 2, (uint64_t[]){0, bits(1)});
+    fresh();
+    answered("a cubic's heading", kihavute_cubic_rotation_deg(0, 0, -1, 0, -2, 0, -3, 0, 0.25f, answer, PLACES), 0, 1, (uint64_t[]){bits(180)});
+    fresh();
+    answered("a cubic's length", kihavute_cubic_length(1, 2, 1, 2, 1, 2, 1, 2, answer, PLACES), 0, 1, (uint64_t[]){0});
+    fresh();
+    answered("a cubic of a NaN", kihavute_cubic_length(1, 2, 1, nan, 1, 2, 1, 2, answer, PLACES), 11, 1, (uint64_t[]){0});
+}
+
 /* the code returned, and what stands in the first place of an answer that held 77 */
 static uint64_t strict_says(const char *text, size_t length) {
     uint64_t answer[8] = {77, 77, 77, 77, 77, 77, 77, 77};
@@ -252,6 +294,7 @@ int main(void) {
     numbers();
     points();
     lookups();
+    curves();
     strict_reading();
     printf("%d passed, %d failed\n", passed, failed);
     return failed != 0;

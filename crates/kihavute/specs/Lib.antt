@@ -3,3 +3,4 @@ pub mod Pair
 pub mod Given
 pub mod Decimals
 pub mod StrictReading
+pub mod Curves
