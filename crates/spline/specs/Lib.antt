@@ -1,0 +1,2 @@
+-- What a Catmull-Rom spline gives.
+pub mod Formula
