@@ -1,13 +1,31 @@
 -- What making an arc and a query of one answer, by the way their tests went. Assumes nothing.
 use mathlib.Core.Path.{_≡_}
 use mathlib.Core.Bool.{Bool, true, false}
-use lib.Ieee.{Float}
+use lib.Ieee.{Float, binary32, ofBits, le}
+use Rattle.floats.specs.Floats.{epsilonF}
+use Rattle.math.specs.Math.{distanceOf}
 use Rattle.bezier.specs.declared.curves.Placed.the-variants as Placed
 use Rattle.bezier.specs.Curves.{placedOf}
 use Rattle.ellipse.specs.declared.ends.Chord.{Chord}
+use Rattle.ellipse.specs.Ends.{sizeOf}
 use Rattle.arc.specs.declared.arcs.EllipticalArc.{EllipticalArc}
 use Rattle.arc.specs.Lines.{lineLengthOf, linePositionOf, lineTangentOf}
 use Rattle.arc.specs.Arcs.{isFallback, inRange, chordLine, fallenBack, fitted, outOfRange, madeArcOf, arcPositionOf, arcTangentOf, arcPlacedOf, arcHeadingOf, arcLengthOf}
+
+-- ---- whether an arc falls back, by what is compared with 2^-23
+module _ (chord : Chord) (gap : Float) (is-gap : gap ≡ distanceOf (chord .start) (chord .end)) where
+  pub near-ends : le gap (ofBits binary32 0x3400_0000) ≡ true → true ≡ isFallback chord
+  unfolding isFallback epsilonF
+  near-ends h = rw (← is-gap, h)
+
+  module _ (apart : le gap (ofBits binary32 0x3400_0000) ≡ false) (wide : Float) (is-wide : wide ≡ sizeOf (chord .radii .x)) where
+    pub thin : le wide (ofBits binary32 0x3400_0000) ≡ true → true ≡ isFallback chord
+    unfolding isFallback epsilonF
+    thin h = rw (← is-gap, apart, ← is-wide, h)
+
+    pub flat : le wide (ofBits binary32 0x3400_0000) ≡ false → (high : Float) → high ≡ sizeOf (chord .radii .y) → le high (ofBits binary32 0x3400_0000) ≡ isFallback chord
+    unfolding isFallback epsilonF
+    flat h high is-high = rw (← is-gap, apart, ← is-wide, h, is-high)
 
 -- ---- making one, by the two tests' results
 module _ (chord : Chord) (b : Bool) (tested : b ≡ isFallback chord) where
