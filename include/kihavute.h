@@ -145,6 +145,12 @@ uint32_t kihavute_spot(const float *lengths, size_t lengths_len, float progress,
  * mark. A function that can refuse returns the refusal's number, 0 where it accepts, and writes what goes with
  * that to the start of answer, an array of at least 8 places. Into a shorter one it writes nothing and returns 255. */
 
+/* The decimal number that a text starts with: an optional sign, digits, an optional point and digits, at least one digit
+ * in all, an optional exponent, the longest text. answer[0] gets the bits of the float nearest to its exact value, ties to
+ * even, for any count of digits; answer[1] how many bytes it takes. Refused with 1 above 65,536 bytes (the count), with
+ * 3 at 0 where no number starts, with 4 at the e of an exponent without digit. */
+uint32_t kihavute_number(const uint8_t *text, size_t text_len, uint64_t *answer, size_t answer_len);
+
 /* Whether the text matches the path grammar of SVG 1.1 Second Edition, 8.3.9, with an arc's radii signed: answer[0]
  * is 1 for a yes and 0 for a no. Refused with 1: above 65,536 bytes; answer[0] is the count. The time is linear. */
 uint32_t kihavute_strict(const uint8_t *text, size_t text_len, uint64_t *answer, size_t answer_len);

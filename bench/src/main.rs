@@ -3,7 +3,9 @@
 
 mod clock;
 
+use animato_path::bezier::QuadBezier;
 use animato_path::math::open;
+use animato_path::poly::{CompoundPath, LineSegment, PathSegment};
 use animato_path::svg::SvgPathParser;
 use clock::{latency, throughput};
 
@@ -14,6 +16,8 @@ fn main() {
     root();
     length();
     strict();
+    lookup();
+    spot();
 }
 
 fn row(name: &str, [ours, theirs]: [f64; 2]) {
@@ -36,6 +40,16 @@ fn original_length(v: [f32; 2]) -> f32 {
 fn original_reads(text: &[u8]) -> usize {
     let text = std::str::from_utf8(text).expect("a drawing is ASCII");
     SvgPathParser::try_parse(text).map_or(0, |commands| commands.len())
+}
+
+#[inline(never)]
+fn original_raw_t(curve: &QuadBezier, t: f32) -> f32 {
+    curve.open_raw_t(t)
+}
+
+#[inline(never)]
+fn original_segment_at(path: &CompoundPath, t: f32) -> f32 {
+    path.open_local_at(t)
 }
 
 #[inline(never)]
@@ -71,6 +85,40 @@ fn strict() {
     let ours = |text: &[u8]| u32::from(kihavute::strict(text) == kihavute::Strict::Yes);
     let theirs = |text: &[u8]| original_reads(text) as u32;
     row("strict reading, 100 bytes", throughput(&inputs, ours, theirs));
+}
+
+// 64 quads of some hundred metres; ours also judges the table's 32 entries at each call
+fn lookup() {
+    let metres = |bits: u32| (bits % 1_000_000) as f32 / 1000.0;
+    let bits: Vec<u32> = patterns().collect();
+    let curves: Vec<QuadBezier> = (0..64)
+        .map(|k| {
+            let point = |j: usize| [metres(bits[6 * k + 2 * j]), metres(bits[6 * k + 2 * j + 1])];
+            QuadBezier::new(point(0), point(1), point(2))
+        })
+        .collect();
+    let tables: Vec<([f32; 32], f32)> = curves.iter().map(QuadBezier::open_table).collect();
+    let inputs: Vec<(usize, f32)> =
+        bits.iter().map(|bits| (*bits as usize % 64, (bits >> 8) as f32 / 16_777_216.0)).collect();
+    let ours = |(k, t): (usize, f32)| kihavute::raw_parameter(&tables[k].0, tables[k].1, t).unwrap_or(0);
+    row("lookup in a table of 32", throughput(&inputs, ours, |(k, t)| original_raw_t(&curves[k], t).to_bits()));
+}
+
+// a path of 40 lines; ours also judges the 40 running lengths at each call
+fn spot() {
+    let mut total = 0.0f32;
+    let lengths: Vec<f32> = patterns()
+        .take(40)
+        .map(|bits| {
+            total += (bits % 1_000_000) as f32 / 1000.0;
+            total
+        })
+        .collect();
+    let line = PathSegment::Line(LineSegment::new([0.0, 0.0], [1.0, 0.0]));
+    let path = CompoundPath::open_from_parts(vec![line; 40], lengths.clone(), total);
+    let inputs: Vec<f32> = patterns().map(|bits| (bits >> 8) as f32 / 16_777_216.0).collect();
+    let ours = |t: f32| kihavute::spot(&lengths, t).ok().flatten().map_or(0, |(_, local)| local);
+    row("segment of a path of 40", throughput(&inputs, ours, |t| original_segment_at(&path, t).to_bits()));
 }
 
 // fixed pseudo-random patterns

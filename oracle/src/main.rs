@@ -9,7 +9,6 @@ mod root_all;
 mod samples;
 mod simple;
 mod strict;
-mod strict_record;
 mod table;
 
 use compare::Report;
@@ -25,11 +24,10 @@ fn main() -> ExitCode {
         ["gate"] => {
             math::compare(&mut report, SEED, 200_000);
             table::compare(&mut report, SEED, 20_000);
+            strict::compare_some(&mut report, SEED);
             for recording in record::RECORDINGS {
                 recording.compare(&mut report, SEED);
             }
-            strict::compare_some(&mut report, SEED);
-            strict_record::compare(&mut report, SEED);
         }
         ["math"] => math::compare(&mut report, SEED, 2_000_000),
         ["math", seed] => match seed.parse() {
@@ -44,7 +42,6 @@ fn main() -> ExitCode {
             (Ok(seed), Ok(count)) => strict::compare_derivations(&mut report, seed, count),
             _ => return usage(),
         },
-        ["record", "strict"] => strict_record::write(&mut report, SEED),
         ["record", name] => match record::RECORDINGS.iter().find(|recording| recording.name == name) {
             Some(recording) => recording.write(&mut report, SEED),
             None => return usage(),

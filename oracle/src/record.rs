@@ -1,6 +1,7 @@
 //! The lists of recorded answers that the programs replay_NAME run through the proved crates.
 
 mod math;
+mod strict;
 mod table;
 
 use crate::compare::Report;
@@ -9,11 +10,14 @@ use std::fs;
 /// The recorded answers of a part: a list as the program of its name reads it, and how many answers it has.
 pub struct Recording {
     pub name: &'static str,
-    list: fn(&mut Report, u64) -> (String, u64),
+    list: fn(&mut Report, u64) -> (Vec<u8>, u64),
 }
 
-pub const RECORDINGS: [Recording; 2] =
-    [Recording { name: "math", list: math::list }, Recording { name: "table", list: table::list }];
+pub const RECORDINGS: [Recording; 3] = [
+    Recording { name: "math", list: math::list },
+    Recording { name: "table", list: table::list },
+    Recording { name: "strict", list: strict::list },
+];
 
 impl Recording {
     /// Writes the list and the line that the program is to print.
@@ -21,14 +25,14 @@ impl Recording {
         let (list, count) = (self.list)(report, seed);
         fs::write(self.file("stdin"), list).expect("the list is written");
         fs::write(self.file("stdout"), due(count)).expect("the line is written");
-        println!("{}: {count} answers of the Rust, seed {seed}", self.file("stdin"));
+        println!("{}: {count} answers, seed {seed}", self.file("stdin"));
     }
 
     /// Sees that the list in the repository is the one that would be written.
     pub fn compare(&self, report: &mut Report, seed: u64) {
         let (list, count) = (self.list)(report, seed);
-        let read = |name: &str| fs::read_to_string(self.file(name)).unwrap_or_default();
-        let equal = read("stdin") == list && read("stdout") == due(count);
+        let read = |name: &str| fs::read(self.file(name)).unwrap_or_default();
+        let equal = read("stdin") == list && read("stdout") == due(count).into_bytes();
         report.count(0, equal);
         let state = if equal { "as they would be written" } else { "DIFFERENT: oracle/record writes them anew" };
         println!("  replay_{}: {count} recorded answers, {state}", self.name);

@@ -1,3 +1,4 @@
 -- The laws of quads and cubics, cited by their functions.
 pub mod Finite
 pub mod Queries
+pub mod Steady

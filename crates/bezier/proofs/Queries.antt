@@ -1,13 +1,16 @@
 -- The answers of a query and the second try at a direction, by the way their tests went. Assumes nothing.
 use mathlib.Core.Path.{_≡_}
 use mathlib.Core.Bool.{Bool, true, false}
+use lib.Ieee.{Float}
 use Rattle.answers.specs.declared.refusals.Refusal.the-variants.{BadPath}
 use Rattle.math.specs.declared.points.Point.{Point}
 use Rattle.table.specs.declared.tables.Table.{Table}
 use Rattle.table.specs.Sound.{tableIsSound}
 use Rattle.bezier.specs.declared.curves.Placed.{Placed}
 use Rattle.bezier.specs.declared.curves.Placed.the-variants as Placed
-use Rattle.bezier.specs.Curves.{isNothing, secondTry, placedOf}
+use Rattle.bezier.specs.declared.curves.Turned.{Turned}
+use Rattle.bezier.specs.declared.curves.Turned.the-variants as Turned
+use Rattle.bezier.specs.Curves.{isNothing, secondTry, placedOf, turnedOf}
 
 -- ---- the table's test, by its result b
 module _ (table : Table) (p : Point) (b : Bool) (tested : b ≡ tableIsSound (table .entries) (table .total)) where
@@ -18,6 +21,15 @@ module _ (table : Table) (p : Point) (b : Bool) (tested : b ≡ tableIsSound (ta
   pub placed-refused : b ≡ false → Placed.Refused BadPath ≡ placedOf table p
   unfolding placedOf
   placed-refused h = rw (← tested, h)
+
+module _ (table : Table) (degrees : Float) (b : Bool) (tested : b ≡ tableIsSound (table .entries) (table .total)) where
+  pub turned-by : b ≡ true → Turned.Degrees degrees ≡ turnedOf table degrees
+  unfolding turnedOf
+  turned-by h = rw (← tested, h)
+
+  pub turned-refused : b ≡ false → Turned.Refused BadPath ≡ turnedOf table degrees
+  unfolding turnedOf
+  turned-refused h = rw (← tested, h)
 
 -- ---- the direction's test, by its result b
 module _ (first second : Point) (b : Bool) (tested : b ≡ isNothing first) where

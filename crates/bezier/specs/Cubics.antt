@@ -5,10 +5,12 @@ use Rattle.math.specs.declared.points.Point.{Point}
 use Rattle.math.specs.Math.{addOf, subOf, scaleOf, normalizeOf, lerpPointOf}
 use Rattle.table.specs.Lookup.{rawOf}
 use Rattle.samples.specs.Samples.{tableOf}
+use Rattle.angles.specs.Angles.{rotationDegOf}
 use Rattle.bezier.specs.declared.curves.Placed.{Placed}
+use Rattle.bezier.specs.declared.curves.Turned.{Turned}
 use Rattle.bezier.specs.declared.cubics.MadeCubic.{MadeCubic}
 use Rattle.bezier.specs.declared.cubics.CubicBezierCurve.{CubicBezierCurve}
-use Rattle.bezier.specs.Curves.{verdictOf, aheadOf, secondTry, placedOf}
+use Rattle.bezier.specs.Curves.{verdictOf, aheadOf, secondTry, placedOf, turnedOf}
 use Rattle.bezier.specs.Quads.{quadAt}
 
 -- 3
@@ -70,3 +72,8 @@ cubicPlacedOf curve progress = placedOf (curve .table) (cubicPositionOf curve pr
 unfoldable pub cubicHeadingOf : CubicBezierCurve → Float → Placed
 unfolding cubicTangentOf
 cubicHeadingOf curve progress = placedOf (curve .table) (cubicTangentOf curve progress)
+
+-- `rotation_deg` of the tangent
+unfoldable pub cubicTurnedOf : CubicBezierCurve → Float → Turned
+unfolding cubicTangentOf
+cubicTurnedOf curve progress = turnedOf (curve .table) (rotationDegOf (cubicTangentOf curve progress))

@@ -10,6 +10,8 @@ use Rattle.table.specs.declared.tables.Table.{Table}
 use Rattle.table.specs.Sound.{tableIsSound}
 use Rattle.bezier.specs.declared.curves.Placed.{Placed}
 use Rattle.bezier.specs.declared.curves.Placed.the-variants as Placed
+use Rattle.bezier.specs.declared.curves.Turned.{Turned}
+use Rattle.bezier.specs.declared.curves.Turned.the-variants as Turned
 use Rattle.bezier.specs.declared.curves.Verdict.{Verdict}
 use Rattle.bezier.specs.declared.curves.Verdict.the-variants as Verdict
 
@@ -34,3 +36,8 @@ secondTry first second = cond (isNothing first) second first
 unfoldable pub placedOf : Table → Point → Placed
 unfolding tableIsSound
 placedOf table p = cond (tableIsSound (table .entries) (table .total)) (Placed.At p) (Placed.Refused BadPath)
+
+-- the same of a heading in degrees
+unfoldable pub turnedOf : Table → Float → Turned
+unfolding tableIsSound
+turnedOf table degrees = cond (tableIsSound (table .entries) (table .total)) (Turned.Degrees degrees) (Turned.Refused BadPath)

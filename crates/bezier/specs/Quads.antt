@@ -5,10 +5,12 @@ use Rattle.math.specs.declared.points.Point.{Point}
 use Rattle.math.specs.Math.{addOf, subOf, scaleOf, normalizeOf, lerpPointOf}
 use Rattle.table.specs.Lookup.{rawOf}
 use Rattle.samples.specs.Samples.{tableOf}
+use Rattle.angles.specs.Angles.{rotationDegOf}
 use Rattle.bezier.specs.declared.curves.Placed.{Placed}
+use Rattle.bezier.specs.declared.curves.Turned.{Turned}
 use Rattle.bezier.specs.declared.quads.MadeQuad.{MadeQuad}
 use Rattle.bezier.specs.declared.quads.QuadBezier.{QuadBezier}
-use Rattle.bezier.specs.Curves.{verdictOf, aheadOf, secondTry, placedOf}
+use Rattle.bezier.specs.Curves.{verdictOf, aheadOf, secondTry, placedOf, turnedOf}
 
 -- 2
 unfoldable pub twoF : Float
@@ -59,3 +61,8 @@ quadPlacedOf curve progress = placedOf (curve .table) (quadPositionOf curve prog
 unfoldable pub quadHeadingOf : QuadBezier → Float → Placed
 unfolding quadTangentOf
 quadHeadingOf curve progress = placedOf (curve .table) (quadTangentOf curve progress)
+
+-- `rotation_deg` of the tangent
+unfoldable pub quadTurnedOf : QuadBezier → Float → Turned
+unfolding quadTangentOf
+quadTurnedOf curve progress = turnedOf (curve .table) (rotationDegOf (quadTangentOf curve progress))

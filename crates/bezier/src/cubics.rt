@@ -1,9 +1,11 @@
 // A curve of third degree.
 use crate::curves::Placed;
+use crate::curves::Turned;
 use crate::curves::Verdict;
 use crate::curves::tidied;
 use crate::curves::verdict_of;
 use crate::inner;
+use angles::rotation_deg;
 use answers::Refusal;
 use floats::tidy;
 use math::Point;
@@ -22,7 +24,7 @@ use table::table_is_sound;
 use table::table_of;
 ghost use mathlib.Core.Path.{_≡_};
 ghost use Rattle.samples.specs.Samples.{stepsOf, tableOf};
-ghost use Rattle.bezier.specs.Cubics.{cubicSampleOf, cubicDerivativeOf, madeCubicOf, cubicPlacedOf, cubicHeadingOf};
+ghost use Rattle.bezier.specs.Cubics.{cubicSampleOf, cubicDerivativeOf, madeCubicOf, cubicPlacedOf, cubicHeadingOf, cubicTurnedOf};
 
 // From `start` to `end`, drawn towards its two controls, with its running lengths. `cubic` makes one whose table is sound.
 pub struct CubicBezierCurve {
@@ -135,6 +137,18 @@ pub fn cubic_tangent(curve: CubicBezierCurve, progress: Progress) -> Placed
         return Placed::At(tidied(inner::cubic_tangent(curve, progress)));
     }
     Placed::Refused(Refusal::BadPath)
+}
+
+// Where a cubic heads at a progress, in degrees from the x axis towards the y axis, or 0 where nothing tells. A table that is not
+// sound is refused.
+pub fn cubic_rotation_deg(curve: CubicBezierCurve, progress: Progress) -> Turned
+    ensures { λ r. ⌜ r ≡ cubicTurnedOf curve (progress .value) ⌝ }
+{
+    let table = curve.table;
+    if table_is_sound(table) {
+        return Turned::Degrees(tidy(rotation_deg(inner::cubic_tangent(curve, progress))));
+    }
+    Turned::Refused(Refusal::BadPath)
 }
 
 // How long a cubic is: its table's total.

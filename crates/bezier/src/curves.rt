@@ -13,6 +13,12 @@ pub enum Placed {
     Refused(Refusal),
 }
 
+// A heading in degrees, or why there is none.
+pub enum Turned {
+    Degrees(f32),
+    Refused(Refusal),
+}
+
 // p as it leaves the library.
 pub fn tidied(p: Point) -> Point
     ensures { λ r. ⌜ r ≡ p ⌝ }

@@ -1,9 +1,11 @@
 // A curve of second degree.
 use crate::curves::Placed;
+use crate::curves::Turned;
 use crate::curves::Verdict;
 use crate::curves::tidied;
 use crate::curves::verdict_of;
 use crate::inner;
+use angles::rotation_deg;
 use answers::Refusal;
 use floats::tidy;
 use math::Point;
@@ -22,7 +24,7 @@ use table::table_is_sound;
 use table::table_of;
 ghost use mathlib.Core.Path.{_≡_};
 ghost use Rattle.samples.specs.Samples.{stepsOf, tableOf};
-ghost use Rattle.bezier.specs.Quads.{quadSampleOf, quadDerivativeOf, madeQuadOf, quadPlacedOf, quadHeadingOf};
+ghost use Rattle.bezier.specs.Quads.{quadSampleOf, quadDerivativeOf, madeQuadOf, quadPlacedOf, quadHeadingOf, quadTurnedOf};
 
 // From `start` to `end`, drawn towards `control`, with its running lengths. `quad` makes one whose table is sound.
 pub struct QuadBezier {
@@ -116,6 +118,18 @@ pub fn quad_tangent(curve: QuadBezier, progress: Progress) -> Placed
         return Placed::At(tidied(inner::quad_tangent(curve, progress)));
     }
     Placed::Refused(Refusal::BadPath)
+}
+
+// Where a quad heads at a progress, in degrees from the x axis towards the y axis, or 0 where nothing tells. A table that is not
+// sound is refused.
+pub fn quad_rotation_deg(curve: QuadBezier, progress: Progress) -> Turned
+    ensures { λ r. ⌜ r ≡ quadTurnedOf curve (progress .value) ⌝ }
+{
+    let table = curve.table;
+    if table_is_sound(table) {
+        return Turned::Degrees(tidy(rotation_deg(inner::quad_tangent(curve, progress))));
+    }
+    Turned::Refused(Refusal::BadPath)
 }
 
 // How long a quad is: its table's total.

@@ -27,7 +27,7 @@ pub struct Arc {
 }
 
 // A number without its sign. -0 stays, which a radius never shows: it is too small for an ellipse.
-fn size(x: f32) -> f32
+pub fn size(x: f32) -> f32
     ensures { λ r. ⌜ r ≡ sizeOf x ⌝ }
 {
     if x < 0.0 { -x } else { x }

@@ -7,5 +7,6 @@ mod shape;
 pub use ends::Arc;
 pub use ends::Chord;
 pub use ends::from_ends;
+pub use ends::size;
 pub use shape::direction;
 pub use shape::point;

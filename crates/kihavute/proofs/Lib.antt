@@ -1,2 +1,3 @@
 -- The laws of what is given through C.
 pub mod Giving
+pub mod NumberGiven

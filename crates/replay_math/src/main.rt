@@ -1,8 +1,10 @@
 // Runs recorded answers of the Rust through the proved crates, and prints how many there were and
 // how many differ. `oracle/record math` writes the records to this crate's stdin.
-ghost use Prim.Native.Nat.{_+_, _≤_, _<_};
+ghost use Prim.Native.Nat.{_+_, _≤_};
 ghost use lib.ListN.{length};
 use math::Point;
+use records::float;
+use records::pattern;
 
 // The bytes of a record, which is a line: the helper's letter, then five operands and two answers as
 // patterns of eight hexadecimal digits, a space before each. Places that a helper does not use hold
@@ -13,11 +15,7 @@ fn main() {
     let mut space = io::large_buffer();
     let n = io::read_full(0, &mut space);
     let different = differing(&space[..n]);
-    io::write_all(1, b"replayed ");
-    io::print_decimal(1, (n / RECORD) as u64);
-    io::write_all(1, b", different ");
-    io::print_decimal(1, different);
-    io::write_all(1, b"\n");
+    records::tell((n / RECORD) as u64, different);
 }
 
 // How many whole records hold another answer than the proved crates give.
@@ -78,40 +76,4 @@ fn number(found: f32, due: u32) -> bool {
 
 fn point(found: Point, x: u32, y: u32) -> bool {
     number(found.x, x) && number(found.y, y)
-}
-
-// The float of a pattern, for every NaN's pattern the one NaN.
-fn float(bits: u32) -> f32 {
-    if bits % 0x8000_0000 > 0x7f80_0000 {
-        return 0.0 / 0.0;
-    }
-    f32::from_bits(bits)
-}
-
-// The eight hexadecimal digits from this place on.
-fn pattern(text: &[u8], at: usize) -> u32
-    requires { ⌜ at + 8 ≤ length (now text) ⌝ }
-{
-    half(text, at) * 65536 + half(text, at + 4)
-}
-
-fn half(text: &[u8], at: usize) -> u32
-    requires { ⌜ at + 4 ≤ length (now text) ⌝ }
-    ensures { λ r. ⌜ r < 65536 ⌝ }
-{
-    digit(text[at]) * 4096
-        + digit(text[at + 1]) * 256
-        + digit(text[at + 2]) * 16
-        + digit(text[at + 3])
-}
-
-// What an upper-case hexadecimal digit stands for, and 0 for any other byte.
-fn digit(byte: u8) -> u32
-    ensures { λ r. ⌜ r < 16 ⌝ }
-{
-    match byte {
-        b'0'..=b'9' => (byte - b'0') as u32,
-        b'A'..=b'F' => (byte - b'A') as u32 + 10,
-        _ => 0,
-    }
 }

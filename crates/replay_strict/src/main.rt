@@ -12,41 +12,37 @@ fn main() {
     let mut space = io::large_buffer();
     let n = io::read_full(0, &mut space);
     let different = differing(&space[..n]);
-    io::write_all(1, b"replayed ");
-    io::print_decimal(1, (n / RECORD) as u64);
-    io::write_all(1, b", different ");
-    io::print_decimal(1, different);
-    io::write_all(1, b"\n");
+    records::tell((n / RECORD) as u64, different);
 }
 
 // How many whole records hold another verdict than strict reading gives.
-fn differing(records: &[u8]) -> u64 {
+fn differing(lines: &[u8]) -> u64 {
     let mut different = 0;
-    for i in 0..records.len() / RECORD {
-        different += missed(records, i * RECORD);
+    for i in 0..lines.len() / RECORD {
+        different += missed(lines, i * RECORD);
     }
     different
 }
 
 // 1 where the record at this place holds another verdict, else 0.
-fn missed(records: &[u8], at: usize) -> u64
-    requires { ⌜ at + 64 ≤ length (now records) ⌝ }
+fn missed(lines: &[u8], at: usize) -> u64
+    requires { ⌜ at + 64 ≤ length (now lines) ⌝ }
     ensures { λ r. ⌜ r ≤ 1 ⌝ }
 {
-    if agrees(records, at) { 0 } else { 1 }
+    if agrees(lines, at) { 0 } else { 1 }
 }
 
 // Whether the record at this place holds the verdict of strict reading.
-fn agrees(records: &[u8], at: usize) -> bool
-    requires { ⌜ at + 64 ≤ length (now records) ⌝ }
+fn agrees(lines: &[u8], at: usize) -> bool
+    requires { ⌜ at + 64 ≤ length (now lines) ⌝ }
 {
-    let size = digit(records[at + 1]) * 10 + digit(records[at + 2]);
+    let size = digit(lines[at + 1]) * 10 + digit(lines[at + 2]);
     if 60 < size {
         return false;
     }
     let from = at + 3;
     let to = from + size;
-    letter(strict::strict(&records[from..to])) == records[at]
+    letter(strict::strict(&lines[from..to])) == lines[at]
 }
 
 fn letter(verdict: Verdict) -> u8 {

@@ -1,2 +1,3 @@
--- The laws of sampling, for the loop of any sampler.
+-- The laws of sampling: the loop of any sampler, and when its table is sound.
 pub mod Stepping
+pub mod Made

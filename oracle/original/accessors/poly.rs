@@ -36,6 +36,11 @@ impl CompoundPath {
         (&self.cumulative, self.length)
     }
 
+    /// The local progress on the segment at this progress, 0 without one.
+    pub fn open_local_at(&self, t: f32) -> f32 {
+        self.segment_at(t).map_or(0.0, |(_, local)| local)
+    }
+
     /// The number of the segment at this progress and the local progress on it.
     pub fn open_segment_at(&self, t: f32) -> Option<(usize, f32)> {
         let (segment, local) = self.segment_at(t)?;

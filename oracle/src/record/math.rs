@@ -50,7 +50,7 @@ const TIES: [(char, [u32; 5]); 20] = [
 ];
 
 /// The lines, with the Rust's answers, and how many there are; the proved library is to give the same.
-pub fn list(report: &mut Report, seed: u64) -> (String, u64) {
+pub fn list(report: &mut Report, seed: u64) -> (Vec<u8>, u64) {
     let mut lines = String::new();
     let mut count = 0;
     for helper in &HELPERS {
@@ -63,7 +63,7 @@ pub fn list(report: &mut Report, seed: u64) -> (String, u64) {
         count += inputs.len() as u64;
         report.group(&format!("{}, recorded", helper.name), inputs.into_iter(), ours, theirs);
     }
-    (lines, count)
+    (lines.into_bytes(), count)
 }
 
 fn line(helper: &Helper, operands: &Operands, answer: Answer) -> String {

@@ -16,7 +16,7 @@ const LENGTHS: usize = 32;
 const ALWAYS: [f32; 7] = [0.0, 1.0, f32::NAN, -0.0, 2.0, 0.5, 0.99999994];
 
 /// The blocks, with the Rust's answers, and how many there are; the proved library is to give the same.
-pub fn list(report: &mut Report, seed: u64) -> (String, u64) {
+pub fn list(report: &mut Report, seed: u64) -> (Vec<u8>, u64) {
     let mut stream = Stream::new(seed);
     let mut blocks = String::new();
     let mut count = 0;
@@ -32,7 +32,7 @@ pub fn list(report: &mut Report, seed: u64) -> (String, u64) {
             report.group("lookups, recorded", lookups.into_iter(), ours, theirs);
         }
     }
-    (blocks, count)
+    (blocks.into_bytes(), count)
 }
 
 // lengths of every kind, and those at which a rule changes

@@ -8,10 +8,10 @@ use Rattle.replay_strict.proofs.differing.Statement.{statement}
 use Rattle.replay_strict.proofs.differing.Tie as tie
 
 abbrev Inv-loop : tie.InvT-loop
-Inv-loop records different₀ i₀ i-end different i = different ≤ i
+Inv-loop lines different₀ i₀ i-end different i = different ≤ i
 
 abbrev μ-loop : tie.MeasureT-loop
-μ-loop records different₀ i₀ i-end different i = i-end - i
+μ-loop lines different₀ i₀ i-end different i = i-end - i
 
 loop-holds : tie.Need-loop-holds Inv-loop μ-loop
 loop-holds c = search needs

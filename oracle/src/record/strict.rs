@@ -5,9 +5,6 @@
 use crate::bnf::{Grammar, PATH};
 use crate::compare::Report;
 use crate::strict::{Derivations, Paths, Said, Text, ours};
-use std::fs;
-
-const FOLDER: &str = "crates/replay_strict";
 
 // the longest text that a record holds
 const LONGEST: usize = 60;
@@ -79,35 +76,13 @@ const TELLING: [&[u8]; 60] = [
     b"M0 0\xFF",
 ];
 
-/// Writes the list and the line that the program is to print.
-pub fn write(report: &mut Report, seed: u64) {
-    let (list, count) = list(report, seed);
-    fs::write(format!("{FOLDER}/stdin"), list).expect("the list is written");
-    fs::write(format!("{FOLDER}/stdout"), due(count)).expect("the line is written");
-    println!("{FOLDER}/stdin: {count} verdicts of the general parser, seed {seed}");
-}
-
-/// Sees that the list in the repository is the one that would be written.
-pub fn compare(report: &mut Report, seed: u64) {
-    let (list, count) = list(report, seed);
-    let read = |name: &str| fs::read(format!("{FOLDER}/{name}")).unwrap_or_default();
-    let equal = read("stdin") == list && read("stdout") == due(count).into_bytes();
-    report.count(0, equal);
-    let state = if equal { "as it would be written" } else { "DIFFERENT: oracle/record strict writes it anew" };
-    println!("  {FOLDER}: {count} recorded verdicts, {state}");
-}
-
-fn due(count: usize) -> String {
-    format!("replayed {count}, different 0\n")
-}
-
-// the records, with the general parser's verdicts, and how many there are
-fn list(report: &mut Report, seed: u64) -> (Vec<u8>, usize) {
+/// The records, with the general parser's verdicts, and how many there are.
+pub fn list(report: &mut Report, seed: u64) -> (Vec<u8>, u64) {
     let grammar = Grammar::read(PATH);
     let paths = Paths::new(&grammar);
     let texts = chosen(&paths, Derivations::new(&grammar, seed));
     let list = texts.iter().flat_map(|text| line(&text.0, paths.says(&text.0))).collect();
-    let count = texts.len();
+    let count = texts.len() as u64;
     report.group("verdicts, recorded", texts.into_iter(), |text| ours(&text.0), |text| paths.says(&text.0));
     (list, count)
 }

@@ -1,0 +1,4 @@
+-- The laws of lines and arcs, why an arc's queries never step back, and worked examples.
+pub mod Cases
+pub mod Steady
+mod Readings

@@ -1,0 +1,3 @@
+-- What lines and arcs give.
+pub mod Lines
+pub mod Arcs

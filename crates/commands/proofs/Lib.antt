@@ -1,0 +1,6 @@
+-- Laws of the definitions of `specs/`.
+pub mod Decoding
+pub mod Storing
+pub mod Listing
+pub mod ReadBack
+pub mod Unique

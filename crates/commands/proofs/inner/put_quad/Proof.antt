@@ -1,0 +1,26 @@
+-- `commands::inner::put_quad` meets its contract: two runs of numbers, one after the other. Assumes nothing.
+use borrow.Author.Needs.{needs}
+use Rattle.commands.proofs.Storing.{four-put}
+use Rattle.commands.proofs.inner.put_quad.Statement.{statement}
+use Rattle.commands.proofs.inner.put_quad.Tie as tie
+
+put-two-requires : tie.Need-put-two-requires
+put-two-requires c κs = search needs
+
+add-put-two : tie.Need-add-put-two
+add-put-two c = search needs
+
+put-two-requires-2 : tie.Need-put-two-requires-2
+put-two-requires-2 c κs = search needs
+
+same-length : tie.Need-same-length
+same-length c = search needs
+
+returns : tie.Need-returns
+returns c =
+    let a = c .before .before .before .before .before .before .before .before .before .args in
+    four-put (a .numbers .now) (a .at) (a .control .x) (a .control .y) (a .end .x) (a .end .y) (c .before .before .before .before .before .before .put-two .last .0) _ (c .before .before .before .before .before .before .put-two .ensures) (c .before .before .put-two2 .ensures)
+
+pub put-quad-spec : {M : Type 1} → statement M
+put-quad-spec =
+    tie.close (tie.spec put-two-requires add-put-two put-two-requires-2 same-length returns)

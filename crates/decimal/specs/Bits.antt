@@ -1,0 +1,55 @@
+-- What the steps on the way to a value know and tell. Definitions only.
+use Prim.Native.Nat.{ℕ, _+_, _-_, _*_, _^_, _≤_, _<_, compare}
+use mathlib.Core.Path.{_≡_}
+use mathlib.Core.Logic.{_⊎_}
+use mathlib.Core.List.{List}
+use mathlib.Core.Bool.{Bool, cond}
+use lib.ListN.{length}
+use lib.Ieee.{binary32, round, ofBits}
+use Rattle.scan.specs.declared.numbers.Places.{Places}
+use Rattle.digits.specs.Digits.{val}
+use Rattle.digits.specs.Leading.{Leads}
+use Rattle.digits.specs.Exponent.{most, capped}
+use Rattle.product.specs.Near.{Cell}
+use Rattle.middle.specs.Weighing.{orderOf}
+use Rattle.middle.specs.declared.inner.Order.{Order}
+use Rattle.decimal.specs.Decimal.{digitsOf, placesOf, riseOf, fallOf}
+
+-- the bits b of the nearest f32, but for the sign s
+pub record Nearest (num den b : ℕ) : Type 0 where
+  pub finite-or-infinite : b ≤ 2139095040
+  pub is : (s : Bool) → round binary32 s num den ≡ ofBits binary32 (cond s 2147483648 0 + b)
+
+-- what is gathered of a number: its digits, of which count stand before the point and places after it, and capped exponents
+pub record Gathered (ds : List ℕ) (count places w dropped rise fall : ℕ) : Type 0 where
+  pub leads : Leads ds w dropped
+  pub in-all : length ds ≡ count + places
+  pub few : count + places < 2 ^ 63
+  pub few-dropped : dropped < 2 ^ 63
+  pub rise-le : rise ≤ most
+  pub fall-le : fall ≤ most
+  pub one-way : (rise ≡ 0) ⊎ (fall ≡ 0)
+
+-- rise and fall are capped exponents of which one is 0 at least: the bits of any fraction that they stand for
+pub record Rounds (ds : List ℕ) (places rise fall b : ℕ) : Type 0 where
+  pub bits : (up down : ℕ) → rise ≡ capped up → fall ≡ capped down → (up ≡ 0) ⊎ (down ≡ 0) → Nearest (val ds * 10 ^ up) (10 ^ (places + down)) b
+
+-- the order of the fraction and the middle of the cell
+pub record Sides (ds : List ℕ) (count rise fall m k : ℕ) (r : Order) : Type 0 where
+  pub order : (places : ℕ) → length ds ≡ count + places → orderOf r ≡ compare (val ds * 10 ^ rise * 2 ^ 150) ((2 * m + 1) * 2 ^ k * 10 ^ (places + fall))
+
+-- the same where the fraction lies in a cell of the floats, and rise and fall are the exponents themselves
+pub record Settles (ds : List ℕ) (count rise fall m k b : ℕ) : Type 0 where
+  pub bits : (places : ℕ) → length ds ≡ count + places → Cell m k (val ds * 10 ^ rise) (10 ^ (places + fall)) → Nearest (val ds * 10 ^ rise) (10 ^ (places + fall)) b
+
+-- what is gathered of a number's digits and exponent
+pub record Held (text : List ℕ) (p : Places) (w dropped rise fall : ℕ) : Type 0 where
+  pub whole-le : p .whole ≤ p .point
+  pub fraction-le : p .fraction ≤ p .mark
+  pub between : p .point ≤ p .fraction
+  pub inside : p .mark ≤ length text
+  pub few : dropped ≤ p .mark
+  pub leads : Leads (digitsOf text p) w dropped
+  pub count : length (digitsOf text p) ≡ (p .point - p .whole) + placesOf p
+  pub rises : rise ≡ capped (riseOf text p)
+  pub drops : fall ≡ capped (fallOf text p)

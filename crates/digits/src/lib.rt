@@ -1,0 +1,2 @@
+// Runs of decimal digits as numbers: the leading digits of a long run, and an exponent of any length.
+pub mod inner;

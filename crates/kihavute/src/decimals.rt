@@ -1,0 +1,33 @@
+// One decimal number at the start of a text.
+ghost use Rattle.decimal.specs.Decimal.{numberOf};
+ghost use Rattle.kihavute.specs.Decimals.{readGiven, numberGiven};
+ghost use Rattle.kihavute.specs.Given.{Given};
+use answers::Refusal;
+use answers::Values;
+use decimal::Read;
+
+// The number at the start of a text of any length.
+fn read(text: &[u8], answer: &mut [u64]) -> u32
+    ensures { λ r. ⌜ Given (readGiven (numberOf (now (text .entry)) 0)) (now (answer .entry)) r (now (answer .exit)) ⌝ }
+{
+    let found = decimal::number(text, 0);
+    match found {
+        Read::Value(value, end) => {
+            let bits = floats::bits(value);
+            crate::given::accept(Values::Two(bits as usize, end), answer)
+        }
+        Read::Refused(refusal) => crate::given::refuse(refusal, answer),
+    }
+}
+
+// The bits of the number that a text starts with, and how many bytes it takes. A text of more than
+// 65,536 bytes is refused.
+#[no_mangle]
+pub extern "C" fn kihavute_number(text: &[u8], answer: &mut [u64]) -> u32
+    ensures { λ r. ⌜ Given (numberGiven (now (text .entry))) (now (answer .entry)) r (now (answer .exit)) ⌝ }
+{
+    if 65536 < text.len() {
+        return crate::given::refuse(Refusal::TooLong(text.len()), answer);
+    }
+    read(text, answer)
+}

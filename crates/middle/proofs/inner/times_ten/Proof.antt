@@ -1,0 +1,55 @@
+-- `middle::inner::times_ten` meets its contract: each word is below 2^50, so that each carry is below 10. Assumes nothing.
+use Prim.Native.Nat.{ℕ, _+_, _*_, _/_, _<_}
+use native.Mathlib.Omega.{arith}
+use borrow.Author.Needs.{needs}
+use Rattle.middle.proofs.inner.times_ten.Statement.{statement}
+use Rattle.middle.proofs.inner.times_ten.Tie as tie
+
+carry : (word digit : ℕ) → word < 1125899906842624 → digit < 10 → (word * 10 + digit) / 1125899906842624 < 10
+carry word digit h k = omega arith
+
+mul-x : tie.Need-mul-x
+mul-x c = search needs
+
+add-x : tie.Need-add-x
+add-x c = search needs
+
+mul-y : tie.Need-mul-y
+mul-y c = search needs
+
+add-y : tie.Need-add-y
+add-y c = search needs
+
+mul-z : tie.Need-mul-z
+mul-z c = search needs
+
+add-z : tie.Need-add-z
+add-z c =
+    let w = c .before .before .before .args .w in
+    let small = c .before .before .before .pre .0 in
+    let x = carry (w .c) (c .before .before .before .args .digit) (small .c-lt) (c .before .before .before .pre .1) in
+    let y = carry (w .b) _ (small .b-lt) x in
+    record { fits = omega (arith, y, small .a-lt) }
+
+returns : tie.Need-returns
+returns c =
+    let w = c .before .before .before .args .w in
+    let digit = c .before .before .before .args .digit in
+    let small = c .before .before .before .pre .0 in
+    let x = (w .c * 10 + digit) / 1125899906842624 in
+    let y = (w .b * 10 + x) / 1125899906842624 in
+    let xl = carry (w .c) digit (small .c-lt) (c .before .before .before .pre .1) in
+    let yl = carry (w .b) x (small .b-lt) xl in
+    let zl = carry (w .a) y (small .a-lt) yl in
+    record {
+      one = x;
+      two = y;
+      at-c = omega arith;
+      at-b = omega arith;
+      at-a = omega arith;
+      small = record { a-lt = omega arith; b-lt = omega arith; c-lt = omega arith };
+      out-lt = zl;
+    }
+
+pub times-ten-spec : {M : Type 1} → statement M
+times-ten-spec = tie.close (tie.spec mul-x add-x mul-y add-y mul-z add-z returns)

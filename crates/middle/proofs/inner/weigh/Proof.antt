@@ -1,0 +1,41 @@
+-- `middle::inner::weigh` meets its contract: the middle in six words, against digits with a point among them or zeros before them. Assumes nothing.
+use mathlib.Core.Path.{_≡_, ap, sym, _∙_, subst}
+use mathlib.Core.Logic.{⊎-elim}
+use Prim.Native.Nat.{ℕ, _*_, _^_}
+use native.Mathlib.Omega.{arith}
+use Rattle.digits.specs.Digits.{digitsAmong}
+use Rattle.middle.specs.Weighing.{weighOf}
+use borrow.Author.Needs.{needs}
+use Rattle.middle.proofs.inner.weigh.Statement.{statement}
+use Rattle.middle.proofs.inner.weigh.Tie as tie
+
+in-six-words-requires : tie.Need-in-six-words-requires
+in-six-words-requires c κs = search needs
+
+weigh-small-requires : tie.Need-weigh-small-requires
+weigh-small-requires c κs = search needs
+
+returns : tie.Need-returns
+returns c =
+    let start = c .before .before .before .before in
+    let words = c .before .before .in-six-words .ensures in
+    c .weigh-small .ensures
+    ∙ ap (λ (s : ℕ). weighOf (digitsAmong (start .args .part .now)) 0 (start .args .zeros) s) (sym (words .is))
+    ∙ ⊎-elim (λ (e : start .args .count ≡ 0). ap (λ (n : ℕ). weighOf (digitsAmong (start .args .part .now)) n (start .args .zeros) (start .args .odd * 2 ^ start .args .k)) (sym e)) (λ (e : start .args .zeros ≡ 0). absurd (omega (arith, c .before .if1 .taken))) (start .pre .2)
+
+weigh-large-requires : tie.Need-weigh-large-requires
+weigh-large-requires c κs = search needs
+
+returns-2 : tie.Need-returns-2
+returns-2 c =
+    let start = c .before .before .before .before in
+    let words = c .before .before .in-six-words .ensures in
+    let none : 0 ≡ start .args .zeros = omega (arith, c .before .if1 .left) in
+    c .weigh-large .ensures
+    ∙ ap (λ (s : ℕ). weighOf (digitsAmong (start .args .part .now)) (start .args .count) 0 s) (sym (words .is))
+    ∙ ap (λ (n : ℕ). weighOf (digitsAmong (start .args .part .now)) (start .args .count) n (start .args .odd * 2 ^ start .args .k)) none
+
+pub weigh-spec : {M : Type 1} → statement M
+weigh-spec =
+    tie.close
+    (tie.spec in-six-words-requires weigh-small-requires returns weigh-large-requires returns-2)

@@ -1,0 +1,3 @@
+-- What the contracts of this crate cite. Definitions only.
+pub mod Words
+pub mod Weighing

@@ -1,0 +1,2 @@
+-- The laws of a record's patterns.
+pub mod Digits

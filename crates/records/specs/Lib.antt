@@ -1,0 +1,2 @@
+-- What stands in a record.
+pub mod Records

@@ -1,0 +1,2 @@
+-- The table of powers of ten, and what its entries are.
+pub mod Entries
