@@ -5,19 +5,20 @@ ghost use lib.Dec.{ltb};
 ghost use Prim.Native.Nat.{_+_, _-_, _*_, _/_, _%_, _^_, _≤_, _<_};
 ghost use Rattle.bearing.specs.Steps.{bendOf, nearOf, guessOf};
 
-// atan t by a polynomial in t·t, for t from -1 to 1: within 4.4e-10.
-fn bend(t: f64) -> f64
-    ensures { λ r. ⌜ r ≡ bendOf t ⌝ }
+// e + atan t by a polynomial in t·t, for t from -1 to 1: within 4.4e-10.
+fn bend(e: f64, t: f64) -> f64
+    ensures { λ r. ⌜ r ≡ bendOf e t ⌝ }
 {
     let s = t * t;
     let q = s * s;
     let o = q * q;
+    let k = t * o;
     let a = (0.9999999995535376 - 0.33333322488911593 * s)
         + q * (0.19999558100363982 - 0.14278576024807985 * s);
     let b = (0.1105077127584966 - 0.08785043282362845 * s)
         + q * (0.06685281517877424 - 0.04392841073326746 * s);
     let c = (0.021912945865448393 - 0.007030669470424213 * s) + q * 0.001057607438057242;
-    t * (a + o * b + o * o * c)
+    e + t * a + (k * b + k * o * c)
 }
 
 // The bits of the f32 nearest to g, which is from 2^-14 to PI. For any other g it is PI.
@@ -65,5 +66,5 @@ pub fn guess(a: u64, b: u64, u: u64, v: u64, left: u32) -> u32
     let n = f64::from_bits(pick(steep, 1 - l, l) * 0x8000_0000_0000_0000 + pick(steep, b, a));
     let d = f64::from_bits(pick(steep, a, b));
     let start = f64::from_bits(base(u, v, l));
-    near_bits(start + bend(n / d))
+    near_bits(bend(start, n / d))
 }

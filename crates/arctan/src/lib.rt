@@ -10,18 +10,19 @@ use crate::scale::larger;
 use crate::scale::part;
 use crate::search::fallback;
 use crate::test::passes;
+use floats::is_finite;
 ghost use mathlib.Core.Path.{_≡_};
+ghost use mathlib.Core.Bool.{true};
 ghost use Prim.Native.Nat.{_+_, _-_, _*_, _/_, _%_, _^_, _≤_, _<_};
 ghost use lib.Ieee.{binary64, toBits};
+ghost use lib.Ieee.Scale.{finite};
 ghost use Rattle.bearing.specs.Steps.{angleBits, slanted, level, atan2Of};
 
-// The bits of x as an f64, and of a NaN those that the definition has.
+// The bits of a finite x as an f64.
 fn wide(x: f32) -> u64
-    ensures { λ r. ⌜ r ≡ toBits binary64 x ⌝ }
+    requires { ⌜ finite x ≡ true ⌝ }
+    ensures { λ r. ⌜ (r ≡ toBits binary64 x) × (r % 2 ^ 63 < 9218868437227405312) ⌝ }
 {
-    if x != x {
-        return 0x7FF8_0000_0000_0000;
-    }
     f64::to_bits(x as f64)
 }
 
@@ -69,16 +70,16 @@ fn axis(y: f32, b: u64, sign: u32, left: u32) -> f32
 pub fn atan2(y: f32, x: f32) -> f32
     ensures { λ r. ⌜ r ≡ atan2Of y x ⌝ }
 {
+    if !is_finite(y) {
+        return 0.0 / 0.0;
+    }
+    if !is_finite(x) {
+        return 0.0 / 0.0;
+    }
     let c = wide(y);
     let d = wide(x);
     let a = c % 0x8000_0000_0000_0000;
     let b = d % 0x8000_0000_0000_0000;
-    if a >= 0x7FF0_0000_0000_0000 {
-        return 0.0 / 0.0;
-    }
-    if b >= 0x7FF0_0000_0000_0000 {
-        return 0.0 / 0.0;
-    }
     let sign = (c / 0x8000_0000_0000_0000) as u32;
     let left = (d / 0x8000_0000_0000_0000) as u32;
     if a == 0 {

@@ -1,14 +1,13 @@
--- What is not finite shows in the bits; the rest is the definition's case by case. Assumes nothing.
+-- Each test picks a case of the definition. Assumes nothing.
 use borrow.Author.Needs.{needs}
-use borrow.Author.Tests.{lt-ltb, le-ltb, eq-eqb, ne-eqb}
-use Prim.Native.Nat.{ℕ, _/_, _%_, _≤_, _<_}
-use mathlib.Core.Path.{_≡_, refl, sym, ap, subst, _∙_}
+use borrow.Author.Tests.{not-true, not-false, eq-eqb, ne-eqb}
+use Prim.Native.Nat.{ℕ, _/_, _%_}
+use mathlib.Core.Path.{_≡_, refl, sym, ap, _∙_}
 use mathlib.Core.Bool.{Bool, true, false, cond, _&&_}
-use lib.Dec.{T, eqb}
-use lib.Ieee.{Float, nan, binary32, binary64, fits, toBits, ofBits, div}
+use lib.Dec.{eqb}
+use lib.Ieee.{Float, nan, binary32, binary64, toBits, ofBits, div}
 use lib.Ieee.Scale.{finite}
 use Rattle.bearing.specs.Steps.{plain, signBit, level, slanted, atan2Of}
-use Rattle.bearing.proofs.Whole.{bits-finite}
 use Rattle.arctan.proofs.atan2.Statement.{statement}
 use Rattle.arctan.proofs.atan2.Tie as tie
 
@@ -16,19 +15,9 @@ none : div binary32 (ofBits binary32 0) (ofBits binary32 0) ≡ nan
 unfolding div ofBits
 none = refl
 
-held : {b : Bool} → b ≡ true → T b
-held h = subst T (sym h) tt
-
 and-off : (a : Bool) → (a && false) ≡ false
 and-off true = refl
 and-off false = refl
-
--- a float whose bits c, without the sign, are from an infinity's on, and one whose bits are below
-not-finite : (x : Float) (c : ℕ) → T (fits binary32 x) → c ≡ toBits binary64 x → 9218868437227405312 ≤ c % 9223372036854775808 → finite x ≡ false
-not-finite x c f e h = sym (bits-finite x f) ∙ le-ltb (plain x) 9218868437227405312 (subst (λ (n : ℕ). 9218868437227405312 ≤ n % 9223372036854775808) e h)
-
-is-finite : (x : Float) (c : ℕ) → T (fits binary32 x) → c ≡ toBits binary64 x → c % 9223372036854775808 < 9218868437227405312 → finite x ≡ true
-is-finite x c f e h = sym (bits-finite x f) ∙ lt-ltb (plain x) 9218868437227405312 (subst (λ (n : ℕ). n % 9223372036854775808 < 9218868437227405312) e h)
 
 module _ (y x : Float) where
   abbrev inside : Float
@@ -63,21 +52,23 @@ module _ (y x : Float) where
         ∙ sym (ap (λ (t : Bool). cond t (level y (plain x) (signBit y) (signBit x)) (slanted y x (plain y) (plain x) (signBit y) (signBit x))) (ne-eqb (plain y) 0 (λ (e : plain y ≡ 0). z (ap (λ (n : ℕ). n % 9223372036854775808) ec ∙ e))))
         ∙ both-finite h k
 
-wide-requires : tie.Need-wide-requires
-wide-requires c κs = search needs
-
-wide-requires-2 : tie.Need-wide-requires-2
-wide-requires-2 c κs = search needs
+is-finite-requires : tie.Need-is-finite-requires
+is-finite-requires c κs = search needs
 
 returns : tie.Need-returns
-returns c =
-    let at = c .before .before .before in
-    none ∙ nan-first (at .args .y) (at .args .x) (not-finite (at .args .y) _ (held (at .good .0 .1)) (c .before .before .wide .ensures) (c .if1 .taken))
+returns c = none ∙ nan-first _ _ (sym (c .before .is-finite .ensures) ∙ not-true _ (c .if1 .taken))
+
+is-finite-requires-2 : tie.Need-is-finite-requires-2
+is-finite-requires-2 c κs = search needs
 
 returns-2 : tie.Need-returns-2
-returns-2 c =
-    let at = c .before .before .before .before in
-    none ∙ nan-second (at .args .y) (at .args .x) (not-finite (at .args .x) _ (held (at .good .1 .0 .1)) (c .before .before .wide2 .ensures) (c .if2 .taken))
+returns-2 c = none ∙ nan-second _ _ (sym (c .before .is-finite2 .ensures) ∙ not-true _ (c .if2 .taken))
+
+wide-requires : tie.Need-wide-requires
+wide-requires c κs = sym (c .before .before .before .is-finite .ensures) ∙ not-false _ (c .before .before .if1 .left)
+
+wide-requires-2 : tie.Need-wide-requires-2
+wide-requires-2 c κs = sym (c .before .before .is-finite2 .ensures) ∙ not-false _ (c .before .if2 .left)
 
 cast-sign : tie.Need-cast-sign
 cast-sign c = search needs
@@ -90,33 +81,31 @@ axis-requires c κs = search needs
 
 returns-3 : tie.Need-returns-3
 returns-3 c =
-    let at = c .before .before .before .before .before .before in
-    let ey = c .before .before .before .before .before .wide .ensures in
-    let ex = c .before .before .before .before .wide2 .ensures in
-    let fy = is-finite (at .args .y) _ (held (at .good .0 .1)) ey (c .before .before .before .if1 .left) in
-    let fx = is-finite (at .args .x) _ (held (at .good .1 .0 .1)) ex (c .before .before .if2 .left) in
-    c .axis .ensures ∙ on-axis (at .args .y) (at .args .x) _ _ ey ex fy fx (c .before .if3 .taken)
+    let at = c .before .before .before .before .before .before .before .before .args in
+    let fy = sym (c .before .before .before .before .before .before .before .is-finite .ensures) ∙ not-false _ (c .before .before .before .before .before .before .if1 .left) in
+    let fx = sym (c .before .before .before .before .before .is-finite2 .ensures) ∙ not-false _ (c .before .before .before .before .if2 .left) in
+    c .axis .ensures ∙ on-axis (at .y) (at .x) _ _ (c .before .before .before .wide .ensures .0) (c .before .before .wide2 .ensures .0) fy fx (c .before .if3 .taken)
 
 slant-requires : tie.Need-slant-requires
 slant-requires c κs = search needs
 
 returns-4 : tie.Need-returns-4
 returns-4 c =
-    let at = c .before .before .before .before .before .before in
-    let ey = c .before .before .before .before .before .wide .ensures in
-    let ex = c .before .before .before .before .wide2 .ensures in
-    let fy = is-finite (at .args .y) _ (held (at .good .0 .1)) ey (c .before .before .before .if1 .left) in
-    let fx = is-finite (at .args .x) _ (held (at .good .1 .0 .1)) ex (c .before .before .if2 .left) in
-    c .slant .ensures ∙ off-axis (at .args .y) (at .args .x) _ _ ey ex fy fx (c .before .if3 .left)
+    let at = c .before .before .before .before .before .before .before .before .args in
+    let fy = sym (c .before .before .before .before .before .before .before .is-finite .ensures) ∙ not-false _ (c .before .before .before .before .before .before .if1 .left) in
+    let fx = sym (c .before .before .before .before .before .is-finite2 .ensures) ∙ not-false _ (c .before .before .before .before .if2 .left) in
+    c .slant .ensures ∙ off-axis (at .y) (at .x) _ _ (c .before .before .before .wide .ensures .0) (c .before .before .wide2 .ensures .0) fy fx (c .before .if3 .left)
 
 pub atan2-spec : {M : Type 1} → statement M
 atan2-spec =
     tie.close
     (tie.spec
+    is-finite-requires
+    returns
+    is-finite-requires-2
+    returns-2
     wide-requires
     wide-requires-2
-    returns
-    returns-2
     cast-sign
     cast-left
     axis-requires
