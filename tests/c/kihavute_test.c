@@ -237,9 +237,9 @@ static void curves(void) {
     fresh();
     answered("a quad's length, a short answer", kihavute_quad_length(1, 2, 1, 2, 1, 2, answer, 7), 255, 0, NULL);
     fresh();
-    answered("a quad too long", kihavute_quad_length(0, 0, 2e19f, 0, 4e19f, 0, answer, PLACES), 11, 1, (uint64_t[]){0});
+    answered("a quad too long", kihavute_quad_length(0, 0, 1e30f, 0, 2e30f, 0, answer, PLACES), 11, 1, (uint64_t[]){0});
     fresh();
-    answered("a quad too long has no place", kihavute_quad_position(0, 0, 2e19f, 0, 4e19f, 0, 0.5f, answer, PLACES), 11, 1, (uint64_t[]){0});
+    answered("a quad too long has no place", kihavute_quad_position(0, 0, 1e30f, 0, 2e30f, 0, 0.5f, answer, PLACES), 11, 1, (uint64_t[]){0});
     fresh();
     answered("a quad of a NaN", kihavute_quad_tangent(0, 0, nan, 0, 1, 0, 0.5f, answer, PLACES), 11, 1, (uint64_t[]){0});
 
