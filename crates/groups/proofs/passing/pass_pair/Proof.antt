@@ -1,0 +1,37 @@
+-- `groups::passing::pass_pair` meets its contract: each way out is a case of its definition. Assumes nothing.
+use borrow.Author.Needs.{needs}
+use mathlib.Core.Path.{sym, _∙_}
+use Rattle.groups.specs.Passing.{passPairOf}
+use Rattle.groups.proofs.passing.pass_pair.Statement.{statement}
+use Rattle.groups.proofs.passing.pass_pair.Tie as tie
+
+pass-number-requires : tie.Need-pass-number-requires
+pass-number-requires c κs = search needs
+
+enum-known-refusal : tie.Need-enum-known-refusal
+enum-known-refusal c = search needs
+
+enum-known-next : tie.Need-enum-known-next
+enum-known-next c = search needs
+
+pass-number-requires-2 : tie.Need-pass-number-requires-2
+pass-number-requires-2 c κs = search needs
+
+returns : tie.Need-returns
+unfolding passPairOf
+returns c = rw (sym (c .before .before .before .pass-number .ensures) ∙ c .before .refusal .given .1)
+
+returns-2 : tie.Need-returns-2
+unfolding passPairOf
+returns-2 c = rw (sym (c .before .before .before .before .pass-number .ensures) ∙ c .before .before .next .given .1) (c .pass-number2 .ensures)
+
+pub pass-pair-spec : {M : Type 1} → statement M
+pass-pair-spec =
+    tie.close
+    (tie.spec
+    pass-number-requires
+    enum-known-refusal
+    enum-known-next
+    pass-number-requires-2
+    returns
+    returns-2)

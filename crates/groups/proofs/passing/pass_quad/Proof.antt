@@ -1,0 +1,37 @@
+-- `groups::passing::pass_quad` meets its contract: each way out is a case of its definition. Assumes nothing.
+use borrow.Author.Needs.{needs}
+use mathlib.Core.Path.{sym, _∙_}
+use Rattle.groups.specs.Passing.{passQuadOf}
+use Rattle.groups.proofs.passing.pass_quad.Statement.{statement}
+use Rattle.groups.proofs.passing.pass_quad.Tie as tie
+
+pass-pair-requires : tie.Need-pass-pair-requires
+pass-pair-requires c κs = search needs
+
+enum-known-refusal : tie.Need-enum-known-refusal
+enum-known-refusal c = search needs
+
+enum-known-next : tie.Need-enum-known-next
+enum-known-next c = search needs
+
+pass-pair-requires-2 : tie.Need-pass-pair-requires-2
+pass-pair-requires-2 c κs = search needs
+
+returns : tie.Need-returns
+unfolding passQuadOf
+returns c = rw (sym (c .before .before .before .pass-pair .ensures) ∙ c .before .refusal .given .1)
+
+returns-2 : tie.Need-returns-2
+unfolding passQuadOf
+returns-2 c = rw (sym (c .before .before .before .before .pass-pair .ensures) ∙ c .before .before .next .given .1) (c .pass-pair2 .ensures)
+
+pub pass-quad-spec : {M : Type 1} → statement M
+pass-quad-spec =
+    tie.close
+    (tie.spec
+    pass-pair-requires
+    enum-known-refusal
+    enum-known-next
+    pass-pair-requires-2
+    returns
+    returns-2)

@@ -1,0 +1,5 @@
+-- What the contracts of this crate cite. Definitions only.
+pub mod Letters
+pub mod Numbers
+pub mod Groups
+pub mod Passing

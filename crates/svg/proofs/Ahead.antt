@@ -1,0 +1,156 @@
+-- A step that gives a command passes a byte of the text, and one that refuses stands within it. Assumes nothing.
+use Prim.Native.Nat.{ℕ, suc, _+_, _≤_, _<_}
+use mathlib.Core.Path.{_≡_, refl, subst}
+use mathlib.Core.Bool.{Bool, true, false, cond}
+use mathlib.Core.List.{List}
+use native.Mathlib.Omega.{arith}
+use borrow.Author.Tests.{ltb-true}
+use lib.Dec.{ltb}
+use lib.ListN.{length, getD}
+use Rattle.answers.specs.declared.refusals.Refusal.{Refusal}
+use Rattle.scan.specs.Bytes.{among, separators, numberStarts}
+use Rattle.scan.specs.Runs.{pastSeparatorsOf}
+use Rattle.scan.proofs.RunLaws.{all-onward}
+use Rattle.math.specs.declared.points.Point.{Point}
+use Rattle.commands.specs.declared.command.PathCommand.{PathCommand}
+use Rattle.commands.specs.declared.command.PathCommand.the-variants.{MoveTo, LineTo, QuadTo, CubicTo, ArcTo, ClosePath}
+use Rattle.groups.specs.Letters.{isLetterOf, meaningOf}
+use Rattle.groups.specs.Groups.{readGroupOf}
+use Rattle.groups.specs.declared.letters.Kind.{Kind}
+use Rattle.groups.specs.declared.letters.Letter.{Letter}
+use Rattle.groups.specs.declared.letters.Letter.the-variants.{Draws, Closes, Unknown}
+use Rattle.groups.specs.declared.groups.Group.{Group}
+use Rattle.groups.specs.declared.groups.Group.the-variants.{Taken, Refused as GroupRefused}
+use Rattle.groups.proofs.Ahead.{group-ahead}
+use Rattle.svg.specs.Steps.{isRelativeOf, needsPointOf, repeatedOf, afterOf, dueGroupOf, begun, dueLetterOf, again, dueAgainOf, nextDueOf, taken, stepped, readStepOf}
+use Rattle.svg.specs.declared.steps.Reader.{Reader}
+use Rattle.svg.specs.declared.steps.Due.{Due}
+use Rattle.svg.specs.declared.steps.Due.the-variants.{Done as NothingDue, Refused as NotDue, Close, Group as GroupDue}
+use Rattle.svg.specs.declared.steps.Step.{Step}
+use Rattle.svg.specs.declared.steps.Step.the-variants.{Command, Done, Refused}
+
+cond-elim : (P : Due → Type 0) (b : Bool) (x y : Due) → (b ≡ true → P x) → (b ≡ false → P y) → P (cond b x y)
+cond-elim P true x y f g = f refl
+cond-elim P false x y f g = g refl
+
+-- ---- the state after a command
+
+-- it stands where the command ends, and there is a current point
+pub after-at : (command : PathCommand) (next letter : ℕ) (start : Point) → afterOf command next letter start .at ≡ next
+unfolding afterOf
+after-at (MoveTo end) next letter start = refl
+after-at (LineTo end) next letter start = refl
+after-at (QuadTo control end) next letter start = refl
+after-at (CubicTo control1 control2 end) next letter start = refl
+after-at (ArcTo radii rotation large sweep end) next letter start = refl
+after-at ClosePath next letter start = refl
+
+pub after-placed : (command : PathCommand) (next letter : ℕ) (start : Point) → afterOf command next letter start .placed ≡ true
+unfolding afterOf
+after-placed (MoveTo end) next letter start = refl
+after-placed (LineTo end) next letter start = refl
+after-placed (QuadTo control end) next letter start = refl
+after-placed (CubicTo control1 control2 end) next letter start = refl
+after-placed (ArcTo radii rotation large sweep end) next letter start = refl
+after-placed ClosePath next letter start = refl
+
+-- ---- what is due stands further on
+
+Onward : ℕ → Due → Type 0
+Onward p NothingDue = Unit
+Onward p (NotDue reason) = Unit
+Onward p (Close next) = p < next
+Onward p (GroupDue kind letter first) = p ≤ first
+
+onward-le : (p q : ℕ) (due : Due) → p ≤ q → Onward q due → Onward p due
+unfolding Onward
+onward-le p q NothingDue h k = tt
+onward-le p q (NotDue reason) h k = tt
+onward-le p q (Close next) h k = omega arith
+onward-le p q (GroupDue kind letter first) h k = omega arith
+
+module _ (text : List ℕ) where
+  group-onward : (at : ℕ) (kind : Kind) (letter : ℕ) → Onward at (dueGroupOf text at kind letter)
+  unfolding dueGroupOf Onward
+  group-onward at kind letter =
+      cond-elim (Onward at) (among (getD text (pastSeparatorsOf text at) 0) numberStarts) _ _ (λ e. all-onward separators text at) (λ e. tt)
+
+  begun-onward : (at letter : ℕ) (placed : Bool) (meaning : Letter) → Onward at (begun text at letter placed meaning)
+  unfolding Onward
+  begun-onward at letter placed (Draws kind) =
+      let t = onward-le at (at + 1) (dueGroupOf text (at + 1) kind letter) (omega arith) (group-onward (at + 1) kind letter) in
+      cond-elim (Onward at) (needsPointOf kind) _ _ (λ e. cond-elim (Onward at) placed _ _ (λ f. t) (λ f. tt)) (λ e. t)
+  begun-onward at letter placed Closes = omega arith
+  begun-onward at letter placed Unknown = tt
+
+  again-onward : (at letter : ℕ) (meaning : Letter) → Onward at (again text at letter meaning)
+  unfolding Onward
+  again-onward at letter (Draws kind) = group-onward at (repeatedOf kind) letter
+  again-onward at letter Closes = tt
+  again-onward at letter Unknown = tt
+
+-- what is due from a place on stands further on, and the place within the text, unless nothing is due
+Within : List ℕ → ℕ → Due → Type 0
+Within text from NothingDue = Unit
+Within text from (NotDue reason) = from < length text
+Within text from (Close next) = (from < next) × (from < length text)
+Within text from (GroupDue kind letter first) = (from ≤ first) × (from < length text)
+
+within : (text : List ℕ) (from : ℕ) (due : Due) → from < length text → Onward from due → Within text from due
+unfolding Onward Within
+within text from NothingDue w h = tt
+within text from (NotDue reason) w h = w
+within text from (Close next) w h = (h, w)
+within text from (GroupDue kind letter first) w h = (h, w)
+
+due-within : (text : List ℕ) (from letter : ℕ) (placed : Bool) → Within text from (nextDueOf text from letter placed)
+unfolding nextDueOf Within dueLetterOf dueAgainOf
+due-within text from letter placed =
+    let at = pastSeparatorsOf text from in
+    let h : from ≤ at = all-onward separators text from in
+    let byte = getD text at 0 in
+    cond-elim (Within text from) (ltb at (length text)) _ NothingDue
+    (λ e.
+    let w : from < length text = omega (arith, ltb-true at (length text) e) in
+    cond-elim (Within text from) (isLetterOf byte) _ _
+    (λ f. within text from (dueLetterOf text at byte placed) w (onward-le from at (dueLetterOf text at byte placed) h (begun-onward text at byte placed (meaningOf byte))))
+    (λ f. within text from (dueAgainOf text at letter) w (onward-le from at (dueAgainOf text at letter) h (again-onward text at letter (meaningOf letter)))))
+    (λ e. tt)
+
+-- ---- the step
+
+-- a command starts within the text, ends past where it starts, and leaves a current point; a refusal starts within the text
+Goes : List ℕ → Reader → Step → Type 0
+Goes text reader (Command command next) = (reader .at < next .at) × (reader .at < length text) × (next .placed ≡ true)
+Goes text reader Done = Unit
+Goes text reader (Refused reason) = reader .at < length text
+
+module _ (text : List ℕ) (reader : Reader) where
+  taken-goes :
+      (kind : Kind) (letter first : ℕ) (relative : Bool) (current : Point) → reader .at ≤ first → reader .at < length text
+      → (group : Group) → readGroupOf text first kind relative current ≡ group → Goes text reader (taken letter (reader .start) group)
+  unfolding Goes
+  taken-goes kind letter first relative current h w (Taken command next) e =
+      (omega (arith, group-ahead text first relative current kind command next e, after-at command next letter (reader .start)), w, after-placed command next letter (reader .start))
+  taken-goes kind letter first relative current h w (GroupRefused reason) e = w
+
+  stepped-goes : (due : Due) → Within text (reader .at) due → Goes text reader (stepped text reader due)
+  unfolding Goes Within
+  stepped-goes NothingDue h = tt
+  stepped-goes (NotDue reason) h = h
+  stepped-goes (Close next) h = (omega (arith, h .0, after-at ClosePath next (reader .letter) (reader .start)), h .1, after-placed ClosePath next (reader .letter) (reader .start))
+  stepped-goes (GroupDue kind letter first) h =
+      taken-goes kind letter first (isRelativeOf letter (reader .placed)) (reader .current) (h .0) (h .1)
+      (readGroupOf text first kind (isRelativeOf letter (reader .placed)) (reader .current)) refl
+
+  step-goes : Goes text reader (readStepOf text reader)
+  unfolding readStepOf
+  step-goes = stepped-goes (nextDueOf text (reader .at) (reader .letter) (reader .placed)) (due-within text (reader .at) (reader .letter) (reader .placed))
+
+  pub step-ahead : (next : Reader) (command : PathCommand) → readStepOf text reader ≡ Command command next → (reader .at < next .at) × (reader .at < length text) × (next .placed ≡ true)
+  unfolding Goes
+  step-ahead next command e = subst (Goes text reader) e step-goes
+
+  pub step-within : (reason : Refusal) → readStepOf text reader ≡ Refused reason → reader .at < length text
+  unfolding Goes
+  step-within reason e = subst (Goes text reader) e step-goes

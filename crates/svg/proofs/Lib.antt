@@ -1,0 +1,10 @@
+-- Laws of the definitions of `specs/`.
+pub mod StepCases
+pub mod Ahead
+pub mod Texts
+pub mod PassLaws
+pub mod Passing
+pub mod Answering
+pub mod Unique
+pub mod ReadBack
+pub mod Readings

@@ -1,0 +1,26 @@
+-- `svg::steps::due_group` meets its contract: each way out is a case of its definition. Assumes nothing.
+use borrow.Author.Needs.{needs}
+use mathlib.Core.Path.{sym, _∙_}
+use Rattle.svg.proofs.StepCases.{group-none, group-due}
+use Rattle.svg.proofs.steps.due_group.Statement.{statement}
+use Rattle.svg.proofs.steps.due_group.Tie as tie
+
+past-separators-requires : tie.Need-past-separators-requires
+past-separators-requires c κs = search needs
+
+byte-at-requires : tie.Need-byte-at-requires
+byte-at-requires c κs = search needs
+
+starts-number-requires : tie.Need-starts-number-requires
+starts-number-requires c κs = search needs
+
+returns : tie.Need-returns
+returns c = group-due _ _ _ _ _ _ (c .before .before .before .past-separators .ensures) (c .before .before .byte-at .ensures) (sym (c .before .starts-number .ensures) ∙ c .if1 .taken)
+
+returns-2 : tie.Need-returns-2
+returns-2 c = group-none _ _ _ _ _ _ (c .before .before .before .past-separators .ensures) (c .before .before .byte-at .ensures) (sym (c .before .starts-number .ensures) ∙ c .if1 .left)
+
+pub due-group-spec : {M : Type 1} → statement M
+due-group-spec =
+    tie.close
+    (tie.spec past-separators-requires byte-at-requires starts-number-requires returns returns-2)

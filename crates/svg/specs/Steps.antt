@@ -1,0 +1,147 @@
+-- One step of permissive reading: the next command, the end of the text or a refusal (document 01, "Permissive reading"). Places count bytes
+-- from 0. Definitions only.
+use Prim.Native.Nat.{ℕ, _+_}
+use mathlib.Core.Bool.{Bool, true, false, _&&_, cond}
+use mathlib.Core.List.{List}
+use lib.Dec.{ltb, leb}
+use lib.Ieee.{binary32, ofBits}
+use lib.ListN.{length, getD}
+use Rattle.answers.specs.declared.refusals.Refusal.the-variants.{ExpectedNumber, UnsupportedCommand, MissingMoveTo}
+use Rattle.scan.specs.Bytes.{among, numberStarts}
+use Rattle.scan.specs.Runs.{pastSeparatorsOf}
+use Rattle.math.specs.declared.points.Point.{Point}
+use Rattle.commands.specs.declared.command.PathCommand.{PathCommand}
+use Rattle.commands.specs.declared.command.PathCommand.the-variants.{MoveTo, LineTo, QuadTo, CubicTo, ArcTo, ClosePath}
+use Rattle.groups.specs.Letters.{isLetterOf, meaningOf, widthOf}
+use Rattle.groups.specs.Groups.{readGroupOf}
+use Rattle.groups.specs.declared.letters.Kind.{Kind}
+use Rattle.groups.specs.declared.letters.Kind.the-variants.{Move, Line, Horizontal, Vertical, Cubic, Quad, Arc}
+use Rattle.groups.specs.declared.letters.Letter.{Letter}
+use Rattle.groups.specs.declared.letters.Letter.the-variants.{Draws, Closes, Unknown}
+use Rattle.groups.specs.Passing.{passGroupOf}
+use Rattle.groups.specs.declared.groups.Group.{Group}
+use Rattle.groups.specs.declared.groups.Group.the-variants.{Taken, Refused as GroupRefused}
+use Rattle.groups.specs.declared.passing.Passed.{Passed}
+use Rattle.groups.specs.declared.passing.Passed.the-variants.{To, Refused as NotPassed}
+use Rattle.svg.specs.declared.steps.Due.{Due}
+use Rattle.svg.specs.declared.steps.Due.the-variants.{Done as NothingDue, Refused as NotDue, Close, Group as GroupDue}
+use Rattle.svg.specs.declared.steps.Pass.{Pass}
+use Rattle.svg.specs.declared.steps.Pass.the-variants.{Command as PassCommand, Done as PassDone, Refused as PassRefused}
+use Rattle.svg.specs.declared.steps.Reader.{Reader}
+use Rattle.svg.specs.declared.steps.Step.{Step}
+use Rattle.svg.specs.declared.steps.Step.the-variants.{Command, Done, Refused}
+
+-- no current point and no remembered command; the points are those to which a Z at the start returns
+abbrev pub origin : Point
+origin = record { x = ofBits binary32 0; y = ofBits binary32 0 }
+
+abbrev pub freshOf : Reader
+freshOf = record { at = 0; current = origin; start = origin; placed = false; letter = 0 }
+
+-- "Lower case adds to the current point, with none it is absolute."
+unfoldable pub isRelativeOf : ℕ → Bool → Bool
+isRelativeOf letter placed = leb 97 letter && placed
+
+-- "LHVCQA need a current point"
+unfoldable pub needsPointOf : Kind → Bool
+needsPointOf Move = false
+needsPointOf Line = true
+needsPointOf Horizontal = true
+needsPointOf Vertical = true
+needsPointOf Cubic = true
+needsPointOf Quad = true
+needsPointOf Arc = true
+
+-- "M: first pair MoveTo, more pairs LineTo."
+unfoldable pub repeatedOf : Kind → Kind
+repeatedOf Move = Line
+repeatedOf Line = Line
+repeatedOf Horizontal = Horizontal
+repeatedOf Vertical = Vertical
+repeatedOf Cubic = Cubic
+repeatedOf Quad = Quad
+repeatedOf Arc = Arc
+
+-- the state after a command that ends at a point
+abbrev pub drawn : Point → Point → ℕ → ℕ → Reader
+drawn end start next letter = record { at = next; current = end; start = start; placed = true; letter = letter }
+
+-- the state after a command, read up to `next` with a letter remembered, in a subpath that starts at a point
+unfoldable pub afterOf : PathCommand → ℕ → ℕ → Point → Reader
+afterOf (MoveTo end) next letter start = drawn end end next letter
+afterOf (LineTo end) next letter start = drawn end start next letter
+afterOf (QuadTo control end) next letter start = drawn end start next letter
+afterOf (CubicTo control1 control2 end) next letter start = drawn end start next letter
+afterOf (ArcTo radii rotation large sweep end) next letter start = drawn end start next letter
+-- "Z .. returns to the subpath's start, sets the current point and forgets the command."
+afterOf ClosePath next letter start = drawn start start next 0
+
+-- ---- what is due at a place
+
+-- "a number must start (digit, + - .) after separators, else 3 at the place before those separators"
+unfoldable pub dueGroupOf : List ℕ → ℕ → Kind → ℕ → Due
+dueGroupOf text at kind letter =
+    let first = pastSeparatorsOf text at in
+    cond (among (getD text first 0) numberStarts) (GroupDue kind letter first) (NotDue (ExpectedNumber at))
+
+-- "LHVCQA need a current point, else 7 just after the letter. Then, and for M at once, a number must start"; 6 is "letter other than MLHVCQAZ in
+-- either case"
+abbrev pub begun : List ℕ → ℕ → ℕ → Bool → Letter → Due
+begun text at letter placed (Draws kind) =
+    cond (needsPointOf kind)
+    (cond placed (dueGroupOf text (at + 1) kind letter) (NotDue (MissingMoveTo (at + 1))))
+    (dueGroupOf text (at + 1) kind letter)
+begun text at letter placed Closes = Close (at + 1)
+begun text at letter placed Unknown = NotDue (UnsupportedCommand letter at)
+
+unfoldable pub dueLetterOf : List ℕ → ℕ → ℕ → Bool → Due
+dueLetterOf text at letter placed = begun text at letter placed (meaningOf letter)
+
+-- "any other byte repeats it; with none, 7 at that byte"; "A command takes groups while a number starts": so a number repeats it too
+abbrev pub again : List ℕ → ℕ → ℕ → Letter → Due
+again text at letter (Draws kind) = dueGroupOf text at (repeatedOf kind) letter
+again text at letter Closes = NotDue (MissingMoveTo at)
+again text at letter Unknown = NotDue (MissingMoveTo at)
+
+unfoldable pub dueAgainOf : List ℕ → ℕ → ℕ → Due
+dueAgainOf text at letter = again text at letter (meaningOf letter)
+
+-- "After separators a letter becomes the remembered command; any other byte repeats it"
+unfoldable pub nextDueOf : List ℕ → ℕ → ℕ → Bool → Due
+nextDueOf text from letter placed =
+    let at = pastSeparatorsOf text from in
+    cond (ltb at (length text))
+    (cond (isLetterOf (getD text at 0)) (dueLetterOf text at (getD text at 0) placed) (dueAgainOf text at letter))
+    NothingDue
+
+-- ---- the step
+
+abbrev pub taken : ℕ → Point → Group → Step
+taken letter start (Taken command next) = Command command (afterOf command next letter start)
+taken letter start (GroupRefused refusal) = Refused refusal
+
+-- "Z stores ClosePath"
+abbrev pub stepped : List ℕ → Reader → Due → Step
+stepped text reader NothingDue = Done
+stepped text reader (NotDue refusal) = Refused refusal
+stepped text reader (Close next) = Command ClosePath (afterOf ClosePath next (reader .letter) (reader .start))
+stepped text reader (GroupDue kind letter first) =
+    taken letter (reader .start) (readGroupOf text first kind (isRelativeOf letter (reader .placed)) (reader .current))
+
+unfoldable pub readStepOf : List ℕ → Reader → Step
+readStepOf text reader = stepped text reader (nextDueOf text (reader .at) (reader .letter) (reader .placed))
+
+-- ---- the step without values. That it agrees with the step is a law, and no promise of an entry rests on it.
+
+abbrev pub passedTo : ℕ → Kind → Passed → Pass
+passedTo letter kind (To next) = PassCommand (widthOf kind) next letter
+passedTo letter kind (NotPassed refusal) = PassRefused refusal
+
+abbrev pub passed : List ℕ → Due → Pass
+passed text NothingDue = PassDone
+passed text (NotDue refusal) = PassRefused refusal
+passed text (Close next) = PassCommand 0 next 0
+passed text (GroupDue kind letter first) = passedTo letter kind (passGroupOf text first kind)
+
+unfoldable pub passStepOf : List ℕ → ℕ → ℕ → Bool → Pass
+passStepOf text from letter placed = passed text (nextDueOf text from letter placed)

@@ -1,0 +1,284 @@
+// The reader's state and its step: from a place in the text to the next command.
+ghost use Prim.Native.Nat.{_<_};
+ghost use mathlib.Core.Path.{_≡_};
+ghost use lib.ListN.{length};
+ghost use Rattle.svg.specs.Steps.{freshOf, isRelativeOf, needsPointOf, repeatedOf, afterOf, dueGroupOf, dueLetterOf, dueAgainOf, nextDueOf, readStepOf, passStepOf};
+use answers::Refusal;
+use commands::PathCommand;
+use groups::Group;
+use groups::Kind;
+use groups::Letter;
+use groups::Passed;
+use math::Point;
+
+// The reader's state between two commands.
+pub struct Reader {
+    // The place in the text up to which it is read.
+    pub at: usize,
+    // The current point, which there is where `placed` is true, and the start of its subpath.
+    pub current: Point,
+    pub start: Point,
+    pub placed: bool,
+    // The remembered command's letter, or 0 for none.
+    pub letter: u8,
+}
+
+pub enum Step {
+    Command { command: PathCommand, next: Reader },
+    Done,
+    Refused(Refusal),
+}
+
+// The state before the first command.
+pub fn fresh() -> Reader
+    ensures { λ r. ⌜ r ≡ freshOf ⌝ }
+{
+    Reader {
+        at: 0,
+        current: Point { x: 0.0, y: 0.0 },
+        start: Point { x: 0.0, y: 0.0 },
+        placed: false,
+        letter: 0,
+    }
+}
+
+// Whether a letter adds to the current point: in lower case, where there is one.
+fn is_relative(letter: u8, placed: bool) -> bool
+    ensures { λ r. ⌜ r ≡ isRelativeOf letter placed ⌝ }
+{
+    (97 <= letter) & placed
+}
+
+fn needs_point(kind: Kind) -> bool
+    ensures { λ r. ⌜ r ≡ needsPointOf kind ⌝ }
+{
+    match kind {
+        Kind::Move => false,
+        Kind::Line => true,
+        Kind::Horizontal => true,
+        Kind::Vertical => true,
+        Kind::Cubic => true,
+        Kind::Quad => true,
+        Kind::Arc => true,
+    }
+}
+
+// What a further group of a kind is.
+fn repeated(kind: Kind) -> Kind
+    ensures { λ r. ⌜ r ≡ repeatedOf kind ⌝ }
+{
+    match kind {
+        Kind::Move => Kind::Line,
+        Kind::Line => Kind::Line,
+        Kind::Horizontal => Kind::Horizontal,
+        Kind::Vertical => Kind::Vertical,
+        Kind::Cubic => Kind::Cubic,
+        Kind::Quad => Kind::Quad,
+        Kind::Arc => Kind::Arc,
+    }
+}
+
+// The state after a command, which is read up to `next`, with the letter that was remembered for it.
+fn after(command: PathCommand, next: usize, letter: u8, start: Point) -> Reader
+    ensures { λ r. ⌜ r ≡ afterOf command next letter start ⌝ }
+{
+    match command {
+        PathCommand::MoveTo(end) => Reader {
+            at: next,
+            current: end,
+            start: end,
+            placed: true,
+            letter,
+        },
+        PathCommand::LineTo(end) => Reader {
+            at: next,
+            current: end,
+            start,
+            placed: true,
+            letter,
+        },
+        PathCommand::QuadTo { control: _, end } => Reader {
+            at: next,
+            current: end,
+            start,
+            placed: true,
+            letter,
+        },
+        PathCommand::CubicTo {
+            control1: _,
+            control2: _,
+            end,
+        } => Reader {
+            at: next,
+            current: end,
+            start,
+            placed: true,
+            letter,
+        },
+        PathCommand::ArcTo {
+            radii: _,
+            rotation: _,
+            large_arc: _,
+            sweep: _,
+            end,
+        } => Reader {
+            at: next,
+            current: end,
+            start,
+            placed: true,
+            letter,
+        },
+        PathCommand::ClosePath => Reader {
+            at: next,
+            current: start,
+            start,
+            placed: true,
+            letter: 0,
+        },
+    }
+}
+
+// What is due at a place of the text.
+pub enum Due {
+    // The text is at its end.
+    Done,
+    Refused(Refusal),
+    // A Z, and the place past it.
+    Close(usize),
+    // A group of a letter's kind, whose first number starts at a place.
+    Group {
+        kind: Kind,
+        letter: u8,
+        first: usize,
+    },
+}
+
+// A group of a kind from `at` on, where a number must start.
+fn due_group(text: &[u8], at: usize, kind: Kind, letter: u8) -> Due
+    ensures { λ r. ⌜ r ≡ dueGroupOf (now (text .entry)) at kind letter ⌝ }
+{
+    let first = scan::past_separators(text, at);
+    if scan::starts_number(scan::byte_at(text, first)) {
+        return Due::Group {
+            kind,
+            letter,
+            first,
+        };
+    }
+    Due::Refused(Refusal::ExpectedNumber(at))
+}
+
+// The command whose letter stands at `at`; `placed` says that there is a current point.
+fn due_letter(text: &[u8], at: usize, letter: u8, placed: bool) -> Due
+    requires { ⌜ at < length (now text) ⌝ }
+    ensures { λ r. ⌜ r ≡ dueLetterOf (now (text .entry)) at letter placed ⌝ }
+{
+    match groups::meaning(letter) {
+        Letter::Unknown => Due::Refused(Refusal::UnsupportedCommand(letter, at)),
+        Letter::Closes => Due::Close(at + 1),
+        Letter::Draws(kind) => {
+            if needs_point(kind) {
+                if placed {
+                    return due_group(text, at + 1, kind, letter);
+                }
+                return Due::Refused(Refusal::MissingMoveTo(at + 1));
+            }
+            due_group(text, at + 1, kind, letter)
+        }
+    }
+}
+
+// The remembered command once more, at a byte that is no letter.
+fn due_again(text: &[u8], at: usize, letter: u8) -> Due
+    ensures { λ r. ⌜ r ≡ dueAgainOf (now (text .entry)) at letter ⌝ }
+{
+    match groups::meaning(letter) {
+        Letter::Unknown => Due::Refused(Refusal::MissingMoveTo(at)),
+        Letter::Closes => Due::Refused(Refusal::MissingMoveTo(at)),
+        Letter::Draws(kind) => due_group(text, at, repeated(kind), letter),
+    }
+}
+
+// What is due from a place on, with the remembered letter.
+pub fn next_due(text: &[u8], from: usize, letter: u8, placed: bool) -> Due
+    ensures { λ r. ⌜ r ≡ nextDueOf (now (text .entry)) from letter placed ⌝ }
+{
+    let at = scan::past_separators(text, from);
+    if text.len() <= at {
+        return Due::Done;
+    }
+    let byte = text[at];
+    if groups::is_letter(byte) {
+        return due_letter(text, at, byte, placed);
+    }
+    due_again(text, at, letter)
+}
+
+// The next command of a text.
+pub fn read_step(text: &[u8], reader: Reader) -> Step
+    ensures { λ r. ⌜ r ≡ readStepOf (now (text .entry)) reader ⌝ }
+{
+    let start = reader.start;
+    match next_due(text, reader.at, reader.letter, reader.placed) {
+        Due::Done => Step::Done,
+        Due::Refused(refusal) => Step::Refused(refusal),
+        Due::Close(next) => Step::Command {
+            command: PathCommand::ClosePath,
+            next: after(PathCommand::ClosePath, next, reader.letter, start),
+        },
+        Due::Group {
+            kind,
+            letter,
+            first,
+        } => {
+            let current = reader.current;
+            let relative = is_relative(letter, reader.placed);
+            match groups::read_group(text, first, kind, relative, current) {
+                Group::Refused(refusal) => Step::Refused(refusal),
+                Group::Taken { command, next } => Step::Command {
+                    command,
+                    next: after(command, next, letter, start),
+                },
+            }
+        }
+    }
+}
+
+// A command that is passed without its values.
+pub enum Pass {
+    // How many numbers it stores, the place past it and the letter that is remembered.
+    Command {
+        width: usize,
+        next: usize,
+        letter: u8,
+    },
+    Done,
+    Refused(Refusal),
+}
+
+// The next command of a text, passed without its values.
+pub fn pass_step(text: &[u8], from: usize, letter: u8, placed: bool) -> Pass
+    ensures { λ r. ⌜ r ≡ passStepOf (now (text .entry)) from letter placed ⌝ }
+{
+    match next_due(text, from, letter, placed) {
+        Due::Done => Pass::Done,
+        Due::Refused(refusal) => Pass::Refused(refusal),
+        Due::Close(next) => Pass::Command {
+            width: 0,
+            next,
+            letter: 0,
+        },
+        Due::Group {
+            kind,
+            letter: own,
+            first,
+        } => match groups::pass_group(text, first, kind) {
+            Passed::Refused(refusal) => Pass::Refused(refusal),
+            Passed::To(next) => Pass::Command {
+                width: groups::width(kind),
+                next,
+                letter: own,
+            },
+        },
+    }
+}
