@@ -5,3 +5,5 @@ pub mod Sided
 pub mod Scaled
 pub mod Valued
 pub mod Found
+pub mod Said
+mod Readings
