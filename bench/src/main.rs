@@ -17,6 +17,7 @@ fn main() {
     length();
     angles();
     strict();
+    drawings();
     lookup();
     spot();
 }
@@ -108,6 +109,30 @@ fn angles() {
     let theirs = |v: [f32; 2]| v[0].atan2(v[1]).to_bits();
     row("atan2, libm", throughput(&inputs, ours, theirs));
     row("atan2, libm, latency", latency(&inputs, after, plain, ours, theirs));
+}
+
+// the path texts that tools/drawings gathers and both sides read, all of them once a turn; ns per byte
+fn drawings() {
+    let Ok(gathered) = std::fs::read("target/drawings/paths.txt") else {
+        println!("(tools/drawings gathers path texts for one more row)");
+        return;
+    };
+    let texts: Vec<&[u8]> = gathered
+        .split(|byte| *byte == b'\n')
+        .filter(|text| original_reads(text) > 0 && kihavute::strict(text) == kihavute::Strict::Yes)
+        .collect();
+    let bytes: usize = texts.iter().map(|text| text.len()).sum();
+    let best = |turn: &dyn Fn(&[u8]) -> usize| {
+        let times = (0..10).map(|_| {
+            let began = std::time::Instant::now();
+            std::hint::black_box(texts.iter().map(|text| turn(text)).sum::<usize>());
+            began.elapsed().as_secs_f64() * 1e9 / bytes as f64
+        });
+        times.fold(f64::INFINITY, f64::min)
+    };
+    let ours = best(&|text| usize::from(kihavute::strict(text) == kihavute::Strict::Yes));
+    let theirs = best(&|text| original_reads(text));
+    row("strict, drawings, a byte", [ours, theirs]);
 }
 
 // a hundred bytes of a drawing; the Rust reads them permissively, and has no strict reading

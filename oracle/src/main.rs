@@ -43,6 +43,7 @@ fn main() -> ExitCode {
         ["bezier"] => bezier::compare(&mut report, SEED, 250_000),
         ["root_all"] => root_all::compare(&mut report),
         ["strict"] => strict::compare_all(&mut report),
+        ["strict", "drawings"] => strict::compare_drawings(&mut report),
         ["strict", "time"] => strict::compare_time(&mut report),
         ["strict", seed, count] => match (seed.parse(), count.parse()) {
             (Ok(seed), Ok(count)) => strict::compare_derivations(&mut report, seed, count),
@@ -59,7 +60,7 @@ fn main() -> ExitCode {
 
 fn usage() -> ExitCode {
     eprintln!(
-        "oracle/run gate | math [SEED] | trig | table | bezier | root_all | strict [time | SEED COUNT] | record NAME"
+        "oracle/run gate | math [SEED] | trig | table | bezier | root_all | strict [drawings | time | SEED COUNT] | record NAME"
     );
     ExitCode::from(2)
 }

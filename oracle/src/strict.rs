@@ -255,6 +255,28 @@ fn original_reads(text: &[u8]) -> bool {
     std::str::from_utf8(text).is_ok_and(|text| SvgPathParser::try_parse(text).is_ok())
 }
 
+// ---- real drawings
+
+/// The path texts that tools/drawings gathers: both recognisers, and the original reader for those with a yes and no S or T.
+pub fn compare_drawings(report: &mut Report) {
+    let Ok(gathered) = std::fs::read("target/drawings/paths.txt") else {
+        println!("  no path texts: run tools/drawings first");
+        report.count(1, false);
+        return;
+    };
+    let grammar = Grammar::read(PATH);
+    let paths = Paths::new(&grammar);
+    let texts = || gathered.split(|byte| *byte == b'\n').filter(|text| !text.is_empty()).map(|text| Text(text.to_vec()));
+    let all = report.group("real drawings", texts(), |text| ours(&text.0), |text| paths.says(&text.0));
+    let yes = texts().filter(|text| ours(&text.0).0).count();
+    println!("  real drawings: {all} texts of {} bytes, {yes} with a yes, {:.0} s", gathered.len(), report.seconds());
+    let smooth = |text: &Text| text.0.iter().any(|byte| b"SsTt".contains(byte));
+    let taken = texts().filter(|text| ours(&text.0).0 && !smooth(text));
+    let name = "those with a yes and without S and T, by the original reader";
+    let read = report.group(name, taken, |_| Said(true), |text| Said(original_reads(&text.0)));
+    println!("  {name}: {read} texts, {:.0} s", report.seconds());
+}
+
 // ---- the time of long texts
 
 // what is repeated between a beginning and an end, and so makes the reader go over most bytes again, or go furthest
