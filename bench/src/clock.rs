@@ -9,6 +9,7 @@ const CALLS: usize = 1 << 18;
 /// Times both sides in turn over the same inputs: each call starts when it can.
 pub fn throughput<I: Copy>(inputs: &[I], ours: impl Fn(I) -> u32, theirs: impl Fn(I) -> u32) -> [f64; 2] {
     best(
+        CALLS,
         inputs.len(),
         || inputs.iter().fold(0u32, |sum, input| sum.wrapping_add(ours(*input))),
         || inputs.iter().fold(0u32, |sum, input| sum.wrapping_add(theirs(*input))),
@@ -27,8 +28,9 @@ pub fn latency<I: Copy>(
 ) -> [f64; 2] {
     let none = black_box(0u32);
     let [alone, _] =
-        best(inputs.len(), || inputs.iter().fold(0u32, |last, input| plain(after(*input, last & none))), || 0);
+        best(CALLS, inputs.len(), || inputs.iter().fold(0u32, |last, input| plain(after(*input, last & none))), || 0);
     best(
+        CALLS,
         inputs.len(),
         || inputs.iter().fold(0u32, |last, input| ours(after(*input, last & none))),
         || inputs.iter().fold(0u32, |last, input| theirs(after(*input, last & none))),
@@ -36,18 +38,23 @@ pub fn latency<I: Copy>(
     .map(|time| time - alone)
 }
 
+/// Times both sides in turn on one large input, with a few calls in each round.
+pub fn large(ours: impl Fn() -> u32, theirs: impl Fn() -> u32) -> [f64; 2] {
+    best(16, 1, ours, theirs)
+}
+
 // both sides have as many calls in each round
-fn best(calls: usize, ours: impl Fn() -> u32, theirs: impl Fn() -> u32) -> [f64; 2] {
+fn best(least_calls: usize, calls: usize, ours: impl Fn() -> u32, theirs: impl Fn() -> u32) -> [f64; 2] {
     let mut least = [f64::INFINITY; 2];
     for _ in 0..ROUNDS {
-        least[0] = least[0].min(round(calls, &ours));
-        least[1] = least[1].min(round(calls, &theirs));
+        least[0] = least[0].min(round(least_calls, calls, &ours));
+        least[1] = least[1].min(round(least_calls, calls, &theirs));
     }
     least
 }
 
-fn round(calls: usize, side: impl Fn() -> u32) -> f64 {
-    let times = CALLS.div_ceil(calls);
+fn round(least_calls: usize, calls: usize, side: impl Fn() -> u32) -> f64 {
+    let times = least_calls.div_ceil(calls);
     let began = Instant::now();
     for _ in 0..times {
         black_box(side());

@@ -7,7 +7,7 @@ use animato_path::bezier::QuadBezier;
 use animato_path::math::open;
 use animato_path::poly::{CompoundPath, LineSegment, PathSegment};
 use animato_path::svg::SvgPathParser;
-use clock::{latency, throughput};
+use clock::{large, latency, throughput};
 
 const INPUTS: usize = 4096;
 
@@ -18,6 +18,7 @@ fn main() {
     angles();
     strict();
     drawings();
+    decimals();
     lookup();
     spot();
 }
@@ -42,6 +43,11 @@ fn original_length(v: [f32; 2]) -> f32 {
 fn original_reads(text: &[u8]) -> usize {
     let text = std::str::from_utf8(text).expect("a drawing is ASCII");
     SvgPathParser::try_parse(text).map_or(0, |commands| commands.len())
+}
+
+#[inline(never)]
+fn original_parse(text: &str) -> f32 {
+    text.parse().unwrap_or(0.0)
 }
 
 #[inline(never)]
@@ -142,6 +148,54 @@ fn strict() {
     let ours = |text: &[u8]| u32::from(kihavute::strict(text) == kihavute::Strict::Yes);
     let theirs = |text: &[u8]| original_reads(text) as u32;
     row("strict reading, 100 bytes", throughput(&inputs, ours, theirs));
+}
+
+// texts of numbers
+struct Numbers(Vec<String>);
+
+impl Numbers {
+    // nanoseconds a number on both sides
+    fn row(&self, name: &str) {
+        let inputs: Vec<&str> = self.0.iter().map(String::as_str).collect();
+        let ours = |text: &str| kihavute::number(text.as_bytes()).map_or(0, |(bits, _)| bits);
+        row(name, throughput(&inputs, ours, |text| original_parse(text).to_bits()));
+    }
+}
+
+// against the standard library's str::parse, which the Rust calls
+fn decimals() {
+    let drawn = numbers_of_drawings();
+    if drawn.0.is_empty() {
+        println!("{:28} left out: tools/drawings gathers them", "numbers of drawings");
+    } else {
+        drawn.row("numbers of drawings");
+    }
+    let floats: Vec<f32> = patterns().map(|bits| f32::from_bits(bits & 0x7F_FFFF | (67 + bits % 121) << 23)).collect();
+    Numbers(floats.iter().map(|x| format!("{x:e}")).collect()).row("shortest floats");
+    let wide = |x: &f32| f64::from(*x) * std::f64::consts::SQRT_2;
+    Numbers(floats.iter().map(|x| format!("{:.16e}", wide(x))).collect()).row("17 digits");
+    let far = |x: &f32| format!("{}e{}", x.to_bits() % 100_000, x.to_bits() % 77);
+    Numbers(floats.iter().map(|x| far(x)).collect()).row("large exponents");
+    let long = format!("1.{}", "7".repeat(59_998));
+    let ours = || kihavute::number(long.as_bytes()).map_or(0, |(bits, _)| bits);
+    row("60,000 digits", large(ours, || original_parse(&long).to_bits()));
+}
+
+// the first 50,000 numbers of the path texts that tools/drawings gathers
+fn numbers_of_drawings() -> Numbers {
+    let texts = std::fs::read_to_string("target/drawings/paths.txt").unwrap_or_default();
+    let mut found = Vec::new();
+    let mut at = 0;
+    while at < texts.len() && found.len() < 50_000 {
+        match kihavute::number(&texts.as_bytes()[at..texts.len().min(at + 100)]) {
+            Ok((_, taken)) => {
+                found.push(texts[at..at + taken].to_string());
+                at += taken;
+            }
+            Err(_) => at += 1,
+        }
+    }
+    Numbers(found)
 }
 
 // 64 quads of some hundred metres; ours also judges the table's 32 entries at each call

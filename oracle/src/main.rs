@@ -3,6 +3,7 @@
 mod bezier;
 mod bnf;
 mod compare;
+mod decimal;
 mod earley;
 mod math;
 mod record;
@@ -28,6 +29,7 @@ fn main() -> ExitCode {
             math::compare(&mut report, &trig::FAMILY, SEED, 100_000);
             table::compare(&mut report, SEED, 20_000);
             strict::compare_some(&mut report, SEED);
+            decimal::compare_some(&mut report, SEED);
             bezier::compare(&mut report, SEED, 20_000);
             for recording in record::RECORDINGS {
                 recording.compare(&mut report, SEED);
@@ -49,6 +51,18 @@ fn main() -> ExitCode {
             (Ok(seed), Ok(count)) => strict::compare_derivations(&mut report, seed, count),
             _ => return usage(),
         },
+        ["decimal", "edges"] => decimal::compare_edges(&mut report),
+        ["decimal", "printed", part] => match part.parse() {
+            Ok(part @ 0..16u32) => {
+                let size = 0x7F80_0000 / 16;
+                decimal::compare_printed(&mut report, part * size, (part + 1) * size, 1);
+            }
+            _ => return usage(),
+        },
+        ["decimal", name, seed, count] => match (decimal::kind(name), seed.parse(), count.parse()) {
+            (Some(kind), Ok(seed), Ok(count)) => decimal::compare_kind(&mut report, name, kind, seed, count),
+            _ => return usage(),
+        },
         ["record", name] => match record::RECORDINGS.iter().find(|recording| recording.name == name) {
             Some(recording) => recording.write(&mut report, SEED),
             None => return usage(),
@@ -60,7 +74,8 @@ fn main() -> ExitCode {
 
 fn usage() -> ExitCode {
     eprintln!(
-        "oracle/run gate | math [SEED] | trig | table | bezier | root_all | strict [drawings | time | SEED COUNT] | record NAME"
+        "oracle/run gate | math [SEED] | trig | table | bezier | root_all | strict [drawings | time | SEED COUNT] | \
+         decimal edges | decimal printed PART | decimal KIND SEED COUNT | record NAME"
     );
     ExitCode::from(2)
 }

@@ -151,6 +151,7 @@ unsafe extern "C" {
         answer: *mut u64,
         answer_len: usize,
     ) -> u32;
+    fn kihavute_number(text: *const u8, text_len: usize, answer: *mut u64, answer_len: usize) -> u32;
     fn kihavute_strict(text: *const u8, text_len: usize, answer: *mut u64, answer_len: usize) -> u32;
 }
 
@@ -420,6 +421,14 @@ pub enum Strict {
     TooLong(u64),
 }
 
+/// The decimal number that a text starts with, and how many bytes it takes.
+#[inline]
+pub fn number(text: &[u8]) -> Result<(Bits, usize), Refusal> {
+    // SAFETY: both slices are whole, and the answer is the call's own
+    let given = judged(|answer, places| unsafe { kihavute_number(text.as_ptr(), text.len(), answer, places) })?;
+    Ok((given[0] as Bits, given[1] as usize))
+}
+
 /// Whether a text of any bytes matches the path grammar of SVG 1.1 Second Edition, 8.3.9, with an arc's radii signed.
 #[inline]
 pub fn strict(text: &[u8]) -> Strict {
@@ -480,6 +489,15 @@ mod tests {
         assert_eq!(rotation_deg([-2.0, 0.0]), 180.0f32.to_bits());
         assert_eq!(rotation_deg([0.0, -0.0]), 0);
         assert_eq!(angle_between([1.0, 0.0], [-1.0, 0.0]), 0x4049_0FDB);
+    }
+
+    #[test]
+    fn decimals() {
+        let refused = |number, at| Err(Refusal { number, carried: [at, 0, 0, 0, 0, 0, 0, 0] });
+        assert_eq!(number(b"-12.5e1,7"), Ok(((-125.0f32).to_bits(), 7)));
+        assert_eq!(number(b"-.e1"), refused(3, 0));
+        assert_eq!(number(b"1e 2"), refused(4, 1));
+        assert_eq!(number(&[b'1'; 65_537]), refused(1, 65_537));
     }
 
     #[test]

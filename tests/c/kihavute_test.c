@@ -288,6 +288,59 @@ static void strict_reading(void) {
     }
 }
 
+static uint8_t many[65537];
+
+static void number_is(const char *text, uint32_t pattern, uint64_t taken) {
+    fresh();
+    answered(text, kihavute_number((const uint8_t *)text, strlen(text), answer, PLACES), 0, 2, (uint64_t[]){pattern, taken});
+}
+
+static void number_refused(const char *text, uint32_t number, uint64_t at) {
+    fresh();
+    answered(text, kihavute_number((const uint8_t *)text, strlen(text), answer, PLACES), number, 1, (uint64_t[]){at});
+}
+
+static void decimals(void) {
+    number_is("3.4028235e38", GREATEST, 12);
+    number_is("3.4028236e38", INFINITE, 12);
+    number_is("16777217", 0x4B800000, 8);
+    number_is("16777217.0000001", 0x4B800001, 16);
+    /* read through a double this would be 4B800000 */
+    number_is("16777217.000000001", 0x4B800001, 18);
+    number_is("-0", MINUS_ZERO, 2);
+    number_is("+.5,", bits(0.5f), 3);
+    number_is("1.", bits(1), 2);
+    number_is("1.5.5", bits(1.5f), 3);
+    number_is("1e1e1", bits(10), 3);
+    number_is("1e-99999999999999999999", 0, 23);
+    number_is("-1e+99999999999999999999", INFINITE | MINUS_ZERO, 24);
+    number_is("0e99999999999999999999", 0, 22);
+    number_is("1.401298464324817070923729583289916131280e-45", LEAST, 45);
+    number_is("7.00649232162408535461864791644958065640130970938257885878534141944895541342930300743319094181060791015625e-46", 0, 110);
+    number_is("7.00649232162408535461864791644958065640130970938257885878534141944895541342930300743319094181060791015626e-46", LEAST, 110);
+    number_refused("", 3, 0);
+    number_refused("-.e1", 3, 0);
+    number_refused(" 1", 3, 0);
+    number_refused("1e 2", 4, 1);
+    number_refused("12.5E+", 4, 4);
+
+    memset(many, '0', sizeof many);
+    fresh();
+    answered("65,536 zeros", kihavute_number(many, 65536, answer, PLACES), 0, 2, (uint64_t[]){0, 65536});
+    fresh();
+    answered("65,537 zeros", kihavute_number(many, 65537, answer, PLACES), 1, 1, (uint64_t[]){65537});
+    fresh();
+    answered("a number, a short answer", kihavute_number(many, 1, answer, 7), 255, 0, NULL);
+    /* a point, 65,510 zeros and a 1, moved back by an exponent that the Rust cuts short */
+    many[1] = '.';
+    memcpy(many + 65512, "1e65511", 7);
+    fresh();
+    answered("a far 1 moved to its place", kihavute_number(many, 65519, answer, PLACES), 0, 2, (uint64_t[]){bits(1), 65519});
+    memcpy(many + 65512, "1e655360", 8);
+    fresh();
+    answered("a far 1 moved away", kihavute_number(many, 65520, answer, PLACES), 0, 2, (uint64_t[]){INFINITE, 65520});
+}
+
 int main(void) {
     roots();
     angles();
@@ -296,6 +349,7 @@ int main(void) {
     lookups();
     curves();
     strict_reading();
+    decimals();
     printf("%d passed, %d failed\n", passed, failed);
     return failed != 0;
 }
