@@ -12,15 +12,27 @@ use clock::{large, latency, throughput};
 const INPUTS: usize = 4096;
 
 fn main() {
+    let rows: [(&str, fn()); 8] = [
+        ("root", root),
+        ("length", length),
+        ("angles", angles),
+        ("strict", strict),
+        ("drawings", drawings),
+        ("decimals", decimals),
+        ("lookup", lookup),
+        ("spot", spot),
+    ];
+    let wanted: Vec<String> = std::env::args().skip(1).collect();
+    if let Some(word) = wanted.iter().find(|word| rows.iter().all(|(name, _)| name != word)) {
+        eprintln!("no rows {word}: {}", rows.map(|(name, _)| name).join(" "));
+        std::process::exit(2);
+    }
     println!("{:28} {:>9} {:>9} {:>7}", "ns per call, best of 25", "ours", "the Rust", "ratio");
-    root();
-    length();
-    angles();
-    strict();
-    drawings();
-    decimals();
-    lookup();
-    spot();
+    for (name, run) in rows {
+        if wanted.is_empty() || wanted.iter().any(|word| word == name) {
+            run();
+        }
+    }
 }
 
 fn row(name: &str, [ours, theirs]: [f64; 2]) {
