@@ -57,7 +57,7 @@ fn base(u: u64, v: u64, l: u64) -> u64
 
 // The angle from the bits a and b of the sizes of y and x, which u and v are cut from. Where the
 // point is on the left side or y is the larger, but not both, the small angle is taken away.
-pub fn guess(a: u64, b: u64, u: u64, v: u64, left: u32) -> u32
+pub(crate) fn guess(a: u64, b: u64, u: u64, v: u64, left: u32) -> u32
     requires { ⌜ (a < 9218868437227405312) × (b < 9218868437227405312) × (u < 2 ^ 30) × (v < 2 ^ 30) × (left ≤ 1) ⌝ }
     ensures { λ r. ⌜ (r ≡ guessOf a b (ltb v u) left) × (947912704 ≤ r) × (r ≤ 1078530011) ⌝ }
 {

@@ -4,7 +4,7 @@ ghost use Prim.Native.Nat.{_+_, _-_, _*_, _/_, _%_, _^_, _≤_, _<_};
 ghost use Rattle.bearing.specs.Steps.{field, topOf, partOf};
 
 // The larger exponent's field of the two.
-pub fn larger(a: u64, b: u64) -> u64
+pub(crate) fn larger(a: u64, b: u64) -> u64
     requires { ⌜ (a < 2 ^ 63) × (b < 2 ^ 63) ⌝ }
     ensures { λ r. ⌜ (r ≡ topOf a b) × (field a ≤ r) × (field b ≤ r) × (r < 2048) ⌝ }
 {
@@ -14,7 +14,7 @@ pub fn larger(a: u64, b: u64) -> u64
 }
 
 // The 30 leading digits of the number with the bits b, moved down where its field is below `top`.
-pub fn part(b: u64, top: u64) -> u64
+pub(crate) fn part(b: u64, top: u64) -> u64
     requires { ⌜ (field b ≤ top) × (top < 2048) ⌝ }
     ensures { λ r. ⌜ (r ≡ partOf b top) × (r < 2 ^ 30) ⌝ }
 {

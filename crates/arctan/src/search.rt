@@ -105,7 +105,7 @@ fn between(u: u64, v: u64, left: u32, from: u32, to: u32) -> u32
 }
 
 // The bits of an angle that passes the test, whatever u and v are.
-pub fn fallback(u: u64, v: u64, left: u32) -> u32
+pub(crate) fn fallback(u: u64, v: u64, left: u32) -> u32
     requires { ⌜ (u < 2 ^ 30) × (v < 2 ^ 30) ⌝ }
     ensures { λ r. ⌜ (r ≡ fallbackOf u v left) × (r ≤ 1078530010) ⌝ }
 {

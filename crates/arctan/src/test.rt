@@ -20,7 +20,7 @@ pub struct Sums {
 }
 
 // The four sides at r, counted in 2^-56.
-pub fn sides(r: u64) -> Sums
+pub(crate) fn sides(r: u64) -> Sums
     requires { ⌜ r ≤ half ⌝ }
     ensures { λ s. ⌜ SumsAt r (s .«cosine_up») (s .«cosine_down») (s .«sine_up») (s .«sine_down») ⌝ }
 {
@@ -36,7 +36,7 @@ pub fn sides(r: u64) -> Sums
 }
 
 // The size of the angle with the bits b, counted in 2^-56.
-pub fn placed(b: u32) -> u64
+pub(crate) fn placed(b: u32) -> u64
     requires { ⌜ (947912704 ≤ b) × (b ≤ 1078530011) ⌝ }
     ensures { λ r. ⌜ (r ≡ fixedOf b) × (r < turn) ⌝ }
 {
@@ -45,7 +45,7 @@ pub fn placed(b: u32) -> u64
 }
 
 // The side a where `first` is true, else b.
-pub fn side(first: bool, a: u64, b: u64) -> u64
+pub(crate) fn side(first: bool, a: u64, b: u64) -> u64
     requires { ⌜ (a ≤ 6760253432) × (b ≤ 6760253432) ⌝ }
     ensures { λ r. ⌜ (r ≡ cond first a b) × (r ≤ 6760253432) ⌝ }
 {
@@ -53,7 +53,7 @@ pub fn side(first: bool, a: u64, b: u64) -> u64
 }
 
 // u·a + v·b
-pub fn both(u: u64, a: u64, v: u64, b: u64) -> u64
+pub(crate) fn both(u: u64, a: u64, v: u64, b: u64) -> u64
     requires { ⌜ (u < 2 ^ 30) × (v < 2 ^ 30) × (a ≤ 6760253432) × (b ≤ 6760253432) ⌝ }
     ensures { λ r. ⌜ (r ≡ u * a + v * b) × (r ≤ 14517533701555879936) ⌝ }
 {
@@ -111,7 +111,7 @@ fn past_pi() -> Sums
 }
 
 // The test of the angle with the bits b. PI is above half a turn, and the rest of it is negative.
-pub fn passes(u: u64, v: u64, left: u32, b: u32) -> bool
+pub(crate) fn passes(u: u64, v: u64, left: u32, b: u32) -> bool
     requires { ⌜ (u < 2 ^ 30) × (v < 2 ^ 30) × (947912704 ≤ b) × (b ≤ 1078530011) ⌝ }
     ensures { λ t. ⌜ t ≡ passes u v left b ⌝ }
 {
