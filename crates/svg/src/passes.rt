@@ -19,7 +19,7 @@ pub enum Size {
 }
 
 // How many letters and numbers a text stores, or its first refusal. No number is converted.
-pub fn measure(text: &[u8]) -> Size
+pub(crate) fn measure(text: &[u8]) -> Size
     requires { ⌜ length (now text) ≤ 65536 ⌝ }
     ensures { λ r. ⌜ r ≡ measureOf (commandsOf (now (text .entry))) ⌝ }
 {
@@ -55,7 +55,7 @@ pub fn measure(text: &[u8]) -> Size
 }
 
 // Stores the commands of a text that reads, from the start of each buffer.
-pub fn fill(text: &[u8], letters: &mut [u8], numbers: &mut [f32])
+pub(crate) fn fill(text: &[u8], letters: &mut [u8], numbers: &mut [f32])
     requires { ⌜ Room (commandsOf (now text)) (length (now letters)) (length (now numbers)) ⌝ }
     ensures { λ _. ⌜ Filled (commandsOf (now (text .entry))) (now (letters .entry)) (now (numbers .entry)) (now (letters .exit)) (now (numbers .exit)) ⌝ }
 {
