@@ -11,12 +11,10 @@
 /// The bit pattern of a float; a NaN's is 7FC00000.
 pub type Bits = u32;
 
-/// A refusal: its number in the table of `include/kihavute.h`, and the values that it carries, zeros after them.
-#[derive(Clone, Copy, Debug, PartialEq, Eq)]
-pub struct Refusal {
-    pub number: u32,
-    pub carried: [u64; 8],
-}
+mod refusals;
+
+pub use refusals::Reason;
+pub use refusals::Refusal;
 
 unsafe extern "C" {
     safe fn kihavute_sqrt(x: f32) -> f32;

@@ -1,0 +1,127 @@
+//! Why a call refuses, as an enum, and what to do about it.
+
+use core::fmt;
+
+/// A refusal: its number in the table of `include/kihavute.h`, and the values that it carries, zeros after them.
+#[derive(Clone, Copy, Debug, PartialEq, Eq)]
+pub struct Refusal {
+    pub number: u32,
+    pub carried: [u64; 8],
+}
+
+/// A refusal by its name. Offsets count bytes of the text; commands, segments, points and entries count from 0.
+#[derive(Clone, Copy, Debug, PartialEq, Eq)]
+pub enum Reason {
+    TooLong { length: u64 },
+    UnexpectedEnd { offset: u64 },
+    ExpectedNumber { offset: u64 },
+    InvalidNumber { offset: u64 },
+    ExpectedFlag { offset: u64 },
+    UnsupportedCommand { letter: u8, offset: u64 },
+    MissingMoveTo { offset: u64 },
+    /// The places needed of each output, in the call's order, zeros after the last.
+    NoRoom { needed: [u64; 4] },
+    BadList { command: u64 },
+    RotationRange { segment: u64 },
+    NotFinite { place: u64 },
+    BadPath,
+    Range { found: u64 },
+    ShortAnswer,
+}
+
+impl Refusal {
+    /// The refusal's name with its values.
+    pub fn reason(&self) -> Reason {
+        let [first, second, third, fourth, ..] = self.carried;
+        match self.number {
+            1 => Reason::TooLong { length: first },
+            2 => Reason::UnexpectedEnd { offset: first },
+            3 => Reason::ExpectedNumber { offset: first },
+            4 => Reason::InvalidNumber { offset: first },
+            5 => Reason::ExpectedFlag { offset: first },
+            6 => Reason::UnsupportedCommand { letter: first as u8, offset: second },
+            7 => Reason::MissingMoveTo { offset: first },
+            8 => Reason::NoRoom { needed: [first, second, third, fourth] },
+            9 => Reason::BadList { command: first },
+            10 => Reason::RotationRange { segment: first },
+            11 => Reason::NotFinite { place: first },
+            12 => Reason::BadPath,
+            13 => Reason::Range { found: first },
+            _ => Reason::ShortAnswer,
+        }
+    }
+}
+
+impl fmt::Display for Refusal {
+    fn fmt(&self, f: &mut fmt::Formatter<'_>) -> fmt::Result {
+        self.reason().fmt(f)
+    }
+}
+
+impl std::error::Error for Refusal {}
+
+impl fmt::Display for Reason {
+    fn fmt(&self, f: &mut fmt::Formatter<'_>) -> fmt::Result {
+        match *self {
+            Reason::TooLong { length } => {
+                write!(f, "the text has {length} bytes, more than may be read at once; split the plan")
+            }
+            Reason::UnexpectedEnd { offset } => {
+                write!(f, "the text ends at byte {offset} where a number or flag is due; complete the last group")
+            }
+            Reason::ExpectedNumber { offset } => write!(f, "no number starts after byte {offset}; write one there"),
+            Reason::InvalidNumber { offset } => {
+                write!(f, "the exponent at byte {offset} has no digit; give it one or remove the e")
+            }
+            Reason::ExpectedFlag { offset } => write!(f, "byte {offset} is an arc's flag; write 0 or 1 there"),
+            Reason::UnsupportedCommand { letter, offset } => {
+                let letter = letter.escape_ascii();
+                write!(f, "the command {letter} at byte {offset} is not known; use M, L, H, V, C, Q, A or Z")
+            }
+            Reason::MissingMoveTo { offset } => {
+                write!(f, "at byte {offset} there is no command or current point to draw from; begin with M")
+            }
+            Reason::NoRoom { needed } => {
+                let count = needed.iter().rposition(|&places| places > 0).map_or(1, |last| last + 1);
+                write!(f, "an output is too short; lend these counts of places, in the call's order: ")?;
+                for (i, places) in needed[..count].iter().enumerate() {
+                    write!(f, "{}{places}", if i == 0 { "" } else { ", " })?;
+                }
+                Ok(())
+            }
+            Reason::BadList { command } => {
+                write!(f, "the list is malformed at {command}; look at the letter, the numbers and the flags there")
+            }
+            Reason::RotationRange { segment } => {
+                write!(f, "the arc of segment {segment} has a rotation beyond 3600 degrees or none; bring it into range")
+            }
+            Reason::NotFinite { place } => {
+                write!(f, "the length is no longer finite at {place}; use smaller coordinates")
+            }
+            Reason::BadPath => write!(f, "the stored path fails its check; build it anew from its plan"),
+            Reason::Range { found } => write!(f, "the count {found} is out of range; see the limits of the call"),
+            Reason::ShortAnswer => write!(f, "the answer has fewer than 8 places; lend it 8"),
+        }
+    }
+}
+
+#[cfg(test)]
+mod tests {
+    use super::*;
+
+    fn said(number: u32, carried: &[u64]) -> String {
+        let mut all = [0; 8];
+        all[..carried.len()].copy_from_slice(carried);
+        Refusal { number, carried: all }.to_string()
+    }
+
+    #[test]
+    fn every_refusal_says_what_to_do() {
+        for number in (1..=13).chain([255]) {
+            assert!(said(number, &[7, 9]).contains(';'), "refusal {number}");
+        }
+        assert!(said(6, &[83, 4]).contains("command S at byte 4"));
+        assert!(said(8, &[2, 4]).ends_with("2, 4"));
+        assert!(said(8, &[0]).ends_with(": 0"));
+    }
+}
