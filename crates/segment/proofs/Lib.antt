@@ -1,0 +1,3 @@
+-- Laws of the stored form of a segment.
+pub mod Widths
+pub mod Reading
