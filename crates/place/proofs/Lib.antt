@@ -2,3 +2,4 @@
 pub mod Walks
 pub mod Tables
 pub mod Pairs
+pub mod Demand3

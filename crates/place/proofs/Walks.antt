@@ -1,7 +1,6 @@
 -- Sums over the kinds before a segment, and the walk that keeps them. Assumes nothing.
 use mathlib.Core.Path.{_≡_, refl, sym, ap, _∙_}
 use Prim.Native.Nat.{ℕ, zero, suc, zero-le, _+_, _*_, _-_, _≤_, _<_}
-
 use native.Mathlib.Nat.{suc-mul}
 use native.Mathlib.Numerals.{add-one}
 use native.Mathlib.Omega.{arith}
@@ -11,7 +10,7 @@ use lib.ListN.{length, getD}
 use Rattle.segment.specs.Segments.{widthOf, tablesOf, hasTable}
 use Rattle.segment.proofs.Widths.{width-most, one-table, none-table}
 use Rattle.place.specs.declared.cursors.Cursor.{Cursor}
-use Rattle.place.specs.Kinds.{before}
+use Rattle.stored.specs.Stored.{before}
 use Rattle.place.specs.Cursors.{cursorOf}
 
 module _ (f : ℕ → ℕ) where

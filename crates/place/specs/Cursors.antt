@@ -4,7 +4,7 @@ use mathlib.Core.Path.{_≡_}
 use mathlib.Core.List.{List}
 use lib.ListN.{length}
 use Rattle.segment.specs.Segments.{widthOf, tablesOf}
-use Rattle.place.specs.Kinds.{before}
+use Rattle.stored.specs.Stored.{before}
 use Rattle.place.specs.declared.cursors.Cursor.{Cursor}
 
 -- the numbers and the tables of the segments before it, 33 numbers to a table
