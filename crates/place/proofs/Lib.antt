@@ -1,0 +1,5 @@
+-- Laws.
+pub mod Walks
+pub mod Tables
+pub mod Pairs
+pub mod Demand3

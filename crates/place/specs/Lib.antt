@@ -1,0 +1,3 @@
+-- Where on a path a progress lies.
+pub mod Cursors
+pub mod Places
