@@ -1,0 +1,2 @@
+-- What making a spline's table answers and stores.
+pub mod Tables

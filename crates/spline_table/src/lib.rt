@@ -1,0 +1,6 @@
+// The table of running lengths of a Catmull-Rom spline through lent points (bezier.rs, `build_table`), stored in a lent slice.
+pub mod inner;
+mod tables;
+
+pub use tables::Tabled;
+pub use tables::spline_table;
