@@ -1,0 +1,67 @@
+-- The loop that measures: the running length at the point it has come to, and every one before it finite. Assumes nothing.
+use mathlib.Core.Path.{_≡_, refl, sym, ap, _∙_, subst}
+use Prim.Native.Nat.{ℕ, zero, suc, _+_, _-_, _≤_, _<_}
+use native.Mathlib.Numerals.{add-one}
+use native.Mathlib.Omega.{arith}
+use mathlib.Core.Bool.{true, false}
+use mathlib.Core.List.{List}
+use borrow.Author.Tests.{lt-ltb, le-ltb}
+use lib.ListN.{length}
+use lib.Dec.{ltb}
+use lib.Ieee.{Float, binary32, add, ofBits}
+use lib.Ieee.Scale.{finite}
+use Rattle.floats.specs.Floats.{zeroF}
+use Rattle.table.specs.Lookup.{at}
+use Rattle.polyline.specs.Points.{countOf}
+use Rattle.polyline.specs.Lengths.{legOf, lengthsOf, totalOf, firstNotFinite, measuredOf}
+use Rattle.polyline.specs.declared.inner.Measured.{Measured}
+use Rattle.polyline.specs.declared.inner.Measured.the-variants.{Total, NotFinite}
+use Rattle.polyline.proofs.Legs.{lengths-count, lengths-first, lengths-next, total-is}
+use Rattle.polyline.proofs.FirstNotFinite.{finite-more, finite-stop}
+
+pub record Measuring (points : List Float) (total : Float) (i : ℕ) : Type 0 where
+  pub upto : i ≤ countOf points - 1
+  pub here : total ≡ at (lengthsOf points) i
+  pub fine : suc i ≤ firstNotFinite (lengthsOf points)
+
+zero-finite : finite zeroF ≡ true
+unfolding zeroF ofBits
+zero-finite = refl
+
+module _ (points : List Float) where
+  pub measuring-start : (total : Float) → total ≡ zeroF → Measuring points total 0
+  measuring-start total e = record {
+    upto = omega arith;
+    here = e ∙ sym (lengths-first points);
+    fine = finite-more (lengthsOf points) 0 (omega arith) (let n = lengths-count points in omega arith) (ap finite (lengths-first points) ∙ zero-finite);
+  }
+
+  module _ (total : Float) (i : ℕ) (m : Measuring points total i) (inside : i + 1 < countOf points) (leg next : Float) (l : leg ≡ legOf points i) (n : next ≡ add binary32 total leg) where
+    reached : next ≡ at (lengthsOf points) (i + 1)
+    reached = n ∙ ap (λ (x : Float). add binary32 x leg) (m .here) ∙ ap (add binary32 (at (lengthsOf points) i)) l ∙ sym (lengths-next points i (omega arith)) ∙ ap (at (lengthsOf points)) (sym (add-one i))
+
+    in-list : i + 1 < length (lengthsOf points)
+    in-list = let n = lengths-count points in omega arith
+
+    passed : i + 1 ≤ firstNotFinite (lengthsOf points)
+    passed = let f = m .fine in omega arith
+
+    pub measuring-more : finite next ≡ true → Measuring points next (i + 1)
+    measuring-more e = record { upto = omega arith; here = reached; fine = finite-more (lengthsOf points) (i + 1) passed in-list (ap finite (sym reached) ∙ e) }
+
+    pub measuring-stop : finite next ≡ false → NotFinite (i + 1) ≡ measuredOf points
+    unfolding measuredOf
+    measuring-stop e =
+        let s = finite-stop (lengthsOf points) (i + 1) passed in-list (ap finite (sym reached) ∙ e) in
+        rw (s, lt-ltb (i + 1) (length (lengthsOf points)) in-list) refl
+
+  pub measuring-done : (total : Float) (i : ℕ) → Measuring points total i → countOf points ≤ i + 1 → Total total ≡ measuredOf points
+  unfolding measuredOf
+  measuring-done total i m past =
+      let u = m .upto in
+      let f = m .fine in
+      let n = lengths-count points in
+      let e : i ≡ countOf points - 1 = omega arith in
+      let t : total ≡ totalOf points = m .here ∙ ap (at (lengthsOf points)) e ∙ total-is points in
+      let b = le-ltb (firstNotFinite (lengthsOf points)) (length (lengthsOf points)) (omega arith) in
+      rw (b, t) refl

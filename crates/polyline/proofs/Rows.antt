@@ -1,0 +1,48 @@
+-- Points written one after the other: one more point at its two places writes one more row. Assumes nothing.
+use mathlib.Core.Path.{_≡_, refl, sym, ap, _∙_, subst}
+use Prim.Native.Nat.{ℕ, zero, suc, _+_, _*_, _≤_}
+use native.Mathlib.Numerals.{add-one}
+use native.Mathlib.Omega.{arith}
+use mathlib.Core.List.{List, [], _∷_, _++_}
+use lib.ListN.{length, set, length-append}
+use lib.Seq.{sets, length-sets}
+use lib.Ieee.{Float}
+use Rattle.answers.specs.Report.{written}
+use Rattle.answers.proofs.Writing.{written-more, length-written}
+use Rattle.math.specs.declared.points.Point.{Point}
+use Rattle.polyline.specs.Points.{twoOf, rowsOf}
+
+pub two-put : (l : List Float) (i : ℕ) (p : Point) (x y : Float) → x ≡ p .x → y ≡ p .y → set (set l i x) (i + 1) y ≡ sets l i (twoOf p)
+two-put l i p x y e f = rw (e, f, add-one)
+
+pub rows-length : (point : ℕ → Point) (k : ℕ) → length (rowsOf point k) ≡ 2 * k
+unfolding rowsOf
+rows-length point zero = refl
+rows-length point (suc k) = length-append (rowsOf point k) (twoOf (point k)) ∙ (let e = rows-length point k in omega arith)
+
+pub rows-none : (point : ℕ → Point) (before : List Float) → before ≡ written (rowsOf point 0) before
+unfolding rowsOf
+rows-none point before = refl
+
+module _ (point : ℕ → Point) (before : List Float) where
+  -- one more row
+  pub rows-more :
+      (k : ℕ) (now after : List Float) (p : Point) → 2 * k + 2 ≤ length before → now ≡ written (rowsOf point k) before → p ≡ point k → after ≡ sets now (2 * k) (twoOf p)
+      → after ≡ written (rowsOf point (k + 1)) before
+  unfolding rowsOf
+  rows-more k now after p room e f g =
+      let n = rows-length point k in
+      g ∙ ap (λ (l : List Float). sets l (2 * k) (twoOf p)) e ∙ ap (λ (q : Point). sets (written (rowsOf point k) before) (2 * k) (twoOf q)) f
+      ∙ ap (λ (i : ℕ). sets (written (rowsOf point k) before) i (twoOf (point k))) (sym n)
+      ∙ written-more (rowsOf point k) (twoOf (point k)) before (omega arith)
+      ∙ ap (λ (i : ℕ). written (rowsOf point i) before) (sym (add-one k))
+
+  -- what is written so far has the output's length
+  pub rows-size : (k : ℕ) (now : List Float) → 2 * k ≤ length before → now ≡ written (rowsOf point k) before → length now ≡ length before
+  rows-size k now room e = ap length e ∙ length-written (rowsOf point k) before (let n = rows-length point k in omega arith)
+
+-- equal points make equal rows
+pub rows-same : (f g : ℕ → Point) (k : ℕ) → ((i : ℕ) → suc i ≤ k → f i ≡ g i) → rowsOf f k ≡ rowsOf g k
+unfolding rowsOf
+rows-same f g zero e = refl
+rows-same f g (suc k) e = rw (rows-same f g k (λ i h. e i (omega arith)), e k (omega arith)) refl
