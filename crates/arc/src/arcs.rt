@@ -125,7 +125,7 @@ pub fn fallback_shape(chord: Chord) -> Arc
 }
 
 // What stands for a table where there is none. Its total is not its last entry, so that no lookup takes it.
-fn no_table() -> Table
+pub fn no_table() -> Table
     ensures { λ r. ⌜ r ≡ noTable ⌝ }
 {
     Table {
@@ -135,7 +135,7 @@ fn no_table() -> Table
 }
 
 // The line between an arc's ends.
-fn chord_line(shape: Arc) -> LineSegment
+pub fn chord_line(shape: Arc) -> LineSegment
     ensures { λ r. ⌜ r ≡ chordLine shape ⌝ }
 {
     let start = shape.start;

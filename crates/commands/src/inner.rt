@@ -17,7 +17,7 @@ fn flag_number(flag: bool) -> f32
 }
 
 // Puts two numbers at the places `at` and `at + 1`, and touches no other.
-fn put_two(numbers: &mut [f32], at: usize, x: f32, y: f32)
+pub fn put_two(numbers: &mut [f32], at: usize, x: f32, y: f32)
     requires { ⌜ at + 2 ≤ length (now numbers) ⌝ }
     ensures { λ _. ⌜ now (numbers .exit) ≡ sets (now (numbers .entry)) at (x ∷ y ∷ []) ⌝ }
 {
@@ -115,7 +115,8 @@ pub enum Decoded {
     Bad,
 }
 
-fn point_at(numbers: &[f32], at: usize) -> Point
+// The point of the two numbers from a place on.
+pub fn point_at(numbers: &[f32], at: usize) -> Point
     requires { ⌜ at + 2 ≤ length (now numbers) ⌝ }
     ensures { λ r. ⌜ r ≡ pointAt (now (numbers .entry)) at ⌝ }
 {

@@ -1,0 +1,4 @@
+-- Laws of the stored form of a segment.
+pub mod Widths
+pub mod Reading
+pub mod Runs
