@@ -1,0 +1,4 @@
+-- Laws.
+pub mod Walks
+pub mod Tables
+pub mod Pairs
