@@ -1,0 +1,3 @@
+-- The laws of the definitions of `specs/`.
+pub mod Lines
+pub mod Paths
