@@ -193,6 +193,26 @@ uint32_t kihavute_number(const uint8_t *text, size_t text_len, uint64_t *answer,
  * is 1 for a yes and 0 for a no. Refused with 1: above 65,536 bytes; answer[0] is the count. The time is linear. */
 uint32_t kihavute_strict(const uint8_t *text, size_t text_len, uint64_t *answer, size_t answer_len);
 
+/* Reads path data into a command list. A command is a letter (M, L, Q, C, A or Z) in letters and 2, 2, 4, 6, 7 or 0
+ * numbers in numbers, in the unit of the path, a rotation in degrees, a flag +0 or 1: M and L have their end, Q a control
+ * and its end, C two controls and its end, A two radii, the rotation, the flags large and sweep and its end. Coordinates
+ * are absolute, H and V become L, and a NaN that comes of adding is 0x7FC00000. Separators are comma, space, tab, LF, FF
+ * and CR. answer[0] gets how many letters are stored, answer[1] how many numbers; both stand from their buffer's start,
+ * and what stands past them is left as it was.
+ *
+ * Refused with 1 above 65,536 bytes, else with the first of 2 to 7 in the text, else with 8 where a buffer is too short:
+ * answer[0] is the count of letters needed, answer[1] that of numbers. A call that does not return 0 leaves both buffers
+ * as they were, so that a call with buffers of length 0 asks for the sizes. */
+uint32_t kihavute_read(const uint8_t *text, size_t text_len, uint8_t *letters, size_t letters_len,
+                       float *numbers, size_t numbers_len, uint64_t *answer, size_t answer_len);
+
+/* Whether letters and numbers are a command list as kihavute_read stores it: accepted, with nothing written, where each
+ * letter is known and has its numbers, each flag is +0 or 1 by its bits, and no number is left over. Refused with 13 above
+ * 65,536 letters (the count), else with 9 at the first command that is malformed, or at the number of commands where
+ * numbers are left over. Coordinates may be any floats. */
+uint32_t kihavute_check_commands(const uint8_t *letters, size_t letters_len, const float *numbers, size_t numbers_len,
+                                 uint64_t *answer, size_t answer_len);
+
 /* ---- From bits to floats ---- */
 
 /* The float that has these bits. */

@@ -6,6 +6,7 @@ mod compare;
 mod decimal;
 mod earley;
 mod math;
+mod read;
 mod record;
 mod root_all;
 mod samples;
@@ -13,6 +14,7 @@ mod simple;
 mod strict;
 mod table;
 mod trig;
+mod words;
 
 use compare::Report;
 use std::process::ExitCode;
@@ -29,6 +31,7 @@ fn main() -> ExitCode {
             math::compare(&mut report, &trig::FAMILY, SEED, 100_000);
             table::compare(&mut report, SEED, 20_000);
             strict::compare_some(&mut report, SEED);
+            read::compare_some(&mut report, SEED);
             decimal::compare_some(&mut report, SEED);
             bezier::compare(&mut report, SEED, 20_000);
             for recording in record::RECORDINGS {
@@ -49,6 +52,12 @@ fn main() -> ExitCode {
         ["strict", "time"] => strict::compare_time(&mut report),
         ["strict", seed, count] => match (seed.parse(), count.parse()) {
             (Ok(seed), Ok(count)) => strict::compare_derivations(&mut report, seed, count),
+            _ => return usage(),
+        },
+        ["read"] => read::compare_all(&mut report, SEED),
+        ["read", "drawings"] => read::compare_drawings(&mut report, SEED),
+        ["read", seed, count] => match (seed.parse(), count.parse()) {
+            (Ok(seed), Ok(count)) => read::compare_made(&mut report, seed, count),
             _ => return usage(),
         },
         ["decimal", "edges"] => decimal::compare_edges(&mut report),
@@ -75,7 +84,7 @@ fn main() -> ExitCode {
 fn usage() -> ExitCode {
     eprintln!(
         "oracle/run gate | math [SEED] | trig | table | bezier | root_all | strict [drawings | time | SEED COUNT] | \
-         decimal edges | decimal printed PART | decimal KIND SEED COUNT | record NAME"
+         read [drawings | SEED COUNT] | decimal edges | decimal printed PART | decimal KIND SEED COUNT | record NAME"
     );
     ExitCode::from(2)
 }

@@ -140,6 +140,30 @@ pub fn draw<const N: usize>(kind: Kind, stream: &mut Stream) -> [u32; N] {
     operands
 }
 
+/// A copy of a text with one to three bytes changed, left out, put in or doubled, or with its end cut off. The bytes put in
+/// are telling ones, now and then a letter or any byte.
+pub fn damaged(stream: &mut Stream, text: &[u8], telling: &[u8; 16], letters: &[u8; 12]) -> Vec<u8> {
+    let mut text = text.to_vec();
+    for _ in 0..=stream.below(3) {
+        let place = stream.below(text.len() as u32 + 1) as usize;
+        let byte = match stream.below(8) {
+            0 => stream.bits() as u8,
+            1 => letters[stream.below(12) as usize],
+            _ => telling[stream.below(16) as usize],
+        };
+        match stream.below(5) {
+            0 => text.insert(place, byte),
+            1 if place < text.len() => text[place] = byte,
+            2 if place < text.len() => {
+                text.remove(place);
+            }
+            3 if place < text.len() => text.insert(place, text[place]),
+            _ => text.truncate(place),
+        }
+    }
+    text
+}
+
 /// Every combination of N of these values.
 pub fn combinations<const N: usize>(values: &[u32], used: usize) -> impl Iterator<Item = [u32; N]> {
     (0..values.len().pow(used as u32)).map(move |mut number| {

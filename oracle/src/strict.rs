@@ -4,7 +4,7 @@
 use crate::bnf::{Grammar, PATH, Symbol};
 use crate::compare::{Input, Report};
 use crate::earley::{Found, Recogniser};
-use crate::samples::Stream;
+use crate::samples::{Stream, damaged};
 use animato_path::svg::SvgPathParser;
 use kihavute::Strict;
 use std::fmt;
@@ -202,27 +202,9 @@ impl<'a> Derivations<'a> {
         }
     }
 
-    /// A copy with one to three bytes changed, left out, put in or doubled, or with its end cut off.
+    /// A copy with a few bytes changed.
     pub fn damaged(&mut self, text: &[u8]) -> Vec<u8> {
-        let mut text = text.to_vec();
-        for _ in 0..=self.stream.below(3) {
-            let place = self.stream.below(text.len() as u32 + 1) as usize;
-            let byte = match self.stream.below(8) {
-                0 => self.stream.bits() as u8,
-                1 => b"SsTtQqAaCcVv"[self.stream.below(12) as usize],
-                _ => TELLING[self.stream.below(16) as usize],
-            };
-            match self.stream.below(5) {
-                0 => text.insert(place, byte),
-                1 if place < text.len() => text[place] = byte,
-                2 if place < text.len() => {
-                    text.remove(place);
-                }
-                3 if place < text.len() => text.insert(place, text[place]),
-                _ => text.truncate(place),
-            }
-        }
-        text
+        damaged(&mut self.stream, text, &TELLING, b"SsTtQqAaCcVv")
     }
 }
 
@@ -266,7 +248,8 @@ pub fn compare_drawings(report: &mut Report) {
     };
     let grammar = Grammar::read(PATH);
     let paths = Paths::new(&grammar);
-    let texts = || gathered.split(|byte| *byte == b'\n').filter(|text| !text.is_empty()).map(|text| Text(text.to_vec()));
+    let texts =
+        || gathered.split(|byte| *byte == b'\n').filter(|text| !text.is_empty()).map(|text| Text(text.to_vec()));
     let all = report.group("real drawings", texts(), |text| ours(&text.0), |text| paths.says(&text.0));
     let yes = texts().filter(|text| ours(&text.0).0).count();
     println!("  real drawings: {all} texts of {} bytes, {yes} with a yes, {:.0} s", gathered.len(), report.seconds());

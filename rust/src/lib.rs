@@ -151,6 +151,24 @@ unsafe extern "C" {
     ) -> u32;
     fn kihavute_number(text: *const u8, text_len: usize, answer: *mut u64, answer_len: usize) -> u32;
     fn kihavute_strict(text: *const u8, text_len: usize, answer: *mut u64, answer_len: usize) -> u32;
+    fn kihavute_read(
+        text: *const u8,
+        text_len: usize,
+        letters: *mut u8,
+        letters_len: usize,
+        numbers: *mut f32,
+        numbers_len: usize,
+        answer: *mut u64,
+        answer_len: usize,
+    ) -> u32;
+    fn kihavute_check_commands(
+        letters: *const u8,
+        letters_len: usize,
+        numbers: *const f32,
+        numbers_len: usize,
+        answer: *mut u64,
+        answer_len: usize,
+    ) -> u32;
 }
 
 // what a call with an answer gives: the values that it wrote, zeros after them
@@ -440,6 +458,93 @@ pub fn strict(text: &[u8]) -> Strict {
     }
 }
 
+/// A command list: a letter for each command, M, L, Q, C, A or Z, and its 2, 2, 4, 6, 7 or 0 numbers.
+#[derive(Clone, Debug, Default, PartialEq)]
+pub struct Commands {
+    pub letters: Vec<u8>,
+    pub numbers: Vec<f32>,
+}
+
+/// Why a text is no path. Offsets count bytes of the text.
+#[derive(Clone, Copy, Debug, PartialEq, Eq)]
+pub enum ReadError {
+    /// The text has this many bytes, more than 65,536.
+    TooLong(usize),
+    /// The text ends where a number or a flag is due: its length.
+    UnexpectedEnd(usize),
+    /// No number stands at this offset.
+    ExpectedNumber(usize),
+    /// The exponent whose e stands at this offset has no digit.
+    InvalidNumber(usize),
+    /// Neither 0 nor 1 stands at this offset, where a flag is due.
+    ExpectedFlag(usize),
+    /// A letter that is no command, and its offset.
+    UnsupportedCommand(u8, usize),
+    /// Something is drawn at this offset without a current point.
+    MissingMoveTo(usize),
+}
+
+/// Reads path data of any bytes: its commands, with absolute coordinates.
+pub fn read(text: &[u8]) -> Result<Commands, ReadError> {
+    // one byte in three starts a number or a command in most texts; where this is too little, the call tells the counts
+    let mut commands = Commands { letters: vec![0; text.len() / 4 + 1], numbers: vec![0.0; text.len() / 2 + 2] };
+    let mut found = read_into(text, &mut commands.letters, &mut commands.numbers);
+    if let Err(Refusal { number: 8, carried }) = found {
+        commands.letters.resize(carried[0] as usize, 0);
+        commands.numbers.resize(carried[1] as usize, 0.0);
+        found = read_into(text, &mut commands.letters, &mut commands.numbers);
+    }
+    let refusal = match found {
+        Ok((letters, numbers)) => {
+            commands.letters.truncate(letters);
+            commands.numbers.truncate(numbers);
+            return Ok(commands);
+        }
+        Err(refusal) => refusal,
+    };
+    let at = refusal.carried[0] as usize;
+    Err(match refusal.number {
+        1 => ReadError::TooLong(at),
+        2 => ReadError::UnexpectedEnd(at),
+        3 => ReadError::ExpectedNumber(at),
+        4 => ReadError::InvalidNumber(at),
+        5 => ReadError::ExpectedFlag(at),
+        6 => ReadError::UnsupportedCommand(at as u8, refusal.carried[1] as usize),
+        7 => ReadError::MissingMoveTo(at),
+        number => unreachable!("the reader refuses with {number}"),
+    })
+}
+
+/// Reads path data into lent buffers, from the start of each: how many letters and numbers are stored. A refusal leaves
+/// both as they were; it is 8, with the counts needed, where one is too short.
+#[inline]
+pub fn read_into(text: &[u8], letters: &mut [u8], numbers: &mut [f32]) -> Result<(usize, usize), Refusal> {
+    // SAFETY: each pointer is good for the length beside it, no two overlap, and the library keeps none
+    let given = judged(|answer, places| unsafe {
+        kihavute_read(
+            text.as_ptr(),
+            text.len(),
+            letters.as_mut_ptr(),
+            letters.len(),
+            numbers.as_mut_ptr(),
+            numbers.len(),
+            answer,
+            places,
+        )
+    })?;
+    Ok((given[0] as usize, given[1] as usize))
+}
+
+/// Whether letters and numbers are a command list as `read` gives it.
+#[inline]
+pub fn check_commands(letters: &[u8], numbers: &[f32]) -> Result<(), Refusal> {
+    // SAFETY: each pointer is good for the length beside it, and the library keeps none
+    judged(|answer, places| unsafe {
+        kihavute_check_commands(letters.as_ptr(), letters.len(), numbers.as_ptr(), numbers.len(), answer, places)
+    })?;
+    Ok(())
+}
+
 #[cfg(test)]
 mod tests {
     use super::*;
@@ -533,5 +638,36 @@ mod tests {
         assert_eq!(strict(b""), Strict::Yes);
         assert_eq!(strict(b"M0 0,"), Strict::No);
         assert_eq!(strict(&[b' '; 65_537]), Strict::TooLong(65_537));
+    }
+
+    #[test]
+    fn reading() {
+        let list = |letters: &[u8], numbers: &[f32]| {
+            Ok::<_, ReadError>(Commands { letters: letters.to_vec(), numbers: numbers.to_vec() })
+        };
+        assert_eq!(read(b""), list(b"", &[]));
+        assert_eq!(read(b"m1 2 3 4"), list(b"ML", &[1.0, 2.0, 4.0, 6.0]));
+        assert_eq!(read(b"ZL1 2"), list(b"ZL", &[1.0, 2.0]));
+        assert_eq!(read(b"M0 0a1 2 3 01 4 5z"), list(b"MAZ", &[0.0, 0.0, 1.0, 2.0, 3.0, 0.0, 1.0, 4.0, 5.0]));
+        // more letters than bytes are guessed for
+        assert_eq!(read(&[b'z'; 100]), list(&[b'Z'; 100], &[]));
+        let nan = read(b"M1e39 0m-1e39 0").unwrap().numbers[2];
+        assert_eq!(nan.to_bits(), NAN);
+        assert_eq!(read(&[b' '; 65_537]), Err(ReadError::TooLong(65_537)));
+        assert_eq!(read(b"M1"), Err(ReadError::UnexpectedEnd(2)));
+        assert_eq!(read(b"M"), Err(ReadError::ExpectedNumber(1)));
+        assert_eq!(read(b"M1e 2"), Err(ReadError::InvalidNumber(2)));
+        assert_eq!(read(b"M0 0A1 1 0 2 0 3 4"), Err(ReadError::ExpectedFlag(11)));
+        assert_eq!(read(b"M0 0S1 2 3 4"), Err(ReadError::UnsupportedCommand(b'S', 4)));
+        assert_eq!(read(b"M1 2Z3 4"), Err(ReadError::MissingMoveTo(5)));
+    }
+
+    #[test]
+    fn lists() {
+        let refused = |number, at| Err(Refusal { number, carried: [at, 0, 0, 0, 0, 0, 0, 0] });
+        assert_eq!(check_commands(b"ML", &[1.0, 2.0, 4.0, 6.0]), Ok(()));
+        assert_eq!(check_commands(b"ML", &[1.0, 2.0, 4.0]), refused(9, 1));
+        assert_eq!(check_commands(b"MZ", &[1.0, 2.0, 4.0]), refused(9, 2));
+        assert_eq!(check_commands(&[b'Z'; 65_537], &[]), refused(13, 65_537));
     }
 }

@@ -341,6 +341,116 @@ static void decimals(void) {
     answered("a far 1 moved away", kihavute_number(many, 65520, answer, PLACES), 0, 2, (uint64_t[]){INFINITE, 65520});
 }
 
+/* buffers of so many places, each filled with 77s past what a call writes */
+#define ROOM 12
+static uint8_t list_letters[ROOM];
+static float list_numbers[ROOM];
+
+/* reads into so many places of each buffer, with an answer of so many places */
+static uint32_t read_in(const char *text, size_t size, size_t letters_len, size_t numbers_len, size_t places) {
+    fresh();
+    memset(list_letters, 77, sizeof list_letters);
+    for (size_t i = 0; i < ROOM; i++) {
+        list_numbers[i] = 77;
+    }
+    return kihavute_read((const uint8_t *)text, size, list_letters, letters_len, list_numbers, numbers_len, answer, places);
+}
+
+/* the buffers hold this list, and 77s past it */
+static void stored(const char *what, const char *list, size_t count, const uint32_t *values) {
+    size_t places = strlen(list);
+    for (size_t i = 0; i < ROOM; i++) {
+        same(what, list_letters[i], i < places ? (uint8_t)list[i] : 77);
+        same(what, bits(list_numbers[i]), i < count ? values[i] : bits(77));
+    }
+}
+
+/* a text is read into buffers that just hold it, and not into ones that are one place short */
+static void read_is(const char *text, const char *list, size_t count, const uint32_t *values) {
+    size_t size = strlen(text), places = strlen(list);
+    uint64_t counts[] = {places, count};
+    answered(text, read_in(text, size, places, count, PLACES), 0, 2, counts);
+    stored(text, list, count, values);
+    answered(text, read_in(text, size, ROOM, ROOM, PLACES), 0, 2, counts);
+    stored(text, list, count, values);
+    if (places > 0) {
+        answered(text, read_in(text, size, places - 1, count, PLACES), 8, 2, counts);
+        stored(text, "", 0, NULL);
+    }
+    if (count > 0) {
+        answered(text, read_in(text, size, places, count - 1, PLACES), 8, 2, counts);
+        stored(text, "", 0, NULL);
+    }
+    answered(text, read_in(text, size, places, count, 7), 255, 0, NULL);
+    stored(text, "", 0, NULL);
+
+    /* what is stored is a list */
+    read_in(text, size, places, count, PLACES);
+    fresh();
+    answered(text, kihavute_check_commands(list_letters, places, list_numbers, count, answer, PLACES), 0, 0, NULL);
+}
+
+static void read_refused(const char *text, uint32_t number, size_t count, const uint64_t *carried) {
+    answered(text, read_in(text, strlen(text), ROOM, ROOM, PLACES), number, count, carried);
+    stored(text, "", 0, NULL);
+}
+
+static void reading(void) {
+    const uint32_t one = bits(1), two = bits(2), three = bits(3), four = bits(4);
+
+    read_is("", "", 0, NULL);
+    read_is("m1 2 3 4", "ML", 4, (uint32_t[]){one, two, four, bits(6)});
+    read_is("ZL1 2", "ZL", 2, (uint32_t[]){one, two});
+    read_is("M1 2h1v-1", "MLL", 6, (uint32_t[]){one, two, two, two, two, one});
+    read_is("M0 0a1 2 3 01 4-0", "MA", 9, (uint32_t[]){0, 0, one, two, three, 0, one, four, 0});
+    read_is("M0 0Q1 2 3 4", "MQ", 6, (uint32_t[]){0, 0, one, two, three, four});
+    read_is("M1 1c0 1 2 3 1e39-1e39", "MC", 8,
+            (uint32_t[]){one, one, one, two, three, four, INFINITE, INFINITE | MINUS_ZERO});
+    /* infinity less infinity */
+    read_is("M1e39 0m-1e39 0", "MM", 4, (uint32_t[]){INFINITE, 0, NAN_BITS, 0});
+    read_is("m-0 -0", "M", 2, (uint32_t[]){MINUS_ZERO, MINUS_ZERO});
+
+    read_refused("M", 3, 1, (uint64_t[]){1});
+    read_refused("M #", 3, 1, (uint64_t[]){1});
+    read_refused("M1 2 #", 3, 1, (uint64_t[]){5});
+    read_refused("M1", 2, 1, (uint64_t[]){2});
+    read_refused("M1e 2", 4, 1, (uint64_t[]){2});
+    read_refused("M1 2Z3 4", 7, 1, (uint64_t[]){5});
+    read_refused("M0 0S1 2 3 4", 6, 2, (uint64_t[]){'S', 4});
+    read_refused("M0 0A1 1 0 2 0 3 4", 5, 1, (uint64_t[]){11});
+    read_refused("M0 0\xFF", 3, 1, (uint64_t[]){4});
+
+    memset(many, ' ', sizeof many);
+    answered("65,536 spaces", read_in((const char *)many, 65536, ROOM, ROOM, PLACES), 0, 2, (uint64_t[]){0, 0});
+    stored("65,536 spaces", "", 0, NULL);
+    answered("65,537 spaces", read_in((const char *)many, 65537, ROOM, ROOM, PLACES), 1, 1, (uint64_t[]){65537});
+    stored("65,537 spaces", "", 0, NULL);
+}
+
+static void list_refused(const char *list, size_t count, const float *values, uint32_t number, uint64_t at) {
+    fresh();
+    answered(list, kihavute_check_commands((const uint8_t *)list, strlen(list), values, count, answer, PLACES), number, 1,
+             (uint64_t[]){at});
+}
+
+static void lists(void) {
+    float arc[] = {1, 1, 0, kihavute_float(MINUS_ZERO), 0, 3, 4};
+
+    list_refused("ML", 3, (float[]){1, 2, 3}, 9, 1);
+    list_refused("MZ", 3, (float[]){1, 2, 3}, 9, 2);
+    list_refused("MH", 3, (float[]){1, 2, 3}, 9, 1);
+    list_refused("m", 2, (float[]){1, 2}, 9, 0);
+    /* -0 is no flag */
+    list_refused("A", 7, arc, 9, 0);
+    memset(many, 'Z', sizeof many);
+    fresh();
+    answered("65,536 commands", kihavute_check_commands(many, 65536, arc, 0, answer, PLACES), 0, 0, NULL);
+    fresh();
+    answered("65,537 commands", kihavute_check_commands(many, 65537, arc, 7, answer, PLACES), 13, 1, (uint64_t[]){65537});
+    fresh();
+    answered("a list, a short answer", kihavute_check_commands(many, 1, arc, 0, answer, 7), 255, 0, NULL);
+}
+
 int main(void) {
     roots();
     angles();
@@ -350,6 +460,8 @@ int main(void) {
     curves();
     strict_reading();
     decimals();
+    reading();
+    lists();
     printf("%d passed, %d failed\n", passed, failed);
     return failed != 0;
 }

@@ -3,4 +3,5 @@ pub mod Pair
 pub mod Given
 pub mod Decimals
 pub mod StrictReading
+pub mod Reading
 pub mod Curves

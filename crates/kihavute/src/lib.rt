@@ -7,5 +7,6 @@ mod given;
 mod lookups;
 mod numbers;
 mod points;
+mod reading;
 mod strict_reading;
 mod turns;

@@ -1,0 +1,48 @@
+-- `give_reading` meets its contract: each case of what was read is given as the definition says. Assumes nothing.
+use borrow.Author.Needs.{needs}
+use mathlib.Core.Path.{sym}
+use Rattle.kihavute.proofs.Giving.{given-same}
+use Rattle.kihavute.proofs.ReadingGiven.{reading-given, reading-refused}
+use Rattle.kihavute.proofs.reading.give_reading.Statement.{statement}
+use Rattle.kihavute.proofs.reading.give_reading.Tie as tie
+
+enum-known-reading : tie.Need-enum-known-reading
+enum-known-reading c = search needs
+
+accept-requires : tie.Need-accept-requires
+accept-requires c κs = search needs
+
+enum-known-reading-2 : tie.Need-enum-known-reading-2
+enum-known-reading-2 c = search needs
+
+refuse-requires : tie.Need-refuse-requires
+refuse-requires c κs = search needs
+
+same-length : tie.Need-same-length
+same-length c = search needs
+
+returns : tie.Need-returns
+returns c =
+    let given = c .before .before in
+    given-same _ _ (reading-given _ _ _ (sym (given .before .before .before .reading .given .1))) (given .accept .ensures)
+
+same-length-2 : tie.Need-same-length-2
+same-length-2 c = search needs
+
+returns-2 : tie.Need-returns-2
+returns-2 c =
+    let given = c .before .before in
+    given-same _ _ (reading-refused _ _ (sym (given .before .before .before .reading2 .given .1))) (given .refuse .ensures)
+
+pub give-reading-spec : {M : Type 1} → statement M
+give-reading-spec =
+    tie.close
+    (tie.spec
+    enum-known-reading
+    accept-requires
+    enum-known-reading-2
+    refuse-requires
+    same-length
+    returns
+    same-length-2
+    returns-2)

@@ -1,0 +1,41 @@
+-- `kihavute_read` meets its contract: the answer's length is judged first, then the reader's own promise is reported. Assumes nothing.
+use borrow.Author.Needs.{needs}
+use Rattle.kihavute.proofs.ReadingGiven.{not-read, read-reported}
+use Rattle.kihavute.proofs.reading.kihavute_read.Statement.{statement}
+use Rattle.kihavute.proofs.reading.kihavute_read.Tie as tie
+
+returns : tie.Need-returns
+returns c = not-read _ _ _ _ (c .if1 .taken)
+
+read-path-requires : tie.Need-read-path-requires
+read-path-requires c κs = search needs
+
+give-reading-requires : tie.Need-give-reading-requires
+give-reading-requires c κs = search needs
+
+same-length : tie.Need-same-length
+same-length c = search needs
+
+same-length-2 : tie.Need-same-length-2
+same-length-2 c = search needs
+
+same-length-3 : tie.Need-same-length-3
+same-length-3 c = search needs
+
+returns-2 : tie.Need-returns-2
+returns-2 c =
+    let given = c .before .before in
+    let read = given .before .before .before .before .before .before in
+    read-reported _ _ _ _ _ (read .before .before .before .if1 .left) (read .read-path .ensures) (given .give-reading .ensures)
+
+pub kihavute-read-spec : {M : Type 1} → statement M
+kihavute-read-spec =
+    tie.close
+    (tie.spec
+    returns
+    read-path-requires
+    give-reading-requires
+    same-length
+    same-length-2
+    same-length-3
+    returns-2)

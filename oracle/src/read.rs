@@ -1,0 +1,554 @@
+//! Permissive reading: the proved reader against the original's try_parse on texts of UTF-8, and against a second reader
+//! on other bytes. Each text is read into buffers of several sizes, and every place of them is looked at.
+
+use crate::compare::Report;
+use crate::samples::{Stream, damaged};
+use crate::strict::Text;
+use crate::words;
+use animato_path::poly::PathCommand;
+use animato_path::svg::{SvgPathError, SvgPathParser};
+use kihavute::Refusal;
+use std::fmt;
+
+/// What a reader says of a text; a NaN's bits are 7FC00000.
+#[derive(Clone, PartialEq)]
+pub enum Said {
+    Read {
+        letters: Vec<u8>,
+        numbers: Vec<u32>,
+    },
+    Refused {
+        number: u32,
+        carried: Vec<u64>,
+    },
+    /// A place of a buffer is not as it must be, or two calls do not agree.
+    Wrong(&'static str),
+}
+
+impl fmt::Display for Said {
+    fn fmt(&self, f: &mut fmt::Formatter<'_>) -> fmt::Result {
+        match self {
+            Said::Read { letters, numbers } => {
+                write!(f, "{}", String::from_utf8_lossy(letters))?;
+                numbers.iter().try_for_each(|bits| write!(f, " {bits:08X}"))
+            }
+            Said::Refused { number, carried } => write!(f, "{number} with {carried:?}"),
+            Said::Wrong(what) => f.write_str(what),
+        }
+    }
+}
+
+// ---- the proved reader
+
+// what stands in a buffer before a call
+const LETTER: u8 = 0xA5;
+const NUMBER: u32 = 0x42A5_A5A5;
+
+// how many places a refusal's number carries
+fn carries(number: u32) -> usize {
+    if number == 6 || number == 8 { 2 } else { 1 }
+}
+
+// reads into buffers of so many places; the buffers afterwards
+fn read_into(text: &[u8], letters: usize, numbers: usize) -> (Result<(usize, usize), Refusal>, Vec<u8>, Vec<u32>) {
+    let mut letters = vec![LETTER; letters];
+    let mut numbers = vec![f32::from_bits(NUMBER); numbers];
+    let found = kihavute::read_into(text, &mut letters, &mut numbers);
+    (found, letters, numbers.into_iter().map(f32::to_bits).collect())
+}
+
+fn untouched(letters: &[u8], numbers: &[u32]) -> bool {
+    letters.iter().all(|letter| *letter == LETTER) && numbers.iter().all(|bits| *bits == NUMBER)
+}
+
+/// What the proved reader says, after reading into buffers that just hold the list, that hold more, that are one place
+/// short of letters or of numbers, and that hold nothing.
+pub fn ours(text: &[u8]) -> Said {
+    let (sizes, _, _) = read_into(text, 0, 0);
+    let (places, count) = match sizes {
+        Ok(counts) => counts,
+        Err(Refusal { number: 8, carried }) => (carried[0] as usize, carried[1] as usize),
+        Err(refusal) => {
+            let (again, letters, numbers) = read_into(text, 9, 9);
+            return if again != Err(refusal) {
+                Said::Wrong("another refusal with more room")
+            } else if !untouched(&letters, &numbers) {
+                Said::Wrong("a refusal wrote")
+            } else {
+                Said::Refused { number: refusal.number, carried: refusal.carried[..carries(refusal.number)].to_vec() }
+            };
+        }
+    };
+    let mut needs = [0; 8];
+    needs[..2].copy_from_slice(&[places as u64, count as u64]);
+    let no_room = Err(Refusal { number: 8, carried: needs });
+    let (found, letters, numbers) = read_into(text, places, count);
+    if found != Ok((places, count)) {
+        return Said::Wrong("other counts with just the room that was asked for");
+    }
+    let (found, longer, more) = read_into(text, places + 3, count + 3);
+    if found != Ok((places, count)) || longer[..places] != letters || more[..count] != numbers {
+        return Said::Wrong("another list with more room");
+    }
+    if !untouched(&longer[places..], &more[count..]) {
+        return Said::Wrong("a place past the list was written");
+    }
+    for (short, what) in [
+        (places.checked_sub(1).map(|less| (less, count + 1)), "no room for a letter"),
+        (count.checked_sub(1).map(|less| (places + 1, less)), "no room for a number"),
+    ] {
+        let Some((fewer, less)) = short else { continue };
+        let (found, letters, numbers) = read_into(text, fewer, less);
+        if found != no_room || !untouched(&letters, &numbers) {
+            return Said::Wrong(what);
+        }
+    }
+    Said::Read { letters, numbers }
+}
+
+// ---- the original
+
+fn tidy(numbers: &[f32]) -> impl Iterator<Item = u32> {
+    numbers.iter().map(|x| if x.is_nan() { 0x7FC0_0000 } else { x.to_bits() })
+}
+
+fn list<'a>(commands: impl Iterator<Item = (u8, &'a [f32])>) -> Said {
+    let (mut letters, mut numbers) = (Vec::new(), Vec::new());
+    for (letter, values) in commands {
+        letters.push(letter);
+        numbers.extend(tidy(values));
+    }
+    Said::Read { letters, numbers }
+}
+
+fn stored(command: &PathCommand) -> (u8, Vec<f32>) {
+    match *command {
+        PathCommand::MoveTo(end) => (b'M', end.to_vec()),
+        PathCommand::LineTo(end) => (b'L', end.to_vec()),
+        PathCommand::QuadTo { control, end } => (b'Q', [control, end].concat()),
+        PathCommand::CubicTo { control1, control2, end } => (b'C', [control1, control2, end].concat()),
+        PathCommand::ArcTo { radii, x_axis_rotation, large_arc, sweep, end } => {
+            let flag = |flag| if flag { 1.0 } else { 0.0 };
+            (b'A', vec![radii[0], radii[1], x_axis_rotation, flag(large_arc), flag(sweep), end[0], end[1]])
+        }
+        PathCommand::ClosePath => (b'Z', vec![]),
+    }
+}
+
+/// What the original says of a text of UTF-8.
+pub fn theirs(text: &[u8]) -> Said {
+    let text = std::str::from_utf8(text).expect("the original reads UTF-8");
+    let (number, carried) = match SvgPathParser::try_parse(text) {
+        Ok(commands) => {
+            let commands: Vec<_> = commands.iter().map(stored).collect();
+            return list(commands.iter().map(|(letter, numbers)| (*letter, &numbers[..])));
+        }
+        Err(SvgPathError::UnexpectedEnd { at }) => (2, vec![at as u64]),
+        Err(SvgPathError::ExpectedNumber { at }) => (3, vec![at as u64]),
+        Err(SvgPathError::InvalidNumber { at }) => (4, vec![at as u64]),
+        Err(SvgPathError::ExpectedFlag { at }) => (5, vec![at as u64]),
+        Err(SvgPathError::UnsupportedCommand { command, at }) => (6, vec![u64::from(command), at as u64]),
+        Err(SvgPathError::MissingMoveTo { at }) => (7, vec![at as u64]),
+    };
+    Said::Refused { number, carried }
+}
+
+/// What the second reader says of a text of any bytes.
+pub fn second(text: &[u8]) -> Said {
+    match words::read(text) {
+        Ok(commands) => list(commands.iter().map(|(letter, numbers)| (*letter, &numbers[..]))),
+        Err((number, carried)) => Said::Refused { number, carried },
+    }
+}
+
+fn judge(text: &[u8]) -> Said {
+    if std::str::from_utf8(text).is_ok() { theirs(text) } else { second(text) }
+}
+
+// ---- all texts
+
+// bytes at which a wrong class, a wrong end, a wrong case or a wrong place shows
+pub const TELLING: [u8; 16] = *b"MmLhZS01.-+e, \x0C#";
+
+// a start, then up to so many telling bytes
+fn texts(start: &[u8], more: u32) -> impl Iterator<Item = Text> {
+    (0..=more).flat_map(move |bytes| {
+        (0..16u64.pow(bytes)).map(move |number| {
+            let tail = (0..bytes).map(|place| TELLING[(number >> (4 * place)) as usize % 16]);
+            Text(start.iter().copied().chain(tail).collect())
+        })
+    })
+}
+
+fn compare_texts(report: &mut Report, name: &str, inputs: impl Iterator<Item = Text>) -> u64 {
+    let calls = report.group(name, inputs, |text| ours(&text.0), |text| theirs(&text.0));
+    println!("  {name}: {calls} texts, {:.0} s", report.seconds());
+    calls
+}
+
+fn short_texts(report: &mut Report, bytes: u32) {
+    compare_texts(report, "the empty text", texts(b"", 0));
+    for byte in TELLING {
+        let name = format!("{:?} and up to {} of 16 bytes", char::from(byte), bytes - 1);
+        compare_texts(report, &name, texts(&[byte], bytes - 1));
+    }
+}
+
+// a path that lacks the last argument of a group, for each letter, and an arc that lacks its flags
+const STARTS: [&str; 19] = [
+    "M0 0",
+    "M0 0M1",
+    "M0 0m1",
+    "M0 0L1",
+    "M0 0l1",
+    "M0 0H",
+    "M0 0h",
+    "M0 0V",
+    "M0 0v",
+    "M0 0C1 2 3 4 5",
+    "M0 0c1 2 3 4 5",
+    "M0 0Q1 2 3",
+    "M0 0q1 2 3",
+    "M0 0A1 2 3 0 1 4",
+    "M0 0a1 2 3 0 1 4",
+    "M0 0A1 2 3",
+    "M0 0a1 2 3 0",
+    "M0 0Z",
+    "M1 2m3 4z",
+];
+
+fn tails(report: &mut Report, bytes: u32) {
+    for start in STARTS {
+        compare_texts(report, &format!("{start:?} and up to {bytes} of 16 bytes"), texts(start.as_bytes(), bytes));
+    }
+}
+
+// ---- made texts
+
+/// Texts as a careless writer of paths would make them.
+pub struct Paths(pub Stream);
+
+impl Paths {
+    fn pick(&mut self, bytes: &[u8]) -> u8 {
+        bytes[self.0.below(bytes.len() as u32) as usize]
+    }
+
+    fn one_in(&mut self, count: u32) -> bool {
+        self.0.below(count) == 0
+    }
+
+    fn separators(&mut self, text: &mut Vec<u8>, least: u32) {
+        let count = match self.0.below(4) {
+            0 => least,
+            1 | 2 => 1,
+            _ => 1 + self.0.below(3),
+        };
+        for _ in 0..count {
+            let byte = if self.one_in(3) { self.pick(b",\t\n\x0C\r") } else { b' ' };
+            text.push(byte);
+        }
+    }
+
+    fn digits(&mut self, text: &mut Vec<u8>, most: u32) {
+        for _ in 0..=self.0.below(most) {
+            let digit = self.pick(b"0123456789");
+            text.push(digit);
+        }
+    }
+
+    fn number(&mut self, text: &mut Vec<u8>) {
+        // a sign or a point parts a number from the one before it
+        let joined = self.one_in(3);
+        if !joined {
+            self.separators(text, 1);
+        }
+        match self.0.below(if joined { 2 } else { 4 }) {
+            0 => text.push(b'-'),
+            1 if joined || self.one_in(4) => text.push(b'+'),
+            _ => {}
+        }
+        match self.0.below(12) {
+            0 => text.push(b'0'),
+            1..6 => self.digits(text, 3),
+            6 => self.digits(text, 20),
+            7 => {
+                text.push(b'.');
+                self.digits(text, 4);
+            }
+            _ => {
+                self.digits(text, 4);
+                text.push(b'.');
+                let most = if self.one_in(20) { 60 } else { 6 };
+                self.digits(text, most);
+            }
+        }
+        if self.one_in(8) {
+            let e = self.pick(b"eE");
+            text.push(e);
+            if self.one_in(2) {
+                let sign = self.pick(b"+-");
+                text.push(sign);
+            }
+            self.digits(text, 2);
+        }
+    }
+
+    fn flag(&mut self, text: &mut Vec<u8>) {
+        self.separators(text, 0);
+        let flag = self.pick(b"01");
+        text.push(flag);
+    }
+
+    /// A path of a few commands.
+    pub fn text(&mut self) -> Vec<u8> {
+        let mut text = Vec::new();
+        if !self.one_in(16) {
+            let letter = self.pick(b"MMm");
+            text.push(letter);
+            self.number(&mut text);
+            self.number(&mut text);
+        }
+        for _ in 0..self.0.below(7) {
+            self.separators(&mut text, 0);
+            let letter = self.pick(b"MmLlHhVvCcQqAaZzLlCcAa");
+            text.push(letter);
+            if letter | 32 == b'z' {
+                continue;
+            }
+            let groups = if self.one_in(2) { 1 } else { 1 + self.0.below(3) };
+            for _ in 0..groups {
+                match letter | 32 {
+                    b'h' | b'v' => self.number(&mut text),
+                    b'a' => {
+                        (0..3).for_each(|_| self.number(&mut text));
+                        (0..2).for_each(|_| self.flag(&mut text));
+                        (0..2).for_each(|_| self.number(&mut text));
+                    }
+                    other => {
+                        let numbers = match other {
+                            b'c' => 6,
+                            b'q' => 4,
+                            _ => 2,
+                        };
+                        (0..numbers).for_each(|_| self.number(&mut text));
+                    }
+                }
+            }
+        }
+        text
+    }
+
+    /// A copy with a few bytes changed.
+    pub fn damaged(&mut self, text: &[u8]) -> Vec<u8> {
+        damaged(&mut self.0, text, &TELLING, b"SsTtQqAaCcVv")
+    }
+}
+
+// a text and a damaged copy of it, in turn; where the damage leaves no UTF-8, only the text
+fn made(seed: u64, count: u64) -> impl Iterator<Item = Text> {
+    let mut paths = Paths(Stream::new(seed));
+    (0..count / 2)
+        .flat_map(move |_| {
+            let text = paths.text();
+            let other = paths.damaged(&text);
+            [text, other]
+        })
+        .filter(|text| std::str::from_utf8(text).is_ok())
+        .map(Text)
+}
+
+fn made_texts(report: &mut Report, seed: u64, count: u64) {
+    // in parts, so that a long run shows how far it is
+    let part = count.min(2_000_000);
+    for turn in 0..count / part {
+        let seed = seed.wrapping_add(turn);
+        compare_texts(report, &format!("made texts and damaged copies, seed {seed}"), made(seed, part));
+    }
+}
+
+// ---- other bytes
+
+fn any_bytes(seed: u64, count: u64) -> impl Iterator<Item = Text> {
+    let mut paths = Paths(Stream::new(seed));
+    (0..count).map(move |turn| match turn % 4 {
+        // bytes of every kind
+        0 => Text((0..paths.0.below(12)).map(|_| paths.0.bits() as u8).collect()),
+        // a path with bytes above 127 in it
+        1 | 2 => {
+            let mut text = paths.text();
+            for _ in 0..=paths.0.below(2) {
+                let place = paths.0.below(text.len() as u32 + 1) as usize;
+                text.insert(place, paths.0.bits() as u8 | 128);
+            }
+            Text(text)
+        }
+        _ => {
+            let text = paths.text();
+            Text(paths.damaged(&text))
+        }
+    })
+}
+
+fn other_bytes(report: &mut Report, seed: u64, count: u64) {
+    let name = format!("any bytes against the second reader, seed {seed}");
+    let calls = report.group(&name, any_bytes(seed, count), |text| ours(&text.0), |text| second(&text.0));
+    println!("  {name}: {calls} texts, {:.0} s", report.seconds());
+    // the second reader is no better than its agreement with the original
+    let utf8 = any_bytes(seed, count).filter(|text| std::str::from_utf8(&text.0).is_ok());
+    let name = "those of UTF-8, the second reader against the original";
+    let calls = report.group(name, utf8, |text| second(&text.0), |text| theirs(&text.0));
+    println!("  {name}: {calls} texts, {:.0} s", report.seconds());
+}
+
+// ---- long texts
+
+// 65,536 bytes are read, one more is not
+fn long_texts(report: &mut Report) {
+    let inputs = ["", "z", "M0 0h1 ", "M.1.1", "M0 0c1 2 3 4 5 6,", "1", "-", "M1e", "M0 0a1 1 0 00.1.1 "]
+        .iter()
+        .flat_map(|part| {
+            [65_535, 65_536, 65_537].map(|size| {
+                let repeated = part.bytes().cycle().take(if part.is_empty() { 0 } else { size });
+                let mut text: Vec<u8> = repeated.collect();
+                text.resize(size, b' ');
+                Text(text)
+            })
+        });
+    let judge = |text: &Text| if text.0.len() > 65_536 { second(&text.0) } else { judge(&text.0) };
+    let calls = report.group("texts of about 65,536 bytes", inputs, |text| ours(&text.0), judge);
+    println!("  texts of about 65,536 bytes: {calls} texts, {:.0} s", report.seconds());
+}
+
+// ---- stored lists
+
+#[derive(Clone)]
+struct List {
+    letters: Vec<u8>,
+    numbers: Vec<u32>,
+}
+
+impl fmt::Display for List {
+    fn fmt(&self, f: &mut fmt::Formatter<'_>) -> fmt::Result {
+        Said::Read { letters: self.letters.clone(), numbers: self.numbers.clone() }.fmt(f)
+    }
+}
+
+impl crate::compare::Input for List {
+    fn simpler(&self) -> Vec<List> {
+        let fewer_letters = (0..self.letters.len()).map(|place| {
+            let mut list = self.clone();
+            list.letters.remove(place);
+            list
+        });
+        let fewer_numbers = (0..self.numbers.len()).map(|place| {
+            let mut list = self.clone();
+            list.numbers.remove(place);
+            list
+        });
+        fewer_letters.chain(fewer_numbers).collect()
+    }
+}
+
+// what the check says of a list
+fn checked(list: &List) -> Said {
+    let numbers: Vec<f32> = list.numbers.iter().map(|bits| f32::from_bits(*bits)).collect();
+    match kihavute::check_commands(&list.letters, &numbers) {
+        Ok(()) => Said::Read { letters: vec![], numbers: vec![] },
+        Err(refusal) => Said::Refused { number: refusal.number, carried: refusal.carried[..1].to_vec() },
+    }
+}
+
+fn due(list: &List) -> Said {
+    match words::check(&list.letters, &list.numbers) {
+        Ok(()) => Said::Read { letters: vec![], numbers: vec![] },
+        Err((number, carried)) => Said::Refused { number, carried },
+    }
+}
+
+// lists that were read, and the same with a letter or a number changed, left out or put in
+fn read_lists(seed: u64, count: u64) -> impl Iterator<Item = List> {
+    let mut paths = Paths(Stream::new(seed));
+    (0..count).filter_map(move |_| {
+        let text = paths.text();
+        let Said::Read { mut letters, mut numbers } = second(&text) else { return None };
+        let stream = &mut paths.0;
+        let letter = b"MLQCAZHmz\0\xFF"[stream.below(11) as usize];
+        let number = [0, 0x3F80_0000, 0x8000_0000, 0x4000_0000, 0x7FC0_0000][stream.below(5) as usize];
+        let (place, at) =
+            (stream.below(letters.len() as u32 + 1) as usize, stream.below(numbers.len() as u32 + 1) as usize);
+        match stream.below(8) {
+            0 => letters.insert(place, letter),
+            1 if place < letters.len() => letters[place] = letter,
+            2 if place < letters.len() => drop(letters.remove(place)),
+            3 => numbers.insert(at, number),
+            4 | 5 if at < numbers.len() => numbers[at] = number,
+            6 if at < numbers.len() => drop(numbers.remove(at)),
+            _ => {}
+        }
+        Some(List { letters, numbers })
+    })
+}
+
+fn lists(report: &mut Report, seed: u64, count: u64) {
+    let long = [65_536, 65_537].map(|size| List { letters: vec![b'Z'; size], numbers: vec![0; size - 65_536] });
+    let inputs = read_lists(seed, count).chain(long);
+    let name = format!("stored lists, seed {seed}");
+    let calls = report.group(&name, inputs, checked, due);
+    let inputs = read_lists(seed, count);
+    let well_formed = inputs.filter(|list| due(list) == Said::Read { letters: vec![], numbers: vec![] }).count();
+    println!("  {name}: {calls} lists, {well_formed} well formed, {:.0} s", report.seconds());
+}
+
+// ---- real drawings
+
+/// The path texts that tools/drawings gathers.
+pub fn gathered() -> Option<Vec<Vec<u8>>> {
+    let file = std::fs::read("target/drawings/paths.txt").ok()?;
+    Some(file.split(|byte| *byte == b'\n').filter(|text| !text.is_empty()).map(<[u8]>::to_vec).collect())
+}
+
+/// Real texts, and each of them damaged a few times.
+pub fn compare_drawings(report: &mut Report, seed: u64) {
+    let Some(gathered) = gathered() else {
+        println!("  no path texts: run tools/drawings first");
+        report.count(1, false);
+        return;
+    };
+    let real = || gathered.iter().map(|text| Text(text.clone()));
+    let calls = compare_texts(report, "real drawings", real());
+    let read = gathered.iter().filter(|text| matches!(second(text), Said::Read { .. })).count();
+    println!("  {read} of {calls} are read, {} bytes", gathered.iter().map(Vec::len).sum::<usize>());
+    let mut paths = Paths(Stream::new(seed));
+    let broken = gathered.iter().flat_map(|text| (0..8).map(|_| Text(paths.damaged(text))).collect::<Vec<_>>());
+    let calls = report.group("real drawings, damaged", broken, |text| ours(&text.0), |text| judge(&text.0));
+    println!("  real drawings, damaged: {calls} texts, {:.0} s", report.seconds());
+}
+
+// ---- the runs
+
+/// What the gate runs: shorter texts, shorter tails and fewer made ones.
+pub fn compare_some(report: &mut Report, seed: u64) {
+    let all = (0..=4).map(|bytes| 16u64.pow(bytes)).sum::<u64>();
+    let name = "all texts of up to 4 of 16 bytes";
+    assert_eq!(compare_texts(report, name, texts(b"", 4)), all, "the count of texts");
+    let inputs = STARTS.iter().flat_map(|start| texts(start.as_bytes(), 2));
+    compare_texts(report, "all tails of up to 2 after each command", inputs);
+    made_texts(report, seed, 200_000);
+    other_bytes(report, seed, 200_000);
+    long_texts(report);
+    lists(report, seed, 100_000);
+}
+
+/// All texts of up to 6 telling bytes, and all tails of up to 5 after each command with all its arguments but one.
+pub fn compare_all(report: &mut Report, seed: u64) {
+    short_texts(report, 6);
+    tails(report, 5);
+    other_bytes(report, seed, 5_000_000);
+    long_texts(report);
+    lists(report, seed, 5_000_000);
+}
+
+/// So many made texts and damaged copies.
+pub fn compare_made(report: &mut Report, seed: u64, count: u64) {
+    made_texts(report, seed, count);
+}
