@@ -299,7 +299,7 @@ fn written(digits: &str, places: usize, stream: &mut Stream) -> Text {
 // ---- edges
 
 // texts at which a rule changes
-fn edges() -> Vec<Text> {
+pub fn edges() -> Vec<Text> {
     let mut texts: Vec<String> = [
         "3.4028235e38", "3.4028236e38", "16777217", "16777217.0000001", "16777217.000000001", "16777219", "0", "-0", "+0", "-0.0e-5",
         "00000000000000000000000000001", ".5", "5.", "5.e1", "-.5e-1", "1e400", "-1e400", "1e-400", "-1e-400", "1e99999999999999999999",
@@ -352,7 +352,7 @@ pub enum Kind {
     Halfway,
 }
 
-const KINDS: [Kind; 4] = [Kind::Short, Kind::Long, Kind::Damaged, Kind::Halfway];
+pub const KINDS: [Kind; 4] = [Kind::Short, Kind::Long, Kind::Damaged, Kind::Halfway];
 
 /// Draws texts, and keeps what is due of the last one where that is known.
 pub struct Drawn {
