@@ -2,3 +2,4 @@
 pub mod Counting
 pub mod Testing
 pub mod Rule
+pub mod Reading
