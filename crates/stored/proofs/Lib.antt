@@ -1,1 +1,4 @@
 -- Laws of the stored path.
+pub mod Counting
+pub mod Testing
+pub mod Rule
