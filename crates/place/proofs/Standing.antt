@@ -1,25 +1,24 @@
 -- Where a cursor stands on a path that can be looked up: the segment of a spot is one of the path's, and its table is in its place. Assumes nothing.
-use mathlib.Core.Path.{_≡_, refl, sym, ap, _∙_, subst}
-use Prim.Native.Nat.{ℕ, _-_, _*_, _≤_, _<_}
+use mathlib.Core.Path.{_≡_, sym, ap, _∙_}
+use Prim.Native.Nat.{ℕ, _<_}
 use native.Mathlib.Omega.{arith}
 use mathlib.Core.Bool.{Bool, true, false, not, cond}
 use mathlib.Core.List.{List}
 use lib.Dec.{T}
-use lib.ListN.{length, getD}
+use lib.ListN.{length}
 use lib.Ieee.{Float, le}
 use Rattle.floats.specs.Floats.{zeroF, oneF, epsilonF}
 use Rattle.table.specs.declared.quantities.RawParameter.{RawParameter}
 use Rattle.table.specs.declared.tables.Spot.{Spot}
 use Rattle.table.specs.Lookup.{lastOf, firstNotBelow, targetOf}
-use Rattle.table.specs.Sound.{lengthsAreSound, SoundPath}
+use Rattle.table.specs.Sound.{SoundPath}
 use Rattle.table.specs.Spots.{pathTotal, spotted, spotWithin, spotAt, spotOf}
 use Rattle.table.proofs.Enclosure.{path-within}
 use Rattle.table.proofs.Lengths.{path-sound, total-nonneg}
 use Rattle.table.proofs.Target.{target-real}
-use Rattle.segment.specs.Segments.{hasTable}
 use Rattle.place.specs.declared.cursors.Cursor.{Cursor}
 use Rattle.place.specs.Cursors.{cursorOf, Onward, Moving}
-use Rattle.place.specs.Places.{tablePlace, rawWithin, placed, placeAt, placeOf, TableThere, Findable, SomePlace, Standing}
+use Rattle.place.specs.Places.{tablePlace, rawWithin, placed, placeAt, placeOf, SomePlace, Standing}
 
 -- ---- the segment of a spot
 

@@ -1,33 +1,24 @@
+-- `place::inner::raw_for` meets its contract: the test decides between the two cases of the definition. Assumes nothing.
 use borrow.Author.Needs.{needs}
 use mathlib.Core.Path.{sym, _∙_, subst}
 use lib.Dec.{T}
 use Rattle.place.specs.Places.{rawFor}
 use Rattle.place.proofs.inner.raw_for.Statement.{statement}
 use Rattle.place.proofs.inner.raw_for.Tie as tie
-use Rattle.place.proofs.inner.raw_for.Reads as reads
-use Rattle.place.proofs.inner.raw_for.Lts as lts
-use Rattle.place.proofs.inner.raw_in.Reads as raw-in-reads
-use Rattle.segment.proofs.has_table.Reads as has-table-reads
-use Rattle.table.proofs.straight.Reads as straight-reads
 
--- src/inner.rt:35:8
 has-table-requires : tie.Need-has-table-requires
 has-table-requires c κs = search needs
 
--- src/inner.rt:36:9
 raw-in-requires : tie.Need-raw-in-requires
 raw-in-requires c κs = c .before .before .before .pre (subst T (sym (sym (c .before .has-table .ensures) ∙ c .if1 .taken)) tt)
 
--- src/inner.rt:36:9
 returns : tie.Need-returns
 unfolding rawFor
 returns c = rw (sym (c .before .before .has-table .ensures) ∙ c .before .if1 .taken) (c .raw-in .ensures)
 
--- src/inner.rt:38:5
 straight-requires : tie.Need-straight-requires
 straight-requires c κs = search needs
 
--- src/inner.rt:31:1
 returns-2 : tie.Need-returns-2
 unfolding rawFor
 returns-2 c = rw (sym (c .before .before .has-table .ensures) ∙ c .before .if1 .left) (c .straight .ensures)

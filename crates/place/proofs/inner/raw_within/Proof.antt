@@ -1,3 +1,4 @@
+-- `place::inner::raw_within` meets its contract: the cursor stands at the segment's table. Assumes nothing.
 use borrow.Author.Needs.{needs}
 use mathlib.Core.Path.{sym, ap, _∙_, subst}
 use Prim.Native.Nat.{ℕ}
@@ -6,19 +7,13 @@ use Rattle.place.specs.Places.{TableThere, rawFor, rawWithin}
 use Rattle.place.proofs.Standing.{cursor-tables}
 use Rattle.place.proofs.inner.raw_within.Statement.{statement}
 use Rattle.place.proofs.inner.raw_within.Tie as tie
-use Rattle.place.proofs.inner.raw_within.Reads as reads
-use Rattle.place.proofs.inner.raw_within.Lts as lts
-use Rattle.place.proofs.inner.raw_for.Reads as raw-for-reads
 
--- src/inner.rt:47:13
 shared-slice-read-raw-for : tie.Need-shared-slice-read-raw-for
 shared-slice-read-raw-for c = search needs
 
--- src/inner.rt:47:5
 raw-for-requires : tie.Need-raw-for-requires
 raw-for-requires c κs = let start = c .before .before .before in λ has. subst (TableThere (start .args .tables .now)) (sym (cursor-tables _ _ (start .pre .is))) (start .pre .tabled has)
 
--- src/inner.rt:42:1
 returns : tie.Need-returns
 unfolding rawWithin
 returns c = let start = c .before .before .before .before in let a = start .args in c .raw-for .ensures ∙ ap (λ (place : ℕ). rawFor (getD (a .kinds .now) (a .at .segment) 0) (a .tables .now) place (a .along .value)) (cursor-tables _ _ (start .pre .is))
