@@ -2,25 +2,23 @@
 -- A progress may be any f32: a NaN counts as 0 and the rest is clamped, so `clamp01Of p` is the progress that counts. `NoStepBack` of `order/specs/Stated.antt` compares pairs by the
 -- segment and then by the raw parameter; `Within` and `Encloses` of `table/proofs/Enclosure.antt` say that the running length before (0 before the first) is below the target and the
 -- own one is not. docs/ORDER.md tells why it holds. Assumes nothing.
-use mathlib.Core.Path.{_≡_, refl, sym, ap, _∙_, subst}
-use Prim.Native.Nat.{ℕ, _-_, _≤_, _<_}
+use mathlib.Core.Path.{_≡_, sym, ap, _∙_, subst}
+use Prim.Native.Nat.{ℕ, _-_, _<_}
 use native.Mathlib.Omega.{arith}
 use mathlib.Core.List.{List}
-use mathlib.Core.Bool.{Bool, true, false}
 use lib.Dec.{T}
-use lib.ListN.{length, getD, List·getD-eq-default}
+use lib.ListN.{length, getD}
 use lib.Ieee.{Float, binary32, fits, lt, le}
 use Rattle.floats.specs.Floats.{zeroF, oneF, epsilonF, clamp01Of}
 use Rattle.table.specs.declared.tables.Spot.{Spot}
 use Rattle.table.specs.Lookup.{at, lastOf, firstNotBelow, targetOf, markOf, rawOf}
-use Rattle.table.specs.Spots.{pathTotal, spotOf}
+use Rattle.table.specs.Spots.{pathTotal}
 use Rattle.table.proofs.Enclosure.{Encloses, Within}
 use Rattle.order.specs.Stated.{F32Table, F32Path, NoStepBack}
 use Rattle.order.proofs.Theorems.{raw-order, raw-starts, raw-ends, raw-placed, path-order, path-starts, path-ends, path-enclosed, carried}
 use Rattle.segment.specs.Segments.{hasTable, tableAt}
 use Rattle.stored.specs.Stored.{Stored}
-use Rattle.place.specs.declared.places.Place.{Place}
-use Rattle.place.specs.Places.{rawFor, rawWithin, tablePlace, placed, placeAt, placeOf, TableThere}
+use Rattle.place.specs.Places.{rawWithin, tablePlace, placed, placeAt, placeOf}
 use Rattle.place.proofs.Tables.{entries-last, has-inside, table-there}
 use Rattle.place.proofs.Pairs.{table-held, for-order, for-starts, for-ends, picked-inside}
 

@@ -1,10 +1,10 @@
 -- The raw parameter within a segment, whatever its kind: it never steps back, and it goes from 0 to 1. And the segment that a path picks inside. Assumes nothing.
-use mathlib.Core.Path.{_≡_, sym, ap, _∙_, subst}
-use Prim.Native.Nat.{ℕ, zero, suc, _+_, _<_}
+use mathlib.Core.Path.{_≡_, _∙_}
+use Prim.Native.Nat.{ℕ, zero, suc, _+_}
 use mathlib.Core.Bool.{Bool, true, false, cond}
 use mathlib.Core.List.{List, [], _∷_}
 use lib.Dec.{T}
-use lib.ListN.{length, getD, take, drop}
+use lib.ListN.{length, take, drop}
 use lib.Seq.{getD-drop}
 use lib.Ieee.{Float, nan, binary32, fits, lt, le}
 use lib.Ieee.Bits.{cond-no}

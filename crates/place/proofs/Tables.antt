@@ -1,8 +1,7 @@
 -- A table among the tables of a stored path: its 32 entries, where it stands, and that it is sound. Assumes nothing.
-use mathlib.Core.Path.{_≡_, refl, sym, _∙_}
-use Prim.Native.Nat.{ℕ, zero, suc, zero-le, _+_, _*_, _-_, _≤_, _<_}
+use mathlib.Core.Path.{_≡_}
+use Prim.Native.Nat.{ℕ, zero, suc, _+_, _-_, _<_}
 use native.Mathlib.Omega.{arith}
-use mathlib.Core.Bool.{Bool, true}
 use mathlib.Core.List.{List, [], _∷_}
 use lib.Dec.{T}
 use lib.ListN.{length, getD, length-take, length-drop}
@@ -10,11 +9,11 @@ use lib.Ieee.{Float}
 use lib.Ieee.Bits.{is-true}
 use Rattle.table.specs.Lookup.{lastOf}
 use Rattle.table.specs.Sound.{SoundTable}
-use Rattle.segment.specs.Segments.{widthOf, tablesOf, hasTable, tableAt}
+use Rattle.segment.specs.Segments.{tablesOf, hasTable, tableAt}
 use Rattle.segment.proofs.Widths.{one-table}
 use Rattle.stored.specs.Stored.{before, Stored}
+use Rattle.stored.proofs.Counting.{before-fits}
 use Rattle.place.specs.Places.{tablePlace, TableThere, Findable}
-use Rattle.place.proofs.Walks.{before-suc}
 
 -- the part of the tables that a lookup is lent is 32 long
 pub part-size : (place : ℕ) → place + 32 - place ≡ 32
@@ -39,19 +38,11 @@ has-inside [] i has = absurd has
 has-inside (kind ∷ kinds) zero has = omega arith
 has-inside (kind ∷ kinds) (suc i) has = let h = has-inside kinds i has in omega arith
 
-pub before-upto : (f : ℕ → ℕ) (kinds : List ℕ) (i j : ℕ) → i ≤ j → before f kinds i ≤ before f kinds j
-unfolding before
-before-upto f [] i j h = zero-le
-before-upto f (kind ∷ kinds) zero j h = zero-le
-before-upto f (kind ∷ kinds) (suc i) zero h = absurd (omega arith)
-before-upto f (kind ∷ kinds) (suc i) (suc j) h = let k = before-upto f kinds i j (omega arith) in omega arith
-
 -- each segment that has a table has it among them
 pub table-counted : (kinds : List ℕ) (i : ℕ) → i < length kinds → T (hasTable (getD kinds i 0)) → before tablesOf kinds i < before tablesOf kinds (length kinds)
 table-counted kinds i inside has =
-    let next = before-suc tablesOf kinds i inside in
     let one = one-table (getD kinds i 0) (is-true _ has) in
-    let upto = before-upto tablesOf kinds (suc i) (length kinds) (omega arith) in
+    let fits = before-fits tablesOf kinds i inside in
     omega arith
 
 module _ {kinds : List ℕ} {fields tables lengths : List Float} (s : Stored kinds fields tables lengths) where

@@ -19,6 +19,13 @@ pub record Onward (kinds : List ℕ) (from : Cursor) (segment : ℕ) : Type 0 wh
   pub later : from .segment ≤ segment
   pub inside : segment ≤ length kinds
 
+-- a walk to any
+pub record Moving (kinds : List ℕ) (from : Cursor) (segment : ℕ) : Type 0 where
+  pub few : length kinds ≤ 65536
+  pub is : from ≡ cursorOf kinds (from .segment)
+  pub stood : from .segment ≤ length kinds
+  pub inside : segment ≤ length kinds
+
 pub record Backward (kinds : List ℕ) (from : Cursor) (segment : ℕ) : Type 0 where
   pub is : from ≡ cursorOf kinds (from .segment)
   pub inside : from .segment ≤ length kinds

@@ -14,7 +14,9 @@ use Rattle.table.specs.Sound.{tableIsSound, lengthsAreSound}
 use Rattle.table.specs.Spots.{spotOf}
 use Rattle.segment.specs.Segments.{tablesOf, hasTable, tableAt}
 use Rattle.stored.specs.Stored.{before, mostSegments}
+use Rattle.place.specs.declared.cursors.Cursor.{Cursor}
 use Rattle.place.specs.declared.places.Place.{Place}
+use Rattle.place.specs.Cursors.{cursorOf}
 
 -- ---- the segment's own lookup
 
@@ -64,3 +66,14 @@ pub record Findable (kinds : List ℕ) (tables lengths : List Float) : Type 0 wh
   pub one : length lengths ≡ length kinds
   pub rising : T (lengthsAreSound lengths)
   pub tabled : (i : ℕ) → i < length kinds → T (hasTable (getD kinds i 0)) → TableThere tables (tablePlace kinds i)
+
+-- with a segment
+pub record SomePlace (kinds : List ℕ) (tables lengths : List Float) : Type 0 where
+  pub some : 0 < length kinds
+  pub path : Findable kinds tables lengths
+
+-- a cursor at a segment of the path, whose table is in its place
+pub record Standing (kinds : List ℕ) (tables : List Float) (at : Cursor) : Type 0 where
+  pub is : at ≡ cursorOf kinds (at .segment)
+  pub inside : at .segment < length kinds
+  pub tabled : T (hasTable (getD kinds (at .segment) 0)) → TableThere tables (tablePlace kinds (at .segment))
