@@ -1,0 +1,3 @@
+-- The laws of a stored spline: its check, its answers, and demand 3 for its raw parameter.
+pub mod Checking
+pub mod Steady

@@ -1,0 +1,42 @@
+-- The check decides; the heading is the tangent's. Assumes nothing.
+use borrow.Author.Needs.{needs}
+use mathlib.Core.Path.{ap, _∙_}
+use Rattle.angles.specs.Angles.{rotationDegOf}
+use Rattle.bezier.specs.declared.curves.Turned.the-variants as Turned
+use Rattle.spline_query.proofs.Checking.{taken, refused, tested-sound}
+use Rattle.spline_query.specs.Queries.{splineTurnedOf}
+use Rattle.spline_query.proofs.queries.spline_rotation_deg.Statement.{statement}
+use Rattle.spline_query.proofs.queries.spline_rotation_deg.Tie as tie
+
+spline-is-sound-requires : tie.Need-spline-is-sound-requires
+spline-is-sound-requires c κs = search needs
+
+tangent-requires : tie.Need-tangent-requires
+tangent-requires c κs = tested-sound _ _ _ (c .before .spline-is-sound .ensures) (c .if1 .taken)
+
+rotation-deg-requires : tie.Need-rotation-deg-requires
+rotation-deg-requires c κs = search needs
+
+tidy-requires : tie.Need-tidy-requires
+tidy-requires c κs = search needs
+
+returns : tie.Need-returns
+unfolding splineTurnedOf
+returns c =
+    let degrees = c .tidy .ensures ∙ c .before .rotation-deg .ensures ∙ ap rotationDegOf (c .before .before .tangent .ensures) in
+    ap Turned.Degrees degrees ∙ taken _ _ _ (c .before .before .before .before .spline-is-sound .ensures) _ _ (c .before .before .before .if1 .taken)
+
+returns-2 : tie.Need-returns-2
+unfolding splineTurnedOf
+returns-2 c = refused _ _ _ (c .before .spline-is-sound .ensures) _ _ (c .if1 .left)
+
+pub spline-rotation-deg-spec : {M : Type 1} → statement M
+spline-rotation-deg-spec =
+    tie.close
+    (tie.spec
+    spline-is-sound-requires
+    tangent-requires
+    rotation-deg-requires
+    tidy-requires
+    returns
+    returns-2)

@@ -1,0 +1,2 @@
+-- What a stored spline gives.
+pub mod Queries

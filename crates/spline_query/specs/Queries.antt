@@ -1,0 +1,80 @@
+-- A stored spline and its queries (document 01, "Stored path check" and "Lengths, tables and lookup"; source document 001, bezier.rs, `CatmullRomSpline`; source document 002, poly.rs,
+-- `PolyPath`). Points are a list of numbers, x before y; the table's entries are running lengths in path units. Definitions only.
+use mathlib.Core.Path.{_≡_}
+use Prim.Native.Nat.{ℕ, _+_, _≤_}
+use mathlib.Core.Bool.{Bool, not, _&&_, cond}
+use mathlib.Core.List.{List, []}
+use lib.Dec.{T, leb, eqb}
+use lib.ListN.{length}
+use lib.Ieee.{Float}
+use Rattle.answers.specs.Answers.{Answer, refused, accepted}
+use Rattle.answers.specs.declared.refusals.Refusal.the-variants.{BadPath}
+use Rattle.math.specs.declared.points.Point.{Point}
+use Rattle.angles.specs.Angles.{rotationDegOf}
+use Rattle.table.specs.Lookup.{at, lastOf, rawOf}
+use Rattle.table.specs.Sound.{tableIsSound}
+use Rattle.bezier.specs.declared.curves.Placed.{Placed}
+use Rattle.bezier.specs.declared.curves.Placed.the-variants as Placed
+use Rattle.bezier.specs.declared.curves.Turned.{Turned}
+use Rattle.bezier.specs.declared.curves.Turned.the-variants as Turned
+use Rattle.bezier.specs.declared.curves.Verdict.{Verdict}
+use Rattle.bezier.specs.declared.curves.Verdict.the-variants as Verdict
+use Rattle.spline.specs.Formula.{countOf, splineSampleOf, splineDirectionOf}
+use Rattle.spline_table.specs.Tables.{lastEntryOf, mostPoints, isOdd}
+use Rattle.spline_query.specs.declared.queries.Measured.{Measured}
+use Rattle.spline_query.specs.declared.queries.Measured.the-variants as Measured
+
+-- ---- the check
+
+-- a table's total is its last entry, and stands nowhere else
+abbrev pub splineTotal : List Float → Float
+splineTotal table = at table (lastOf table)
+
+-- "A stored spline: an even list of at most 4,096 points, and a table of the size below under the same rule.": "16 entries per span plus one, a single 0 below two points"; "starts at 0,
+-- is finite, never falls, and its total is its last entry"
+unfoldable pub splineIsSound : List Float → List Float → Bool
+splineIsSound points table =
+    not (isOdd points) && (leb (countOf points) mostPoints && (eqb (length table) (lastEntryOf (countOf points) + 1) && tableIsSound table (splineTotal table)))
+
+-- ---- what a sound spline gives
+
+-- the raw parameter of a progress
+abbrev pub splineRaw : List Float → Float → Float
+splineRaw table progress = rawOf table (splineTotal table) progress
+
+-- `position`
+unfoldable pub splinePositionOf : List Float → List Float → Float → Point
+splinePositionOf points table progress = splineSampleOf points (splineRaw table progress)
+
+-- `tangent`
+unfoldable pub splineTangentOf : List Float → List Float → Float → Point
+splineTangentOf points table progress = splineDirectionOf points (splineRaw table progress)
+
+-- ---- "A path or spline query: 12 only."
+unfoldable pub splineVerdictOf : List Float → List Float → Verdict
+splineVerdictOf points table = cond (splineIsSound points table) Verdict.Accepted (Verdict.Refused BadPath)
+
+unfoldable pub splinePlacedOf : List Float → List Float → Float → Placed
+splinePlacedOf points table progress = cond (splineIsSound points table) (Placed.At (splinePositionOf points table progress)) (Placed.Refused BadPath)
+
+unfoldable pub splineHeadingOf : List Float → List Float → Float → Placed
+splineHeadingOf points table progress = cond (splineIsSound points table) (Placed.At (splineTangentOf points table progress)) (Placed.Refused BadPath)
+
+-- `rotation_deg` of the tangent, in degrees
+unfoldable pub splineTurnedOf : List Float → List Float → Float → Turned
+splineTurnedOf points table progress = cond (splineIsSound points table) (Turned.Degrees (rotationDegOf (splineTangentOf points table progress))) (Turned.Refused BadPath)
+
+-- `arc_length`
+unfoldable pub splineMeasuredOf : List Float → List Float → Measured
+splineMeasuredOf points table = cond (splineIsSound points table) (Measured.Length (splineTotal table)) (Measured.Refused BadPath)
+
+-- ---- in document 01's terms
+abbrev pub measuredAnswer : Measured → Answer
+measuredAnswer (Measured.Length length) = accepted []
+measuredAnswer (Measured.Refused refusal) = refused refusal
+
+-- ---- what the queries of `inner` ask
+pub record SoundSpline (points table : List Float) : Type 0 where
+  pub few : countOf points ≤ mostPoints
+  pub counted : length table ≡ lastEntryOf (countOf points) + 1
+  pub sound : T (tableIsSound table (splineTotal table))
