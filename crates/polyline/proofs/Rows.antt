@@ -1,11 +1,11 @@
 -- Points written one after the other: one more point at its two places writes one more row. Assumes nothing.
 use mathlib.Core.Path.{_≡_, refl, sym, ap, _∙_, subst}
-use Prim.Native.Nat.{ℕ, zero, suc, _+_, _*_, _≤_}
+use Prim.Native.Nat.{ℕ, zero, suc, _+_, _-_, _*_, _≤_}
 use native.Mathlib.Numerals.{add-one}
 use native.Mathlib.Omega.{arith}
 use mathlib.Core.List.{List, [], _∷_, _++_}
-use lib.ListN.{length, set, length-append}
-use lib.Seq.{sets, length-sets}
+use lib.ListN.{length, drop, set, length-append}
+use lib.Seq.{sets, drop-append-add, drop-drop}
 use lib.Ieee.{Float}
 use Rattle.answers.specs.Report.{written}
 use Rattle.answers.proofs.Writing.{written-more, length-written}
@@ -41,8 +41,15 @@ module _ (point : ℕ → Point) (before : List Float) where
   pub rows-size : (k : ℕ) (now : List Float) → 2 * k ≤ length before → now ≡ written (rowsOf point k) before → length now ≡ length before
   rows-size k now room e = ap length e ∙ length-written (rowsOf point k) before (let n = rows-length point k in omega arith)
 
--- equal points make equal rows
-pub rows-same : (f g : ℕ → Point) (k : ℕ) → ((i : ℕ) → suc i ≤ k → f i ≡ g i) → rowsOf f k ≡ rowsOf g k
-unfolding rowsOf
-rows-same f g zero e = refl
-rows-same f g (suc k) e = rw (rows-same f g k (λ i h. e i (omega arith)), e k (omega arith)) refl
+  -- all of them
+  pub rows-all : (k n : ℕ) (now : List Float) → k ≤ n → n ≤ k → now ≡ written (rowsOf point k) before → now ≡ written (rowsOf point n) before
+  rows-all k n now h g e = e ∙ ap (λ (i : ℕ). written (rowsOf point i) before) (let f : k ≡ n = omega arith in f)
+
+-- what is written over a shorter run hides it
+pub written-over : (elements fewer before : List Float) → length fewer ≤ length elements → written elements (written fewer before) ≡ written elements before
+written-over elements fewer before h =
+    let n = length elements in
+    let m = length fewer in
+    let e : n ≡ m + (n - m) = omega arith in
+    ap (λ (l : List Float). elements ++ l)
+    (ap (λ (i : ℕ). drop i (fewer ++ drop m before)) e ∙ drop-append-add fewer (drop m before) (n - m) ∙ drop-drop (n - m) m before ∙ ap (λ (i : ℕ). drop i before) (sym e))

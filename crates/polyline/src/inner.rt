@@ -54,8 +54,7 @@ pub fn measure(points: &[f32]) -> Measured
     while i + 1 < count {
         total = total + leg(points, i);
         i += 1;
-        if is_finite(total) {
-        } else {
+        if is_finite(total) {} else {
             return Measured::NotFinite(i);
         }
     }
