@@ -2,6 +2,7 @@
 
 mod helpers;
 mod strict;
+mod svg;
 mod table;
 
 use crate::compare::Report;
@@ -14,11 +15,12 @@ pub struct Recording {
     list: fn(&mut Report, u64) -> (Vec<u8>, u64),
 }
 
-pub const RECORDINGS: [Recording; 4] = [
+pub const RECORDINGS: [Recording; 5] = [
     Recording { name: "math", list: |report, seed| helpers::list(report, &math::FAMILY, seed) },
     Recording { name: "trig", list: |report, seed| helpers::list(report, &trig::FAMILY, seed) },
     Recording { name: "table", list: table::list },
     Recording { name: "strict", list: strict::list },
+    Recording { name: "svg", list: svg::list },
 ];
 
 impl Recording {
