@@ -161,7 +161,8 @@ pub fn second(text: &[u8]) -> Said {
     }
 }
 
-fn judge(text: &[u8]) -> Said {
+/// What the original says, or of other bytes than UTF-8 the second reader.
+pub fn judge(text: &[u8]) -> Said {
     if std::str::from_utf8(text).is_ok() { theirs(text) } else { second(text) }
 }
 
@@ -545,7 +546,7 @@ pub fn compare_all(report: &mut Report, seed: u64) {
     tails(report, 5);
     other_bytes(report, seed, 5_000_000);
     long_texts(report);
-    lists(report, seed, 5_000_000);
+    lists(report, seed, 1_000_000);
 }
 
 /// So many made texts and damaged copies.

@@ -3,6 +3,7 @@
 mod decimal;
 mod helpers;
 mod strict;
+mod svg;
 mod table;
 
 use crate::compare::Report;
@@ -15,12 +16,13 @@ pub struct Recording {
     list: fn(&mut Report, u64) -> (Vec<u8>, u64),
 }
 
-pub const RECORDINGS: [Recording; 5] = [
+pub const RECORDINGS: &[Recording] = &[
     Recording { name: "math", list: |report, seed| helpers::list(report, &math::FAMILY, seed) },
     Recording { name: "trig", list: |report, seed| helpers::list(report, &trig::FAMILY, seed) },
     Recording { name: "table", list: table::list },
     Recording { name: "strict", list: strict::list },
     Recording { name: "decimal", list: decimal::list },
+    Recording { name: "svg", list: svg::list },
 ];
 
 impl Recording {

@@ -1,0 +1,179 @@
+// Runs recorded answers of the Rust's reader through the proved one, and prints how many there were
+// and how many differ. `oracle/record svg` writes the records to this crate's stdin.
+ghost use Prim.Native.Nat.{_+_, _*_, _≤_, _<_};
+ghost use lib.ListN.{length};
+use answers::Values;
+use records::pattern;
+use svg::Reading;
+
+// The bytes of a record: the text's length as two digits; the text, which has at most 32 bytes, and
+// blanks up to 32; the refusal's number, or 0, and two values as three digits each; what the buffers
+// hold afterwards, 6 letters and 10 numbers as patterns; and a line's end.
+const RECORD: usize = 128;
+
+fn main() {
+    let mut space = io::large_buffer();
+    let n = io::read_full(0, &mut space);
+    let mut more = io::large_buffer();
+    let m = io::read_full(0, &mut more);
+    let different = differing(&space[..n]) + differing(&more[..m]) + missed_spaces();
+    records::tell((n / RECORD + m / RECORD) as u64 + 2, different);
+}
+
+// How many whole records hold another answer than the reader gives.
+fn differing(lines: &[u8]) -> u64
+    ensures { λ r. ⌜ r ≤ length (now (lines .entry)) ⌝ }
+{
+    let mut different = 0;
+    for i in 0..lines.len() / RECORD {
+        different += missed(lines, i * RECORD);
+    }
+    different
+}
+
+// 1 where the record at this place holds another answer, else 0.
+fn missed(lines: &[u8], at: usize) -> u64
+    requires { ⌜ at + 128 ≤ length (now lines) ⌝ }
+    ensures { λ r. ⌜ r ≤ 1 ⌝ }
+{
+    if agrees(lines, at) { 0 } else { 1 }
+}
+
+// Whether the record at this place holds what the reader answers and writes. A place that is not
+// written holds a blank or 77.
+fn agrees(lines: &[u8], at: usize) -> bool
+    requires { ⌜ at + 128 ≤ length (now lines) ⌝ }
+{
+    let size = digit(lines[at]) * 10 + digit(lines[at + 1]);
+    if 32 < size {
+        return false;
+    }
+    let mut letters = [b' '; 6];
+    let mut numbers = [77.0f32; 10];
+    let from = at + 2;
+    let to = from + size;
+    let reading = svg::read_path(&lines[from..to], &mut letters, &mut numbers);
+    let answered = answers_as(reading, lines, at + 34);
+    let lettered = same_letters(&letters, lines, at + 41);
+    let numbered = same_numbers(&numbers, lines, at + 47);
+    answered & lettered & numbered
+}
+
+fn same_letters(letters: &[u8], lines: &[u8], at: usize) -> bool
+    requires { ⌜ at + length (now letters) ≤ length (now lines) ⌝ }
+{
+    let mut same = true;
+    for i in 0..letters.len() {
+        same = same & (letters[i] == lines[at + i]);
+    }
+    same
+}
+
+fn same_numbers(numbers: &[f32], lines: &[u8], at: usize) -> bool
+    requires { ⌜ at + length (now numbers) * 8 ≤ length (now lines) ⌝ }
+{
+    let mut same = true;
+    for i in 0..numbers.len() {
+        same = same & (floats::bits(numbers[i]) == pattern(lines, at + i * 8));
+    }
+    same
+}
+
+// Whether the number and the two values at this place are the reader's.
+fn answers_as(reading: Reading, lines: &[u8], at: usize) -> bool
+    requires { ⌜ at + 7 ≤ length (now lines) ⌝ }
+{
+    match reading {
+        Reading::Read { letters, numbers } => same_answer(
+            0,
+            Values::Two(letters, numbers),
+            lines,
+            at,
+        ),
+        Reading::Refused(refusal) => {
+            same_answer(
+                answers::number(refusal),
+                answers::carried(refusal),
+                lines,
+                at,
+            )
+        }
+    }
+}
+
+fn same_answer(number: u32, values: Values, lines: &[u8], at: usize) -> bool
+    requires { ⌜ at + 7 ≤ length (now lines) ⌝ }
+{
+    let a = three(lines, at + 1);
+    let b = three(lines, at + 4);
+    let same = number as usize == digit(lines[at]);
+    match values {
+        Values::Nothing => false,
+        Values::One(x) => same & (x == a) & (b == 0),
+        Values::Two(x, y) => same & (x == a) & (y == b),
+        Values::Four(_, _, _, _) => false,
+    }
+}
+
+// The number that three digits stand for.
+fn three(lines: &[u8], at: usize) -> usize
+    requires { ⌜ at + 3 ≤ length (now lines) ⌝ }
+{
+    digit(lines[at]) * 100 + digit(lines[at + 1]) * 10 + digit(lines[at + 2])
+}
+
+// What a digit stands for, and 9 for any other byte.
+fn digit(byte: u8) -> usize
+    ensures { λ r. ⌜ r < 10 ⌝ }
+{
+    match byte {
+        b'0'..=b'9' => (byte - b'0') as usize,
+        _ => 9,
+    }
+}
+
+// How many of two texts of spaces have another answer: 65,536 of them are read, 65,537 are too long.
+fn missed_spaces() -> u64
+    ensures { λ r. ⌜ r ≤ 2 ⌝ }
+{
+    let spaces = [b' '; 65537];
+    missed_text(&spaces[..65536], 0, 0) + missed_text(&spaces, 1, 65537)
+}
+
+// 0 where a text has the answer of this number with this first value, else 1.
+fn missed_text(text: &[u8], number: u32, value: usize) -> u64
+    ensures { λ r. ⌜ r ≤ 1 ⌝ }
+{
+    let mut letters = [b' '; 6];
+    let mut numbers = [77.0f32; 10];
+    if has(
+        svg::read_path(text, &mut letters, &mut numbers),
+        number,
+        value,
+    ) {
+        0
+    } else {
+        1
+    }
+}
+
+fn has(reading: Reading, number: u32, value: usize) -> bool {
+    match reading {
+        Reading::Read {
+            letters,
+            numbers: _,
+        } => (number == 0) & (letters == value),
+        Reading::Refused(refusal) => {
+            (answers::number(refusal) == number) & first_is(answers::carried(refusal), value)
+        }
+    }
+}
+
+fn first_is(values: Values, value: usize) -> bool {
+    match values {
+        Values::Nothing => false,
+        Values::One(x) => x == value,
+        Values::Two(x, _) => x == value,
+        Values::Four(x, _, _, _) => x == value,
+    }
+}
