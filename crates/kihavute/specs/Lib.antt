@@ -4,3 +4,5 @@ pub mod Given
 pub mod Decimals
 pub mod StrictReading
 pub mod Curves
+pub mod CurveTables
+pub mod Arcs
