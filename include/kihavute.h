@@ -178,6 +178,68 @@ uint32_t kihavute_quad_length(float sx, float sy, float cx, float cy, float ex, 
 uint32_t kihavute_cubic_length(float sx, float sy, float ax, float ay, float bx, float by, float ex, float ey,
                                uint64_t *answer, size_t answer_len);
 
+/* The table: out gets 33 numbers, the running lengths at the 32 samples and then their total, which is the last of them.
+ * Nothing is written to answer. Refused with 8, and answer[0] is 33, where out has fewer places; a refusal writes nothing
+ * to out. */
+uint32_t kihavute_quad_table(float sx, float sy, float cx, float cy, float ex, float ey,
+                             float *out, size_t out_len, uint64_t *answer, size_t answer_len);
+uint32_t kihavute_cubic_table(float sx, float sy, float ax, float ay, float bx, float by, float ex, float ey,
+                              float *out, size_t out_len, uint64_t *answer, size_t answer_len);
+
+/* ---- Lines ----
+ * Each call makes the line from (sx, sy) to (ex, ey) and asks it one thing. Refused with 11, and answer[0] is 0, where
+ * its length is infinite or a NaN. */
+
+/* The place at this progress, s + (e - s)*t in each coordinate: answer[0] gets the bits of x, answer[1] those of y. */
+uint32_t kihavute_line_position(float sx, float sy, float ex, float ey, float progress,
+                                uint64_t *answer, size_t answer_len);
+
+/* The direction, of length 1, or (0, 0) where the ends are within 2^-23: answer[0] gets the bits of x, answer[1] those
+ * of y. It is the same at every progress. */
+uint32_t kihavute_line_tangent(float sx, float sy, float ex, float ey, uint64_t *answer, size_t answer_len);
+
+/* The heading of that direction in degrees: answer[0] gets its bits. */
+uint32_t kihavute_line_rotation_deg(float sx, float sy, float ex, float ey, uint64_t *answer, size_t answer_len);
+
+/* The length: answer[0] gets its bits. */
+uint32_t kihavute_line_length(float sx, float sy, float ex, float ey, uint64_t *answer, size_t answer_len);
+
+/* ---- Elliptical arcs ----
+ * Each call makes the arc from (sx, sy) to (ex, ey) as a path's text gives it: the radii rx and ry, whose signs do not
+ * count, the rotation of the ellipse in degrees, and two flags, of which 0 is no and any other number yes. Where the ends
+ * are within 2^-23, or a radius is that small, the arc falls back to the line. Refused with 10, and answer[0] is 0, where
+ * it does not and the rotation is a NaN or beyond 3600 in size; then with 11, and answer[0] is 0, where its length is
+ * infinite or a NaN. An arc may miss its ends: docs/DIFFERENCES.md has by how much. */
+
+/* The place at this progress: answer[0] gets the bits of x, answer[1] those of y. */
+uint32_t kihavute_arc_position(float sx, float sy, float rx, float ry, float rotation, uint32_t large, uint32_t sweep,
+                               float ex, float ey, float progress, uint64_t *answer, size_t answer_len);
+
+/* The direction at this progress, of length 1, or (0, 0): answer[0] gets the bits of x, answer[1] those of y. */
+uint32_t kihavute_arc_tangent(float sx, float sy, float rx, float ry, float rotation, uint32_t large, uint32_t sweep,
+                              float ex, float ey, float progress, uint64_t *answer, size_t answer_len);
+
+/* The heading of that direction in degrees: answer[0] gets its bits. */
+uint32_t kihavute_arc_rotation_deg(float sx, float sy, float rx, float ry, float rotation, uint32_t large,
+                                   uint32_t sweep, float ex, float ey, float progress,
+                                   uint64_t *answer, size_t answer_len);
+
+/* The length: answer[0] gets its bits. */
+uint32_t kihavute_arc_length(float sx, float sy, float rx, float ry, float rotation, uint32_t large, uint32_t sweep,
+                             float ex, float ey, uint64_t *answer, size_t answer_len);
+
+/* The arc's numbers: out gets 11, the start, the end and the centre, the radii as they were fitted, the rotation in
+ * degrees, the angle at which the arc starts and the one by which it turns, in radians. A line fallback has its ends and
+ * its rotation, and zeros. answer[0] is 1 for a fallback, else 0. Refused with 8, and answer[0] is 11, where out has
+ * fewer places. */
+uint32_t kihavute_arc_shape(float sx, float sy, float rx, float ry, float rotation, uint32_t large, uint32_t sweep,
+                            float ex, float ey, float *out, size_t out_len, uint64_t *answer, size_t answer_len);
+
+/* The table: out gets 33 numbers as for a quad and answer[0] is 0, or answer[0] is 1 and out gets nothing where the arc
+ * fell back to a line, which has no table. Refused with 8, and answer[0] is 33, where out has fewer places. */
+uint32_t kihavute_arc_table(float sx, float sy, float rx, float ry, float rotation, uint32_t large, uint32_t sweep,
+                            float ex, float ey, float *out, size_t out_len, uint64_t *answer, size_t answer_len);
+
 /* ---- Texts ----
  * A text is a pointer to its bytes, which is never null, and their count. It may hold any bytes and needs no end
  * mark. A function that can refuse returns the refusal's number, 0 where it accepts, and writes what goes with

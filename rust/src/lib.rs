@@ -149,6 +149,129 @@ unsafe extern "C" {
         answer: *mut u64,
         answer_len: usize,
     ) -> u32;
+    fn kihavute_quad_table(
+        sx: f32,
+        sy: f32,
+        cx: f32,
+        cy: f32,
+        ex: f32,
+        ey: f32,
+        out: *mut f32,
+        out_len: usize,
+        answer: *mut u64,
+        answer_len: usize,
+    ) -> u32;
+    fn kihavute_cubic_table(
+        sx: f32,
+        sy: f32,
+        ax: f32,
+        ay: f32,
+        bx: f32,
+        by: f32,
+        ex: f32,
+        ey: f32,
+        out: *mut f32,
+        out_len: usize,
+        answer: *mut u64,
+        answer_len: usize,
+    ) -> u32;
+    fn kihavute_line_position(
+        sx: f32,
+        sy: f32,
+        ex: f32,
+        ey: f32,
+        progress: f32,
+        answer: *mut u64,
+        answer_len: usize,
+    ) -> u32;
+    fn kihavute_line_tangent(sx: f32, sy: f32, ex: f32, ey: f32, answer: *mut u64, answer_len: usize) -> u32;
+    fn kihavute_line_rotation_deg(sx: f32, sy: f32, ex: f32, ey: f32, answer: *mut u64, answer_len: usize) -> u32;
+    fn kihavute_line_length(sx: f32, sy: f32, ex: f32, ey: f32, answer: *mut u64, answer_len: usize) -> u32;
+    fn kihavute_arc_position(
+        sx: f32,
+        sy: f32,
+        rx: f32,
+        ry: f32,
+        rotation: f32,
+        large: u32,
+        sweep: u32,
+        ex: f32,
+        ey: f32,
+        progress: f32,
+        answer: *mut u64,
+        answer_len: usize,
+    ) -> u32;
+    fn kihavute_arc_tangent(
+        sx: f32,
+        sy: f32,
+        rx: f32,
+        ry: f32,
+        rotation: f32,
+        large: u32,
+        sweep: u32,
+        ex: f32,
+        ey: f32,
+        progress: f32,
+        answer: *mut u64,
+        answer_len: usize,
+    ) -> u32;
+    fn kihavute_arc_rotation_deg(
+        sx: f32,
+        sy: f32,
+        rx: f32,
+        ry: f32,
+        rotation: f32,
+        large: u32,
+        sweep: u32,
+        ex: f32,
+        ey: f32,
+        progress: f32,
+        answer: *mut u64,
+        answer_len: usize,
+    ) -> u32;
+    fn kihavute_arc_length(
+        sx: f32,
+        sy: f32,
+        rx: f32,
+        ry: f32,
+        rotation: f32,
+        large: u32,
+        sweep: u32,
+        ex: f32,
+        ey: f32,
+        answer: *mut u64,
+        answer_len: usize,
+    ) -> u32;
+    fn kihavute_arc_shape(
+        sx: f32,
+        sy: f32,
+        rx: f32,
+        ry: f32,
+        rotation: f32,
+        large: u32,
+        sweep: u32,
+        ex: f32,
+        ey: f32,
+        out: *mut f32,
+        out_len: usize,
+        answer: *mut u64,
+        answer_len: usize,
+    ) -> u32;
+    fn kihavute_arc_table(
+        sx: f32,
+        sy: f32,
+        rx: f32,
+        ry: f32,
+        rotation: f32,
+        large: u32,
+        sweep: u32,
+        ex: f32,
+        ey: f32,
+        out: *mut f32,
+        out_len: usize,
+        answer: *mut u64,
+        answer_len: usize,
+    ) -> u32;
     fn kihavute_number(text: *const u8, text_len: usize, answer: *mut u64, answer_len: usize) -> u32;
     fn kihavute_strict(text: *const u8, text_len: usize, answer: *mut u64, answer_len: usize) -> u32;
     fn kihavute_read(
@@ -437,6 +560,245 @@ pub enum Strict {
     TooLong(u64),
 }
 
+/// A table of 32 running lengths and then their total, as bits.
+pub type TableBits = [Bits; 33];
+
+/// The table of the quad of these points.
+#[inline]
+pub fn quad_table(p: &[[f32; 2]; 3]) -> Result<TableBits, Refusal> {
+    let mut out = [0.0f32; 33];
+    // SAFETY: the output and the answer are the call's own
+    judged(|answer, places| unsafe {
+        kihavute_quad_table(
+            p[0][0],
+            p[0][1],
+            p[1][0],
+            p[1][1],
+            p[2][0],
+            p[2][1],
+            out.as_mut_ptr(),
+            out.len(),
+            answer,
+            places,
+        )
+    })?;
+    Ok(out.map(f32::to_bits))
+}
+
+/// The table of the cubic of these points.
+#[inline]
+pub fn cubic_table(p: &[[f32; 2]; 4]) -> Result<TableBits, Refusal> {
+    let mut out = [0.0f32; 33];
+    // SAFETY: the output and the answer are the call's own
+    judged(|answer, places| unsafe {
+        kihavute_cubic_table(
+            p[0][0],
+            p[0][1],
+            p[1][0],
+            p[1][1],
+            p[2][0],
+            p[2][1],
+            p[3][0],
+            p[3][1],
+            out.as_mut_ptr(),
+            out.len(),
+            answer,
+            places,
+        )
+    })?;
+    Ok(out.map(f32::to_bits))
+}
+
+/// Where the line from the first point to the second is at a progress.
+#[inline]
+pub fn line_position(p: &[[f32; 2]; 2], progress: f32) -> Result<[Bits; 2], Refusal> {
+    // SAFETY: the answer is the call's own
+    let given = judged(|answer, places| unsafe {
+        kihavute_line_position(p[0][0], p[0][1], p[1][0], p[1][1], progress, answer, places)
+    })?;
+    Ok([given[0] as Bits, given[1] as Bits])
+}
+
+/// Where the line between these points heads, with the length 1.
+#[inline]
+pub fn line_tangent(p: &[[f32; 2]; 2]) -> Result<[Bits; 2], Refusal> {
+    // SAFETY: the answer is the call's own
+    let given =
+        judged(|answer, places| unsafe { kihavute_line_tangent(p[0][0], p[0][1], p[1][0], p[1][1], answer, places) })?;
+    Ok([given[0] as Bits, given[1] as Bits])
+}
+
+/// Where the line between these points heads, in degrees.
+#[inline]
+pub fn line_rotation_deg(p: &[[f32; 2]; 2]) -> Result<Bits, Refusal> {
+    // SAFETY: the answer is the call's own
+    let given = judged(|answer, places| unsafe {
+        kihavute_line_rotation_deg(p[0][0], p[0][1], p[1][0], p[1][1], answer, places)
+    })?;
+    Ok(given[0] as Bits)
+}
+
+/// How long the line between these points is.
+#[inline]
+pub fn line_length(p: &[[f32; 2]; 2]) -> Result<Bits, Refusal> {
+    // SAFETY: the answer is the call's own
+    let given =
+        judged(|answer, places| unsafe { kihavute_line_length(p[0][0], p[0][1], p[1][0], p[1][1], answer, places) })?;
+    Ok(given[0] as Bits)
+}
+
+/// What the text of an arc gives: its ends, its radii, its rotation in degrees, its flags.
+#[derive(Clone, Copy, Debug, PartialEq)]
+pub struct Chord {
+    pub start: [f32; 2],
+    pub radii: [f32; 2],
+    pub x_axis_rotation: f32,
+    pub large_arc: bool,
+    pub sweep: bool,
+    pub end: [f32; 2],
+}
+
+/// Where an arc is at a progress.
+#[inline]
+pub fn arc_position(c: &Chord, progress: f32) -> Result<[Bits; 2], Refusal> {
+    // SAFETY: the answer is the call's own
+    let given = judged(|answer, places| unsafe {
+        kihavute_arc_position(
+            c.start[0],
+            c.start[1],
+            c.radii[0],
+            c.radii[1],
+            c.x_axis_rotation,
+            c.large_arc.into(),
+            c.sweep.into(),
+            c.end[0],
+            c.end[1],
+            progress,
+            answer,
+            places,
+        )
+    })?;
+    Ok([given[0] as Bits, given[1] as Bits])
+}
+
+/// Where an arc heads at a progress, with the length 1.
+#[inline]
+pub fn arc_tangent(c: &Chord, progress: f32) -> Result<[Bits; 2], Refusal> {
+    // SAFETY: the answer is the call's own
+    let given = judged(|answer, places| unsafe {
+        kihavute_arc_tangent(
+            c.start[0],
+            c.start[1],
+            c.radii[0],
+            c.radii[1],
+            c.x_axis_rotation,
+            c.large_arc.into(),
+            c.sweep.into(),
+            c.end[0],
+            c.end[1],
+            progress,
+            answer,
+            places,
+        )
+    })?;
+    Ok([given[0] as Bits, given[1] as Bits])
+}
+
+/// Where an arc heads at a progress, in degrees.
+#[inline]
+pub fn arc_rotation_deg(c: &Chord, progress: f32) -> Result<Bits, Refusal> {
+    // SAFETY: the answer is the call's own
+    let given = judged(|answer, places| unsafe {
+        kihavute_arc_rotation_deg(
+            c.start[0],
+            c.start[1],
+            c.radii[0],
+            c.radii[1],
+            c.x_axis_rotation,
+            c.large_arc.into(),
+            c.sweep.into(),
+            c.end[0],
+            c.end[1],
+            progress,
+            answer,
+            places,
+        )
+    })?;
+    Ok(given[0] as Bits)
+}
+
+/// How long an arc is.
+#[inline]
+pub fn arc_length(c: &Chord) -> Result<Bits, Refusal> {
+    // SAFETY: the answer is the call's own
+    let given = judged(|answer, places| unsafe {
+        kihavute_arc_length(
+            c.start[0],
+            c.start[1],
+            c.radii[0],
+            c.radii[1],
+            c.x_axis_rotation,
+            c.large_arc.into(),
+            c.sweep.into(),
+            c.end[0],
+            c.end[1],
+            answer,
+            places,
+        )
+    })?;
+    Ok(given[0] as Bits)
+}
+
+/// The 11 numbers of an arc, and whether it fell back to a line.
+#[inline]
+pub fn arc_shape(c: &Chord) -> Result<([Bits; 11], bool), Refusal> {
+    let mut out = [0.0f32; 11];
+    // SAFETY: the output and the answer are the call's own
+    let given = judged(|answer, places| unsafe {
+        kihavute_arc_shape(
+            c.start[0],
+            c.start[1],
+            c.radii[0],
+            c.radii[1],
+            c.x_axis_rotation,
+            c.large_arc.into(),
+            c.sweep.into(),
+            c.end[0],
+            c.end[1],
+            out.as_mut_ptr(),
+            out.len(),
+            answer,
+            places,
+        )
+    })?;
+    Ok((out.map(f32::to_bits), given[0] == 1))
+}
+
+/// The table of an arc; `None` where it fell back to a line.
+#[inline]
+pub fn arc_table(c: &Chord) -> Result<Option<TableBits>, Refusal> {
+    let mut out = [0.0f32; 33];
+    // SAFETY: the output and the answer are the call's own
+    let given = judged(|answer, places| unsafe {
+        kihavute_arc_table(
+            c.start[0],
+            c.start[1],
+            c.radii[0],
+            c.radii[1],
+            c.x_axis_rotation,
+            c.large_arc.into(),
+            c.sweep.into(),
+            c.end[0],
+            c.end[1],
+            out.as_mut_ptr(),
+            out.len(),
+            answer,
+            places,
+        )
+    })?;
+    Ok((given[0] == 0).then(|| out.map(f32::to_bits)))
+}
+
 /// The decimal number that a text starts with, and how many bytes it takes.
 #[inline]
 pub fn number(text: &[u8]) -> Result<(Bits, usize), Refusal> {
@@ -630,6 +992,59 @@ mod tests {
         assert_eq!(cubic_rotation_deg(&straight, 0.25), Ok(90.0f32.to_bits()));
         assert_eq!(cubic_length(&[[1.0, 2.0]; 4]), Ok(0));
         assert_eq!(cubic_length(&[[f32::NAN; 2]; 4]), Err(refused));
+    }
+
+    #[test]
+    fn tables() {
+        let refused = Refusal { number: 11, carried: [0; 8] };
+        let straight = [[0.0, 0.0], [15.5, 0.0], [31.0, 0.0]];
+        let table = quad_table(&straight).expect("a quad of length 31 has a table");
+        assert_eq!((table[0], table[31] == table[32]), (0, true));
+        assert_eq!(Ok(table[32]), quad_length(&straight));
+        assert_eq!(quad_table(&[[f32::NAN; 2]; 3]), Err(refused));
+        assert_eq!(cubic_table(&[[1.0, 2.0]; 4]), Ok([0; 33]));
+        assert_eq!(cubic_table(&[[f32::NAN; 2]; 4]), Err(refused));
+    }
+
+    #[test]
+    fn lines() {
+        let refused = Refusal { number: 11, carried: [0; 8] };
+        let line = [[1.0, 2.0], [4.0, 6.0]];
+        assert_eq!(line_position(&line, 0.5), Ok(bits([2.5, 4.0])));
+        assert_eq!(line_tangent(&line), Ok(bits([0.6, 0.8])));
+        assert_eq!(line_rotation_deg(&[[0.0, 0.0], [0.0, 2.0]]), Ok(90.0f32.to_bits()));
+        assert_eq!(line_length(&line), Ok(5.0f32.to_bits()));
+        assert_eq!(line_length(&[[0.0, 0.0], [2e19, 0.0]]), Err(refused));
+    }
+
+    #[test]
+    fn arcs() {
+        let refused = |number| Refusal { number, carried: [0; 8] };
+        let half = Chord {
+            start: [0.0, 0.0],
+            radii: [1.0, 1.0],
+            x_axis_rotation: 0.0,
+            large_arc: false,
+            sweep: true,
+            end: [2.0, 0.0],
+        };
+        let (shape, fell_back) = arc_shape(&half).expect("half a circle is an arc");
+        assert_eq!((shape[4], shape[5], fell_back), (1.0f32.to_bits(), 0, false));
+        let table = arc_table(&half).expect("half a circle is an arc").expect("and has a table");
+        assert_eq!(Ok(table[32]), arc_length(&half));
+        assert!(
+            arc_position(&half, 0.5).is_ok() && arc_tangent(&half, 0.5).is_ok() && arc_rotation_deg(&half, 0.5).is_ok()
+        );
+        let line = Chord { radii: [0.0, 1.0], x_axis_rotation: f32::NAN, ..half };
+        assert_eq!(arc_shape(&line).map(|(_, fell_back)| fell_back), Ok(true));
+        assert_eq!(arc_table(&line), Ok(None));
+        assert_eq!(arc_position(&line, 0.5), Ok(bits([1.0, 0.0])));
+        assert_eq!(arc_rotation_deg(&line, 0.5), Ok(0));
+        assert_eq!(arc_length(&line), Ok(2.0f32.to_bits()));
+        assert!(arc_length(&Chord { x_axis_rotation: 3600.0, ..half }).is_ok());
+        assert_eq!(arc_length(&Chord { x_axis_rotation: f32::from_bits(0x4561_0001), ..half }), Err(refused(10)));
+        assert_eq!(arc_table(&Chord { x_axis_rotation: f32::NAN, ..half }), Err(refused(10)));
+        assert_eq!(arc_length(&Chord { radii: [5e9, 5e9], end: [3.0, 4.0], ..half }), Err(refused(11)));
     }
 
     #[test]

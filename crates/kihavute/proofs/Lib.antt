@@ -1,4 +1,5 @@
 -- The laws of what is given through C.
 pub mod Giving
+pub mod Asked
 pub mod NumberGiven
 pub mod ReadingGiven

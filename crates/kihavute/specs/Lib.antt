@@ -5,3 +5,5 @@ pub mod Decimals
 pub mod StrictReading
 pub mod Reading
 pub mod Curves
+pub mod CurveTables
+pub mod Arcs

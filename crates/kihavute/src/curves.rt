@@ -14,7 +14,7 @@ use table::Progress;
 // ---- What a curve answers, unless it cannot be had.
 
 // The bits of x and of y.
-fn place(verdict: Verdict, placed: Placed, answer: &mut [u64]) -> u32
+pub(crate) fn place(verdict: Verdict, placed: Placed, answer: &mut [u64]) -> u32
     ensures { λ r. ⌜ Given (allowed verdict (placeGiven placed)) (now (answer .entry)) r (now (answer .exit)) ⌝ }
 {
     match verdict {
@@ -37,7 +37,7 @@ fn give_place(placed: Placed, answer: &mut [u64]) -> u32
 }
 
 // The bits of the degrees.
-fn turn(verdict: Verdict, turned: Turned, answer: &mut [u64]) -> u32
+pub(crate) fn turn(verdict: Verdict, turned: Turned, answer: &mut [u64]) -> u32
     ensures { λ r. ⌜ Given (allowed verdict (turnGiven turned)) (now (answer .entry)) r (now (answer .exit)) ⌝ }
 {
     match verdict {
@@ -59,7 +59,7 @@ fn give_turn(turned: Turned, answer: &mut [u64]) -> u32
 }
 
 // The bits of the length.
-fn measure(verdict: Verdict, total: f32, answer: &mut [u64]) -> u32
+pub(crate) fn measure(verdict: Verdict, total: f32, answer: &mut [u64]) -> u32
     ensures { λ r. ⌜ Given (allowed verdict (lengthGiven total)) (now (answer .entry)) r (now (answer .exit)) ⌝ }
 {
     match verdict {

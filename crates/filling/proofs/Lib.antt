@@ -1,0 +1,4 @@
+-- Laws of the definitions of `specs/`.
+pub mod Copying
+pub mod FilledCases
+pub mod Unique

@@ -1,0 +1,2 @@
+-- What a call that fills a lent output gives.
+pub mod Filling
