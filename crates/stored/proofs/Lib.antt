@@ -3,3 +3,4 @@ pub mod Counting
 pub mod Testing
 pub mod Rule
 pub mod Reading
+pub mod Extending
