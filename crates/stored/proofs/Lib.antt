@@ -2,3 +2,5 @@
 pub mod Counting
 pub mod Testing
 pub mod Rule
+pub mod Reading
+pub mod Extending

@@ -1,13 +1,12 @@
 // The stored path check.
-use segment::has_table;
-use segment::width;
+use crate::inner::numbers_before;
+use crate::inner::tables_before;
 use table::entries_are_sound;
 use table::lengths_are_sound;
 ghost use mathlib.Core.Path.{_≡_};
 ghost use Prim.Native.Nat.{_≤_, _*_};
 ghost use lib.ListN.{length};
-ghost use Rattle.segment.specs.Segments.{widthOf, tablesOf};
-ghost use Rattle.stored.specs.Stored.{before, mostSegments, areKnown, tablesAreSound, isStored};
+ghost use Rattle.stored.specs.Stored.{mostSegments, areKnown, tablesAreSound, isStored};
 
 // Whether all kinds are known.
 fn are_known(kinds: &[u8]) -> bool
@@ -22,38 +21,6 @@ fn are_known(kinds: &[u8]) -> bool
         }
     }
     true
-}
-
-// How many numbers stand before those of segment i.
-pub(crate) fn numbers_before(kinds: &[u8], i: usize) -> usize
-    requires { ⌜ length (now kinds) ≤ mostSegments ⌝ }
-    requires { ⌜ i ≤ length (now kinds) ⌝ }
-    ensures { λ r. ⌜ r ≡ before widthOf (now (kinds .entry)) i ⌝ }
-{
-    let mut sum = 0usize;
-    let mut j = 0usize;
-    while j < i {
-        sum += width(kinds[j]);
-        j += 1;
-    }
-    sum
-}
-
-// How many tables stand before that of segment i.
-pub(crate) fn tables_before(kinds: &[u8], i: usize) -> usize
-    requires { ⌜ length (now kinds) ≤ mostSegments ⌝ }
-    requires { ⌜ i ≤ length (now kinds) ⌝ }
-    ensures { λ r. ⌜ r ≡ before tablesOf (now (kinds .entry)) i ⌝ }
-{
-    let mut sum = 0usize;
-    let mut j = 0usize;
-    while j < i {
-        if has_table(kinds[j]) {
-            sum += 1;
-        }
-        j += 1;
-    }
-    sum
 }
 
 // Whether the n tables that stand one after the other are sound.

@@ -1,4 +1,4 @@
--- `stored::numbers_before` meets its contract. The invariant: the sum is what the segments before j have. The measure is the segments left. Assumes nothing.
+-- `stored::inner::numbers_before` meets its contract. The invariant: the sum is what the segments before j have. The measure is the segments left. Assumes nothing.
 use Rattle.stored.proofs.Counting.{before-zero, sum-more}
 use Rattle.stored.specs.Stored.{before}
 use Rattle.segment.proofs.Widths.{width-most}
@@ -8,8 +8,8 @@ use native.Mathlib.Omega.{arith}
 use mathlib.Core.Path.{_≡_, sym, ap, _∙_}
 use Prim.Native.Nat.{_*_, _-_, _≤_}
 use borrow.Author.Needs.{needs}
-use Rattle.stored.proofs.checking.numbers_before.Statement.{statement}
-use Rattle.stored.proofs.checking.numbers_before.Tie as tie
+use Rattle.stored.proofs.inner.numbers_before.Statement.{statement}
+use Rattle.stored.proofs.inner.numbers_before.Tie as tie
 
 abbrev Inv-loop : tie.InvT-loop
 Inv-loop kinds i sum₀ j₀ sum j = (j ≤ i) × (sum ≡ before widthOf kinds j) × (sum ≤ 11 * j)

@@ -1,4 +1,4 @@
--- `stored::tables_before` meets its contract. The invariant: the sum is what the segments before j have. The measure is the segments left. Assumes nothing.
+-- `stored::inner::tables_before` meets its contract. The invariant: the sum is what the segments before j have. The measure is the segments left. Assumes nothing.
 use native.Mathlib.Nat.{add-zero}
 use Rattle.stored.proofs.Counting.{before-zero, sum-more}
 use Rattle.stored.specs.Stored.{before}
@@ -10,8 +10,8 @@ use mathlib.Core.Logic.{⊎-elim}
 use mathlib.Core.Path.{_≡_, sym, ap, _∙_}
 use Prim.Native.Nat.{_-_, _≤_}
 use borrow.Author.Needs.{needs}
-use Rattle.stored.proofs.checking.tables_before.Statement.{statement}
-use Rattle.stored.proofs.checking.tables_before.Tie as tie
+use Rattle.stored.proofs.inner.tables_before.Statement.{statement}
+use Rattle.stored.proofs.inner.tables_before.Tie as tie
 
 abbrev Inv-loop : tie.InvT-loop
 Inv-loop kinds i sum₀ j₀ sum j = (j ≤ i) × (sum ≡ before tablesOf kinds j) × (sum ≤ j)
