@@ -7,5 +7,6 @@ mod given;
 mod lookups;
 mod numbers;
 mod points;
+mod splines;
 mod strict_reading;
 mod turns;
