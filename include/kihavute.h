@@ -240,6 +240,36 @@ uint32_t kihavute_arc_shape(float sx, float sy, float rx, float ry, float rotati
 uint32_t kihavute_arc_table(float sx, float sy, float rx, float ry, float rotation, uint32_t large, uint32_t sweep,
                             float ex, float ey, float *out, size_t out_len, uint64_t *answer, size_t answer_len);
 
+/* ---- Splines ----
+ * A Catmull-Rom spline through points: numbers of them two by two, x before y, at most 4,096 points. Its table has the
+ * running lengths of samples, 16 for each span and one more, a single 0 below two points; the last one is the spline's
+ * length. Make the table once, keep it beside the points, and ask both. */
+
+/* Stores the table from its start: answer[0] gets the count of entries. Refused, with nothing stored: 9 where the count
+ * of numbers is odd (half of it, rounded down), 13 above 4,096 points (their number), 11 where an entry is infinite or a
+ * NaN (the first such entry), 8 where the table is too short (the count needed), in this order. */
+uint32_t kihavute_spline_table(const float *points, size_t points_len, float *table, size_t table_len,
+                               uint64_t *answer, size_t answer_len);
+
+/* A query is refused with 12 where the points are an odd list or more than 4,096, or where the table has another count
+ * of entries, does not start at 0, falls or is not finite. Every entry is judged at each call.
+ * The place at this progress: answer[0] gets the bits of x, answer[1] those of y; (0, 0) without points. */
+uint32_t kihavute_spline_position(const float *points, size_t points_len, const float *table, size_t table_len,
+                                  float progress, uint64_t *answer, size_t answer_len);
+
+/* The direction at this progress, of length 1: answer[0] gets the bits of x, answer[1] those of y. (0, 0) below two
+ * points, and where the two samples a thousandth to each side tell nothing. */
+uint32_t kihavute_spline_tangent(const float *points, size_t points_len, const float *table, size_t table_len,
+                                 float progress, uint64_t *answer, size_t answer_len);
+
+/* The heading at this progress, in degrees from the x axis towards the y axis: answer[0] gets its bits. */
+uint32_t kihavute_spline_rotation_deg(const float *points, size_t points_len, const float *table, size_t table_len,
+                                      float progress, uint64_t *answer, size_t answer_len);
+
+/* The length: answer[0] gets its bits. */
+uint32_t kihavute_spline_length(const float *points, size_t points_len, const float *table, size_t table_len,
+                                uint64_t *answer, size_t answer_len);
+
 /* ---- Texts ----
  * A text is a pointer to its bytes, which is never null, and their count. It may hold any bytes and needs no end
  * mark. A function that can refuse returns the refusal's number, 0 where it accepts, and writes what goes with

@@ -11,6 +11,7 @@ mod record;
 mod root_all;
 mod samples;
 mod simple;
+mod spline;
 mod strict;
 mod table;
 mod trig;
@@ -34,6 +35,7 @@ fn main() -> ExitCode {
             read::compare_some(&mut report, SEED);
             decimal::compare_some(&mut report, SEED);
             bezier::compare(&mut report, SEED, 20_000);
+            spline::compare(&mut report, SEED, 400);
             for recording in record::RECORDINGS {
                 recording.compare(&mut report, SEED);
             }
@@ -46,6 +48,7 @@ fn main() -> ExitCode {
         ["trig"] => math::compare(&mut report, &trig::FAMILY, SEED, 2_000_000),
         ["table"] => table::compare(&mut report, SEED, 1_000_000),
         ["bezier"] => bezier::compare(&mut report, SEED, 250_000),
+        ["spline"] => spline::compare(&mut report, SEED, 10_000),
         ["root_all"] => root_all::compare(&mut report),
         ["strict"] => strict::compare_all(&mut report),
         ["strict", "drawings"] => strict::compare_drawings(&mut report),
@@ -83,7 +86,7 @@ fn main() -> ExitCode {
 
 fn usage() -> ExitCode {
     eprintln!(
-        "oracle/run gate | math [SEED] | trig | table | bezier | root_all | strict [drawings | time | SEED COUNT] | \
+        "oracle/run gate | math [SEED] | trig | table | bezier | spline | root_all | strict [drawings | time | SEED COUNT] | \
          read [drawings | SEED COUNT] | decimal edges | decimal printed PART | decimal KIND SEED COUNT | record NAME"
     );
     ExitCode::from(2)

@@ -109,7 +109,8 @@ fn lengths_are_sound(lengths: &[f32]) -> bool {
     finite && lengths.windows(2).all(|pair| pair[0] <= pair[1])
 }
 
-fn table_is_sound(entries: &[f32], total: f32) -> bool {
+/// A table's rules: it starts at 0, is finite, never falls, and its total is the last entry.
+pub fn table_is_sound(entries: &[f32], total: f32) -> bool {
     entries.first() == Some(&0.0) && lengths_are_sound(entries) && entries.last() == Some(&total)
 }
 

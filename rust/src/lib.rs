@@ -272,6 +272,49 @@ unsafe extern "C" {
         answer: *mut u64,
         answer_len: usize,
     ) -> u32;
+    fn kihavute_spline_table(
+        points: *const f32,
+        points_len: usize,
+        table: *mut f32,
+        table_len: usize,
+        answer: *mut u64,
+        answer_len: usize,
+    ) -> u32;
+    fn kihavute_spline_position(
+        points: *const f32,
+        points_len: usize,
+        table: *const f32,
+        table_len: usize,
+        progress: f32,
+        answer: *mut u64,
+        answer_len: usize,
+    ) -> u32;
+    fn kihavute_spline_tangent(
+        points: *const f32,
+        points_len: usize,
+        table: *const f32,
+        table_len: usize,
+        progress: f32,
+        answer: *mut u64,
+        answer_len: usize,
+    ) -> u32;
+    fn kihavute_spline_rotation_deg(
+        points: *const f32,
+        points_len: usize,
+        table: *const f32,
+        table_len: usize,
+        progress: f32,
+        answer: *mut u64,
+        answer_len: usize,
+    ) -> u32;
+    fn kihavute_spline_length(
+        points: *const f32,
+        points_len: usize,
+        table: *const f32,
+        table_len: usize,
+        answer: *mut u64,
+        answer_len: usize,
+    ) -> u32;
     fn kihavute_number(text: *const u8, text_len: usize, answer: *mut u64, answer_len: usize) -> u32;
     fn kihavute_strict(text: *const u8, text_len: usize, answer: *mut u64, answer_len: usize) -> u32;
     fn kihavute_read(
@@ -547,6 +590,57 @@ pub fn cubic_length(p: &[[f32; 2]; 4]) -> Result<Bits, Refusal> {
     // SAFETY: the answer is the call's own
     let given = judged(|answer, places| unsafe {
         kihavute_cubic_length(p[0][0], p[0][1], p[1][0], p[1][1], p[2][0], p[2][1], p[3][0], p[3][1], answer, places)
+    })?;
+    Ok(given[0] as Bits)
+}
+
+/// Stores the table of a spline through points, x before y, from the table's start: the count of its entries.
+#[inline]
+pub fn spline_table(points: &[f32], table: &mut [f32]) -> Result<usize, Refusal> {
+    // SAFETY: the slices are whole and do not overlap, and the answer is the call's own
+    let given = judged(|answer, places| unsafe {
+        kihavute_spline_table(points.as_ptr(), points.len(), table.as_mut_ptr(), table.len(), answer, places)
+    })?;
+    Ok(given[0] as usize)
+}
+
+/// Where the spline through these points with this table is at a progress.
+#[inline]
+pub fn spline_position(points: &[f32], table: &[f32], progress: f32) -> Result<[Bits; 2], Refusal> {
+    // SAFETY: the slices are whole, and the answer is the call's own
+    let given = judged(|answer, places| unsafe {
+        kihavute_spline_position(points.as_ptr(), points.len(), table.as_ptr(), table.len(), progress, answer, places)
+    })?;
+    Ok([given[0] as Bits, given[1] as Bits])
+}
+
+/// Where the spline heads at a progress, with the length 1.
+#[inline]
+pub fn spline_tangent(points: &[f32], table: &[f32], progress: f32) -> Result<[Bits; 2], Refusal> {
+    // SAFETY: the slices are whole, and the answer is the call's own
+    let given = judged(|answer, places| unsafe {
+        kihavute_spline_tangent(points.as_ptr(), points.len(), table.as_ptr(), table.len(), progress, answer, places)
+    })?;
+    Ok([given[0] as Bits, given[1] as Bits])
+}
+
+/// Where the spline heads at a progress, in degrees.
+#[inline]
+pub fn spline_rotation_deg(points: &[f32], table: &[f32], progress: f32) -> Result<Bits, Refusal> {
+    // SAFETY: the slices are whole, and the answer is the call's own
+    let given = judged(|answer, places| unsafe {
+        let (points_len, table_len) = (points.len(), table.len());
+        kihavute_spline_rotation_deg(points.as_ptr(), points_len, table.as_ptr(), table_len, progress, answer, places)
+    })?;
+    Ok(given[0] as Bits)
+}
+
+/// How long the spline is.
+#[inline]
+pub fn spline_length(points: &[f32], table: &[f32]) -> Result<Bits, Refusal> {
+    // SAFETY: the slices are whole, and the answer is the call's own
+    let given = judged(|answer, places| unsafe {
+        kihavute_spline_length(points.as_ptr(), points.len(), table.as_ptr(), table.len(), answer, places)
     })?;
     Ok(given[0] as Bits)
 }
@@ -1045,6 +1139,22 @@ mod tests {
         assert_eq!(arc_length(&Chord { x_axis_rotation: f32::from_bits(0x4561_0001), ..half }), Err(refused(10)));
         assert_eq!(arc_table(&Chord { x_axis_rotation: f32::NAN, ..half }), Err(refused(10)));
         assert_eq!(arc_length(&Chord { radii: [5e9, 5e9], end: [3.0, 4.0], ..half }), Err(refused(11)));
+    }
+
+    #[test]
+    fn splines() {
+        let points = [0.0, 0.0, 1.0, 0.0, 2.0, 0.0];
+        let mut table = [-77.0; 34];
+        assert_eq!(spline_table(&points, &mut table[..32]).map_err(|refusal| refusal.carried[0]), Err(33));
+        assert_eq!(table, [-77.0; 34]);
+        assert_eq!(spline_table(&points, &mut table), Ok(33));
+        assert_eq!(table[33], -77.0);
+        assert_eq!(spline_position(&points, &table[..33], 0.5), Ok(bits([1.0, 0.0])));
+        assert_eq!(spline_tangent(&points, &table[..33], 0.5), Ok(bits([1.0, 0.0])));
+        assert_eq!(spline_rotation_deg(&points, &table[..33], 0.5), Ok(0));
+        assert_eq!(spline_length(&points, &table[..33]), Ok(2.0f32.to_bits()));
+        assert_eq!(spline_length(&points, &table), Err(Refusal { number: 12, carried: [0; 8] }));
+        assert_eq!(spline_position(&[], &[0.0], 0.5), Ok([0, 0]));
     }
 
     #[test]

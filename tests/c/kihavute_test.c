@@ -257,6 +257,85 @@ static void curves(void) {
     answered("a cubic of a NaN", kihavute_cubic_length(1, 2, 1, nan, 1, 2, 1, 2, answer, PLACES), 11, 1, (uint64_t[]){0});
 }
 
+/* ---- splines */
+
+#define ENTRIES 40
+
+static float entries[ENTRIES];
+
+/* every place of the table holds what no call writes */
+static void fresh_table(void) {
+    fresh();
+    for (size_t i = 0; i < ENTRIES; i++) entries[i] = -77;
+}
+
+/* the places from `count` on are as they were */
+static void table_left(const char *what, size_t count) {
+    for (size_t i = count; i < ENTRIES; i++) same(what, bits(entries[i]), bits(-77));
+}
+
+static void splines(void) {
+    static float many[8194];
+    const float straight[] = {0, 0, 1, 0, 2, 0}, leg[] = {1, 2, 4, 6}, far[] = {0, 0, 1e30f, 0, 2e30f, 0};
+    const float nan = kihavute_float(NAN_BITS);
+
+    fresh_table();
+    answered("no points", kihavute_spline_table(straight, 0, entries, ENTRIES, answer, PLACES), 0, 1, (uint64_t[]){1});
+    same("no points, the entry", bits(entries[0]), 0);
+    table_left("no points", 1);
+    fresh();
+    answered("no points, the place", kihavute_spline_position(straight, 0, entries, 1, 0.5f, answer, PLACES), 0, 2, (uint64_t[]){0, 0});
+    fresh();
+    answered("one point, the place", kihavute_spline_position(leg, 2, entries, 1, 0.5f, answer, PLACES), 0, 2, (uint64_t[]){bits(1), bits(2)});
+    fresh();
+    answered("one point, the direction", kihavute_spline_tangent(leg, 2, entries, 1, 0.5f, answer, PLACES), 0, 2, (uint64_t[]){0, 0});
+
+    fresh_table();
+    answered("a leg", kihavute_spline_table(leg, 4, entries, 17, answer, PLACES), 0, 1, (uint64_t[]){17});
+    table_left("a leg", 17);
+    fresh();
+    answered("a leg's length", kihavute_spline_length(leg, 4, entries, 17, answer, PLACES), 0, 1, (uint64_t[]){bits(5)});
+    fresh();
+    answered("a leg's place", kihavute_spline_position(leg, 4, entries, 17, 2, answer, 8), 0, 2, (uint64_t[]){bits(4), bits(6)});
+    fresh();
+    answered("a leg's direction", kihavute_spline_tangent(leg, 4, entries, 17, nan, answer, PLACES), 0, 2, (uint64_t[]){bits(0.6f), bits(0.8f)});
+
+    fresh_table();
+    answered("three points", kihavute_spline_table(straight, 6, entries, ENTRIES, answer, PLACES), 0, 1, (uint64_t[]){33});
+    same("three points, the middle", bits(entries[16]), bits(1));
+    table_left("three points", 33);
+    fresh();
+    answered("three points' place", kihavute_spline_position(straight, 6, entries, 33, 0.5f, answer, PLACES), 0, 2, (uint64_t[]){bits(1), 0});
+    fresh();
+    answered("three points' heading", kihavute_spline_rotation_deg(straight, 6, entries, 33, 0.5f, answer, PLACES), 0, 1, (uint64_t[]){0});
+    fresh();
+    answered("a table one too long", kihavute_spline_position(straight, 6, entries, 34, 0.5f, answer, PLACES), 12, 0, NULL);
+    fresh();
+    answered("an odd list", kihavute_spline_tangent(straight, 5, entries, 17, 0.5f, answer, PLACES), 12, 0, NULL);
+    fresh();
+    answered("a short answer to a query", kihavute_spline_length(straight, 6, entries, 33, answer, 7), 255, 0, NULL);
+    entries[32] = 0;
+    fresh();
+    answered("a table that falls", kihavute_spline_length(straight, 6, entries, 33, answer, PLACES), 12, 0, NULL);
+
+    fresh_table();
+    answered("one place short", kihavute_spline_table(straight, 6, entries, 32, answer, PLACES), 8, 1, (uint64_t[]){33});
+    table_left("one place short", 0);
+    fresh();
+    answered("an odd count", kihavute_spline_table(straight, 5, entries, 0, answer, PLACES), 9, 1, (uint64_t[]){2});
+    table_left("an odd count", 0);
+    fresh();
+    answered("4,097 points", kihavute_spline_table(many, 8194, entries, ENTRIES, answer, PLACES), 13, 1, (uint64_t[]){4097});
+    fresh();
+    answered("4,096 points", kihavute_spline_table(many, 8192, entries, ENTRIES, answer, PLACES), 8, 1, (uint64_t[]){65521});
+    fresh();
+    answered("far points", kihavute_spline_table(far, 6, entries, ENTRIES, answer, PLACES), 11, 1, (uint64_t[]){1});
+    table_left("far points", 0);
+    fresh();
+    answered("a short answer", kihavute_spline_table(straight, 6, entries, ENTRIES, answer, 7), 255, 0, NULL);
+    table_left("a short answer", 0);
+}
+
 /* the code returned, and what stands in the first place of an answer that held 77 */
 static uint64_t strict_says(const char *text, size_t length) {
     uint64_t answer[8] = {77, 77, 77, 77, 77, 77, 77, 77};
@@ -458,6 +537,7 @@ int main(void) {
     points();
     lookups();
     curves();
+    splines();
     strict_reading();
     decimals();
     reading();

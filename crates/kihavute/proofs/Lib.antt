@@ -3,3 +3,4 @@ pub mod Giving
 pub mod Asked
 pub mod NumberGiven
 pub mod ReadingGiven
+pub mod SplinesGiven

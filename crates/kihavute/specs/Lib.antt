@@ -7,3 +7,4 @@ pub mod Reading
 pub mod Curves
 pub mod CurveTables
 pub mod Arcs
+pub mod Splines

@@ -10,5 +10,6 @@ mod lookups;
 mod numbers;
 mod points;
 mod reading;
+mod splines;
 mod strict_reading;
 mod turns;

@@ -48,3 +48,10 @@ impl CompoundPath {
         Some((index, local))
     }
 }
+
+impl PolyPath {
+    /// The table's entries and its total.
+    pub fn open_table(&self) -> (&[f32], f32) {
+        self.spline.open_table()
+    }
+}
