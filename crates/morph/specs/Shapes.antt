@@ -1,0 +1,20 @@
+-- The shape between two shapes (source document 004, `MorphPath`). Points count from 0. Definitions only.
+use Prim.Native.Nat.{ℕ, min}
+use mathlib.Core.List.{List}
+use lib.Ieee.{Float}
+use Rattle.floats.specs.Floats.{zeroF, oneF, clampOf}
+use Rattle.math.specs.declared.points.Point.{Point}
+use Rattle.math.specs.Math.{lerpPointOf}
+use Rattle.polyline.specs.Points.{countOf, pointAt}
+
+-- "its progress is clamped, and a NaN stays NaN"
+unfoldable pub progressOf : Float → Float
+progressOf t = clampOf t zeroF oneF
+
+-- `zip`: the points that both shapes have
+unfoldable pub sharedOf : List Float → List Float → ℕ
+sharedOf from to = min (countOf from) (countOf to)
+
+-- "`lerp` is a + (b - a)·t", each coordinate by itself
+unfoldable pub betweenAt : List Float → List Float → Float → ℕ → Point
+betweenAt from to along i = lerpPointOf (pointAt from i) (pointAt to i) along
