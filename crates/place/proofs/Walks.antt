@@ -1,7 +1,6 @@
 -- Sums over the kinds before a segment, and the walk that keeps them. Assumes nothing.
 use mathlib.Core.Path.{_≡_, refl, sym, ap, _∙_}
 use Prim.Native.Nat.{ℕ, zero, suc, zero-le, _+_, _*_, _-_, _≤_, _<_}
-
 use native.Mathlib.Nat.{suc-mul}
 use native.Mathlib.Numerals.{add-one}
 use native.Mathlib.Omega.{arith}
