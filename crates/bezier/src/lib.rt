@@ -18,6 +18,8 @@ pub use cubics::cubic_tangent;
 pub use curves::Placed;
 pub use curves::Turned;
 pub use curves::Verdict;
+pub use curves::ahead;
+pub use curves::is_nothing;
 pub use curves::tidied;
 pub use curves::verdict_of;
 pub use quads::MadeQuad;

@@ -4,7 +4,7 @@ use mathlib.Core.Path.{_≡_}
 use mathlib.Core.List.{List}
 use lib.ListN.{length}
 use Rattle.segment.specs.Segments.{widthOf, tablesOf}
-use Rattle.place.specs.Kinds.{before}
+use Rattle.stored.specs.Stored.{before}
 use Rattle.place.specs.declared.cursors.Cursor.{Cursor}
 
 -- the numbers and the tables of the segments before it, 33 numbers to a table
@@ -17,6 +17,13 @@ pub record Onward (kinds : List ℕ) (from : Cursor) (segment : ℕ) : Type 0 wh
   pub few : length kinds ≤ 65536
   pub is : from ≡ cursorOf kinds (from .segment)
   pub later : from .segment ≤ segment
+  pub inside : segment ≤ length kinds
+
+-- a walk to any
+pub record Moving (kinds : List ℕ) (from : Cursor) (segment : ℕ) : Type 0 where
+  pub few : length kinds ≤ 65536
+  pub is : from ≡ cursorOf kinds (from .segment)
+  pub stood : from .segment ≤ length kinds
   pub inside : segment ≤ length kinds
 
 pub record Backward (kinds : List ℕ) (from : Cursor) (segment : ℕ) : Type 0 where

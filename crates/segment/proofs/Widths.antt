@@ -36,6 +36,15 @@ width-most (suc (suc (suc zero))) = omega arith
 width-most (suc (suc (suc (suc zero)))) = omega arith
 width-most (suc (suc (suc (suc (suc kind))))) = omega arith
 
+pub tables-most : (kind : ℕ) → tablesOf kind ≤ 1
+unfolding tablesOf
+tables-most zero = omega arith
+tables-most (suc zero) = omega arith
+tables-most (suc (suc zero)) = omega arith
+tables-most (suc (suc (suc zero))) = omega arith
+tables-most (suc (suc (suc (suc zero)))) = omega arith
+tables-most (suc (suc (suc (suc (suc kind))))) = omega arith
+
 -- a kind has one table or none
 pub one-table : (kind : ℕ) → hasTable kind ≡ true → tablesOf kind ≡ 1
 unfolding hasTable tablesOf

@@ -1,1 +1,6 @@
 -- Laws of the stored path.
+pub mod Counting
+pub mod Testing
+pub mod Rule
+pub mod Reading
+pub mod Extending

@@ -1,3 +1,4 @@
--- The stored path: its layout and its check. Definitions only.
+-- The stored path: its layout, its check and what it answers. Definitions only.
 pub mod Layout
 pub mod Stored
+pub mod Queries

@@ -8,7 +8,9 @@ use lib.ListN.{length, getD, take, drop}
 use lib.Ieee.{Float, nan}
 use Rattle.table.specs.declared.tables.Table.{Table}
 use Rattle.table.specs.Sound.{lengthsAreSound, tableIsSound}
-use Rattle.segment.specs.Segments.{widthOf, tablesOf, tableAt}
+use Rattle.arc.specs.Arcs.{noTable}
+use Rattle.segment.specs.declared.segments.PathSegment.{PathSegment}
+use Rattle.segment.specs.Segments.{widthOf, tablesOf, hasTable, segmentOf, tableAt}
 
 -- what the segments before number i have in all; i may be their count
 unfoldable pub before : (ℕ → ℕ) → List ℕ → ℕ → ℕ
@@ -53,3 +55,27 @@ pub record Stored (kinds : List ℕ) (fields tables lengths : List Float) : Type
   pub each : (n : ℕ) → n < before tablesOf kinds (length kinds) → T (tableIsSound (tableAt tables (33 * n) .entries) (tableAt tables (33 * n) .total))
   pub one : length lengths ≡ length kinds
   pub rising : T (lengthsAreSound lengths)
+
+-- ---- what is read of a segment
+
+-- what its numbers ask of a path
+pub record Numbered (kinds : List ℕ) (fields : List Float) : Type 0 where
+  pub few : length kinds ≤ mostSegments
+  pub known : (i : ℕ) → i < length kinds → getD kinds i 0 < 5
+  pub numbers : length fields ≡ before widthOf kinds (length kinds)
+
+-- what its table asks of it
+pub record Tabled (kinds : List ℕ) (tables : List Float) : Type 0 where
+  pub few : length kinds ≤ mostSegments
+  pub counted : length tables ≡ 33 * before tablesOf kinds (length kinds)
+  pub each : (n : ℕ) → n < before tablesOf kinds (length kinds) → T (tableIsSound (tableAt tables (33 * n) .entries) (tableAt tables (33 * n) .total))
+
+-- segment i, whose numbers stand after those of the segments before it
+unfoldable pub segmentIn : List ℕ → List Float → ℕ → PathSegment
+unfolding before segmentOf
+segmentIn kinds fields i = segmentOf (getD kinds i 0) (drop (before widthOf kinds i) fields)
+
+-- its table, after those of the segments before it; `noTable`, which is not sound, for a line and a line fallback
+unfoldable pub tableIn : List ℕ → List Float → ℕ → Table
+unfolding before hasTable noTable
+tableIn kinds tables i = cond (hasTable (getD kinds i 0)) (tableAt tables (33 * before tablesOf kinds i)) noTable

@@ -1,1 +1,16 @@
-// The stored path: four buffers that hold the kinds, the numbers, the tables and the running lengths of its segments.
+// The stored path: four buffers that hold the kinds, the numbers, the tables and the running lengths of its segments, and their
+// check. What stands here asks nothing and refuses; `inner` has the same for a caller that knows the path to be stored.
+mod checking;
+pub mod inner;
+mod queries;
+
+pub use checking::check_path;
+pub use queries::Counted;
+pub use queries::Emptiness;
+pub use queries::Found;
+pub use queries::Measured;
+pub use queries::Part;
+pub use queries::arc_length;
+pub use queries::is_empty;
+pub use queries::len;
+pub use queries::segment;

@@ -1,15 +1,12 @@
-use borrow.Author.Needs.{needs}
+-- `place::cursors::first_cursor` meets its contract: nothing stands before the first segment. Assumes nothing.
 use Rattle.place.specs.Cursors.{cursorOf}
-use Rattle.place.proofs.Walks.{before-none}
+use Rattle.stored.proofs.Counting.{before-zero}
 use Rattle.place.proofs.cursors.first_cursor.Statement.{statement}
 use Rattle.place.proofs.cursors.first_cursor.Tie as tie
-use Rattle.place.proofs.cursors.first_cursor.Reads as reads
-use Rattle.place.proofs.cursors.first_cursor.Lts as lts
 
--- src/cursors.rt:18:1
 returns : tie.Need-returns
 unfolding cursorOf
-returns c = rw (before-none, before-none)
+returns c = rw (before-zero, before-zero)
 
 pub first-cursor-spec : {M : Type 1} → statement M
 first-cursor-spec = tie.close (tie.spec returns)

@@ -1,22 +1,17 @@
+-- `place::cursors::table_numbers` meets its contract: a kind has one table or none. Assumes nothing.
 use borrow.Author.Needs.{needs}
 use mathlib.Core.Path.{sym, _∙_}
 use native.Mathlib.Omega.{arith}
 use Rattle.segment.proofs.Widths.{one-table, none-table}
 use Rattle.place.proofs.cursors.table_numbers.Statement.{statement}
 use Rattle.place.proofs.cursors.table_numbers.Tie as tie
-use Rattle.place.proofs.cursors.table_numbers.Reads as reads
-use Rattle.place.proofs.cursors.table_numbers.Lts as lts
-use Rattle.segment.proofs.has_table.Reads as has-table-reads
 
--- src/cursors.rt:32:8
 has-table-requires : tie.Need-has-table-requires
 has-table-requires c κs = search needs
 
--- src/cursors.rt:29:1
 returns : tie.Need-returns
 returns c = omega (arith, one-table _ (sym (c .before .has-table .ensures) ∙ c .if1 .taken))
 
--- src/cursors.rt:29:1
 returns-2 : tie.Need-returns-2
 returns-2 c = omega (arith, none-table _ (sym (c .before .has-table .ensures) ∙ c .if1 .left))
 

@@ -1,0 +1,2 @@
+-- What a segment gives at its raw parameter.
+pub mod Headings

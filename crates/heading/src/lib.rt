@@ -1,0 +1,6 @@
+// Where a segment is and where it heads, at its raw parameter.
+mod directions;
+pub mod inner;
+mod points;
+
+pub use points::sample;

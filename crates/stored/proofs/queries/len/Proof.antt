@@ -1,0 +1,20 @@
+-- `stored::len` meets its contract: both ways out are cases of `countedOf`. Assumes nothing.
+use Rattle.stored.specs.Queries.{countedOf}
+use mathlib.Core.Path.{sym, _∙_}
+use borrow.Author.Needs.{needs}
+use Rattle.stored.proofs.queries.len.Statement.{statement}
+use Rattle.stored.proofs.queries.len.Tie as tie
+
+check-path-requires : tie.Need-check-path-requires
+check-path-requires c κs = search needs
+
+returns : tie.Need-returns
+unfolding countedOf
+returns c = let t = sym (c .before .check-path .ensures) ∙ c .if1 .taken in simp t
+
+returns-2 : tie.Need-returns-2
+unfolding countedOf
+returns-2 c = let t = sym (c .before .check-path .ensures) ∙ c .if1 .left in simp t
+
+pub len-spec : {M : Type 1} → statement M
+len-spec = tie.close (tie.spec check-path-requires returns returns-2)
