@@ -1,0 +1,3 @@
+-- What commands draw, and what a list of them builds. Definitions only.
+pub mod Drawing
+pub mod Building

@@ -1,0 +1,6 @@
+-- Laws of the definitions of `specs/`.
+pub mod Counts
+pub mod Layouts
+pub mod Judged
+pub mod Along
+pub mod Filling

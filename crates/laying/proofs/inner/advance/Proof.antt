@@ -1,0 +1,67 @@
+-- `laying::inner::advance` meets its contract: each way out is a case of its definition. Assumes nothing.
+use borrow.Author.Needs.{needs}
+use mathlib.Core.Path.{sym, ap, _∙_}
+use lib.Ieee.{binary32, add}
+use Rattle.laying.specs.Sites.{judgedOf, advanceOf}
+use Rattle.laying.proofs.Judged.{goes-on, not-finite}
+use Rattle.laying.proofs.inner.advance.Statement.{statement}
+use Rattle.laying.proofs.inner.advance.Tie as tie
+
+draw-requires : tie.Need-draw-requires
+draw-requires c κs = search needs
+
+enum-known-next : tie.Need-enum-known-next
+enum-known-next c = search needs
+
+moved-requires : tie.Need-moved-requires
+moved-requires c κs = search needs
+
+enum-known-segment : tie.Need-enum-known-segment
+enum-known-segment c = search needs
+
+segment-length-requires : tie.Need-segment-length-requires
+segment-length-requires c κs = search needs
+
+tidy-requires : tie.Need-tidy-requires
+tidy-requires c κs = search needs
+
+is-finite-requires : tie.Need-is-finite-requires
+is-finite-requires c κs = search needs
+
+after-requires : tie.Need-after-requires
+after-requires c κs = (c .before .before .before .before .before .before .before .before .before .before .pre, c .before .before .tidy .ensures ∙ ap (add binary32 _) (c .before .before .before .before .segment-length .ensures))
+
+returns : tie.Need-returns
+returns c = goes-on _ _ _ _ (sym (c .before .before .before .before .before .before .before .before .before .draw .ensures) ∙ c .before .before .before .before .before .before .before .segment .given .1) _ (c .before .before .before .tidy .ensures ∙ ap (add binary32 _) (c .before .before .before .before .before .segment-length .ensures)) (sym (c .before .before .is-finite .ensures) ∙ c .before .if1 .taken) _ (c .after .ensures)
+
+enum-told : tie.Need-enum-told
+enum-told c = search needs
+
+returns-2 : tie.Need-returns-2
+unfolding judgedOf advanceOf
+returns-2 c = rw (sym (c .before .before .before .before .draw .ensures) ∙ c .before .before .next .given .1, c .moved .ensures)
+
+returns-3 : tie.Need-returns-3
+returns-3 c = not-finite _ _ _ _ (sym (c .before .before .before .before .before .before .before .before .draw .ensures) ∙ c .before .before .before .before .before .before .segment .given .1) _ (c .before .before .tidy .ensures ∙ ap (add binary32 _) (c .before .before .before .before .segment-length .ensures)) (sym (c .before .is-finite .ensures) ∙ c .if1 .left)
+
+returns-4 : tie.Need-returns-4
+unfolding judgedOf advanceOf
+returns-4 c = rw (sym (c .before .before .draw .ensures) ∙ c .enum-told .given .1)
+
+pub advance-spec : {M : Type 1} → statement M
+advance-spec =
+    tie.close
+    (tie.spec
+    draw-requires
+    enum-known-next
+    moved-requires
+    enum-known-segment
+    segment-length-requires
+    tidy-requires
+    is-finite-requires
+    after-requires
+    returns
+    enum-told
+    returns-2
+    returns-3
+    returns-4)

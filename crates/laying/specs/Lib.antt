@@ -1,0 +1,2 @@
+-- One command at a site. Definitions only.
+pub mod Sites

@@ -1,0 +1,140 @@
+// A command at a site: judged and counted, and then stored. The callers know that there are few segments.
+ghost use mathlib.Core.Path.{_≡_};
+ghost use Prim.Native.Nat.{_+_, _≤_};
+ghost use lib.ListN.{length};
+ghost use Rattle.stored.specs.Layout.{tableStored};
+ghost use Rattle.drawing.specs.Drawing.{drawOf};
+ghost use Rattle.drawing.specs.Building.{lengthAfter};
+ghost use Rattle.drawing.specs.declared.strokes.Drawn.the-variants.{Segment};
+ghost use Rattle.laying.specs.Sites.{Few, TableLaid, Room, Laid, afterOf, movedOf, advanceOf};
+use crate::sites::Advanced;
+use crate::sites::Site;
+use answers::Refusal;
+use commands::PathCommand;
+use drawing::Drawn;
+use drawing::Pen;
+use drawing::draw;
+use floats::is_finite;
+use floats::tidy;
+use segment::PathSegment;
+use segment::has_table;
+use segment::inner::put_segment;
+use segment::inner::put_table;
+use segment::kind;
+use segment::segment_length;
+use segment::segment_table;
+use segment::width;
+
+// How many numbers a segment's table stores.
+fn table_width(segment: PathSegment) -> usize
+    ensures { λ r. ⌜ r ≡ length (tableStored segment) ⌝ }
+{
+    if has_table(kind(segment)) {
+        return 33;
+    }
+    0
+}
+
+// The site after a segment, where `length` is the running length up to its end.
+fn after(site: Site, segment: PathSegment, length: f32, pen: Pen) -> Site
+    requires { ⌜ Few site × (length ≡ lengthAfter (site .length) segment) ⌝ }
+    ensures { λ r. ⌜ r ≡ afterOf site segment pen ⌝ }
+{
+    let own = width(kind(segment));
+    let more = table_width(segment);
+    Site {
+        pen,
+        length,
+        segments: site.segments + 1,
+        fields: site.fields + own,
+        tables: site.tables + more,
+    }
+}
+
+// The site after a command that draws no segment.
+fn moved(site: Site, pen: Pen) -> Site
+    ensures { λ r. ⌜ r ≡ movedOf site pen ⌝ }
+{
+    Site {
+        pen,
+        length: site.length,
+        segments: site.segments,
+        fields: site.fields,
+        tables: site.tables,
+    }
+}
+
+// Judges a command at a site and counts what it stores.
+pub fn advance(site: Site, command: PathCommand) -> Advanced
+    requires { ⌜ Few site ⌝ }
+    ensures { λ r. ⌜ r ≡ advanceOf site command ⌝ }
+{
+    let pen = site.pen;
+    match draw(pen, command) {
+        Drawn::Moved(next) => Advanced::To(moved(site, next)),
+        Drawn::Segment { segment, next } => {
+            let length = tidy(site.length + segment_length(segment));
+            if is_finite(length) {
+                return Advanced::To(after(site, segment, length, next));
+            }
+            Advanced::Refused(Refusal::NotFinite(site.segments))
+        }
+        Drawn::OutOfRange => Advanced::Refused(Refusal::RotationRange(site.segments)),
+    }
+}
+
+// Stores a segment's table from `at` on, where it has one, and gives the segment's length.
+fn lay_table(tables: &mut [f32], at: usize, segment: PathSegment) -> f32
+    requires { ⌜ at + length (tableStored segment) ≤ length (now tables) ⌝ }
+    ensures { λ r. ⌜ TableLaid at segment (now (tables .entry)) r (now (tables .exit)) ⌝ }
+{
+    if has_table(kind(segment)) {
+        let table = segment_table(segment);
+        put_table(tables, at, table);
+        return tidy(table.total);
+    }
+    segment_length(segment)
+}
+
+// Stores a segment at a site, after which the pen is `pen`.
+fn lay_segment(
+    site: Site,
+    segment: PathSegment,
+    pen: Pen,
+    kinds: &mut [u8],
+    fields: &mut [f32],
+    tables: &mut [f32],
+    lengths: &mut [f32],
+) -> Site
+    requires { ⌜ Few site × Room site (Segment segment pen) (length (now kinds)) (length (now fields)) (length (now tables)) (length (now lengths)) ⌝ }
+    ensures { λ r. ⌜ Laid site (Segment segment pen) (now (kinds .entry)) (now (fields .entry)) (now (tables .entry)) (now (lengths .entry)) r (now (kinds .exit)) (now (fields .exit)) (now (tables .exit)) (now (lengths .exit)) ⌝ }
+{
+    let place = site.segments;
+    kinds[place] = kind(segment);
+    put_segment(fields, site.fields, segment);
+    let length = tidy(site.length + lay_table(tables, site.tables, segment));
+    lengths[place] = length;
+    after(site, segment, length, pen)
+}
+
+// Stores what a command draws at a site, and gives the next site. A rotation out of range draws nothing here: `advance` refuses it.
+pub fn lay(
+    site: Site,
+    command: PathCommand,
+    kinds: &mut [u8],
+    fields: &mut [f32],
+    tables: &mut [f32],
+    lengths: &mut [f32],
+) -> Site
+    requires { ⌜ Few site × Room site (drawOf (site .pen) command) (length (now kinds)) (length (now fields)) (length (now tables)) (length (now lengths)) ⌝ }
+    ensures { λ r. ⌜ Laid site (drawOf (site .pen) command) (now (kinds .entry)) (now (fields .entry)) (now (tables .entry)) (now (lengths .entry)) r (now (kinds .exit)) (now (fields .exit)) (now (tables .exit)) (now (lengths .exit)) ⌝ }
+{
+    let pen = site.pen;
+    match draw(pen, command) {
+        Drawn::Moved(next) => moved(site, next),
+        Drawn::Segment { segment, next } => {
+            lay_segment(site, segment, next, kinds, fields, tables, lengths)
+        }
+        Drawn::OutOfRange => site,
+    }
+}
