@@ -1,0 +1,22 @@
+-- `listing::lines::put_quad` meets its contract. Assumes nothing.
+use borrow.Author.Needs.{needs}
+use native.Mathlib.Omega.{arith}
+use Rattle.listing.proofs.Putting.{within-as, within-then}
+use Rattle.listing.proofs.Fields.{quad-fields}
+use Rattle.listing.proofs.lines.put_quad.Statement.{statement}
+use Rattle.listing.proofs.lines.put_quad.Tie as tie
+
+put-point-requires : tie.Need-put-point-requires
+put-point-requires c κs = search needs
+
+put-point-requires-2 : tie.Need-put-point-requires-2
+put-point-requires-2 c κs = search needs
+
+same-length : tie.Need-same-length
+same-length c = search needs
+
+returns : tie.Need-returns
+returns c = within-as 36 _ (within-then (c .before .before .before .before .before .before .put-point .ensures) (c .before .before .put-point2 .ensures) .put) (quad-fields _ _) (omega arith)
+
+pub put-quad-spec : {M : Type 1} → statement M
+put-quad-spec = tie.close (tie.spec put-point-requires put-point-requires-2 same-length returns)

@@ -1,0 +1,33 @@
+-- `listing::numbers::put_bits` meets its contract. Assumes nothing.
+use borrow.Author.Needs.{needs}
+use Prim.Native.Nat.{ℕ}
+use mathlib.Core.Path.{ap}
+use native.Mathlib.Omega.{arith}
+use Rattle.floats.specs.Floats.{bitsOf}
+use Rattle.listing.specs.Numbers.{hexDigits, bitsField}
+use Rattle.listing.proofs.Putting.{put-then, put-same}
+use Rattle.listing.proofs.Digits.{hex-length}
+use Rattle.listing.proofs.numbers.put_bits.Statement.{statement}
+use Rattle.listing.proofs.numbers.put_bits.Tie as tie
+
+put-byte-requires : tie.Need-put-byte-requires
+put-byte-requires c κs = search needs
+
+bits-requires : tie.Need-bits-requires
+bits-requires c κs = search needs
+
+put-hex-requires : tie.Need-put-hex-requires
+put-hex-requires c κs = search needs
+
+same-length : tie.Need-same-length
+same-length c = search needs
+
+returns : tie.Need-returns
+unfolding bitsField
+returns c =
+    let p = put-then (c .before .before .before .before .before .before .before .put-byte .ensures) (put-same (c .before .before .put-hex .ensures) _ (ap (λ (n : ℕ). hexDigits 8 n) (c .before .before .before .bits .ensures))) in
+    record { put = p; within = omega (arith, p .past, hex-length 8 (bitsOf (c .before .before .before .before .before .before .before .before .before .before .args .value))) }
+
+pub put-bits-spec : {M : Type 1} → statement M
+put-bits-spec =
+    tie.close (tie.spec put-byte-requires bits-requires put-hex-requires same-length returns)
