@@ -1,5 +1,6 @@
 //! The comparison of the proved library with the original Rust, by bits. `oracle/run` says what it takes.
 
+mod arc;
 mod bezier;
 mod bnf;
 mod compare;
@@ -31,6 +32,7 @@ fn main() -> ExitCode {
             strict::compare_some(&mut report, SEED);
             decimal::compare_some(&mut report, SEED);
             bezier::compare(&mut report, SEED, 20_000);
+            arc::compare(&mut report, SEED, 5_000);
             for recording in record::RECORDINGS {
                 recording.compare(&mut report, SEED);
             }
@@ -43,6 +45,7 @@ fn main() -> ExitCode {
         ["trig"] => math::compare(&mut report, &trig::FAMILY, SEED, 2_000_000),
         ["table"] => table::compare(&mut report, SEED, 1_000_000),
         ["bezier"] => bezier::compare(&mut report, SEED, 250_000),
+        ["arc"] => arc::compare(&mut report, SEED, 420_000),
         ["root_all"] => root_all::compare(&mut report),
         ["strict"] => strict::compare_all(&mut report),
         ["strict", "drawings"] => strict::compare_drawings(&mut report),
@@ -74,7 +77,7 @@ fn main() -> ExitCode {
 
 fn usage() -> ExitCode {
     eprintln!(
-        "oracle/run gate | math [SEED] | trig | table | bezier | root_all | strict [drawings | time | SEED COUNT] | \
+        "oracle/run gate | math [SEED] | trig | table | bezier | arc | root_all | strict [drawings | time | SEED COUNT] | \
          decimal edges | decimal printed PART | decimal KIND SEED COUNT | record NAME"
     );
     ExitCode::from(2)

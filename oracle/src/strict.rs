@@ -266,7 +266,8 @@ pub fn compare_drawings(report: &mut Report) {
     };
     let grammar = Grammar::read(PATH);
     let paths = Paths::new(&grammar);
-    let texts = || gathered.split(|byte| *byte == b'\n').filter(|text| !text.is_empty()).map(|text| Text(text.to_vec()));
+    let texts =
+        || gathered.split(|byte| *byte == b'\n').filter(|text| !text.is_empty()).map(|text| Text(text.to_vec()));
     let all = report.group("real drawings", texts(), |text| ours(&text.0), |text| paths.says(&text.0));
     let yes = texts().filter(|text| ours(&text.0).0).count();
     println!("  real drawings: {all} texts of {} bytes, {yes} with a yes, {:.0} s", gathered.len(), report.seconds());
