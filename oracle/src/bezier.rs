@@ -6,6 +6,7 @@ use crate::samples::{self, SPECIALS, Stream};
 use crate::simple::{effort, simpler_floats};
 use crate::table;
 use animato_path::bezier::{CubicBezierCurve, PathEvaluate, QuadBezier};
+use std::cell::Cell;
 use std::fmt;
 
 /// Which curve is made.
@@ -15,20 +16,21 @@ pub enum Curve {
     Cubic,
 }
 
-const CURVES: [(Curve, &str); 2] = [(Curve::Quad, "quads"), (Curve::Cubic, "cubics")];
+pub const CURVES: [(Curve, &str); 2] = [(Curve::Quad, "quads"), (Curve::Cubic, "cubics")];
 
 /// The patterns of the points' coordinates, of which a quad has three, and of a progress.
 #[derive(Clone)]
 pub struct Asked {
-    curve: Curve,
-    points: [[u32; 2]; 4],
-    progress: u32,
+    pub curve: Curve,
+    pub points: [[u32; 2]; 4],
+    pub progress: u32,
 }
 
-/// All that a curve answers at a progress, as bits; or the number of a refusal, and what it carries.
+/// All that a curve answers at a progress, as bits, and its table, entries and total; or the number of a refusal, and what
+/// it carries.
 #[derive(Clone, Copy, PartialEq)]
 pub enum Answer {
-    Known { position: [u32; 2], tangent: [u32; 2], rotation_deg: u32, length: u32 },
+    Known { position: [u32; 2], tangent: [u32; 2], rotation_deg: u32, length: u32, table: [u32; 33] },
     Refused(u32, u64),
 }
 
@@ -44,7 +46,7 @@ impl Asked {
         self.points.map(|point| point.map(f32::from_bits))
     }
 
-    fn ours(&self) -> Answer {
+    pub fn ours(&self) -> Answer {
         self.ours_or_refusal().unwrap_or_else(|refusal| Refused(refusal.number, refusal.carried[0]))
     }
 
@@ -58,6 +60,7 @@ impl Asked {
                     tangent: kihavute::quad_tangent(&points, t)?,
                     rotation_deg: kihavute::quad_rotation_deg(&points, t)?,
                     length: kihavute::quad_length(&points)?,
+                    table: kihavute::quad_table(&points)?,
                 }
             }
             Curve::Cubic => {
@@ -67,27 +70,30 @@ impl Asked {
                     tangent: kihavute::cubic_tangent(&points, t)?,
                     rotation_deg: kihavute::cubic_rotation_deg(&points, t)?,
                     length: kihavute::cubic_length(&points)?,
+                    table: kihavute::cubic_table(&points)?,
                 }
             }
         })
     }
 
     /// The Rust's answer where the length is finite; elsewhere the Rust goes on, and document 01 refuses segment 0.
-    fn theirs(&self) -> Answer {
+    pub fn theirs(&self) -> Answer {
         match self.curve {
             Curve::Quad => {
                 let [start, control, end] = self.three();
-                answer(&QuadBezier::new(start, control, end), self.progress)
+                let curve = QuadBezier::new(start, control, end);
+                answer(&curve, curve.open_table(), self.progress)
             }
             Curve::Cubic => {
                 let [start, control1, control2, end] = self.four();
-                answer(&CubicBezierCurve::new(start, control1, control2, end), self.progress)
+                let curve = CubicBezierCurve::new(start, control1, control2, end);
+                answer(&curve, curve.open_table(), self.progress)
             }
         }
     }
 
-    // the running lengths of the Rust, and their total
-    fn table(&self) -> ([f32; 32], f32) {
+    /// The running lengths of the Rust, and their total.
+    pub fn table(&self) -> ([f32; 32], f32) {
         match self.curve {
             Curve::Quad => {
                 let [start, control, end] = self.three();
@@ -101,7 +107,7 @@ impl Asked {
     }
 }
 
-fn answer(curve: &impl PathEvaluate, progress: u32) -> Answer {
+fn answer(curve: &impl PathEvaluate, (entries, total): ([f32; 32], f32), progress: u32) -> Answer {
     let t = f32::from_bits(progress);
     if !curve.arc_length().is_finite() {
         return Refused(11, 0);
@@ -111,14 +117,20 @@ fn answer(curve: &impl PathEvaluate, progress: u32) -> Answer {
         tangent: curve.tangent(t).map(alike),
         rotation_deg: alike(curve.rotation_deg(t)),
         length: alike(curve.arc_length()),
+        table: stored(&entries, total),
     }
+}
+
+/// A table's entries, then its total, as bits.
+pub fn stored(entries: &[f32; 32], total: f32) -> [u32; 33] {
+    std::array::from_fn(|place| alike(*entries.get(place).unwrap_or(&total)))
 }
 
 // ---- points
 
 /// A way to draw points.
 #[derive(Clone, Copy)]
-enum Kind {
+pub enum Kind {
     Planned,
     OneSize,
     Straight,
@@ -131,7 +143,7 @@ enum Kind {
     AnyBits,
 }
 
-const KINDS: [(Kind, &str); 10] = [
+pub const KINDS: [(Kind, &str); 10] = [
     (Kind::Planned, "as planned"),
     (Kind::OneSize, "of one size"),
     (Kind::Straight, "straight"),
@@ -144,17 +156,19 @@ const KINDS: [(Kind, &str); 10] = [
     (Kind::AnyBits, "any bits"),
 ];
 
-// a float with an exponent field from least on, of either sign
-fn sized(stream: &mut Stream, least: u32, count: u32) -> f32 {
+/// A float with an exponent field from least on, of either sign.
+pub fn sized(stream: &mut Stream, least: u32, count: u32) -> f32 {
     let exponent = least + stream.below(count);
     f32::from_bits(stream.bits() & 0x807F_FFFF | exponent << 23)
 }
 
-fn metres(stream: &mut Stream) -> f32 {
+/// A coordinate in metres with three digits after the point, up to some 16 km.
+pub fn metres(stream: &mut Stream) -> f32 {
     (stream.below(1 << 25) as f32 - 16_777_216.0) / 1000.0
 }
 
-fn points(kind: Kind, stream: &mut Stream) -> [[f32; 2]; 4] {
+/// The points of a curve.
+pub fn points(kind: Kind, stream: &mut Stream) -> [[f32; 2]; 4] {
     let base = 20 + stream.below(170);
     let mut each = |coordinate: &mut dyn FnMut(&mut Stream) -> f32| -> [[f32; 2]; 4] {
         std::array::from_fn(|_| std::array::from_fn(|_| coordinate(stream)))
@@ -215,6 +229,7 @@ pub fn compare(report: &mut Report, seed: u64, progresses: u32) {
     println!("curves: {} kinds, seed {seed}, {progresses} progresses of each", KINDS.len());
     for (curve, title) in CURVES {
         let mut made = 0;
+        let refused = Cell::new(0u64);
         for (kind, kind_title) in KINDS {
             let mut stream = Stream::new(seed ^ (curve as u64) << 16 ^ (kind as u64) << 8 ^ 2);
             let inputs = (0..progresses / ASKED).flat_map(|_| {
@@ -224,9 +239,13 @@ pub fn compare(report: &mut Report, seed: u64, progresses: u32) {
                 let all: [u32; ASKED as usize] = std::array::from_fn(|_| table::progress(&lengths, total, &mut stream));
                 all.map(|progress| Asked { progress, ..asked.clone() })
             });
-            made += report.group(&format!("{title}, {kind_title}"), inputs, Asked::ours, Asked::theirs);
+            made += report.group(&format!("{title}, {kind_title}"), inputs, Asked::ours, |asked| {
+                let answer = asked.theirs();
+                refused.set(refused.get() + u64::from(matches!(answer, Refused(..))));
+                answer
+            });
         }
-        println!("  {title:20} {made:9} progresses");
+        println!("  {title:20} {made:9} progresses, {} of them on curves that are refused", refused.get());
     }
 }
 
@@ -269,10 +288,11 @@ impl fmt::Display for Asked {
 impl fmt::Display for Answer {
     fn fmt(&self, f: &mut fmt::Formatter<'_>) -> fmt::Result {
         match self {
-            Known { position: [x, y], tangent: [u, v], rotation_deg, length } => write!(
-                f,
-                "position {x:08X} {y:08X}, tangent {u:08X} {v:08X}, rotation {rotation_deg:08X}, length {length:08X}"
-            ),
+            Known { position: [x, y], tangent: [u, v], rotation_deg, length, table } => {
+                write!(f, "position {x:08X} {y:08X}, tangent {u:08X} {v:08X}, rotation {rotation_deg:08X}, ")?;
+                write!(f, "length {length:08X}, table")?;
+                table.iter().try_for_each(|own| write!(f, " {own:08X}"))
+            }
             Refused(number, carried) => write!(f, "refused {number} with {carried}"),
         }
     }

@@ -1,5 +1,6 @@
 //! The comparison of the proved library with the original Rust, by bits. `oracle/run` says what it takes.
 
+mod arc;
 mod bezier;
 mod bnf;
 mod compare;
@@ -35,6 +36,7 @@ fn main() -> ExitCode {
             read::compare_some(&mut report, SEED);
             decimal::compare_some(&mut report, SEED);
             bezier::compare(&mut report, SEED, 20_000);
+            arc::compare(&mut report, SEED, 5_000);
             spline::compare(&mut report, SEED, 400);
             for recording in record::RECORDINGS {
                 recording.compare(&mut report, SEED);
@@ -48,6 +50,7 @@ fn main() -> ExitCode {
         ["trig"] => math::compare(&mut report, &trig::FAMILY, SEED, 2_000_000),
         ["table"] => table::compare(&mut report, SEED, 1_000_000),
         ["bezier"] => bezier::compare(&mut report, SEED, 250_000),
+        ["arc"] => arc::compare(&mut report, SEED, 420_000),
         ["spline"] => spline::compare(&mut report, SEED, 10_000),
         ["root_all"] => root_all::compare(&mut report),
         ["strict"] => strict::compare_all(&mut report),
@@ -85,9 +88,6 @@ fn main() -> ExitCode {
 }
 
 fn usage() -> ExitCode {
-    eprintln!(
-        "oracle/run gate | math [SEED] | trig | table | bezier | spline | root_all | strict [drawings | time | SEED COUNT] | \
-         read [drawings | SEED COUNT] | decimal edges | decimal printed PART | decimal KIND SEED COUNT | record NAME"
-    );
+    eprintln!("the head of oracle/run lists what it takes");
     ExitCode::from(2)
 }

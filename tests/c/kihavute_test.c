@@ -336,6 +336,140 @@ static void splines(void) {
     table_left("a short answer", 0);
 }
 
+/* an output of 40 places that held 77, and how many of them a call wrote: from the start, and no others */
+static float out[40];
+
+static void lent(void) {
+    fresh();
+    for (size_t i = 0; i < 40; i++) out[i] = 77;
+}
+
+static void kept(const char *what, size_t from) {
+    for (size_t i = from; i < 40; i++) same(what, bits(out[i]), bits(77));
+}
+
+static void curve_tables(void) {
+    const float nan = kihavute_float(NAN_BITS);
+
+    lent();
+    answered("a quad's table", kihavute_quad_table(0, 0, 15.5f, 0, 31, 0, out, 40, answer, PLACES), 0, 0, NULL);
+    same("it starts at 0", bits(out[0]), 0);
+    same("its total is its last entry", bits(out[32]), bits(out[31]));
+    kept("a quad's table leaves the other places", 33);
+    fresh();
+    answered("and its length", kihavute_quad_length(0, 0, 15.5f, 0, 31, 0, answer, PLACES), 0, 1, (uint64_t[]){bits(out[32])});
+    lent();
+    answered("a quad's table without room", kihavute_quad_table(0, 0, 15.5f, 0, 31, 0, out, 32, answer, PLACES), 8, 1, (uint64_t[]){33});
+    kept("no room leaves all places", 0);
+    answered("a quad too long, no room", (fresh(), kihavute_quad_table(0, 0, 1e30f, 0, 2e30f, 0, out, 0, answer, PLACES)), 11, 1, (uint64_t[]){0});
+    answered("a quad too long, a short answer", (fresh(), kihavute_quad_table(0, 0, 1e30f, 0, 2e30f, 0, out, 40, answer, 7)), 255, 0, NULL);
+    answered("a quad's table, a short answer", (fresh(), kihavute_quad_table(0, 0, 1, 0, 2, 0, out, 40, answer, 7)), 255, 0, NULL);
+    kept("a refusal leaves all places", 0);
+
+    lent();
+    answered("a cubic's table", kihavute_cubic_table(0, 0, 0, 1, 0, 2, 0, 3, out, 33, answer, PLACES), 0, 0, NULL);
+    same("its total is its last entry", bits(out[32]), bits(out[31]));
+    kept("a cubic's table leaves the other places", 33);
+    lent();
+    answered("a cubic's table of a NaN", kihavute_cubic_table(0, 0, 0, nan, 0, 2, 0, 3, out, 40, answer, PLACES), 11, 1, (uint64_t[]){0});
+    answered("a cubic's table without room", (fresh(), kihavute_cubic_table(0, 0, 0, 1, 0, 2, 0, 3, out, 0, answer, PLACES)), 8, 1, (uint64_t[]){33});
+    kept("a refusal leaves all places", 0);
+}
+
+static void lines(void) {
+    const float nan = kihavute_float(NAN_BITS);
+
+    fresh();
+    answered("a line's place halfway", kihavute_line_position(1, 2, 4, 6, 0.5f, answer, PLACES), 0, 2, (uint64_t[]){bits(2.5f), bits(4)});
+    fresh();
+    answered("a line's place at a NaN", kihavute_line_position(1, 2, 4, 6, nan, answer, PLACES), 0, 2, (uint64_t[]){bits(1), bits(2)});
+    fresh();
+    answered("a line that misses its end", kihavute_line_position(1e8f, 0, 0.1f, 0, 1, answer, PLACES), 0, 2, (uint64_t[]){0, 0});
+    fresh();
+    answered("a line's direction", kihavute_line_tangent(1, 2, 4, 6, answer, PLACES), 0, 2, (uint64_t[]){bits(0.6f), bits(0.8f)});
+    fresh();
+    answered("a point's direction", kihavute_line_tangent(1, 2, 1, 2, answer, PLACES), 0, 2, (uint64_t[]){0, 0});
+    fresh();
+    answered("a line's heading", kihavute_line_rotation_deg(0, 0, 0, 2, answer, PLACES), 0, 1, (uint64_t[]){bits(90)});
+    fresh();
+    answered("a line's length", kihavute_line_length(1, 2, 4, 6, answer, 8), 0, 1, (uint64_t[]){bits(5)});
+    fresh();
+    answered("a long line", kihavute_line_length(0, 0, 1e19f, 0, answer, PLACES), 0, 1, (uint64_t[]){bits(1e19f)});
+    fresh();
+    answered("a line too long", kihavute_line_length(0, 0, 2e19f, 0, answer, PLACES), 11, 1, (uint64_t[]){0});
+    fresh();
+    answered("a line too long has no direction", kihavute_line_tangent(0, 0, 2e19f, 0, answer, PLACES), 11, 1, (uint64_t[]){0});
+    fresh();
+    answered("a line of a NaN", kihavute_line_position(0, nan, 1, 0, 0.5f, answer, PLACES), 11, 1, (uint64_t[]){0});
+    fresh();
+    answered("a line, a short answer", kihavute_line_length(1, 2, 4, 6, answer, 7), 255, 0, NULL);
+}
+
+static void arcs(void) {
+    const float nan = kihavute_float(NAN_BITS), past = kihavute_float(0x45610001);
+
+    /* half a circle about (1, 0) */
+    lent();
+    answered("an arc's numbers", kihavute_arc_shape(0, 0, 1, -1, 0, 0, 1, 2, 0, out, 40, answer, PLACES), 0, 1, (uint64_t[]){0});
+    same("its start", point(out[0], out[1]), point(0, 0));
+    same("its end", point(out[2], out[3]), point(2, 0));
+    same("its centre", point(out[4], out[5]), point(1, 0));
+    same("its radii", point(out[6], out[7]), point(1, 1));
+    same("its rotation", bits(out[8]), 0);
+    same("where it starts", bits(out[9]), 0x40490FDB);
+    kept("an arc's numbers leave the other places", 11);
+    lent();
+    answered("an arc's table", kihavute_arc_table(0, 0, 1, 1, 0, 0, 1, 2, 0, out, 33, answer, PLACES), 0, 1, (uint64_t[]){0});
+    same("its total is its last entry", bits(out[32]), bits(out[31]));
+    kept("an arc's table leaves the other places", 33);
+    fresh();
+    answered("an arc's length", kihavute_arc_length(0, 0, 1, 1, 0, 0, 1, 2, 0, answer, PLACES), 0, 1, (uint64_t[]){bits(out[32])});
+    fresh();
+    answered("any flag but 0 is a yes", kihavute_arc_length(0, 0, 1, 1, 0, 0, 1u << 31, 2, 0, answer, PLACES), 0, 1, (uint64_t[]){bits(out[32])});
+
+    /* large radii, and a denominator of at most 2^-23: docs/DIFFERENCES.md */
+    fresh();
+    answered("a radius of 5e9", kihavute_arc_length(0, 0, 5e9f, 5e9f, 0, 0, 1, 3, 4, answer, PLACES), 11, 1, (uint64_t[]){0});
+    fresh();
+    answered("a radius of 1e9", kihavute_arc_length(0, 0, 1e9f, 1e9f, 0, 0, 1, 3, 4, answer, PLACES), 0, 1, (uint64_t[]){0});
+    fresh();
+    answered("a radius of 1e20", kihavute_arc_length(0, 0, 1e20f, 1e20f, 0, 0, 0, 3, 4, answer, PLACES), 0, 1, (uint64_t[]){0x61CC2BAB});
+    fresh();
+    answered("an arc that misses its start", kihavute_arc_position(0, 0, 0.02f, 0.02f, 0, 0, 1, 0.01f, 0.01f, 0, answer, PLACES), 0, 2, (uint64_t[]){0xBC15C8E5, 0xBC15C8E5});
+
+    /* the rotation: 3600 builds, the next float above is 10, unless the arc falls back */
+    fresh();
+    answered("a rotation of 3600", kihavute_arc_length(0, 0, 5, 5, 3600, 0, 1, 3, 4, answer, PLACES), 0, 1, (uint64_t[]){0x40A78B2C});
+    fresh();
+    answered("a rotation above 3600", kihavute_arc_length(0, 0, 5, 5, past, 0, 1, 3, 4, answer, PLACES), 10, 1, (uint64_t[]){0});
+    fresh();
+    answered("a rotation below -3600", kihavute_arc_tangent(0, 0, 5, 5, -past, 0, 1, 3, 4, 0.5f, answer, PLACES), 10, 1, (uint64_t[]){0});
+    lent();
+    answered("10 before 11 and 8", kihavute_arc_table(0, 0, 5, 5, nan, 0, 1, kihavute_float(INFINITE), 4, out, 0, answer, PLACES), 10, 1, (uint64_t[]){0});
+    answered("an arc's numbers without room", (fresh(), kihavute_arc_shape(0, 0, 1, 1, 0, 0, 1, 2, 0, out, 10, answer, PLACES)), 8, 1, (uint64_t[]){11});
+    answered("an arc's table without room", (fresh(), kihavute_arc_table(0, 0, 1, 1, 0, 0, 1, 2, 0, out, 32, answer, PLACES)), 8, 1, (uint64_t[]){33});
+    answered("an arc's table, a short answer", (fresh(), kihavute_arc_table(0, 0, 1, 1, 0, 0, 1, 2, 0, out, 40, answer, 7)), 255, 0, NULL);
+    answered("an arc's numbers, a short answer", (fresh(), kihavute_arc_shape(0, 0, 0, 1, 0, 0, 1, 2, 0, out, 40, answer, 7)), 255, 0, NULL);
+    kept("a refusal leaves all places", 0);
+
+    /* a line fallback, with any rotation */
+    answered("a fallback's table", (fresh(), kihavute_arc_table(0, 0, 0, 1, past, 0, 1, 3, 4, out, 0, answer, PLACES)), 0, 1, (uint64_t[]){1});
+    kept("a fallback has no table", 0);
+    fresh();
+    answered("a fallback's numbers", kihavute_arc_shape(0, 0, 0, 1, nan, 0, 1, 3, 4, out, 40, answer, PLACES), 0, 1, (uint64_t[]){1});
+    same("its ends", point(out[2], out[3]), point(3, 4));
+    same("its radii", point(out[6], out[7]), 0);
+    same("its rotation", bits(out[8]), NAN_BITS);
+    fresh();
+    answered("a fallback's place", kihavute_arc_position(0, 0, 0, 1, past, 0, 1, 3, 4, 0.5f, answer, PLACES), 0, 2, (uint64_t[]){bits(1.5f), bits(2)});
+    fresh();
+    answered("a fallback's heading", kihavute_arc_rotation_deg(0, 0, 0, 1, past, 0, 1, 0, 4, 0.5f, answer, PLACES), 0, 1, (uint64_t[]){bits(90)});
+    fresh();
+    answered("a fallback's length", kihavute_arc_length(0, 0, 0, 1, past, 0, 1, 3, 4, answer, PLACES), 0, 1, (uint64_t[]){bits(5)});
+    fresh();
+    answered("a fallback too long", kihavute_arc_length(0, 0, 0, 1, past, 0, 1, 2e19f, 0, answer, PLACES), 11, 1, (uint64_t[]){0});
+}
+
 /* the code returned, and what stands in the first place of an answer that held 77 */
 static uint64_t strict_says(const char *text, size_t length) {
     uint64_t answer[8] = {77, 77, 77, 77, 77, 77, 77, 77};
@@ -427,6 +561,9 @@ static float list_numbers[ROOM];
 
 /* reads into so many places of each buffer, with an answer of so many places */
 static uint32_t read_in(const char *text, size_t size, size_t letters_len, size_t numbers_len, size_t places) {
+    curve_tables();
+    lines();
+    arcs();
     fresh();
     memset(list_letters, 77, sizeof list_letters);
     for (size_t i = 0; i < ROOM; i++) {
