@@ -12,12 +12,13 @@ use clock::{large, latency, throughput};
 const INPUTS: usize = 4096;
 
 fn main() {
-    let rows: [(&str, fn()); 8] = [
+    let rows: [(&str, fn()); 9] = [
         ("root", root),
         ("length", length),
         ("angles", angles),
         ("strict", strict),
         ("drawings", drawings),
+        ("read", read),
         ("decimals", decimals),
         ("lookup", lookup),
         ("spot", spot),
@@ -129,28 +130,86 @@ fn angles() {
     row("atan2, libm, latency", latency(&inputs, after, plain, ours, theirs));
 }
 
-// the path texts that tools/drawings gathers and both sides read, all of them once a turn; ns per byte
-fn drawings() {
-    let Ok(gathered) = std::fs::read("target/drawings/paths.txt") else {
-        println!("(tools/drawings gathers path texts for one more row)");
-        return;
-    };
-    let texts: Vec<&[u8]> = gathered
-        .split(|byte| *byte == b'\n')
-        .filter(|text| original_reads(text) > 0 && kihavute::strict(text) == kihavute::Strict::Yes)
-        .collect();
+// the path texts that tools/drawings gathers and the Rust reads
+struct Drawings {
+    gathered: Vec<u8>,
+}
+
+impl Drawings {
+    fn new() -> Option<Drawings> {
+        let gathered = std::fs::read("target/drawings/paths.txt").ok();
+        if gathered.is_none() {
+            println!("(tools/drawings gathers path texts for one more row)");
+        }
+        gathered.map(|gathered| Drawings { gathered })
+    }
+
+    fn texts(&self) -> Vec<&[u8]> {
+        self.gathered.split(|byte| *byte == b'\n').filter(|text| original_reads(text) > 0).collect()
+    }
+}
+
+// all texts once a turn, both sides in turn; ns per byte
+fn per_byte(texts: &[&[u8]], ours: impl Fn(&[u8]) -> usize, theirs: impl Fn(&[u8]) -> usize) -> [f64; 2] {
     let bytes: usize = texts.iter().map(|text| text.len()).sum();
-    let best = |turn: &dyn Fn(&[u8]) -> usize| {
-        let times = (0..10).map(|_| {
-            let began = std::time::Instant::now();
-            std::hint::black_box(texts.iter().map(|text| turn(text)).sum::<usize>());
-            began.elapsed().as_secs_f64() * 1e9 / bytes as f64
-        });
-        times.fold(f64::INFINITY, f64::min)
+    let turn = |side: &dyn Fn(&[u8]) -> usize| {
+        let began = std::time::Instant::now();
+        std::hint::black_box(texts.iter().map(|text| side(text)).sum::<usize>());
+        began.elapsed().as_secs_f64() * 1e9 / bytes as f64
     };
-    let ours = best(&|text| usize::from(kihavute::strict(text) == kihavute::Strict::Yes));
-    let theirs = best(&|text| original_reads(text));
-    row("strict, drawings, a byte", [ours, theirs]);
+    let mut least = [f64::INFINITY; 2];
+    for _ in 0..10 {
+        least[0] = least[0].min(turn(&ours));
+        least[1] = least[1].min(turn(&theirs));
+    }
+    least
+}
+
+fn drawings() {
+    let Some(drawings) = Drawings::new() else { return };
+    let mut texts = drawings.texts();
+    texts.retain(|text| kihavute::strict(text) == kihavute::Strict::Yes);
+    let ours = |text: &[u8]| usize::from(kihavute::strict(text) == kihavute::Strict::Yes);
+    row("strict, drawings, a byte", per_byte(&texts, ours, original_reads));
+}
+
+// permissive reading: into lent buffers, which are not cleared between two texts, and into buffers of its own; the Rust
+// pushes to a vector of its own
+fn read() {
+    let Some(drawings) = Drawings::new() else { return };
+    let texts = drawings.texts();
+    let lent = std::cell::RefCell::new((vec![0u8; 65_536], vec![0f32; 65_536]));
+    let ours = |text: &[u8]| {
+        let (letters, numbers) = &mut *lent.borrow_mut();
+        kihavute::read_into(text, letters, numbers).map_or(0, |(commands, _)| commands)
+    };
+    row("read, drawings, a byte", per_byte(&texts, ours, original_reads));
+    let owned = |text: &[u8]| kihavute::read(text).map_or(0, |commands| commands.letters.len());
+    row("read, own buffers, a byte", per_byte(&texts, owned, original_reads));
+    other_readers(&texts, &ours);
+}
+
+// two other readers on the texts that they read too; they convert to f64, and keep each command as it is written
+#[cfg(others)]
+fn other_readers(texts: &[&[u8]], ours: &dyn Fn(&[u8]) -> usize) {
+    fn svgtypes(text: &[u8]) -> usize {
+        let text = std::str::from_utf8(text).expect("a drawing is ASCII");
+        text.parse::<svgtypes::Path>().map_or(0, |path| path.len())
+    }
+    fn kurbo(text: &[u8]) -> usize {
+        let text = std::str::from_utf8(text).expect("a drawing is ASCII");
+        kurbo::BezPath::from_svg(text).map_or(0, |path| path.elements().len())
+    }
+    let readers: [(&str, fn(&[u8]) -> usize); 2] = [("read, beside svgtypes", svgtypes), ("read, beside kurbo", kurbo)];
+    for (name, reader) in readers {
+        let read: Vec<&[u8]> = texts.iter().copied().filter(|text| reader(text) > 0).collect();
+        row(name, per_byte(&read, ours, reader));
+    }
+}
+
+#[cfg(not(others))]
+fn other_readers(_: &[&[u8]], _: &dyn Fn(&[u8]) -> usize) {
+    println!("{:28} left out: bench/others says why", "read, beside other readers");
 }
 
 // a hundred bytes of a drawing; the Rust reads them permissively, and has no strict reading

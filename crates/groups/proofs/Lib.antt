@@ -1,4 +1,5 @@
 -- Laws of the definitions of `specs/`.
 pub mod Ahead
+pub mod Ends
 pub mod Places
 pub mod Widths

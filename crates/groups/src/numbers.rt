@@ -33,7 +33,11 @@ pub fn read_number(text: &[u8], at: usize) -> Read
     if text.len() <= start {
         return Read::Refused(Refusal::UnexpectedEnd(text.len()));
     }
-    decimal::number(text, start)
+    // taken apart and put together again: else it is copied as a whole, which is slower
+    match decimal::number(text, start) {
+        Read::Value(value, next) => Read::Value(value, next),
+        Read::Refused(refusal) => Read::Refused(refusal),
+    }
 }
 
 fn read_flag(text: &[u8], at: usize) -> Flag

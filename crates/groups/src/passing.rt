@@ -1,6 +1,7 @@
 // One group of each kind, passed without its values: the first pass over a text counts only.
 ghost use mathlib.Core.Path.{_≡_};
-ghost use Rattle.groups.specs.Passing.{passNumberOf, passPairOf, passCubicOf, passQuadOf, passArcOf, passGroupOf};
+ghost use Rattle.scan.specs.Numbers.{scanNumberOf};
+ghost use Rattle.groups.specs.Passing.{ended, passNumberOf, passPairOf, passCubicOf, passQuadOf, passArcOf, passGroupOf};
 use crate::letters::Kind;
 use crate::numbers::Flags;
 use crate::numbers::read_flags;
@@ -13,6 +14,18 @@ pub enum Passed {
     Refused(Refusal),
 }
 
+// The number that starts at a place.
+fn pass_scanned(text: &[u8], start: usize) -> Passed
+    ensures { λ r. ⌜ r ≡ ended (scanNumberOf (now (text .entry)) start) ⌝ }
+{
+    match scan::scan_number(text, start) {
+        Number::Scanned(places) => Passed::To(places.end),
+        Number::NoDigit(place) => Passed::Refused(Refusal::ExpectedNumber(place)),
+        Number::NoExponentDigit(place) => Passed::Refused(Refusal::InvalidNumber(place)),
+    }
+}
+
+// Most numbers have a digit and no exponent: they end past their digits.
 fn pass_number(text: &[u8], at: usize) -> Passed
     ensures { λ r. ⌜ r ≡ passNumberOf (now (text .entry)) at ⌝ }
 {
@@ -20,11 +33,17 @@ fn pass_number(text: &[u8], at: usize) -> Passed
     if text.len() <= start {
         return Passed::Refused(Refusal::UnexpectedEnd(text.len()));
     }
-    match scan::scan_number(text, start) {
-        Number::Scanned(places) => Passed::To(places.end),
-        Number::NoDigit(place) => Passed::Refused(Refusal::ExpectedNumber(place)),
-        Number::NoExponentDigit(place) => Passed::Refused(Refusal::InvalidNumber(place)),
+    let whole = scan::past_sign(text, start);
+    let point = scan::past_digits(text, whole);
+    let fraction = scan::past_point(text, point);
+    let mark = scan::past_digits(text, fraction);
+    if (whole == point) & (fraction == mark) {
+        return pass_scanned(text, start);
     }
+    if scan::is_exponent_mark(scan::byte_at(text, mark)) {
+        return pass_scanned(text, start);
+    }
+    Passed::To(mark)
 }
 
 fn pass_pair(text: &[u8], at: usize) -> Passed

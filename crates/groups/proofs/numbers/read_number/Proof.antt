@@ -16,9 +16,28 @@ returns c = simp (sym (c .before .past-separators .ensures), le-ltb _ _ (c .if1 
 number-requires : tie.Need-number-requires
 number-requires c κs = search needs
 
+enum-known-value : tie.Need-enum-known-value
+enum-known-value c = search needs
+
+enum-known-refusal : tie.Need-enum-known-refusal
+enum-known-refusal c = search needs
+
 returns-2 : tie.Need-returns-2
 unfolding readNumberOf
-returns-2 c = simp (sym (c .before .before .past-separators .ensures), lt-ltb _ _ (c .before .if1 .left)) (c .number .ensures)
+returns-2 c = simp (sym (c .before .before .before .before .before .past-separators .ensures), lt-ltb _ _ (c .before .before .before .before .if1 .left)) (sym (c .before .value .given .1) ∙ c .before .before .before .number .ensures)
+
+returns-3 : tie.Need-returns-3
+unfolding readNumberOf
+returns-3 c = simp (sym (c .before .before .before .before .before .past-separators .ensures), lt-ltb _ _ (c .before .before .before .before .if1 .left)) (sym (c .before .refusal .given .1) ∙ c .before .before .before .number .ensures)
 
 pub read-number-spec : {M : Type 1} → statement M
-read-number-spec = tie.close (tie.spec past-separators-requires returns number-requires returns-2)
+read-number-spec =
+    tie.close
+    (tie.spec
+    past-separators-requires
+    returns
+    number-requires
+    enum-known-value
+    enum-known-refusal
+    returns-2
+    returns-3)

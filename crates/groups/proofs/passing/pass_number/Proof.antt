@@ -1,8 +1,11 @@
--- `groups::passing::pass_number` meets its contract: each way out is a case of its definition. Assumes nothing.
+-- `groups::passing::pass_number` meets its contract: each way out is a case of its definition, and a number without an exponent ends past its digits. Assumes nothing.
 use borrow.Author.Needs.{needs}
-use mathlib.Core.Path.{sym, _∙_}
+use Prim.Native.Nat.{ℕ}
+use mathlib.Core.Path.{ap, sym, _∙_}
 use borrow.Author.Tests.{lt-ltb, le-ltb}
+use Rattle.scan.specs.Bytes.{among, exponentMarks}
 use Rattle.groups.specs.Passing.{passNumberOf}
+use Rattle.groups.proofs.Ends.{plain-number}
 use Rattle.groups.proofs.passing.pass_number.Statement.{statement}
 use Rattle.groups.proofs.passing.pass_number.Tie as tie
 
@@ -13,29 +16,44 @@ returns : tie.Need-returns
 unfolding passNumberOf
 returns c = simp (sym (c .before .past-separators .ensures), le-ltb _ _ (c .if1 .taken))
 
-scan-number-requires : tie.Need-scan-number-requires
-scan-number-requires c κs = search needs
+past-sign-requires : tie.Need-past-sign-requires
+past-sign-requires c κs = search needs
 
-enum-known-places : tie.Need-enum-known-places
-enum-known-places c = search needs
+past-digits-requires : tie.Need-past-digits-requires
+past-digits-requires c κs = search needs
 
-enum-known-place : tie.Need-enum-known-place
-enum-known-place c = search needs
+past-point-requires : tie.Need-past-point-requires
+past-point-requires c κs = search needs
 
-enum-known-place-2 : tie.Need-enum-known-place-2
-enum-known-place-2 c = search needs
+past-digits-requires-2 : tie.Need-past-digits-requires-2
+past-digits-requires-2 c κs = search needs
+
+pass-scanned-requires : tie.Need-pass-scanned-requires
+pass-scanned-requires c κs = search needs
 
 returns-2 : tie.Need-returns-2
 unfolding passNumberOf
-returns-2 c = simp (sym (c .before .before .before .before .before .past-separators .ensures), lt-ltb _ _ (c .before .before .before .before .if1 .left), sym (c .before .before .before .scan-number .ensures) ∙ c .before .places .given .1)
+returns-2 c = simp (sym (c .before .before .before .before .before .before .before .past-separators .ensures), lt-ltb _ _ (c .before .before .before .before .before .before .if1 .left)) (c .pass-scanned .ensures)
+
+byte-at-requires : tie.Need-byte-at-requires
+byte-at-requires c κs = search needs
+
+is-exponent-mark-requires : tie.Need-is-exponent-mark-requires
+is-exponent-mark-requires c κs = search needs
+
+pass-scanned-requires-2 : tie.Need-pass-scanned-requires-2
+pass-scanned-requires-2 c κs = search needs
 
 returns-3 : tie.Need-returns-3
 unfolding passNumberOf
-returns-3 c = simp (sym (c .before .before .before .before .before .past-separators .ensures), lt-ltb _ _ (c .before .before .before .before .if1 .left), sym (c .before .before .before .scan-number .ensures) ∙ c .before .place .given .1)
+returns-3 c = simp (sym (c .before .before .before .before .before .before .before .before .before .before .past-separators .ensures), lt-ltb _ _ (c .before .before .before .before .before .before .before .before .before .if1 .left)) (c .pass-scanned2 .ensures)
 
 returns-4 : tie.Need-returns-4
 unfolding passNumberOf
-returns-4 c = simp (sym (c .before .before .before .before .before .past-separators .ensures), lt-ltb _ _ (c .before .before .before .before .if1 .left), sym (c .before .before .before .scan-number .ensures) ∙ c .before .place2 .given .1)
+returns-4 c =
+    let none = ap (λ (x : ℕ). among x exponentMarks) (sym (c .before .before .byte-at .ensures)) ∙ sym (c .before .is-exponent-mark .ensures) ∙ c .if3 .left in
+    simp (sym (c .before .before .before .before .before .before .before .before .before .past-separators .ensures), lt-ltb _ _ (c .before .before .before .before .before .before .before .before .if1 .left))
+    (plain-number (c .before .before .before .before .before .before .before .before .before .before .before .args .text .now) _ _ _ _ _ (c .before .before .before .before .before .before .before .past-sign .ensures) (c .before .before .before .before .before .before .past-digits .ensures) (c .before .before .before .before .before .past-point .ensures) (c .before .before .before .before .past-digits2 .ensures) (c .before .before .before .if2 .left) none)
 
 pub pass-number-spec : {M : Type 1} → statement M
 pass-number-spec =
@@ -43,10 +61,14 @@ pass-number-spec =
     (tie.spec
     past-separators-requires
     returns
-    scan-number-requires
-    enum-known-places
-    enum-known-place
-    enum-known-place-2
+    past-sign-requires
+    past-digits-requires
+    past-point-requires
+    past-digits-requires-2
+    pass-scanned-requires
     returns-2
+    byte-at-requires
+    is-exponent-mark-requires
+    pass-scanned-requires-2
     returns-3
     returns-4)
