@@ -3,7 +3,7 @@
 
 mod clock;
 
-use animato_path::bezier::QuadBezier;
+use animato_path::bezier::{CatmullRomSpline, PathEvaluate, QuadBezier};
 use animato_path::math::open;
 use animato_path::poly::{CompoundPath, LineSegment, PathSegment};
 use animato_path::svg::SvgPathParser;
@@ -22,6 +22,7 @@ fn main() {
         ("decimals", decimals),
         ("lookup", lookup),
         ("spot", spot),
+        ("splines", splines),
     ];
     let wanted: Vec<String> = std::env::args().skip(1).collect();
     if let Some(word) = wanted.iter().find(|word| rows.iter().all(|(name, _)| name != word)) {
@@ -301,6 +302,53 @@ fn spot() {
     let inputs: Vec<f32> = patterns().map(|bits| (bits >> 8) as f32 / 16_777_216.0).collect();
     let ours = |t: f32| kihavute::spot(&lengths, t).ok().flatten().map_or(0, |(_, local)| local);
     row("segment of a path of 40", throughput(&inputs, ours, |t| original_segment_at(&path, t).to_bits()));
+}
+
+#[inline(never)]
+fn original_spline(points: &[[f32; 2]]) -> f32 {
+    CatmullRomSpline::new(points).arc_length()
+}
+
+#[inline(never)]
+fn original_position(spline: &CatmullRomSpline, t: f32) -> [f32; 2] {
+    spline.position(t)
+}
+
+#[inline(never)]
+fn original_tangent(spline: &CatmullRomSpline, t: f32) -> [f32; 2] {
+    spline.tangent(t)
+}
+
+// splines of 2, 3 and 9 points: a span more, and eight; ours makes two passes, since a refusal writes nothing, and judges
+// every entry at each query
+fn splines() {
+    let metres = |bits: u32| (bits % 1_000_000) as f32 / 1000.0;
+    let numbers: Vec<f32> = patterns().map(metres).collect();
+    for points in [2, 3, 9] {
+        let starts: Vec<usize> = (0..64).map(|k| k * 2 * points).collect();
+        let inputs: Vec<usize> = (0..512).map(|k| starts[k % 64]).collect();
+        let own = |at: usize| &numbers[at..at + 2 * points];
+        let pairs: Vec<Vec<[f32; 2]>> =
+            starts.iter().map(|at| own(*at).chunks_exact(2).map(|pair| [pair[0], pair[1]]).collect()).collect();
+        let count = (points - 1) * 16 + 1;
+        let made = |at: usize| {
+            let mut table = [0.0f32; 129];
+            kihavute::spline_table(own(at), &mut table[..count]).map_or(0, |stored| table[stored - 1].to_bits())
+        };
+        let theirs = |at: usize| original_spline(&pairs[at / (2 * points)]).to_bits();
+        row(&format!("table of {} spans", points - 1), throughput(&inputs, made, theirs));
+
+        let splines: Vec<CatmullRomSpline> = pairs.iter().map(|own| CatmullRomSpline::new(own.as_slice())).collect();
+        let asked: Vec<(usize, f32)> =
+            patterns().map(|bits| (bits as usize % 64, (bits >> 8) as f32 / 16_777_216.0)).collect();
+        let table = |k: usize| splines[k].open_table().0;
+        let ours = |(k, t): (usize, f32)| kihavute::spline_position(own(starts[k]), table(k), t).map_or(0, |p| p[0]);
+        let theirs = |(k, t): (usize, f32)| original_position(&splines[k], t)[0].to_bits();
+        row(&format!("place on {} spans", points - 1), throughput(&asked, ours, theirs));
+        let ours = |(k, t): (usize, f32)| kihavute::spline_tangent(own(starts[k]), table(k), t).map_or(0, |p| p[0]);
+        let theirs = |(k, t): (usize, f32)| original_tangent(&splines[k], t)[0].to_bits();
+        row(&format!("direction on {} spans", points - 1), throughput(&asked, ours, theirs));
+    }
 }
 
 // fixed pseudo-random patterns

@@ -53,9 +53,9 @@ pub fn fill(points: &[f32], last: usize, table: &mut [f32])
     let mut k = 0usize;
     while k < last {
         table[k] = total;
-        let current = sample(points, mark(k + 1, last));
-        total = total + distance(previous, current);
-        previous = current;
+        let next = sample(points, mark(k + 1, last));
+        total = total + distance(previous, next);
+        previous = next;
         k += 1;
     }
     table[k] = total;
