@@ -1,0 +1,187 @@
+-- The two passes over a command list: what each knows between two commands, and what a command does to that. Assumes nothing.
+use Prim.Native.Nat.{ℕ, _+_, _≤_, _<_}
+use mathlib.Core.Path.{_≡_, refl, sym, ap, subst, _∙_}
+use mathlib.Core.List.{List, [], _∷_, _++_, append-assoc, append-nil}
+use native.Mathlib.Omega.{arith}
+use lib.Ieee.{Float}
+use lib.ListN.{length, getD, drop}
+use Rattle.answers.specs.Answers.{accepted}
+use Rattle.answers.specs.declared.refusals.Refusal.{Refusal}
+use Rattle.commands.specs.Stored.{argumentsOf}
+use Rattle.commands.specs.Listed.{commandOf, wellFormed, listed}
+use Rattle.commands.specs.Checked.{checkCommandsOf}
+use Rattle.commands.specs.declared.command.PathCommand.{PathCommand}
+use Rattle.commands.specs.declared.inner.Decoded.the-variants.{Command, Bad}
+use Rattle.segment.specs.declared.segments.PathSegment.{PathSegment}
+use Rattle.stored.specs.Layout.{kindsOf, fieldsOfAll, tablesOfAll}
+use Rattle.drawing.specs.Drawing.{drawOf}
+use Rattle.drawing.specs.Building.{Built, path, refusal, buildOf}
+use Rattle.laying.specs.Sites.{startOf, advanceOf, drawnBy, Few, Holds, Room, Laid}
+use Rattle.laying.specs.declared.sites.Site.{Site}
+use Rattle.laying.specs.declared.sites.Advanced.the-variants.{To, Refused}
+use Rattle.laying.proofs.Along.{At, at-none, at-few, at-all, at-next, at-refused}
+use Rattle.laying.proofs.Filling.{Filling, filling-none, filling-more, roomed, same-kinds, same-fields, same-tables, same-lengths}
+use Rattle.path.specs.Answers.{measureOf, Holding, Filled}
+use Rattle.path.specs.Paths.{builtBy}
+use Rattle.path.specs.declared.sizes.Size.the-variants as Size
+use Rattle.path.proofs.Lists.{Formed, formed, Passed, passed-none, passed-end, passed-bad, passed-fits, passed-next}
+
+-- ---- the counts of what is built
+
+pub counts-are :
+    (commands : List PathCommand) (done : List PathSegment) (site : Site) (built : Built) → At commands done site → built ≡ path done
+    → Size.Counted (site .segments) (site .fields) (site .tables) ≡ measureOf built
+unfolding measureOf
+counts-are commands done site built k e = rw e (rw (k .kinds, k .fields, k .tables))
+
+pub refused-is : (reason : Refusal) (built : Built) → built ≡ refusal reason → Size.Refused reason ≡ measureOf built
+unfolding measureOf
+refused-is reason built e = rw e
+
+-- ---- the first pass
+
+pub record Measuring (letters : List ℕ) (numbers : List Float) (site : Site) (place at : ℕ) : Type 0 where
+  pub commands : List PathCommand
+  pub rest : List PathCommand
+  pub passed : Passed letters numbers place at commands rest
+  pub done : List PathSegment
+  pub known : At commands done site
+
+pub measuring-none : (letters : List ℕ) (numbers : List Float) → checkCommandsOf letters numbers ≡ accepted [] → Measuring letters numbers startOf 0 0
+measuring-none letters numbers e =
+    let f = formed letters numbers e in
+    record { commands = []; rest = f .commands; passed = passed-none letters numbers (f .commands) (f .is); done = []; known = at-none }
+
+module _ (letters : List ℕ) (numbers : List Float) (site : Site) (place at : ℕ) (k : Measuring letters numbers site place at) where
+  pub measuring-inside : at ≤ length numbers
+  measuring-inside = k .passed .inside
+
+  pub measured-all : length letters ≤ place → Size.Counted (site .segments) (site .fields) (site .tables) ≡ measureOf (builtBy (listed 0 letters numbers))
+  measured-all past =
+      let r = passed-end letters numbers place at (k .commands) (k .rest) (k .passed) past in
+      counts-are (k .commands) (k .done) site (builtBy (listed 0 letters numbers)) (k .known)
+      (ap builtBy (k .passed .whole ∙ ap (λ x. wellFormed (k .commands ++ x)) r ∙ ap wellFormed (append-nil (k .commands))) ∙ at-all (k .commands) (k .done) site (k .known))
+
+  module _ (here : place < length letters) where
+    pub measuring-few : checkCommandsOf letters numbers ≡ accepted [] → Few site
+    measuring-few e = at-few (k .commands) (k .done) site (k .known) (omega (arith, formed letters numbers e .few, k .passed .count))
+
+    pub measuring-bad : commandOf (getD letters place 0) (drop at numbers) ≡ Bad → ⊥
+    measuring-bad = passed-bad letters numbers place at (k .commands) (k .rest) (k .passed) here
+
+    module _ (command : PathCommand) (e : commandOf (getD letters place 0) (drop at numbers) ≡ Command command) where
+      pub measuring-fits : at + length (argumentsOf command) ≤ length numbers
+      measuring-fits = passed-fits letters numbers place at (k .commands) (k .rest) (k .passed) here command e
+
+      pub measured-refused : (reason : Refusal) → advanceOf site command ≡ Refused reason → Size.Refused reason ≡ measureOf (builtBy (listed 0 letters numbers))
+      measured-refused reason a =
+          let n = passed-next letters numbers place at (k .commands) (k .rest) (k .passed) here command e (length (argumentsOf command)) refl in
+          refused-is reason (builtBy (listed 0 letters numbers)) (ap builtBy (n .1 .whole) ∙ at-refused (k .commands) (k .done) site (k .known) command reason a (n .0))
+
+      pub measuring-more : (width : ℕ) (next : Site) → width ≡ length (argumentsOf command) → advanceOf site command ≡ To next → Measuring letters numbers next (place + 1) (at + width)
+      measuring-more width next w a =
+          let n = passed-next letters numbers place at (k .commands) (k .rest) (k .passed) here command e width w in
+          record {
+            commands = k .commands ++ (command ∷ []);
+            rest = n .0;
+            passed = n .1;
+            done = k .done ++ drawnBy (drawOf (site .pen) command);
+            known = at-next (k .commands) (k .done) site (k .known) command next a;
+          }
+
+-- ---- the second pass
+
+pub record Holdable (built : Built) (kinds fields tables lengths : ℕ) : Type 0 where
+  pub list : List PathSegment
+  pub is : built ≡ path list
+  pub holds : Holds list kinds fields tables lengths
+
+pub holdable : (built : Built) (kinds fields tables lengths : ℕ) → Holding built kinds fields tables lengths → Holdable built kinds fields tables lengths
+holdable (path list) kinds fields tables lengths h = record { list = list; is = refl; holds = h }
+holdable (refusal reason) kinds fields tables lengths h = absurd h
+
+-- what is stored is what is built
+pub filled-is :
+    (built : Built) (list : List PathSegment) (commands : List PathCommand) (site : Site) (kinds₀ kinds : List ℕ) (fields₀ fields tables₀ tables lengths₀ lengths : List Float)
+    → (k : Filling commands site kinds₀ kinds fields₀ fields tables₀ tables lengths₀ lengths)
+    → built ≡ buildOf commands → Filled built kinds₀ fields₀ tables₀ lengths₀ kinds fields tables lengths
+filled-is built list commands site kinds₀ kinds fields₀ fields tables₀ tables lengths₀ lengths k e =
+    subst (λ (b : Built). Filled b kinds₀ fields₀ tables₀ lengths₀ kinds fields tables lengths) (sym (e ∙ at-all commands (k .done) site (k .known)))
+    (record { kindsAfter = k .kindsNow; fieldsAfter = k .fieldsNow; tablesAfter = k .tablesNow; lengthsAfter = k .lengthsNow })
+
+pub record Storing (letters : List ℕ) (numbers : List Float) (site : Site) (place at : ℕ) (kinds₀ kinds : List ℕ) (fields₀ fields tables₀ tables lengths₀ lengths : List Float) : Type 0 where
+  pub commands : List PathCommand
+  pub rest : List PathCommand
+  pub passed : Passed letters numbers place at commands rest
+  pub filling : Filling commands site kinds₀ kinds fields₀ fields tables₀ tables lengths₀ lengths
+
+pub storing-none :
+    (letters : List ℕ) (numbers : List Float) (kinds : List ℕ) (fields tables lengths : List Float)
+    → checkCommandsOf letters numbers ≡ accepted [] → Storing letters numbers startOf 0 0 kinds kinds fields fields tables tables lengths lengths
+storing-none letters numbers kinds fields tables lengths e =
+    let f = formed letters numbers e in
+    record { commands = []; rest = f .commands; passed = passed-none letters numbers (f .commands) (f .is); filling = filling-none kinds fields tables lengths }
+
+module _
+    (letters : List ℕ) (numbers : List Float) (site : Site) (place at : ℕ) (kinds₀ kinds : List ℕ) (fields₀ fields tables₀ tables lengths₀ lengths : List Float)
+    (k : Storing letters numbers site place at kinds₀ kinds fields₀ fields tables₀ tables lengths₀ lengths)
+    (checked : checkCommandsOf letters numbers ≡ accepted [])
+    (holding : Holding (builtBy (listed 0 letters numbers)) (length kinds₀) (length fields₀) (length tables₀) (length lengths₀))
+  where
+    h : Holdable (builtBy (listed 0 letters numbers)) (length kinds₀) (length fields₀) (length tables₀) (length lengths₀)
+    h = holdable (builtBy (listed 0 letters numbers)) (length kinds₀) (length fields₀) (length tables₀) (length lengths₀) holding
+
+    whole : buildOf (k .commands ++ k .rest) ≡ path (h .list)
+    whole = sym (ap builtBy (k .passed .whole)) ∙ h .is
+
+    pub storing-inside : at ≤ length numbers
+    storing-inside = k .passed .inside
+
+    pub stored-kinds : length kinds ≡ length kinds₀
+    stored-kinds = same-kinds (k .commands) site kinds₀ kinds fields₀ fields tables₀ tables lengths₀ lengths (k .filling) (h .list) (h .holds) (k .rest) whole
+
+    pub stored-fields : length fields ≡ length fields₀
+    stored-fields = same-fields (k .commands) site kinds₀ kinds fields₀ fields tables₀ tables lengths₀ lengths (k .filling) (h .list) (h .holds) (k .rest) whole
+
+    pub stored-tables : length tables ≡ length tables₀
+    stored-tables = same-tables (k .commands) site kinds₀ kinds fields₀ fields tables₀ tables lengths₀ lengths (k .filling) (h .list) (h .holds) (k .rest) whole
+
+    pub stored-lengths : length lengths ≡ length lengths₀
+    stored-lengths = same-lengths (k .commands) site kinds₀ kinds fields₀ fields tables₀ tables lengths₀ lengths (k .filling) (h .list) (h .holds) (k .rest) whole
+
+    pub stored-all : length letters ≤ place → Filled (builtBy (listed 0 letters numbers)) kinds₀ fields₀ tables₀ lengths₀ kinds fields tables lengths
+    stored-all past =
+        let r = passed-end letters numbers place at (k .commands) (k .rest) (k .passed) past in
+        filled-is (builtBy (listed 0 letters numbers)) (h .list) (k .commands) site kinds₀ kinds fields₀ fields tables₀ tables lengths₀ lengths (k .filling)
+        (ap builtBy (k .passed .whole ∙ ap (λ x. wellFormed (k .commands ++ x)) r ∙ ap wellFormed (append-nil (k .commands))))
+
+    module _ (here : place < length letters) where
+      pub storing-bad : commandOf (getD letters place 0) (drop at numbers) ≡ Bad → ⊥
+      storing-bad = passed-bad letters numbers place at (k .commands) (k .rest) (k .passed) here
+
+      module _ (command : PathCommand) (e : commandOf (getD letters place 0) (drop at numbers) ≡ Command command) where
+        pub storing-fits : at + length (argumentsOf command) ≤ length numbers
+        storing-fits = passed-fits letters numbers place at (k .commands) (k .rest) (k .passed) here command e
+
+        -- what `lay` asks
+        pub storing-room : Few site × Room site (drawOf (site .pen) command) (length kinds) (length fields) (length tables) (length lengths)
+        storing-room =
+            let n = passed-next letters numbers place at (k .commands) (k .rest) (k .passed) here command e (length (argumentsOf command)) refl in (
+              at-few (k .commands) (k .filling .done) site (k .filling .known) (omega (arith, formed letters numbers checked .few, k .passed .count)),
+              roomed (k .commands) site kinds₀ kinds fields₀ fields tables₀ tables lengths₀ lengths (k .filling) (h .list) (h .holds) command (n .0) (sym (ap builtBy (n .1 .whole)) ∙ h .is),
+            )
+
+        pub storing-more :
+            (width : ℕ) (next : Site) (kinds′ : List ℕ) (fields′ tables′ lengths′ : List Float) → width ≡ length (argumentsOf command)
+            → Laid site (drawOf (site .pen) command) kinds fields tables lengths next kinds′ fields′ tables′ lengths′
+            → Storing letters numbers next (place + 1) (at + width) kinds₀ kinds′ fields₀ fields′ tables₀ tables′ lengths₀ lengths′
+        storing-more width next kinds′ fields′ tables′ lengths′ w laid =
+            let n = passed-next letters numbers place at (k .commands) (k .rest) (k .passed) here command e width w in
+            record {
+              commands = k .commands ++ (command ∷ []);
+              rest = n .0;
+              passed = n .1;
+              filling =
+                  filling-more (k .commands) site kinds₀ kinds fields₀ fields tables₀ tables lengths₀ lengths (k .filling) (h .list) (h .holds) command (n .0) (sym (ap builtBy (n .1 .whole)) ∙ h .is)
+                  next kinds′ fields′ tables′ lengths′ laid;
+            }

@@ -1,0 +1,7 @@
+-- Laws of the definitions of `specs/`.
+pub mod Lists
+pub mod Along
+pub mod Answering
+pub mod Entering
+pub mod Sound
+pub mod Unique

@@ -1,0 +1,81 @@
+// The two passes over a command list: the first judges and counts, the second stores.
+ghost use mathlib.Core.Path.{_≡_};
+ghost use mathlib.Core.List.{[]};
+ghost use lib.ListN.{length};
+ghost use Rattle.answers.specs.Answers.{accepted};
+ghost use Rattle.commands.specs.Listed.{listed};
+ghost use Rattle.commands.specs.Checked.{checkCommandsOf};
+ghost use Rattle.path.specs.Answers.{measureOf, Holding, Filled};
+ghost use Rattle.path.specs.Paths.{builtBy};
+use crate::sizes::Size;
+use answers::Refusal;
+use commands::inner::Decoded;
+use commands::inner::decode;
+use commands::width;
+use laying::Advanced;
+use laying::inner::advance;
+use laying::inner::lay;
+use laying::start;
+
+// What a well-formed list builds: the places needed, or its first refusal.
+pub fn measure(letters: &[u8], numbers: &[f32]) -> Size
+    requires { ⌜ checkCommandsOf (now letters) (now numbers) ≡ accepted [] ⌝ }
+    ensures { λ r. ⌜ r ≡ measureOf (builtBy (listed 0 (now (letters .entry)) (now (numbers .entry)))) ⌝ }
+{
+    let count = letters.len();
+    let mut site = start();
+    let mut place: usize = 0;
+    let mut at: usize = 0;
+    while place < count {
+        match decode(letters[place], numbers, at) {
+            Decoded::Bad => {
+                return Size::Refused(Refusal::BadList(place));
+            }
+            Decoded::Command(command) => match advance(site, command) {
+                Advanced::Refused(refusal) => {
+                    return Size::Refused(refusal);
+                }
+                Advanced::To(next) => {
+                    at += width(command);
+                    place += 1;
+                    site = next;
+                }
+            },
+        }
+    }
+    Size::Counted {
+        segments: site.segments,
+        fields: site.fields,
+        tables: site.tables,
+    }
+}
+
+// Stores the path of a well-formed list that builds, from the start of each buffer.
+pub fn fill(
+    letters: &[u8],
+    numbers: &[f32],
+    kinds: &mut [u8],
+    fields: &mut [f32],
+    tables: &mut [f32],
+    lengths: &mut [f32],
+)
+    requires { ⌜ (checkCommandsOf (now letters) (now numbers) ≡ accepted []) × Holding (builtBy (listed 0 (now letters) (now numbers))) (length (now kinds)) (length (now fields)) (length (now tables)) (length (now lengths)) ⌝ }
+    ensures { λ _. ⌜ Filled (builtBy (listed 0 (now (letters .entry)) (now (numbers .entry)))) (now (kinds .entry)) (now (fields .entry)) (now (tables .entry)) (now (lengths .entry)) (now (kinds .exit)) (now (fields .exit)) (now (tables .exit)) (now (lengths .exit)) ⌝ }
+{
+    let count = letters.len();
+    let mut site = start();
+    let mut place: usize = 0;
+    let mut at: usize = 0;
+    while place < count {
+        match decode(letters[place], numbers, at) {
+            Decoded::Bad => {
+                return;
+            }
+            Decoded::Command(command) => {
+                site = lay(site, command, kinds, fields, tables, lengths);
+                at += width(command);
+                place += 1;
+            }
+        }
+    }
+}
