@@ -358,7 +358,8 @@ fn made(seed: u64, count: u64) -> impl Iterator<Item = Text> {
         .map(Text)
 }
 
-fn made_texts(report: &mut Report, seed: u64, count: u64) {
+/// So many made texts and damaged copies.
+pub fn compare_made(report: &mut Report, seed: u64, count: u64) {
     // in parts, so that a long run shows how far it is
     let part = count.min(2_000_000);
     for turn in 0..count / part {
@@ -529,12 +530,10 @@ pub fn compare_drawings(report: &mut Report, seed: u64) {
 
 /// What the gate runs: shorter texts, shorter tails and fewer made ones.
 pub fn compare_some(report: &mut Report, seed: u64) {
-    let all = (0..=4).map(|bytes| 16u64.pow(bytes)).sum::<u64>();
-    let name = "all texts of up to 4 of 16 bytes";
-    assert_eq!(compare_texts(report, name, texts(b"", 4)), all, "the count of texts");
+    compare_texts(report, "all texts of up to 4 of 16 bytes", texts(b"", 4));
     let inputs = STARTS.iter().flat_map(|start| texts(start.as_bytes(), 2));
     compare_texts(report, "all tails of up to 2 after each command", inputs);
-    made_texts(report, seed, 200_000);
+    compare_made(report, seed, 200_000);
     other_bytes(report, seed, 200_000);
     long_texts(report);
     lists(report, seed, 100_000);
@@ -547,9 +546,4 @@ pub fn compare_all(report: &mut Report, seed: u64) {
     other_bytes(report, seed, 5_000_000);
     long_texts(report);
     lists(report, seed, 1_000_000);
-}
-
-/// So many made texts and damaged copies.
-pub fn compare_made(report: &mut Report, seed: u64, count: u64) {
-    made_texts(report, seed, count);
 }

@@ -22,11 +22,13 @@ impl fmt::Display for Text {
 }
 
 impl Input for Text {
-    // with a byte left out, or with a simpler byte
+    // with a few bytes left out, so that a whole pair can go, or with a simpler byte
     fn simpler(&self) -> Vec<Text> {
-        let without = (0..self.0.len()).map(|place| {
+        let size = self.0.len();
+        let runs = [size / 2, size / 4, 8, 6, 5, 4, 3, 2, 1].into_iter().filter(|run| (1..=size).contains(run));
+        let without = runs.flat_map(|run| (0..=size - run).map(move |place| (place, place + run))).map(|(from, to)| {
             let mut bytes = self.0.clone();
-            bytes.remove(place);
+            bytes.drain(from..to);
             Text(bytes)
         });
         let with_zero =
