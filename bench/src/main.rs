@@ -3,16 +3,17 @@
 
 mod clock;
 
-use animato_path::bezier::QuadBezier;
+use animato_path::bezier::{CubicBezierCurve, PathEvaluate, QuadBezier};
 use animato_path::math::open;
-use animato_path::poly::{CompoundPath, LineSegment, PathSegment};
+use animato_path::poly::{CompoundPath, EllipticalArc, LineSegment, PathSegment};
 use animato_path::svg::SvgPathParser;
-use clock::{large, latency, throughput};
+use clock::{large, latency, slow, throughput};
+use kihavute::Chord;
 
 const INPUTS: usize = 4096;
 
 fn main() {
-    let rows: [(&str, fn()); 8] = [
+    let rows: [(&str, fn()); 9] = [
         ("root", root),
         ("length", length),
         ("angles", angles),
@@ -21,6 +22,7 @@ fn main() {
         ("decimals", decimals),
         ("lookup", lookup),
         ("spot", spot),
+        ("curves", curves),
     ];
     let wanted: Vec<String> = std::env::args().skip(1).collect();
     if let Some(word) = wanted.iter().find(|word| rows.iter().all(|(name, _)| name != word)) {
@@ -75,6 +77,21 @@ fn original_segment_at(path: &CompoundPath, t: f32) -> f32 {
 #[inline(never)]
 fn first(v: [f32; 2]) -> f32 {
     v[0]
+}
+
+#[inline(never)]
+fn original_quad(p: &[[f32; 2]; 3]) -> QuadBezier {
+    QuadBezier::new(p[0], p[1], p[2])
+}
+
+#[inline(never)]
+fn original_cubic(p: &[[f32; 2]; 4]) -> CubicBezierCurve {
+    CubicBezierCurve::new(p[0], p[1], p[2], p[3])
+}
+
+#[inline(never)]
+fn original_arc(c: &Chord) -> EllipticalArc {
+    EllipticalArc::from_svg(c.start, c.radii, c.x_axis_rotation, c.large_arc, c.sweep, c.end)
 }
 
 // ---- the rows
@@ -242,6 +259,48 @@ fn spot() {
     let inputs: Vec<f32> = patterns().map(|bits| (bits >> 8) as f32 / 16_777_216.0).collect();
     let ours = |t: f32| kihavute::spot(&lengths, t).ok().flatten().map_or(0, |(_, local)| local);
     row("segment of a path of 40", throughput(&inputs, ours, |t| original_segment_at(&path, t).to_bits()));
+}
+
+// 512 curves of some hundred metres. Each call of ours makes the curve anew, so the Rust's does too. A table is 31
+// distances, each with a root: the row "31 roots" says what they cost. The arc's Rust calls our sine, cosine and atan2.
+fn curves() {
+    let metres = |bits: u32| (bits % 1_000_000) as f32 / 1000.0;
+    let bits: Vec<u32> = patterns().collect();
+    let points: Vec<[[f32; 2]; 4]> =
+        bits.chunks_exact(8).map(|own| std::array::from_fn(|j| [metres(own[2 * j]), metres(own[2 * j + 1])])).collect();
+    let three = |p: [[f32; 2]; 4]| [p[0], p[1], p[2]];
+    let first = |placed: Result<[u32; 2], kihavute::Refusal>| placed.map_or(0, |place| place[0]);
+    let ours = |p| kihavute::quad_length(&three(p)).unwrap_or(0);
+    row("a quad, built", slow(&points, ours, |p| original_quad(&three(p)).arc_length().to_bits()));
+    let ours = |p| kihavute::cubic_length(&p).unwrap_or(0);
+    row("a cubic, built", slow(&points, ours, |p| original_cubic(&p).arc_length().to_bits()));
+    let ours = |p| first(kihavute::quad_position(&three(p), 0.3));
+    row("a quad, built, position", slow(&points, ours, |p| original_quad(&three(p)).position(0.3)[0].to_bits()));
+    let ours = |p| first(kihavute::quad_tangent(&three(p), 0.3));
+    row("a quad, built, tangent", slow(&points, ours, |p| original_quad(&three(p)).tangent(0.3)[0].to_bits()));
+    let ours = |p| first(kihavute::cubic_position(&p, 0.3));
+    row("a cubic, built, position", slow(&points, ours, |p| original_cubic(&p).position(0.3)[0].to_bits()));
+    let ours = |p| first(kihavute::cubic_tangent(&p, 0.3));
+    row("a cubic, built, tangent", slow(&points, ours, |p| original_cubic(&p).tangent(0.3)[0].to_bits()));
+    let chords: Vec<Chord> = points
+        .iter()
+        .zip(&bits)
+        .map(|(p, bits)| Chord {
+            start: p[0],
+            radii: p[1],
+            x_axis_rotation: p[2][0] - 500.0,
+            large_arc: bits & 1 == 1,
+            sweep: bits & 2 == 2,
+            end: p[3],
+        })
+        .collect();
+    let ours = |c| kihavute::arc_length(&c).unwrap_or(0);
+    row("an arc, built", slow(&chords, ours, |c| original_arc(&c).arc_length().to_bits()));
+    let ours = |c| first(kihavute::arc_position(&c, 0.3));
+    row("an arc, built, position", slow(&chords, ours, |c| original_arc(&c).position(0.3)[0].to_bits()));
+    let inputs: Vec<f32> = points.iter().map(|p| p[0][0] + 1.0).collect();
+    let roots = |root: fn(f32) -> f32| move |x: f32| (0..31).fold(0.0, |sum, k| sum + root(x + k as f32)).to_bits();
+    row("31 roots", slow(&inputs, roots(kihavute::sqrt), roots(original_sqrt)));
 }
 
 // fixed pseudo-random patterns
