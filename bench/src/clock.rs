@@ -5,6 +5,7 @@ use std::time::Instant;
 
 const ROUNDS: usize = 25;
 const CALLS: usize = 1 << 18;
+const SLOW_CALLS: usize = 1 << 11;
 
 /// Times both sides in turn over the same inputs: each call starts when it can.
 pub fn throughput<I: Copy>(inputs: &[I], ours: impl Fn(I) -> u32, theirs: impl Fn(I) -> u32) -> [f64; 2] {
@@ -36,6 +37,16 @@ pub fn latency<I: Copy>(
         || inputs.iter().fold(0u32, |last, input| theirs(after(*input, last & none))),
     )
     .map(|time| time - alone)
+}
+
+/// The same of calls that take long, with fewer in each round.
+pub fn slow<I: Copy>(inputs: &[I], ours: impl Fn(I) -> u32, theirs: impl Fn(I) -> u32) -> [f64; 2] {
+    best(
+        SLOW_CALLS,
+        inputs.len(),
+        || inputs.iter().fold(0u32, |sum, input| sum.wrapping_add(ours(*input))),
+        || inputs.iter().fold(0u32, |sum, input| sum.wrapping_add(theirs(*input))),
+    )
 }
 
 /// Times both sides in turn on one large input, with a few calls in each round.

@@ -3,16 +3,17 @@
 
 mod clock;
 
-use animato_path::bezier::{CatmullRomSpline, PathEvaluate, QuadBezier};
+use animato_path::bezier::{CatmullRomSpline, CubicBezierCurve, PathEvaluate, QuadBezier};
 use animato_path::math::open;
-use animato_path::poly::{CompoundPath, LineSegment, PathSegment};
+use animato_path::poly::{CompoundPath, EllipticalArc, LineSegment, PathSegment};
 use animato_path::svg::SvgPathParser;
-use clock::{large, latency, throughput};
+use clock::{large, latency, slow, throughput};
+use kihavute::Chord;
 
 const INPUTS: usize = 4096;
 
 fn main() {
-    let rows: [(&str, fn()); 9] = [
+    let rows: &[(&str, fn())] = &[
         ("root", root),
         ("length", length),
         ("angles", angles),
@@ -21,12 +22,13 @@ fn main() {
         ("read", read),
         ("decimals", decimals),
         ("lookup", lookup),
+        ("curves", curves),
         ("spot", spot),
         ("splines", splines),
     ];
     let wanted: Vec<String> = std::env::args().skip(1).collect();
     if let Some(word) = wanted.iter().find(|word| rows.iter().all(|(name, _)| name != word)) {
-        eprintln!("no rows {word}: {}", rows.map(|(name, _)| name).join(" "));
+        eprintln!("no rows {word}: {}", rows.iter().map(|(name, _)| *name).collect::<Vec<_>>().join(" "));
         std::process::exit(2);
     }
     println!("{:28} {:>9} {:>9} {:>7}", "ns per call, best of 25", "ours", "the Rust", "ratio");
@@ -77,6 +79,21 @@ fn original_segment_at(path: &CompoundPath, t: f32) -> f32 {
 #[inline(never)]
 fn first(v: [f32; 2]) -> f32 {
     v[0]
+}
+
+#[inline(never)]
+fn original_quad(p: &[[f32; 2]; 3]) -> QuadBezier {
+    QuadBezier::new(p[0], p[1], p[2])
+}
+
+#[inline(never)]
+fn original_cubic(p: &[[f32; 2]; 4]) -> CubicBezierCurve {
+    CubicBezierCurve::new(p[0], p[1], p[2], p[3])
+}
+
+#[inline(never)]
+fn original_arc(c: &Chord) -> EllipticalArc {
+    EllipticalArc::from_svg(c.start, c.radii, c.x_axis_rotation, c.large_arc, c.sweep, c.end)
 }
 
 // ---- the rows
@@ -349,6 +366,48 @@ fn splines() {
         let theirs = |(k, t): (usize, f32)| original_tangent(&splines[k], t)[0].to_bits();
         row(&format!("direction on {} spans", points - 1), throughput(&asked, ours, theirs));
     }
+}
+
+// 512 curves of some hundred metres. Each call of ours makes the curve anew, so the Rust's does too. A table is 31
+// distances, each with a root: the row "31 roots" says what they cost. The arc's Rust calls our sine, cosine and atan2.
+fn curves() {
+    let metres = |bits: u32| (bits % 1_000_000) as f32 / 1000.0;
+    let bits: Vec<u32> = patterns().collect();
+    let points: Vec<[[f32; 2]; 4]> =
+        bits.chunks_exact(8).map(|own| std::array::from_fn(|j| [metres(own[2 * j]), metres(own[2 * j + 1])])).collect();
+    let three = |p: [[f32; 2]; 4]| [p[0], p[1], p[2]];
+    let first = |placed: Result<[u32; 2], kihavute::Refusal>| placed.map_or(0, |place| place[0]);
+    let ours = |p| kihavute::quad_length(&three(p)).unwrap_or(0);
+    row("a quad, built", slow(&points, ours, |p| original_quad(&three(p)).arc_length().to_bits()));
+    let ours = |p| kihavute::cubic_length(&p).unwrap_or(0);
+    row("a cubic, built", slow(&points, ours, |p| original_cubic(&p).arc_length().to_bits()));
+    let ours = |p| first(kihavute::quad_position(&three(p), 0.3));
+    row("a quad, built, position", slow(&points, ours, |p| original_quad(&three(p)).position(0.3)[0].to_bits()));
+    let ours = |p| first(kihavute::quad_tangent(&three(p), 0.3));
+    row("a quad, built, tangent", slow(&points, ours, |p| original_quad(&three(p)).tangent(0.3)[0].to_bits()));
+    let ours = |p| first(kihavute::cubic_position(&p, 0.3));
+    row("a cubic, built, position", slow(&points, ours, |p| original_cubic(&p).position(0.3)[0].to_bits()));
+    let ours = |p| first(kihavute::cubic_tangent(&p, 0.3));
+    row("a cubic, built, tangent", slow(&points, ours, |p| original_cubic(&p).tangent(0.3)[0].to_bits()));
+    let chords: Vec<Chord> = points
+        .iter()
+        .zip(&bits)
+        .map(|(p, bits)| Chord {
+            start: p[0],
+            radii: p[1],
+            x_axis_rotation: p[2][0] - 500.0,
+            large_arc: bits & 1 == 1,
+            sweep: bits & 2 == 2,
+            end: p[3],
+        })
+        .collect();
+    let ours = |c| kihavute::arc_length(&c).unwrap_or(0);
+    row("an arc, built", slow(&chords, ours, |c| original_arc(&c).arc_length().to_bits()));
+    let ours = |c| first(kihavute::arc_position(&c, 0.3));
+    row("an arc, built, position", slow(&chords, ours, |c| original_arc(&c).position(0.3)[0].to_bits()));
+    let inputs: Vec<f32> = points.iter().map(|p| p[0][0] + 1.0).collect();
+    let roots = |root: fn(f32) -> f32| move |x: f32| (0..31).fold(0.0, |sum, k| sum + root(x + k as f32)).to_bits();
+    row("31 roots", slow(&inputs, roots(kihavute::sqrt), roots(original_sqrt)));
 }
 
 // fixed pseudo-random patterns

@@ -17,8 +17,8 @@ use std::fmt;
 /// The patterns of the ends' coordinates and of a progress.
 #[derive(Clone)]
 pub struct Line {
-    ends: [[u32; 2]; 2],
-    progress: u32,
+    pub ends: [[u32; 2]; 2],
+    pub progress: u32,
 }
 
 /// All that a line answers at a progress, as bits; or the number of a refusal, and what it carries.
@@ -29,7 +29,7 @@ pub enum Drawn {
 }
 
 impl Line {
-    fn ours(&self) -> Drawn {
+    pub fn ours(&self) -> Drawn {
         self.ours_or_refusal().unwrap_or_else(|refusal| Drawn::Refused(refusal.number, refusal.carried[0]))
     }
 
@@ -44,7 +44,7 @@ impl Line {
     }
 
     /// The Rust's answer where the length is finite; elsewhere the Rust goes on, and document 01 refuses segment 0.
-    fn theirs(&self) -> Drawn {
+    pub fn theirs(&self) -> Drawn {
         let [start, end] = self.ends.map(|point| point.map(f32::from_bits));
         let line = LineSegment::new(start, end);
         if !line.arc_length().is_finite() {
@@ -65,10 +65,10 @@ impl Line {
 /// The patterns of an arc's start, radii, rotation and end, its flags, and the pattern of a progress.
 #[derive(Clone)]
 pub struct Arc {
-    numbers: [u32; 7],
-    large: bool,
-    sweep: bool,
-    progress: u32,
+    pub numbers: [u32; 7],
+    pub large: bool,
+    pub sweep: bool,
+    pub progress: u32,
 }
 
 /// All that an arc answers at a progress, as bits: its numbers and whether it fell back to a line, its table unless it
@@ -102,7 +102,8 @@ impl Arc {
         }
     }
 
-    fn made(&self) -> EllipticalArc {
+    /// The Rust's arc.
+    pub fn made(&self) -> EllipticalArc {
         let chord = self.chord();
         EllipticalArc::from_svg(
             chord.start,
@@ -114,7 +115,7 @@ impl Arc {
         )
     }
 
-    fn ours(&self) -> Answer {
+    pub fn ours(&self) -> Answer {
         self.ours_or_refusal().unwrap_or_else(|refusal| Refused(refusal.number, refusal.carried[0]))
     }
 
@@ -135,7 +136,7 @@ impl Arc {
 
     /// The Rust's answer where the rotation is in range and the length finite; elsewhere the Rust goes on, and document 01
     /// refuses segment 0, the rotation first, unless the arc falls back to a line.
-    fn theirs(&self) -> Answer {
+    pub fn theirs(&self) -> Answer {
         let arc = self.made();
         let fell_back = arc.open_is_fallback();
         let [rotation, from, by] = arc.open_angles();
@@ -162,7 +163,7 @@ impl Arc {
 
 /// A way to draw arcs.
 #[derive(Clone, Copy)]
-enum Kind {
+pub enum Kind {
     Planned,
     Circles,
     Scaled,
@@ -177,7 +178,7 @@ enum Kind {
     AnyBits,
 }
 
-const KINDS: [(Kind, &str); 12] = [
+pub const KINDS: [(Kind, &str); 12] = [
     (Kind::Planned, "as planned"),
     (Kind::Circles, "circles of whole numbers"),
     (Kind::Scaled, "radii too small"),
@@ -213,8 +214,8 @@ fn special_or(x: f32, stream: &mut Stream) -> f32 {
     if stream.below(3) == 0 { f32::from_bits(SPECIALS[stream.below(SPECIALS.len() as u32) as usize]) } else { x }
 }
 
-// start, radii, rotation and end
-fn numbers(kind: Kind, stream: &mut Stream) -> [f32; 7] {
+/// Start, radii, rotation and end.
+pub fn numbers(kind: Kind, stream: &mut Stream) -> [f32; 7] {
     let base = 20 + stream.below(170);
     let radius = |stream: &mut Stream| (1 + stream.below(1 << 24)) as f32 / 1000.0;
     let planned = [
@@ -260,10 +261,10 @@ fn numbers(kind: Kind, stream: &mut Stream) -> [f32; 7] {
 
 // ---- vectors: what docs/DIFFERENCES.md and document 01 say of single arcs
 
-// the ends, the radius, the rotation's pattern, the flags, and the pattern of the length or the refusal's number
-type Vector = ([f32; 4], f32, u32, [bool; 2], Result<u32, u32>);
+/// The ends, the radius, the rotation's pattern, the flags, and the pattern of the length or the refusal's number.
+pub type Vector = ([f32; 4], f32, u32, [bool; 2], Result<u32, u32>);
 
-const VECTORS: [Vector; 7] = [
+pub const VECTORS: [Vector; 7] = [
     ([0.0, 0.0, 3.0, 4.0], 5e9, 0, [false, true], Err(11)),
     ([0.0, 0.0, 3.0, 4.0], 1e9, 0, [false, true], Ok(0)),
     ([0.0, 0.0, 3.0, 4.0], 1e20, 0, [false, false], Ok(0x61CC_2BAB)),
@@ -273,16 +274,21 @@ const VECTORS: [Vector; 7] = [
     ([0.0, 0.0, 3.0, 4.0], 0.0, 0x4561_0001, [false, true], Ok(0x40A0_0000)),
 ];
 
+/// The arc of a vector, at its start.
+pub fn vector((ends, radius, rotation, [large, sweep], _): &Vector) -> Arc {
+    let [sx, sy, ex, ey] = ends.map(f32::to_bits);
+    let numbers = [sx, sy, radius.to_bits(), radius.to_bits(), *rotation, ex, ey];
+    Arc { numbers, large: *large, sweep: *sweep, progress: 0 }
+}
+
 fn compare_vectors(report: &mut Report) {
-    for (ends, radius, rotation, [large, sweep], due) in VECTORS {
-        let [sx, sy, ex, ey] = ends.map(f32::to_bits);
-        let numbers = [sx, sy, radius.to_bits(), radius.to_bits(), rotation, ex, ey];
-        let arc = Arc { numbers, large, sweep, progress: 0 };
+    for given in &VECTORS {
+        let arc = vector(given);
         let found = match arc.ours() {
             Known { length, .. } => Ok(length),
             Refused(number, _) => Err(number),
         };
-        let equal = found == due && arc.ours() == arc.theirs();
+        let equal = found == given.4 && arc.ours() == arc.theirs();
         if !equal {
             println!("  DIFFERENT in vectors: {arc}\n    ours {}, the Rust {}", arc.ours(), arc.theirs());
         }

@@ -1,5 +1,6 @@
 //! The lists of recorded answers that the programs replay_NAME run through the proved crates.
 
+mod bezier;
 mod decimal;
 mod helpers;
 mod strict;
@@ -23,6 +24,7 @@ pub const RECORDINGS: &[Recording] = &[
     Recording { name: "strict", list: strict::list },
     Recording { name: "decimal", list: decimal::list },
     Recording { name: "svg", list: svg::list },
+    Recording { name: "bezier", list: bezier::list },
 ];
 
 impl Recording {
