@@ -2,7 +2,7 @@
 use crate::walking::Place;
 use crate::walking::advance;
 use crate::walking::between;
-use crate::walking::target;
+use crate::walking::target_at;
 use answers::Refusal;
 use floats::EPSILON;
 use polyline::inner::Measured;
@@ -99,7 +99,7 @@ fn spread(points: &[f32], count: usize, total: f32, out: &mut [f32])
     };
     let mut i: usize = 1;
     while i < last {
-        let at = target(total, i, last);
+        let at = target_at(total, i, last);
         place = advance(points, place, at);
         put_point(out, i, between(points, place, at));
         i += 1;

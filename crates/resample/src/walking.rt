@@ -18,7 +18,7 @@ pub struct Place {
 }
 
 // How far along a line of this length the output point i lies, where `last` is the last one.
-pub fn target(total: f32, i: usize, last: usize) -> f32
+pub fn target_at(total: f32, i: usize, last: usize) -> f32
     requires { ⌜ Evenly i last ⌝ }
     ensures { λ r. ⌜ r ≡ targetAt total last i ⌝ }
 {

@@ -28,11 +28,11 @@ loop-holds : tie.Need-loop-holds Inv-loop μ-loop
 unfolding zeroF
 loop-holds c = spreading-start _ _ _ (c .before .before .before .before .before .before .before .args .out .now) _ _ (c .before .before .before .before .before .before .before .pre) (c .before .before .before .point-at .ensures) (c .before .before .put-point .ensures)
 
-target-requires : tie.Need-target-requires Inv-loop μ-loop
-target-requires c κs = spreading-evenly _ _ _ _ (c .before .loop .out) (c .before .loop .place) (c .before .loop .i) (c .before .loop .inv) (c .loop-test .taken)
+target-at-requires : tie.Need-target-at-requires Inv-loop μ-loop
+target-at-requires c κs = spreading-evenly _ _ _ _ (c .before .loop .out) (c .before .loop .place) (c .before .loop .i) (c .before .loop .inv) (c .loop-test .taken)
 
 advance-requires : tie.Need-advance-requires Inv-loop μ-loop
-advance-requires c κs = spreading-reached _ _ _ _ (c .before .before .loop .out) (c .before .before .loop .place) (c .before .before .loop .i) (c .before .before .loop .inv) _ (c .target .ensures)
+advance-requires c κs = spreading-reached _ _ _ _ (c .before .before .loop .out) (c .before .before .loop .place) (c .before .before .loop .i) (c .before .before .loop .inv) _ (c .target-at .ensures)
 
 between-requires : tie.Need-between-requires Inv-loop μ-loop
 between-requires c κs = pick-point _ _ _ (omega (arith, c .before .before .before .before .loop .inv .asked .two)) (c .before .advance .ensures)
@@ -47,7 +47,7 @@ loop-less : tie.Need-loop-less Inv-loop μ-loop
 loop-less c = search needs
 
 loop-again : tie.Need-loop-again Inv-loop μ-loop
-loop-again c = spreading-more _ _ _ _ (c .before .before .before .before .before .before .before .before .loop .out) (c .before .before .before .before .before .before .before .before .loop .place) (c .before .before .before .before .before .before .before .before .loop .i) (c .before .before .before .before .before .before .before .before .loop .inv) _ _ _ _ (c .before .before .before .before .before .before .before .loop-test .taken) (c .before .before .before .before .before .before .target .ensures) (c .before .before .before .before .before .advance .ensures) (c .before .before .before .between .ensures) (c .before .before .put-point2 .ensures)
+loop-again c = spreading-more _ _ _ _ (c .before .before .before .before .before .before .before .before .loop .out) (c .before .before .before .before .before .before .before .before .loop .place) (c .before .before .before .before .before .before .before .before .loop .i) (c .before .before .before .before .before .before .before .before .loop .inv) _ _ _ _ (c .before .before .before .before .before .before .before .loop-test .taken) (c .before .before .before .before .before .before .target-at .ensures) (c .before .before .before .before .before .advance .ensures) (c .before .before .before .between .ensures) (c .before .before .put-point2 .ensures)
 
 sub-point-at : tie.Need-sub-point-at Inv-loop μ-loop
 sub-point-at c = omega (arith, c .before .before .loop .inv .asked .two)
@@ -74,7 +74,7 @@ spread-spec =
     put-point-requires
     sub-last
     loop-holds
-    target-requires
+    target-at-requires
     advance-requires
     between-requires
     put-point-requires-2
