@@ -1,0 +1,83 @@
+-- `append::push_segment` meets its contract: what is judged is answered, and stored where it is accepted. Assumes nothing.
+use Rattle.append.proofs.Added.{added-passed, passed-room}
+use Rattle.append.specs.Appending.{numbersUsed, tablesUsed, isAdded, kindsAfter, numbersAfter, tablesAfter, lengthsAfter}
+use mathlib.Core.Path.{sym, ap, _∙_}
+use borrow.Author.Needs.{needs}
+use Rattle.append.proofs.pushing.push_segment.Statement.{statement}
+use Rattle.append.proofs.pushing.push_segment.Tie as tie
+
+judge-requires : tie.Need-judge-requires
+judge-requires c κs = search needs
+
+enum-told : tie.Need-enum-told
+enum-told c = search needs
+
+store-requires : tie.Need-store-requires
+store-requires c κs = let a = c .before .before .before .before .before .before .before .before .before .before .before .before .before .before .before .args in let k = a .kinds .now in let n = a .numbers .now in let t = a .tables .now in let l = a .lengths .now in passed-room k n t l (a .count) (a .segment) (added-passed k n t l (a .count) (a .segment) (ap isAdded (sym (c .before .before .before .before .before .before .judge .ensures)) ∙ ap isAdded (c .before .before .before .before .enum-told .given .1)))
+
+enum-told-2 : tie.Need-enum-told-2
+enum-told-2 c = search needs
+
+same-length : tie.Need-same-length
+same-length c = search needs
+
+same-length-2 : tie.Need-same-length-2
+same-length-2 c = search needs
+
+same-length-3 : tie.Need-same-length-3
+same-length-3 c = search needs
+
+same-length-4 : tie.Need-same-length-4
+same-length-4 c = search needs
+
+returns : tie.Need-returns
+returns c = let a = c .before .before .before .before .before .before .before .before .before .before .before .before .before .before .before .before .before .before .before .before .before .before .before .before .args in let k = a .kinds .now in let n = a .numbers .now in let t = a .tables .now in let l = a .lengths .now in
+    let s = c .before .before .before .before .before .before .before .before .store .ensures in
+    record {
+      answer = c .before .before .before .before .before .before .before .before .before .before .before .before .before .before .before .judge .ensures;
+      kindsAre = s .kindsAre ∙ ap (λ x. kindsAfter (isAdded x) (a .count) (a .segment) k) (sym (c .before .before .before .before .before .before .before .before .before .before .before .before .before .enum-told .given .1));
+      numbersAre = s .numbersAre ∙ ap (λ x. numbersAfter (isAdded x) (numbersUsed k (a .count)) (a .segment) n) (sym (c .before .before .before .before .before .before .before .before .before .before .before .before .before .enum-told .given .1));
+      tablesAre = s .tablesAre ∙ ap (λ x. tablesAfter (isAdded x) (tablesUsed k (a .count)) (a .segment) t) (sym (c .before .before .before .before .before .before .before .before .before .before .before .before .before .enum-told .given .1));
+      lengthsAre = s .lengthsAre ∙ ap (λ x. lengthsAfter (isAdded x) (a .count) (a .segment) l) (sym (c .before .before .before .before .before .before .before .before .before .before .before .before .before .enum-told .given .1));
+    }
+
+same-length-5 : tie.Need-same-length-5
+same-length-5 c = search needs
+
+same-length-6 : tie.Need-same-length-6
+same-length-6 c = search needs
+
+same-length-7 : tie.Need-same-length-7
+same-length-7 c = search needs
+
+same-length-8 : tie.Need-same-length-8
+same-length-8 c = search needs
+
+returns-2 : tie.Need-returns-2
+returns-2 c = let a = c .before .before .before .before .before .before .before .before .before .before .before .args in let k = a .kinds .now in let n = a .numbers .now in let t = a .tables .now in let l = a .lengths .now in
+    record {
+      answer = c .before .before .judge .ensures;
+      kindsAre = ap (λ x. kindsAfter (isAdded x) (a .count) (a .segment) k) (sym (c .enum-told2 .given .1));
+      numbersAre = ap (λ x. numbersAfter (isAdded x) (numbersUsed k (a .count)) (a .segment) n) (sym (c .enum-told2 .given .1));
+      tablesAre = ap (λ x. tablesAfter (isAdded x) (tablesUsed k (a .count)) (a .segment) t) (sym (c .enum-told2 .given .1));
+      lengthsAre = ap (λ x. lengthsAfter (isAdded x) (a .count) (a .segment) l) (sym (c .enum-told2 .given .1));
+    }
+
+pub push-segment-spec : {M : Type 1} → statement M
+push-segment-spec =
+    tie.close
+    (tie.spec
+    judge-requires
+    enum-told
+    store-requires
+    enum-told-2
+    same-length
+    same-length-2
+    same-length-3
+    same-length-4
+    returns
+    same-length-5
+    same-length-6
+    same-length-7
+    same-length-8
+    returns-2)

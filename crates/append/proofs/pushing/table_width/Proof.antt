@@ -1,0 +1,18 @@
+-- `append::table_width` meets its contract. Assumes nothing.
+use Rattle.segment.proofs.Widths.{one-table, none-table}
+use mathlib.Core.Path.{sym, _∙_}
+use borrow.Author.Needs.{needs}
+use Rattle.append.proofs.pushing.table_width.Statement.{statement}
+use Rattle.append.proofs.pushing.table_width.Tie as tie
+
+has-table-requires : tie.Need-has-table-requires
+has-table-requires c κs = search needs
+
+returns : tie.Need-returns
+returns c = rw (one-table _ (sym (c .before .has-table .ensures) ∙ c .if1 .taken))
+
+returns-2 : tie.Need-returns-2
+returns-2 c = rw (none-table _ (sym (c .before .has-table .ensures) ∙ c .if1 .left))
+
+pub table-width-spec : {M : Type 1} → statement M
+table-width-spec = tie.close (tie.spec has-table-requires returns returns-2)

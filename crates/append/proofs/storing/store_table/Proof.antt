@@ -1,0 +1,59 @@
+-- `append::store_table` meets its contract: with a table and without one. Assumes nothing.
+use Rattle.append.proofs.Own.{table-total, stored-is, stored-none}
+use Rattle.segment.proofs.Widths.{one-table}
+use Rattle.segment.specs.Segments.{hasTable, tableNumbers}
+use lib.Seq.{sets}
+use native.Mathlib.Omega.{arith}
+use mathlib.Core.Path.{sym, ap, _∙_}
+use borrow.Author.Needs.{needs}
+use Rattle.append.proofs.storing.store_table.Statement.{statement}
+use Rattle.append.proofs.storing.store_table.Tie as tie
+
+kind-requires : tie.Need-kind-requires
+kind-requires c κs = search needs
+
+has-table-requires : tie.Need-has-table-requires
+has-table-requires c κs = search needs
+
+segment-table-requires : tie.Need-segment-table-requires
+segment-table-requires c κs = search needs
+
+put-table-requires : tie.Need-put-table-requires
+put-table-requires c κs = omega (arith, one-table _ (ap hasTable (sym (c .before .before .before .before .kind .ensures)) ∙ sym (c .before .before .before .has-table .ensures) ∙ c .before .before .if1 .taken), c .before .before .before .before .before .before .pre)
+
+tidy-requires : tie.Need-tidy-requires
+tidy-requires c κs = search needs
+
+same-length : tie.Need-same-length
+same-length c = search needs
+
+returns : tie.Need-returns
+returns c =
+    let a = c .before .before .before .before .before .before .before .before .before .before .args in
+    let has = (ap hasTable (sym (c .before .before .before .before .before .before .before .before .kind .ensures)) ∙ sym (c .before .before .before .before .before .before .before .has-table .ensures) ∙ c .before .before .before .before .before .before .if1 .taken) in
+    record {
+      told = c .tidy .ensures ∙ ap (λ t. t .total) (c .before .before .before .before .before .segment-table .ensures) ∙ table-total (a .segment) has;
+      tablesAre = c .before .before .before .put-table .ensures ∙ ap (λ t. sets (a .tables .now) (a .at) (tableNumbers t)) (c .before .before .before .before .before .segment-table .ensures) ∙ ap (sets (a .tables .now) (a .at)) (stored-is (a .segment) has);
+    }
+
+segment-length-requires : tie.Need-segment-length-requires
+segment-length-requires c κs = search needs
+
+returns-2 : tie.Need-returns-2
+returns-2 c =
+    let a = c .before .before .before .before .before .args in
+    record { told = c .segment-length .ensures; tablesAre = ap (sets (a .tables .now) (a .at)) (stored-none (a .segment) (ap hasTable (sym (c .before .before .before .kind .ensures)) ∙ sym (c .before .before .has-table .ensures) ∙ c .before .if1 .left)) }
+
+pub store-table-spec : {M : Type 1} → statement M
+store-table-spec =
+    tie.close
+    (tie.spec
+    kind-requires
+    has-table-requires
+    segment-table-requires
+    put-table-requires
+    tidy-requires
+    same-length
+    returns
+    segment-length-requires
+    returns-2)

@@ -1,0 +1,2 @@
+-- Appending to a stored path. Definitions only.
+pub mod Appending
