@@ -1,6 +1,7 @@
 //! The lists of recorded answers that the programs replay_NAME run through the proved crates.
 
 mod helpers;
+mod spline;
 mod strict;
 mod table;
 
@@ -14,10 +15,11 @@ pub struct Recording {
     list: fn(&mut Report, u64) -> (Vec<u8>, u64),
 }
 
-pub const RECORDINGS: [Recording; 4] = [
+pub const RECORDINGS: [Recording; 5] = [
     Recording { name: "math", list: |report, seed| helpers::list(report, &math::FAMILY, seed) },
     Recording { name: "trig", list: |report, seed| helpers::list(report, &trig::FAMILY, seed) },
     Recording { name: "table", list: table::list },
+    Recording { name: "spline", list: spline::list },
     Recording { name: "strict", list: strict::list },
 ];
 
