@@ -3,6 +3,7 @@
 mod bezier;
 mod decimal;
 mod helpers;
+mod spline;
 mod strict;
 mod svg;
 mod table;
@@ -25,6 +26,7 @@ pub const RECORDINGS: &[Recording] = &[
     Recording { name: "decimal", list: decimal::list },
     Recording { name: "svg", list: svg::list },
     Recording { name: "bezier", list: bezier::list },
+    Recording { name: "spline", list: spline::list },
 ];
 
 impl Recording {

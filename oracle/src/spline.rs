@@ -155,7 +155,8 @@ pub struct Stored {
 }
 
 impl Stored {
-    fn ours(&self) -> Result<Told, Why> {
+    /// The proved library's answer.
+    pub fn ours(&self) -> Result<Told, Why> {
         ours_told(&floats(&self.numbers), &floats(&self.table), self.progress)
     }
 

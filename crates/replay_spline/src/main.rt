@@ -1,0 +1,263 @@
+// Runs recorded splines of the Rust through the proved crates, and prints how many answers there
+// were and how many differ. `oracle/record spline` writes the records to this crate's stdin.
+ghost use Prim.Native.Nat.{_+_, _≤_};
+ghost use mathlib.Core.Path.{_≡_};
+ghost use lib.ListN.{length};
+use bezier::Placed;
+use bezier::Turned;
+use records::float;
+use records::pattern;
+use spline_query::Measured;
+use spline_table::Tabled;
+use table::Progress;
+
+// A block has points and five answers. Its first line has the count of the points' numbers, nine
+// numbers, the places lent for the table, the refusal's number or 0, what goes with that, and the
+// size of the table that is asked; the second has eight places of the lent table and what stands
+// there afterwards; the third a place that is then damaged, if it is below 64, and by what. Each of
+// the last four has a progress, the refusal's number or 0, position, tangent, heading and length. All
+// are patterns of eight hexadecimal digits.
+const BLOCK: usize = 576;
+
+const ANSWERS: usize = 5;
+
+const QUERIES: usize = 4;
+
+const LINE: usize = 72;
+
+fn main() {
+    let mut space = io::large_buffer();
+    let n = io::read_full(0, &mut space);
+    let different = differing(&space[..n]);
+    records::tell((n / BLOCK * ANSWERS) as u64, different);
+}
+
+// How many answers of whole blocks differ from the recorded ones.
+fn differing(text: &[u8]) -> u64 {
+    let mut different = 0;
+    for i in 0..text.len() / BLOCK {
+        different += missed(text, i * BLOCK);
+    }
+    different
+}
+
+// How many answers of the block at this place differ.
+fn missed(text: &[u8], at: usize) -> u64
+    requires { ⌜ at + 576 ≤ length (now text) ⌝ }
+    ensures { λ r. ⌜ r ≤ 5 ⌝ }
+{
+    let numbers = numbers_at(text, at + 9);
+    let count = held(pattern(text, at), 9);
+    let room = held(pattern(text, at + 90), 64);
+    let size = held(pattern(text, at + 117), 64);
+    let made = make(numbers, count, room);
+    let table = made.table;
+    let answer = made.answer;
+    let first = table_missed(text, at, answer, table);
+    let place = pattern(text, at + 270);
+    let asked = damaged(table, place, float(pattern(text, at + 279)));
+    first + queries_missed(text, at + 288, numbers, count, asked, size)
+}
+
+// 1 where making the table of the block at this place answered or stored something else, else 0.
+fn table_missed(text: &[u8], at: usize, answer: Tabled, table: [f32; 64]) -> u64
+    requires { ⌜ at + 576 ≤ length (now text) ⌝ }
+    requires { ⌜ 64 ≡ length table ⌝ }
+    ensures { λ r. ⌜ r ≤ 1 ⌝ }
+{
+    if tabled(answer, pattern(text, at + 99), pattern(text, at + 108)) {
+        if entries_agree(text, at + 126, table) {
+            return 0;
+        }
+    }
+    1
+}
+
+// How many of the four queries from this place on give another answer.
+fn queries_missed(
+    text: &[u8],
+    at: usize,
+    numbers: [f32; 9],
+    count: usize,
+    table: [f32; 64],
+    size: usize,
+) -> u64
+    requires { ⌜ at + 288 ≤ length (now text) ⌝ }
+    requires { ⌜ 9 ≡ length numbers ⌝ }
+    requires { ⌜ count ≤ 9 ⌝ }
+    requires { ⌜ 64 ≡ length table ⌝ }
+    requires { ⌜ size ≤ 64 ⌝ }
+    ensures { λ r. ⌜ r ≤ 4 ⌝ }
+{
+    let mut different = 0;
+    for i in 0..QUERIES {
+        different += missed_at(text, at + i * LINE, numbers, count, table, size);
+    }
+    different
+}
+
+// The nine patterns from this place on, as floats.
+fn numbers_at(text: &[u8], at: usize) -> [f32; 9]
+    requires { ⌜ at + 81 ≤ length (now text) ⌝ }
+    ensures { λ r. ⌜ 9 ≡ length r ⌝ }
+{
+    let mut numbers = [0.0f32; 9];
+    for i in 0..9usize {
+        numbers[i] = float(pattern(text, at + i * 9));
+    }
+    numbers
+}
+
+// The count, at most this many.
+fn held(count: u32, most: usize) -> usize
+    ensures { λ r. ⌜ r ≤ most ⌝ }
+{
+    let wanted = count as usize;
+    if wanted < most { wanted } else { most }
+}
+
+// What making a table answered, and the places it was lent a part of, zeros where nothing was stored.
+struct Made {
+    answer: Tabled,
+    table: [f32; 64],
+}
+
+// Makes the table of the first `count` numbers in the first `room` places.
+fn make(numbers: [f32; 9], count: usize, room: usize) -> Made
+    requires { ⌜ 9 ≡ length numbers ⌝ }
+    requires { ⌜ count ≤ 9 ⌝ }
+    requires { ⌜ room ≤ 64 ⌝ }
+    ensures { λ r. ⌜ 64 ≡ length (r .table) ⌝ }
+{
+    let mut table = [0.0f32; 64];
+    let answer = spline_table::spline_table(&numbers[..count], &mut table[..room]);
+    Made { answer, table }
+}
+
+fn tabled(found: Tabled, number: u32, value: u32) -> bool {
+    match found {
+        Tabled::Stored(count) => number == 0 && count == value as usize,
+        Tabled::Refused(refusal) => {
+            answers::number(refusal) == number
+                && first_of(answers::carried(refusal)) == value as usize
+        }
+    }
+}
+
+// The first of the values that a refusal carries, or 0.
+fn first_of(values: answers::Values) -> usize {
+    match values {
+        answers::Values::Nothing => 0,
+        answers::Values::One(a) => a,
+        answers::Values::Two(a, _) => a,
+        answers::Values::Four(a, _, _, _) => a,
+    }
+}
+
+// Whether eight places of the table hold what is recorded.
+fn entries_agree(text: &[u8], at: usize, table: [f32; 64]) -> bool
+    requires { ⌜ at + 144 ≤ length (now text) ⌝ }
+    requires { ⌜ 64 ≡ length table ⌝ }
+{
+    for i in 0..8usize {
+        let place = held(pattern(text, at + i * 18), 63);
+        if floats::bits(table[place]) != pattern(text, at + i * 18 + 9) {
+            return false;
+        }
+    }
+    true
+}
+
+// The table with one place damaged, if there is such a place.
+fn damaged(table: [f32; 64], place: u32, by: f32) -> [f32; 64]
+    requires { ⌜ 64 ≡ length table ⌝ }
+    ensures { λ r. ⌜ 64 ≡ length r ⌝ }
+{
+    let mut other = table;
+    if place < 64 {
+        other[place as usize] = by;
+    }
+    other
+}
+
+// 1 where the query in the line at `line` gives another answer, else 0.
+fn missed_at(
+    text: &[u8],
+    line: usize,
+    numbers: [f32; 9],
+    count: usize,
+    table: [f32; 64],
+    size: usize,
+) -> u64
+    requires { ⌜ line + 72 ≤ length (now text) ⌝ }
+    requires { ⌜ 9 ≡ length numbers ⌝ }
+    requires { ⌜ count ≤ 9 ⌝ }
+    requires { ⌜ 64 ≡ length table ⌝ }
+    requires { ⌜ size ≤ 64 ⌝ }
+    ensures { λ r. ⌜ r ≤ 1 ⌝ }
+{
+    if told(text, line, &numbers[..count], &table[..size]) {
+        0
+    } else {
+        1
+    }
+}
+
+// Whether position, tangent, heading and length are those of the line at `line`.
+fn told(text: &[u8], line: usize, numbers: &[f32], table: &[f32]) -> bool
+    requires { ⌜ line + 72 ≤ length (now text) ⌝ }
+{
+    let progress = Progress {
+        value: float(pattern(text, line)),
+    };
+    let number = pattern(text, line + 9);
+    if !placed(
+        spline_query::spline_position(numbers, table, progress),
+        number,
+        pattern(text, line + 18),
+        pattern(text, line + 27),
+    ) {
+        return false;
+    }
+    if !placed(
+        spline_query::spline_tangent(numbers, table, progress),
+        number,
+        pattern(text, line + 36),
+        pattern(text, line + 45),
+    ) {
+        return false;
+    }
+    if !turned(
+        spline_query::spline_rotation_deg(numbers, table, progress),
+        number,
+        pattern(text, line + 54),
+    ) {
+        return false;
+    }
+    measured(
+        spline_query::spline_length(numbers, table),
+        number,
+        pattern(text, line + 63),
+    )
+}
+
+fn placed(found: Placed, number: u32, x: u32, y: u32) -> bool {
+    match found {
+        Placed::At(p) => number == 0 && floats::bits(p.x) == x && floats::bits(p.y) == y,
+        Placed::Refused(refusal) => answers::number(refusal) == number,
+    }
+}
+
+fn turned(found: Turned, number: u32, degrees: u32) -> bool {
+    match found {
+        Turned::Degrees(own) => number == 0 && floats::bits(own) == degrees,
+        Turned::Refused(refusal) => answers::number(refusal) == number,
+    }
+}
+
+fn measured(found: Measured, number: u32, length: u32) -> bool {
+    match found {
+        Measured::Length(own) => number == 0 && floats::bits(own) == length,
+        Measured::Refused(refusal) => answers::number(refusal) == number,
+    }
+}
