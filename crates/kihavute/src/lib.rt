@@ -5,6 +5,7 @@ mod curves;
 mod decimals;
 mod given;
 mod lookups;
+mod morphs;
 mod numbers;
 mod points;
 mod strict_reading;
