@@ -270,6 +270,44 @@ uint32_t kihavute_spline_rotation_deg(const float *points, size_t points_len, co
 uint32_t kihavute_spline_length(const float *points, size_t points_len, const float *table, size_t table_len,
                                 uint64_t *answer, size_t answer_len);
 
+/* ---- Shapes ----
+ * A list of points has two numbers for each, x before y, in path units, and at most 4,096 points. Refused with 9 where the
+ * count of numbers is odd (answer[0]: half of it, rounded down), with 13 above 4,096 points (their count), with 11 where the
+ * length up to a point is infinite or a NaN (the first such point), with 8 where an output is too short (the numbers needed
+ * of each output). With two shapes each step judges the first, then the second. A refusal writes to no output; an accepted
+ * call writes the counted numbers from each output's start and no others. An answer shorter than 8 places is judged first. */
+
+/* count points (13 above 4,096), evenly spaced along the line through the given ones; the first and the last are copies.
+ * answer[0] gets how many numbers were written: 2 * count, or 0 without points. One point, a count of 1 or a line of a
+ * length of at most 2^-23 gives copies of the first point.
+ *
+ *     float line[6] = {0, 0, 2, 0, 2, 2}, out[10];
+ *     uint64_t answer[8];
+ *     if (kihavute_resample(line, 6, 5, out, 10, answer, 8) == 0)
+ *         ... out has the points (0, 0) (1, 0) (2, 0) (2, 1) (2, 2)
+ */
+uint32_t kihavute_resample(const float *points, size_t points_len, size_t count, float *out, size_t out_len, uint64_t *answer,
+                           size_t answer_len);
+
+/* The two shapes of a morph: each resampled to resolution points, at least 2. answer[0] and answer[1] get how many numbers
+ * were written to each output: 0 for a shape without points. */
+uint32_t kihavute_morph(const float *from, size_t from_len, const float *to, size_t to_len, size_t resolution, float *out_from,
+                        size_t out_from_len, float *out_to, size_t out_to_len, uint64_t *answer, size_t answer_len);
+
+/* The same with as many points as the larger shape has. */
+uint32_t kihavute_morph_default(const float *from, size_t from_len, const float *to, size_t to_len, float *out_from,
+                                size_t out_from_len, float *out_to, size_t out_to_len, uint64_t *answer, size_t answer_len);
+
+/* The shape between two shapes: a + (b - a) * t of each coordinate, for the points that both have. t is held to 0 and 1,
+ * and a NaN stays. answer[0] gets how many numbers were written. */
+uint32_t kihavute_evaluate(const float *from, size_t from_len, const float *to, size_t to_len, float t, float *out,
+                           size_t out_len, uint64_t *answer, size_t answer_len);
+
+/* The bounds of that shape: answer[0] to answer[3] get the bits of the smallest x and y and of the largest x and y. A NaN
+ * loses against a number, and of equal zeros the first is kept. Where one shape has no points: four zeros. */
+uint32_t kihavute_bounds(const float *from, size_t from_len, const float *to, size_t to_len, float t, uint64_t *answer,
+                         size_t answer_len);
+
 /* ---- Texts ----
  * A text is a pointer to its bytes, which is never null, and their count. It may hold any bytes and needs no end
  * mark. A function that can refuse returns the refusal's number, 0 where it accepts, and writes what goes with

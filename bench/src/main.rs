@@ -5,10 +5,12 @@ mod clock;
 
 use animato_path::bezier::{CatmullRomSpline, CubicBezierCurve, PathEvaluate, QuadBezier};
 use animato_path::math::open;
+use animato_path::morph::{MorphPath, resample};
 use animato_path::poly::{CompoundPath, EllipticalArc, LineSegment, PathSegment};
 use animato_path::svg::SvgPathParser;
 use clock::{large, latency, slow, throughput};
 use kihavute::Chord;
+use std::cell::RefCell;
 
 const INPUTS: usize = 4096;
 
@@ -21,6 +23,7 @@ fn main() {
         ("drawings", drawings),
         ("read", read),
         ("decimals", decimals),
+        ("shapes", shapes),
         ("lookup", lookup),
         ("curves", curves),
         ("spot", spot),
@@ -408,6 +411,40 @@ fn curves() {
     let inputs: Vec<f32> = points.iter().map(|p| p[0][0] + 1.0).collect();
     let roots = |root: fn(f32) -> f32| move |x: f32| (0..31).fold(0.0, |sum, k| sum + root(x + k as f32)).to_bits();
     row("31 roots", slow(&inputs, roots(kihavute::sqrt), roots(original_sqrt)));
+}
+
+#[inline(never)]
+fn original_resample(points: &[[f32; 2]], count: usize) -> Vec<[f32; 2]> {
+    resample(points, count)
+}
+
+#[inline(never)]
+fn original_evaluate(path: &MorphPath, t: f32, out: &mut Vec<[f32; 2]>) {
+    path.evaluate_into(t, out);
+}
+
+// a line of 40 points in 1,000, and halfway between two shapes of 1,000 points, for each point given; the Rust's resample
+// makes its list anew, and both evaluate into a list that is kept
+fn shapes() {
+    const COUNT: usize = 1000;
+    let numbers: Vec<f32> = patterns().take(2 * COUNT).map(|bits| (bits % 1_000_000) as f32 / 1000.0).collect();
+    let points: Vec<[f32; 2]> = numbers.chunks_exact(2).map(|pair| [pair[0], pair[1]]).collect();
+    let out = RefCell::new(vec![0.0f32; 2 * COUNT]);
+    let each = |times: [f64; 2]| times.map(|time| time / COUNT as f64);
+    let ours = || kihavute::resample(&numbers[..80], COUNT, &mut out.borrow_mut()).map_or(0, |count| count as u32);
+    let theirs = || original_resample(&points[..40], COUNT).len() as u32;
+    row("resample, each point", each(large(ours, theirs)));
+
+    let other: Vec<f32> = numbers.iter().rev().copied().collect();
+    let other_points = other.chunks_exact(2).map(|pair| [pair[0], pair[1]]).collect();
+    let path = MorphPath::open_from_parts(points, other_points);
+    let list = RefCell::new(Vec::new());
+    let ours = || kihavute::evaluate(&numbers, &other, 0.5, &mut out.borrow_mut()).map_or(0, |count| count as u32);
+    let theirs = || {
+        original_evaluate(&path, 0.5, &mut list.borrow_mut());
+        list.borrow().len() as u32
+    };
+    row("evaluate, each point", each(large(ours, theirs)));
 }
 
 // fixed pseudo-random patterns

@@ -6,6 +6,7 @@ mod bnf;
 mod compare;
 mod decimal;
 mod earley;
+mod morph;
 mod math;
 mod read;
 mod record;
@@ -31,6 +32,7 @@ fn main() -> ExitCode {
         ["gate"] => {
             math::compare(&mut report, &math::FAMILY, SEED, 200_000);
             math::compare(&mut report, &trig::FAMILY, SEED, 100_000);
+            morph::compare(&mut report, SEED, 2_000);
             table::compare(&mut report, SEED, 20_000);
             strict::compare_some(&mut report, SEED);
             read::compare_some(&mut report, SEED);
@@ -43,6 +45,7 @@ fn main() -> ExitCode {
             }
         }
         ["math"] => math::compare(&mut report, &math::FAMILY, SEED, 2_000_000),
+        ["morph"] => morph::compare(&mut report, SEED, 250_000),
         ["math", seed] => match seed.parse() {
             Ok(seed) => math::compare(&mut report, &math::FAMILY, seed, 2_000_000),
             Err(_) => return usage(),

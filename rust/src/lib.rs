@@ -55,6 +55,60 @@ unsafe extern "C" {
         answer: *mut u64,
         answer_len: usize,
     ) -> u32;
+    fn kihavute_resample(
+        points: *const f32,
+        points_len: usize,
+        count: usize,
+        out: *mut f32,
+        out_len: usize,
+        answer: *mut u64,
+        answer_len: usize,
+    ) -> u32;
+    fn kihavute_morph(
+        from: *const f32,
+        from_len: usize,
+        to: *const f32,
+        to_len: usize,
+        resolution: usize,
+        out_from: *mut f32,
+        out_from_len: usize,
+        out_to: *mut f32,
+        out_to_len: usize,
+        answer: *mut u64,
+        answer_len: usize,
+    ) -> u32;
+    fn kihavute_morph_default(
+        from: *const f32,
+        from_len: usize,
+        to: *const f32,
+        to_len: usize,
+        out_from: *mut f32,
+        out_from_len: usize,
+        out_to: *mut f32,
+        out_to_len: usize,
+        answer: *mut u64,
+        answer_len: usize,
+    ) -> u32;
+    fn kihavute_evaluate(
+        from: *const f32,
+        from_len: usize,
+        to: *const f32,
+        to_len: usize,
+        t: f32,
+        out: *mut f32,
+        out_len: usize,
+        answer: *mut u64,
+        answer_len: usize,
+    ) -> u32;
+    fn kihavute_bounds(
+        from: *const f32,
+        from_len: usize,
+        to: *const f32,
+        to_len: usize,
+        t: f32,
+        answer: *mut u64,
+        answer_len: usize,
+    ) -> u32;
     fn kihavute_quad_position(
         sx: f32,
         sy: f32,
@@ -506,6 +560,93 @@ pub fn spot(lengths: &[f32], progress: f32) -> Result<Option<(usize, Bits)>, Ref
     let given =
         judged(|answer, places| unsafe { kihavute_spot(lengths.as_ptr(), lengths.len(), progress, answer, places) })?;
     Ok((!lengths.is_empty()).then_some((given[0] as usize, given[1] as Bits)))
+}
+
+/// So many points, evenly spaced along the line through these, from the output's start; how many numbers that is.
+#[inline]
+pub fn resample(points: &[f32], count: usize, out: &mut [f32]) -> Result<usize, Refusal> {
+    // SAFETY: the slices are whole, the output is borrowed alone, and the answer is the call's own
+    let given = judged(|answer, places| unsafe {
+        kihavute_resample(points.as_ptr(), points.len(), count, out.as_mut_ptr(), out.len(), answer, places)
+    })?;
+    Ok(given[0] as usize)
+}
+
+/// The two shapes of a morph, each resampled to this many points, at least 2; how many numbers each has.
+#[inline]
+pub fn morph(
+    from: &[f32],
+    to: &[f32],
+    resolution: usize,
+    out_from: &mut [f32],
+    out_to: &mut [f32],
+) -> Result<[usize; 2], Refusal> {
+    let [one, other] = [(out_from.as_mut_ptr(), out_from.len()), (out_to.as_mut_ptr(), out_to.len())];
+    // SAFETY: the slices are whole, each output is borrowed alone, and the answer is the call's own
+    let given = judged(|answer, places| unsafe {
+        kihavute_morph(
+            from.as_ptr(),
+            from.len(),
+            to.as_ptr(),
+            to.len(),
+            resolution,
+            one.0,
+            one.1,
+            other.0,
+            other.1,
+            answer,
+            places,
+        )
+    })?;
+    Ok([given[0] as usize, given[1] as usize])
+}
+
+/// The same with as many points as the larger shape has.
+#[inline]
+pub fn morph_default(
+    from: &[f32],
+    to: &[f32],
+    out_from: &mut [f32],
+    out_to: &mut [f32],
+) -> Result<[usize; 2], Refusal> {
+    let [one, other] = [(out_from.as_mut_ptr(), out_from.len()), (out_to.as_mut_ptr(), out_to.len())];
+    // SAFETY: the slices are whole, each output is borrowed alone, and the answer is the call's own
+    let given = judged(|answer, places| unsafe {
+        kihavute_morph_default(
+            from.as_ptr(),
+            from.len(),
+            to.as_ptr(),
+            to.len(),
+            one.0,
+            one.1,
+            other.0,
+            other.1,
+            answer,
+            places,
+        )
+    })?;
+    Ok([given[0] as usize, given[1] as usize])
+}
+
+/// The shape between two shapes at a progress, from the output's start; how many numbers it has.
+#[inline]
+pub fn evaluate(from: &[f32], to: &[f32], t: f32, out: &mut [f32]) -> Result<usize, Refusal> {
+    let (start, room) = (out.as_mut_ptr(), out.len());
+    // SAFETY: the slices are whole, the output is borrowed alone, and the answer is the call's own
+    let given = judged(|answer, places| unsafe {
+        kihavute_evaluate(from.as_ptr(), from.len(), to.as_ptr(), to.len(), t, start, room, answer, places)
+    })?;
+    Ok(given[0] as usize)
+}
+
+/// The bounds of the shape between two shapes at a progress: the smallest x and y, the largest x and y.
+#[inline]
+pub fn bounds(from: &[f32], to: &[f32], t: f32) -> Result<[Bits; 4], Refusal> {
+    // SAFETY: the slices are whole, and the answer is the call's own
+    let given = judged(|answer, places| unsafe {
+        kihavute_bounds(from.as_ptr(), from.len(), to.as_ptr(), to.len(), t, answer, places)
+    })?;
+    Ok([given[0] as Bits, given[1] as Bits, given[2] as Bits, given[3] as Bits])
 }
 
 /// Where the quad of a start, a control and an end is at a progress.
@@ -1069,6 +1210,30 @@ mod tests {
         assert_eq!(spot(&[2.0, 2.0, 4.0], 0.75), Ok(Some((2, 0.5f32.to_bits()))));
         assert_eq!(spot(&[], 0.5), Ok(None));
         assert_eq!(spot(&[2.0, 1.0], 0.5), Err(Refusal { number: 12, carried: [0; 8] }));
+    }
+
+    #[test]
+    fn shapes() {
+        let refused = |number, carried: &[u64]| {
+            let mut all = [0; 8];
+            all[..carried.len()].copy_from_slice(carried);
+            Refusal { number, carried: all }
+        };
+        let line = [0.0, 0.0, 2.0, 0.0, 2.0, 2.0];
+        let mut out = [9.0; 12];
+        assert_eq!(resample(&line, 5, &mut out), Ok(10));
+        assert_eq!(out, [0.0, 0.0, 1.0, 0.0, 2.0, 0.0, 2.0, 1.0, 2.0, 2.0, 9.0, 9.0]);
+        assert_eq!(resample(&line[..5], 5, &mut out), Err(refused(9, &[2])));
+        assert_eq!(resample(&line, 4097, &mut out), Err(refused(13, &[4097])));
+        assert_eq!(resample(&line, 7, &mut out), Err(refused(8, &[14])));
+        let mut other = [9.0; 6];
+        assert_eq!(morph(&line, &line[..2], 2, &mut out, &mut other), Ok([4, 4]));
+        assert_eq!(other, [0.0, 0.0, 0.0, 0.0, 9.0, 9.0]);
+        assert_eq!(morph_default(&line, &[], &mut out, &mut other), Ok([6, 0]));
+        assert_eq!(evaluate(&line, &[2.0, 2.0, 4.0, 4.0], 0.5, &mut other), Ok(4));
+        assert_eq!(other, [1.0, 1.0, 3.0, 2.0, 9.0, 9.0]);
+        assert_eq!(bounds(&line, &line, 0.5), Ok([0.0f32, 0.0, 2.0, 2.0].map(f32::to_bits)));
+        assert_eq!(bounds(&line, &[], 0.5), Ok([0; 4]));
     }
 
     #[test]

@@ -667,6 +667,92 @@ static void lists(void) {
     answered("a list, a short answer", kihavute_check_commands(many, 1, arc, 0, answer, 7), 255, 0, NULL);
 }
 
+/* whether an output holds these numbers, and past them what it held before */
+static void holds(const char *name, const float *out, size_t places, const float *numbers, size_t count) {
+    int right = count == 0 || memcmp(out, numbers, count * sizeof *out) == 0;
+    for (size_t i = count; i < places; i++) right = right && out[i] == 9;
+    same(name, right, 1);
+}
+
+static void nines(float *out, size_t places) {
+    for (size_t i = 0; i < places; i++) out[i] = 9;
+}
+
+static void shapes(void) {
+    const float line[6] = {0, 0, 2, 0, 2, 2};
+    const float none[1] = {0};
+    static float long_line[8194];
+    float out[12], other[12];
+
+    nines(out, 12);
+    fresh();
+    answered("a line in five points", kihavute_resample(line, 6, 5, out, 12, answer, PLACES), 0, 1, (uint64_t[]){10});
+    holds("five points", out, 12, (float[]){0, 0, 1, 0, 2, 0, 2, 1, 2, 2}, 10);
+    nines(out, 12);
+    fresh();
+    answered("an odd count before a long one", kihavute_resample(long_line, 8193, 4097, out, 12, answer, PLACES), 9, 1, (uint64_t[]){4096});
+    fresh();
+    answered("points before the count", kihavute_resample(long_line, 8194, 5000, out, 12, answer, PLACES), 13, 1, (uint64_t[]){4097});
+    fresh();
+    answered("the count", kihavute_resample(line, 6, 4097, out, 12, answer, PLACES), 13, 1, (uint64_t[]){4097});
+    fresh();
+    answered("no room", kihavute_resample(line, 6, 7, out, 12, answer, PLACES), 8, 1, (uint64_t[]){14});
+    fresh();
+    answered("an endless line", kihavute_resample((float[]){0, 0, 1, 0, 2e19f, 0}, 6, 7, out, 12, answer, PLACES), 11, 1, (uint64_t[]){2});
+    fresh();
+    answered("a line, a short answer", kihavute_resample(line, 6, 5, out, 12, answer, 7), 255, 0, NULL);
+    holds("refused, so as it was", out, 12, NULL, 0);
+    fresh();
+    answered("one endless point", kihavute_resample((float[]){INFINITY, NAN}, 2, 1, out, 12, answer, PLACES), 0, 1, (uint64_t[]){2});
+    same("its NaN", bits(out[1]), NAN_BITS);
+    fresh();
+    answered("no points", kihavute_resample(none, 0, 5, out, 12, answer, PLACES), 0, 1, (uint64_t[]){0});
+
+    nines(out, 12);
+    nines(other, 12);
+    fresh();
+    answered("a morph at 1, so at 2", kihavute_morph(line, 6, line, 2, 1, out, 12, other, 12, answer, PLACES), 0, 2, (uint64_t[]){4, 4});
+    holds("its first shape", out, 12, (float[]){0, 0, 2, 2}, 4);
+    holds("its second shape", other, 12, (float[]){0, 0, 0, 0}, 4);
+    nines(out, 12);
+    nines(other, 12);
+    fresh();
+    answered("one output too short", kihavute_morph(line, 6, line, 6, 5, out, 12, other, 9, answer, PLACES), 8, 2, (uint64_t[]){10, 10});
+    fresh();
+    answered("the second odd before the first long", kihavute_morph(long_line, 8194, line, 5, 5, out, 12, other, 12, answer, PLACES), 9, 1, (uint64_t[]){2});
+    holds("refused, so as it was", out, 12, NULL, 0);
+    holds("refused, so as it was", other, 12, NULL, 0);
+    fresh();
+    answered("a morph of the larger count", kihavute_morph_default(line, 6, none, 0, out, 12, other, 12, answer, PLACES), 0, 2, (uint64_t[]){6, 0});
+    holds("its first shape", out, 12, (float[]){0, 0, 2, 0, 2, 2}, 6);
+    holds("its second shape", other, 12, NULL, 0);
+
+    const float to[4] = {2, 2, 4, 4};
+    nines(out, 12);
+    fresh();
+    answered("halfway", kihavute_evaluate(line, 6, to, 4, 0.5f, out, 12, answer, PLACES), 0, 1, (uint64_t[]){4});
+    holds("the points of both", out, 12, (float[]){1, 1, 3, 2}, 4);
+    nines(out, 12);
+    fresh();
+    answered("past the end", kihavute_evaluate(line, 6, to, 4, 2, out, 12, answer, PLACES), 0, 1, (uint64_t[]){4});
+    holds("the end", out, 12, (float[]){2, 2, 4, 4}, 4);
+    nines(out, 12);
+    fresh();
+    answered("nowhere", kihavute_evaluate(line, 6, to, 4, NAN, out, 12, answer, PLACES), 0, 1, (uint64_t[]){4});
+    same("a NaN stays", bits(out[0]) == NAN_BITS && bits(out[3]) == NAN_BITS && out[4] == 9, 1);
+    fresh();
+    answered("no room for it", kihavute_evaluate(line, 6, line, 6, 0, out, 5, answer, PLACES), 8, 1, (uint64_t[]){6});
+    fresh();
+    answered("its bounds", kihavute_bounds(line, 6, to, 4, 0.5f, answer, PLACES), 0, 4, (uint64_t[]){bits(1), bits(1), bits(3), bits(2)});
+    fresh();
+    answered("the first zero", kihavute_bounds((float[]){0, -0.0f, -0.0f, 0}, 4, (float[]){0, -1, -1, 0}, 4, 0, answer, PLACES), 0, 4,
+             (uint64_t[]){0, MINUS_ZERO, 0, MINUS_ZERO});
+    fresh();
+    answered("bounds without points", kihavute_bounds(line, 6, none, 0, 0.5f, answer, PLACES), 0, 4, (uint64_t[]){0, 0, 0, 0});
+    fresh();
+    answered("bounds of an odd list", kihavute_bounds(line, 6, line, 3, 0.5f, answer, PLACES), 9, 1, (uint64_t[]){1});
+}
+
 int main(void) {
     roots();
     angles();
@@ -674,6 +760,7 @@ int main(void) {
     points();
     lookups();
     curves();
+    shapes();
     splines();
     strict_reading();
     decimals();

@@ -4,3 +4,4 @@ pub mod Asked
 pub mod NumberGiven
 pub mod ReadingGiven
 pub mod SplinesGiven
+pub mod Putting

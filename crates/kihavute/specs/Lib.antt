@@ -8,3 +8,4 @@ pub mod Curves
 pub mod CurveTables
 pub mod Arcs
 pub mod Splines
+pub mod Morphs

@@ -7,6 +7,7 @@ mod curves;
 mod decimals;
 mod given;
 mod lookups;
+mod morphs;
 mod numbers;
 mod points;
 mod reading;
