@@ -292,7 +292,12 @@ pub fn compare(report: &mut Report, seed: u64, splines: u32) {
                 let progresses = progresses(&numbers, &mut stream);
                 Points { side, numbers: numbers.into(), progresses }
             });
-            made += report.group(&format!("{title}, {kind_title}"), inputs, |points| Answer(points.ours()), |points| Answer(points.theirs()));
+            made += report.group(
+                &format!("{title}, {kind_title}"),
+                inputs,
+                |points| Answer(points.ours()),
+                |points| Answer(points.theirs()),
+            );
         }
         println!("  {title:20} {made:9} splines");
     }
@@ -345,7 +350,12 @@ fn compare_largest(report: &mut Report, seed: u64, splines: u32) {
                 Points { side, numbers: numbers.into(), progresses }
             })
         });
-        let made = report.group(&format!("{title} of 4,096 points"), inputs, |points| Answer(points.ours()), |points| Answer(points.theirs()));
+        let made = report.group(
+            &format!("{title} of 4,096 points"),
+            inputs,
+            |points| Answer(points.ours()),
+            |points| Answer(points.theirs()),
+        );
         println!("  {:20} {made:9} {title}", "4,095 to 4,097 points");
     }
 }
