@@ -10,6 +10,7 @@ mod record;
 mod root_all;
 mod samples;
 mod simple;
+mod stored;
 mod strict;
 mod table;
 mod trig;
@@ -31,6 +32,7 @@ fn main() -> ExitCode {
             strict::compare_some(&mut report, SEED);
             decimal::compare_some(&mut report, SEED);
             bezier::compare(&mut report, SEED, 20_000);
+            stored::compare(&mut report, SEED, 10_000);
             for recording in record::RECORDINGS {
                 recording.compare(&mut report, SEED);
             }
@@ -42,6 +44,7 @@ fn main() -> ExitCode {
         },
         ["trig"] => math::compare(&mut report, &trig::FAMILY, SEED, 2_000_000),
         ["table"] => table::compare(&mut report, SEED, 1_000_000),
+        ["stored"] => stored::compare(&mut report, SEED, 350_000),
         ["bezier"] => bezier::compare(&mut report, SEED, 250_000),
         ["root_all"] => root_all::compare(&mut report),
         ["strict"] => strict::compare_all(&mut report),
@@ -74,7 +77,7 @@ fn main() -> ExitCode {
 
 fn usage() -> ExitCode {
     eprintln!(
-        "oracle/run gate | math [SEED] | trig | table | bezier | root_all | strict [drawings | time | SEED COUNT] | \
+        "oracle/run gate | math [SEED] | trig | table | bezier | stored | root_all | strict [drawings | time | SEED COUNT] | \
          decimal edges | decimal printed PART | decimal KIND SEED COUNT | record NAME"
     );
     ExitCode::from(2)

@@ -3,4 +3,5 @@ pub mod Pair
 pub mod Given
 pub mod Decimals
 pub mod StrictReading
+pub mod StoredPaths
 pub mod Curves

@@ -7,5 +7,6 @@ mod given;
 mod lookups;
 mod numbers;
 mod points;
+mod stored_paths;
 mod strict_reading;
 mod turns;
