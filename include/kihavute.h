@@ -343,6 +343,23 @@ uint32_t kihavute_read(const uint8_t *text, size_t text_len, uint8_t *letters, s
 uint32_t kihavute_check_commands(const uint8_t *letters, size_t letters_len, const float *numbers, size_t numbers_len,
                                  uint64_t *answer, size_t answer_len);
 
+/* ---- Stored paths ----
+ * A path is stored in four arrays, segment after segment in drawing order; docs/STORED.md has the layout place by place.
+ *   kinds    a byte for each segment: 0 line, 1 quad, 2 cubic, 3 arc, 4 arc that fell back to a line
+ *   fields   its numbers, 4, 6, 8, 11 or 11: start x y, end x y of a line; start, control, end of a quad; start, two
+ *            controls, end of a cubic; start, end, centre, radii, rotation in degrees, start angle and angle swept in
+ *            radians of an arc and of a fallback
+ *   tables   for each quad, cubic and arc 33 numbers: 32 running lengths from 0 on, then their total
+ *   lengths  the running length up to the end of each segment
+ * Points and lengths are in path units. */
+
+/* Whether four arrays hold a stored path: at most 65,536 segments of known kinds with exactly their numbers and tables;
+ * running lengths and tables that are finite, not below 0 and never fall; each table starts at 0 and its total is its
+ * last entry. answer[0] gets the count of segments. Refused with 12, which carries nothing. Coordinates are not judged. */
+uint32_t kihavute_check(const uint8_t *kinds, size_t kinds_len, const float *fields, size_t fields_len,
+                        const float *tables, size_t tables_len, const float *lengths, size_t lengths_len,
+                        uint64_t *answer, size_t answer_len);
+
 /* ---- From bits to floats ---- */
 
 /* The float that has these bits. */

@@ -10,6 +10,7 @@ mod morph;
 mod math;
 mod read;
 mod record;
+mod stored;
 mod root_all;
 mod samples;
 mod simple;
@@ -31,6 +32,7 @@ fn main() -> ExitCode {
     match words[..] {
         ["gate"] => {
             math::compare(&mut report, &math::FAMILY, SEED, 200_000);
+            stored::compare(&mut report, SEED, 10_000);
             math::compare(&mut report, &trig::FAMILY, SEED, 100_000);
             morph::compare(&mut report, SEED, 2_000);
             table::compare(&mut report, SEED, 20_000);
@@ -52,6 +54,7 @@ fn main() -> ExitCode {
         },
         ["trig"] => math::compare(&mut report, &trig::FAMILY, SEED, 2_000_000),
         ["table"] => table::compare(&mut report, SEED, 1_000_000),
+        ["stored"] => stored::compare(&mut report, SEED, 350_000),
         ["bezier"] => bezier::compare(&mut report, SEED, 250_000),
         ["arc"] => arc::compare(&mut report, SEED, 420_000),
         ["spline"] => spline::compare(&mut report, SEED, 10_000),

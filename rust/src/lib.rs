@@ -153,6 +153,18 @@ unsafe extern "C" {
         answer_len: usize,
     ) -> u32;
     fn kihavute_cubic_position(
+    fn kihavute_check(
+        kinds: *const u8,
+        kinds_len: usize,
+        fields: *const f32,
+        fields_len: usize,
+        tables: *const f32,
+        tables_len: usize,
+        lengths: *const f32,
+        lengths_len: usize,
+        answer: *mut u64,
+        answer_len: usize,
+    ) -> u32;
         sx: f32,
         sy: f32,
         ax: f32,
@@ -1142,6 +1154,27 @@ pub fn check_commands(letters: &[u8], numbers: &[f32]) -> Result<(), Refusal> {
     Ok(())
 }
 
+/// How many segments the path in these four buffers has; refused with 12 where they hold none.
+#[inline]
+pub fn check(kinds: &[u8], fields: &[f32], tables: &[f32], lengths: &[f32]) -> Result<usize, Refusal> {
+    // SAFETY: the slices are whole, and the answer is the call's own
+    let given = judged(|answer, places| unsafe {
+        kihavute_check(
+            kinds.as_ptr(),
+            kinds.len(),
+            fields.as_ptr(),
+            fields.len(),
+            tables.as_ptr(),
+            tables.len(),
+            lengths.as_ptr(),
+            lengths.len(),
+            answer,
+            places,
+        )
+    })?;
+    Ok(given[0] as usize)
+}
+
 #[cfg(test)]
 mod tests {
     use super::*;
@@ -1320,6 +1353,15 @@ mod tests {
         assert_eq!(spline_length(&points, &table[..33]), Ok(2.0f32.to_bits()));
         assert_eq!(spline_length(&points, &table), Err(Refusal { number: 12, carried: [0; 8] }));
         assert_eq!(spline_position(&[], &[0.0], 0.5), Ok([0, 0]));
+    }
+
+    #[test]
+    fn stored_paths() {
+        let refused = Err(Refusal { number: 12, carried: [0; 8] });
+        assert_eq!(check(&[], &[], &[], &[]), Ok(0));
+        assert_eq!(check(&[0], &[0.0, 0.0, 3.0, 4.0], &[], &[5.0]), Ok(1));
+        assert_eq!(check(&[5], &[], &[], &[5.0]), refused);
+        assert_eq!(check(&[0], &[0.0, 0.0, 3.0], &[], &[5.0]), refused);
     }
 
     #[test]

@@ -753,6 +753,45 @@ static void shapes(void) {
     answered("bounds of an odd list", kihavute_bounds(line, 6, line, 3, 0.5f, answer, PLACES), 9, 1, (uint64_t[]){1});
 }
 
+static void stored_paths(void) {
+    const uint8_t kinds[] = {0, 1, 5};
+    const float fields[] = {0, 0, 3, 4, 3, 4, 3, 4, 3, 4};
+    float tables[33] = {0};
+    float lengths[] = {5, 5, 6};
+    uint64_t answer[8] = {9, 9, 9, 9, 9, 9, 9, 9};
+
+    same("the empty path", kihavute_check(kinds, 0, fields, 0, tables, 0, lengths, 0, answer, 8), 0);
+    same("its segments", answer[0], 0);
+    same("a line", kihavute_check(kinds, 1, fields, 4, tables, 0, lengths, 1, answer, 8), 0);
+    same("a line and a quad", kihavute_check(kinds, 2, fields, 10, tables, 33, lengths, 2, answer, 8), 0);
+    same("their count", answer[0], 2);
+    same("past the count", answer[1], 9);
+    answer[0] = 9;
+    same("an unknown kind", kihavute_check(kinds, 3, fields, 10, tables, 33, lengths, 3, answer, 8), 12);
+    same("a refusal carries nothing", answer[0], 9);
+    same("a number less", kihavute_check(kinds, 2, fields, 9, tables, 33, lengths, 2, answer, 8), 12);
+    same("a table less", kihavute_check(kinds, 2, fields, 10, tables, 0, lengths, 2, answer, 8), 12);
+    same("a length less", kihavute_check(kinds, 2, fields, 10, tables, 33, lengths, 1, answer, 8), 12);
+    tables[32] = 1;
+    same("a total that is not the last entry", kihavute_check(kinds, 2, fields, 10, tables, 33, lengths, 2, answer, 8), 12);
+    tables[31] = 1;
+    same("one that is", kihavute_check(kinds, 2, fields, 10, tables, 33, lengths, 2, answer, 8), 0);
+    tables[30] = 2;
+    same("entries that fall", kihavute_check(kinds, 2, fields, 10, tables, 33, lengths, 2, answer, 8), 12);
+    tables[30] = kihavute_float(NAN_BITS);
+    same("a NaN among them", kihavute_check(kinds, 2, fields, 10, tables, 33, lengths, 2, answer, 8), 12);
+    tables[30] = 0;
+    tables[0] = kihavute_float(LEAST);
+    same("a start above 0", kihavute_check(kinds, 2, fields, 10, tables, 33, lengths, 2, answer, 8), 12);
+    tables[0] = kihavute_float(MINUS_ZERO);
+    same("a start of -0", kihavute_check(kinds, 2, fields, 10, tables, 33, lengths, 2, answer, 8), 0);
+    lengths[1] = 4;
+    same("running lengths that fall", kihavute_check(kinds, 2, fields, 10, tables, 33, lengths, 2, answer, 8), 12);
+    lengths[1] = kihavute_float(INFINITE);
+    same("an infinite one", kihavute_check(kinds, 2, fields, 10, tables, 33, lengths, 2, answer, 8), 12);
+    same("a short answer", kihavute_check(kinds, 0, fields, 0, tables, 0, lengths, 0, answer, 7), 255);
+}
+
 int main(void) {
     roots();
     angles();
@@ -760,6 +799,7 @@ int main(void) {
     points();
     lookups();
     curves();
+    stored_paths();
     shapes();
     splines();
     strict_reading();

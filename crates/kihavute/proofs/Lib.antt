@@ -5,3 +5,4 @@ pub mod NumberGiven
 pub mod ReadingGiven
 pub mod SplinesGiven
 pub mod Putting
+pub mod CheckGiven

@@ -4,6 +4,7 @@ pub mod Given
 pub mod Decimals
 pub mod StrictReading
 pub mod Reading
+pub mod StoredPaths
 pub mod Curves
 pub mod CurveTables
 pub mod Arcs

@@ -12,5 +12,6 @@ mod numbers;
 mod points;
 mod reading;
 mod splines;
+mod stored_paths;
 mod strict_reading;
 mod turns;

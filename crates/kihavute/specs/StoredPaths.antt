@@ -1,0 +1,14 @@
+-- What stored paths give to C. Definitions only.
+use Prim.Native.Nat.{ℕ}
+use mathlib.Core.Bool.{cond}
+use mathlib.Core.List.{List, [], _∷_}
+use lib.ListN.{length}
+use lib.Ieee.{Float}
+use Rattle.answers.specs.declared.refusals.Refusal.the-variants.{BadPath}
+use Rattle.answers.specs.Answers.{Answer, accepted, refused}
+use Rattle.stored.specs.Stored.{isStored}
+
+-- the count of its segments, or 12
+unfoldable pub checkGiven : List ℕ → List Float → List Float → List Float → Answer
+unfolding isStored
+checkGiven kinds fields tables lengths = cond (isStored kinds fields tables lengths) (accepted (length kinds ∷ [])) (refused BadPath)
