@@ -70,18 +70,18 @@ pub record Known (text : List ℕ) (reader : Reader) (done : List PathCommand) :
   pub enough : length text < steps + reader .at
   pub whole : commandsOf text ≡ onto done (readFrom steps text reader)
 
-known-none : (text : List ℕ) → Known text freshOf []
+pub known-none : (text : List ℕ) → Known text freshOf []
 unfolding commandsOf
 known-none text = record { steps = suc (length text); enough = omega arith; whole = onto-nothing (readFrom (suc (length text)) text freshOf) }
 
 module _ (text : List ℕ) (reader : Reader) (done : List PathCommand) (k : Known text reader done) where
-  known-all : readStepOf text reader ≡ Done → commandsOf text ≡ commands done
+  pub known-all : readStepOf text reader ≡ Done → commandsOf text ≡ commands done
   known-all e = k .whole ∙ ap (onto done) (from-done text reader (k .steps) e) ∙ ap commands (append-nil done)
 
-  known-refused : (reason : Refusal) → readStepOf text reader ≡ Refused reason → commandsOf text ≡ refusal reason
+  pub known-refused : (reason : Refusal) → readStepOf text reader ≡ Refused reason → commandsOf text ≡ refusal reason
   known-refused reason e = k .whole ∙ ap (onto done) (from-refused text reader (k .steps) reason (k .enough) e)
 
-  known-more : (command : PathCommand) (next : Reader) → readStepOf text reader ≡ Command command next → Known text next (done ++ (command ∷ []))
+  pub known-more : (command : PathCommand) (next : Reader) → readStepOf text reader ≡ Command command next → Known text next (done ++ (command ∷ []))
   known-more command next e =
       let m = from-command text reader (k .steps) command next (k .enough) e in
       record { steps = m .0; enough = m .1; whole = k .whole ∙ ap (onto done) (m .2) ∙ onto-prepend done command (readFrom (m .0) text next) }
