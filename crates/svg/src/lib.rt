@@ -1,4 +1,5 @@
 // The permissive reader: from a text of path data to a list of commands in two lent buffers.
+pub mod inner;
 mod passes;
 mod reading;
 mod steps;

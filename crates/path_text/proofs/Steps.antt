@@ -1,0 +1,159 @@
+-- The two passes over a text: what each knows between two commands, and what a step does to that. Assumes nothing.
+use Prim.Native.Nat.{ℕ, suc, _+_, _≤_, _<_}
+use mathlib.Core.Path.{_≡_, refl, sym, ap, subst, _∙_}
+use mathlib.Core.List.{List, [], _∷_, _++_, append-assoc, append-nil}
+use native.Mathlib.Omega.{arith}
+use lib.Ieee.{Float}
+use lib.ListN.{length, length-append}
+use Rattle.answers.specs.declared.refusals.Refusal.{Refusal}
+use Rattle.commands.specs.declared.command.PathCommand.{PathCommand}
+use Rattle.segment.specs.declared.segments.PathSegment.{PathSegment}
+use Rattle.svg.specs.Steps.{freshOf, readStepOf}
+use Rattle.svg.specs.Texts.{Outcome, commands, refusal as unread, readFrom, commandsOf}
+use Rattle.svg.specs.declared.steps.Reader.{Reader}
+use Rattle.svg.specs.declared.steps.Step.the-variants.{Command, Done, Refused as StepRefused}
+use Rattle.svg.proofs.Ahead.{step-ahead}
+use Rattle.svg.proofs.PassLaws.{onto as ontoCommands, Known, known-none, known-all, known-refused, known-more}
+use Rattle.drawing.specs.Drawing.{drawOf}
+use Rattle.drawing.specs.Building.{Built, path, refusal, buildOf}
+use Rattle.laying.specs.Sites.{startOf, advanceOf, drawnBy, Few, Room, Laid}
+use Rattle.laying.specs.declared.sites.Site.{Site}
+use Rattle.laying.specs.declared.sites.Advanced.the-variants.{To, Refused}
+use Rattle.laying.proofs.Along.{At, at-none, at-few, at-all, at-next, at-refused}
+use Rattle.laying.proofs.Filling.{Filling, filling-none, filling-more, roomed, same-kinds, same-fields, same-tables, same-lengths}
+use Rattle.path.specs.Answers.{measureOf, Holding, Filled}
+use Rattle.path.specs.declared.sizes.Size.the-variants as Size
+use Rattle.path.proofs.Along.{counts-are, Holdable, holdable, filled-is}
+use Rattle.path_text.specs.Builds.{builtFrom}
+
+-- the rest of a text whose first commands are known
+rest-of : (done list : List PathCommand) (outcome : Outcome) → ontoCommands done outcome ≡ commands list → (rest : List PathCommand) × (list ≡ done ++ rest)
+rest-of done list (commands rest) e = (rest, let f : list ≡ done ++ rest = cc in f)
+rest-of done list (unread reason) e = let z : _≡_ {A = ℕ} 0 1 = cc in absurd (omega arith)
+
+-- ---- the first pass
+
+pub record Measuring (text : List ℕ) (reader : Reader) (site : Site) : Type 0 where
+  pub passed : List PathCommand
+  pub known : Known text reader passed
+  pub few : length passed ≤ reader .at
+  pub done : List PathSegment
+  pub drawn : At passed done site
+
+pub measuring-none : (text : List ℕ) → Measuring text freshOf startOf
+measuring-none text = record { passed = []; known = known-none text; few = omega arith; done = []; drawn = at-none }
+
+module _ (text : List ℕ) (reader : Reader) (site : Site) (k : Measuring text reader site) where
+  pub measured-all : readStepOf text reader ≡ Done → Size.Counted (site .segments) (site .fields) (site .tables) ≡ measureOf (builtFrom (commandsOf text))
+  measured-all e =
+      counts-are (k .passed) (k .done) site (builtFrom (commandsOf text)) (k .drawn)
+      (ap builtFrom (known-all text reader (k .passed) (k .known) e) ∙ at-all (k .passed) (k .done) site (k .drawn))
+
+  pub measured-unread : (reason : Refusal) → readStepOf text reader ≡ StepRefused reason → commandsOf text ≡ unread reason
+  measured-unread reason e = known-refused text reader (k .passed) (k .known) reason e
+
+  module _ (command : PathCommand) (next : Reader) (e : readStepOf text reader ≡ Command command next) where
+    more : Known text next (k .passed ++ (command ∷ []))
+    more = known-more text reader (k .passed) (k .known) command next e
+
+    pub measuring-few : length text ≤ 65536 → Few site
+    measuring-few h = at-few (k .passed) (k .done) site (k .drawn) (omega (arith, step-ahead text reader next command e, k .few))
+
+    pub measured-unbuilt : (reason : Refusal) → advanceOf site command ≡ Refused reason → (list : List PathCommand) → commandsOf text ≡ commands list → buildOf list ≡ refusal reason
+    measured-unbuilt reason a list c =
+        let r = rest-of (k .passed ++ (command ∷ [])) list (readFrom (more .steps) text next) (sym (more .whole) ∙ c) in
+        ap buildOf (r .1) ∙ at-refused (k .passed) (k .done) site (k .drawn) command reason a (r .0)
+
+    pub measuring-more : (further : Site) → advanceOf site command ≡ To further → Measuring text next further
+    measuring-more further a =
+        record {
+          passed = k .passed ++ (command ∷ []);
+          known = more;
+          few = omega (arith, length-append (k .passed) (command ∷ []), step-ahead text reader next command e, k .few);
+          done = k .done ++ drawnBy (drawOf (site .pen) command);
+          drawn = at-next (k .passed) (k .done) site (k .drawn) command further a;
+        }
+
+-- ---- the second pass
+
+-- the commands of a text that builds
+built-commands : (outcome : Outcome) (list : List PathSegment) → builtFrom outcome ≡ path list → (all : List PathCommand) × (outcome ≡ commands all) × (buildOf all ≡ path list)
+built-commands (commands all) list e = (all, refl, e)
+built-commands (unread reason) list e = let z : _≡_ {A = ℕ} 0 1 = cc in absurd (omega arith)
+
+pub record Storing (text : List ℕ) (reader : Reader) (site : Site) (kinds₀ kinds : List ℕ) (fields₀ fields tables₀ tables lengths₀ lengths : List Float) : Type 0 where
+  pub passed : List PathCommand
+  pub known : Known text reader passed
+  pub few : length passed ≤ reader .at
+  pub filling : Filling passed site kinds₀ kinds fields₀ fields tables₀ tables lengths₀ lengths
+
+pub storing-none : (text kinds : List ℕ) (fields tables lengths : List Float) → Storing text freshOf startOf kinds kinds fields fields tables tables lengths lengths
+storing-none text kinds fields tables lengths = record { passed = []; known = known-none text; few = omega arith; filling = filling-none kinds fields tables lengths }
+
+module _
+    (text : List ℕ) (reader : Reader) (site : Site) (kinds₀ kinds : List ℕ) (fields₀ fields tables₀ tables lengths₀ lengths : List Float)
+    (k : Storing text reader site kinds₀ kinds fields₀ fields tables₀ tables lengths₀ lengths)
+    (holding : Holding (builtFrom (commandsOf text)) (length kinds₀) (length fields₀) (length tables₀) (length lengths₀))
+  where
+    h : Holdable (builtFrom (commandsOf text)) (length kinds₀) (length fields₀) (length tables₀) (length lengths₀)
+    h = holdable (builtFrom (commandsOf text)) (length kinds₀) (length fields₀) (length tables₀) (length lengths₀) holding
+
+    all : (list : List PathCommand) × (commandsOf text ≡ commands list) × (buildOf list ≡ path (h .list))
+    all = built-commands (commandsOf text) (h .list) (h .is)
+
+    -- what the commands passed and those to come build
+    whole : (done : List PathCommand) (at : Reader) → Known text at done → (rest : List PathCommand) × (buildOf (done ++ rest) ≡ path (h .list))
+    whole done at w =
+        let r = rest-of done (all .0) (readFrom (w .steps) text at) (sym (w .whole) ∙ all .1) in
+        (r .0, ap buildOf (sym (r .1)) ∙ all .2)
+
+    here : (rest : List PathCommand) × (buildOf (k .passed ++ rest) ≡ path (h .list))
+    here = whole (k .passed) reader (k .known)
+
+    pub stored-kinds : length kinds ≡ length kinds₀
+    stored-kinds = same-kinds (k .passed) site kinds₀ kinds fields₀ fields tables₀ tables lengths₀ lengths (k .filling) (h .list) (h .holds) (here .0) (here .1)
+
+    pub stored-fields : length fields ≡ length fields₀
+    stored-fields = same-fields (k .passed) site kinds₀ kinds fields₀ fields tables₀ tables lengths₀ lengths (k .filling) (h .list) (h .holds) (here .0) (here .1)
+
+    pub stored-tables : length tables ≡ length tables₀
+    stored-tables = same-tables (k .passed) site kinds₀ kinds fields₀ fields tables₀ tables lengths₀ lengths (k .filling) (h .list) (h .holds) (here .0) (here .1)
+
+    pub stored-lengths : length lengths ≡ length lengths₀
+    stored-lengths = same-lengths (k .passed) site kinds₀ kinds fields₀ fields tables₀ tables lengths₀ lengths (k .filling) (h .list) (h .holds) (here .0) (here .1)
+
+    -- a text that builds is read to its end
+    pub storing-unread : (reason : Refusal) → readStepOf text reader ≡ StepRefused reason → ⊥
+    storing-unread reason e =
+        let f = sym (known-refused text reader (k .passed) (k .known) reason e) ∙ all .1 in
+        let z : _≡_ {A = ℕ} 0 1 = cc in omega arith
+
+    pub stored-all : readStepOf text reader ≡ Done → Filled (builtFrom (commandsOf text)) kinds₀ fields₀ tables₀ lengths₀ kinds fields tables lengths
+    stored-all e =
+        filled-is (builtFrom (commandsOf text)) (h .list) (k .passed) site kinds₀ kinds fields₀ fields tables₀ tables lengths₀ lengths (k .filling)
+        (ap builtFrom (known-all text reader (k .passed) (k .known) e))
+
+    module _ (command : PathCommand) (next : Reader) (e : readStepOf text reader ≡ Command command next) where
+      ahead : (rest : List PathCommand) × (buildOf ((k .passed ++ (command ∷ [])) ++ rest) ≡ path (h .list))
+      ahead = whole (k .passed ++ (command ∷ [])) next (known-more text reader (k .passed) (k .known) command next e)
+
+      -- what `lay` asks
+      pub storing-room : length text ≤ 65536 → Few site × Room site (drawOf (site .pen) command) (length kinds) (length fields) (length tables) (length lengths)
+      storing-room few = (
+        at-few (k .passed) (k .filling .done) site (k .filling .known) (omega (arith, step-ahead text reader next command e, k .few)),
+        roomed (k .passed) site kinds₀ kinds fields₀ fields tables₀ tables lengths₀ lengths (k .filling) (h .list) (h .holds) command (ahead .0) (ahead .1),
+      )
+
+      pub storing-more :
+          (further : Site) (kinds′ : List ℕ) (fields′ tables′ lengths′ : List Float)
+          → Laid site (drawOf (site .pen) command) kinds fields tables lengths further kinds′ fields′ tables′ lengths′
+          → Storing text next further kinds₀ kinds′ fields₀ fields′ tables₀ tables′ lengths₀ lengths′
+      storing-more further kinds′ fields′ tables′ lengths′ laid =
+          record {
+            passed = k .passed ++ (command ∷ []);
+            known = known-more text reader (k .passed) (k .known) command next e;
+            few = omega (arith, length-append (k .passed) (command ∷ []), step-ahead text reader next command e, k .few);
+            filling =
+                filling-more (k .passed) site kinds₀ kinds fields₀ fields tables₀ tables lengths₀ lengths (k .filling) (h .list) (h .holds) command (ahead .0) (ahead .1)
+                further kinds′ fields′ tables′ lengths′ laid;
+          }

@@ -1,0 +1,40 @@
+-- What a text builds (source document 002, `try_from_svg`; document 01, "The answers"): reading it and building its commands after each other.
+-- Definitions only.
+use Prim.Native.Nat.{ℕ}
+use mathlib.Core.Path.{_≡_}
+use mathlib.Core.Bool.{cond}
+use mathlib.Core.List.{List}
+use lib.Dec.{ltb}
+use lib.Ieee.{Float}
+use lib.ListN.{length}
+use Rattle.answers.specs.declared.refusals.Refusal.the-variants.{TooLong}
+use Rattle.commands.specs.declared.command.PathCommand.{PathCommand}
+use Rattle.svg.specs.Texts.{Outcome, commands, refusal as unread, commandsOf}
+use Rattle.drawing.specs.Building.{Built, refusal, buildOf}
+use Rattle.path.specs.Answers.{roomed, Answers, measureOf}
+use Rattle.path.specs.Paths.{lentOf}
+use Rattle.path.specs.declared.sizes.Building.{Building}
+use Rattle.path.specs.declared.sizes.Counts.{Counts}
+use Rattle.path.specs.declared.sizes.Size.the-variants as Size
+use Rattle.path_text.specs.declared.texts.Found.{Found}
+use Rattle.path_text.specs.declared.texts.Found.the-variants.{Counted, Unread, Unbuilt}
+
+-- "the first of 2 to 7 in the text", and where it reads "segment by segment 10 before 11"
+abbrev pub builtFrom : Outcome → Built
+builtFrom (commands list) = buildOf list
+builtFrom (unread reason) = refusal reason
+
+-- 1, 2 to 7 in the whole text, 10 and 11 segment by segment, then 8
+unfoldable pub buildTextOf : List ℕ → Counts → Built
+buildTextOf text lent = cond (ltb 65536 (length text)) (refusal (TooLong (length text))) (roomed lent (builtFrom (commandsOf text)))
+
+-- the entry's one record of equations
+abbrev pub BuildFromText : List ℕ → List ℕ → List Float → List Float → List Float → Building → List ℕ → List Float → List Float → List Float → Type 0
+BuildFromText text kinds fields tables lengths r kinds′ fields′ tables′ lengths′ =
+    Answers (buildTextOf text (lentOf kinds fields tables lengths)) kinds fields tables lengths r kinds′ fields′ tables′ lengths′
+
+-- what a first pass that stops at the first refusal of either kind finds; one of building may have one of reading after it
+abbrev pub Finds : List ℕ → Found → Type 0
+Finds text (Counted segments fields tables) = Size.Counted segments fields tables ≡ measureOf (builtFrom (commandsOf text))
+Finds text (Unread reason) = commandsOf text ≡ unread reason
+Finds text (Unbuilt reason) = (list : List PathCommand) → commandsOf text ≡ commands list → buildOf list ≡ refusal reason

@@ -1,0 +1,2 @@
+-- What a text builds. Definitions only.
+pub mod Builds

@@ -1,0 +1,104 @@
+// The entry over a text.
+ghost use mathlib.Core.Path.{_≡_};
+ghost use Prim.Native.Nat.{_≤_};
+ghost use lib.ListN.{length};
+ghost use Rattle.svg.specs.Texts.{commandsOf};
+ghost use Rattle.path.specs.Answers.{measureOf};
+ghost use Rattle.path_text.specs.Builds.{builtFrom, BuildFromText};
+use crate::texts::Found;
+use crate::texts::fill;
+use crate::texts::measure;
+use answers::Refusal;
+use answers::Values;
+use path::Building;
+use path::inner::Counts;
+use path::inner::Size;
+use path::inner::is_short;
+
+// What a text builds: the places needed, or its first refusal, where any of reading comes before one of building.
+fn size_of(text: &[u8]) -> Size
+    requires { ⌜ length (now text) ≤ 65536 ⌝ }
+    ensures { λ r. ⌜ r ≡ measureOf (builtFrom (commandsOf (now (text .entry)))) ⌝ }
+{
+    match measure(text) {
+        Found::Counted {
+            segments,
+            fields,
+            tables,
+        } => {
+            return Size::Counted {
+                segments,
+                fields,
+                tables,
+            };
+        }
+        Found::Unread(refusal) => {
+            return Size::Refused(refusal);
+        }
+        Found::Unbuilt(refusal) => match svg::inner::measure(text) {
+            svg::inner::Size::Refused(first) => {
+                return Size::Refused(first);
+            }
+            svg::inner::Size::Counted {
+                letters: _,
+                numbers: _,
+            } => {
+                return Size::Refused(refusal);
+            }
+        },
+    }
+}
+
+// Builds the stored path of a text: a kind and a running length for each segment, its numbers and its table, each from its buffer's
+// start. A refusal writes nothing, and what stands past the counted places is left as it was.
+pub fn build_from_text(
+    text: &[u8],
+    kinds: &mut [u8],
+    fields: &mut [f32],
+    tables: &mut [f32],
+    lengths: &mut [f32],
+) -> Building
+    ensures { λ r. ⌜ BuildFromText (now (text .entry)) (now (kinds .entry)) (now (fields .entry)) (now (tables .entry)) (now (lengths .entry)) r (now (kinds .exit)) (now (fields .exit)) (now (tables .exit)) (now (lengths .exit)) ⌝ }
+{
+    let size = text.len();
+    if 65536 < size {
+        return Building::Refused(Refusal::TooLong(size));
+    }
+    match size_of(text) {
+        Size::Refused(refusal) => {
+            return Building::Refused(refusal);
+        }
+        Size::Counted {
+            segments,
+            fields: own,
+            tables: more,
+        } => {
+            let needed = Counts {
+                kinds: segments,
+                fields: own,
+                tables: more,
+                lengths: segments,
+            };
+            let lent = Counts {
+                kinds: kinds.len(),
+                fields: fields.len(),
+                tables: tables.len(),
+                lengths: lengths.len(),
+            };
+            if is_short(needed, lent) {
+                return Building::Refused(Refusal::NoRoom(Values::Four(
+                    segments,
+                    own,
+                    more,
+                    segments,
+                )));
+            }
+            fill(text, kinds, fields, tables, lengths);
+            return Building::Built {
+                segments,
+                fields: own,
+                tables: more,
+            };
+        }
+    }
+}

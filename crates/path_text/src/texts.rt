@@ -1,0 +1,90 @@
+// The two passes over a text: the first judges and counts, the second stores.
+ghost use mathlib.Core.Path.{_≡_};
+ghost use Prim.Native.Nat.{_≤_};
+ghost use lib.ListN.{length};
+ghost use Rattle.svg.specs.Texts.{commandsOf};
+ghost use Rattle.path.specs.Answers.{Holding, Filled};
+ghost use Rattle.path_text.specs.Builds.{builtFrom, Finds};
+use answers::Refusal;
+use laying::Advanced;
+use laying::inner::advance;
+use laying::inner::lay;
+use laying::start;
+use svg::Step;
+use svg::fresh;
+use svg::read_step;
+
+// What the first pass finds.
+pub enum Found {
+    // The places needed: one kind and one running length a segment.
+    Counted {
+        segments: usize,
+        fields: usize,
+        tables: usize,
+    },
+    // The text does not read.
+    Unread(Refusal),
+    // A segment is refused, where the text reads on or not.
+    Unbuilt(Refusal),
+}
+
+// Reads and judges segment by segment, up to the first refusal of either kind.
+pub fn measure(text: &[u8]) -> Found
+    requires { ⌜ length (now text) ≤ 65536 ⌝ }
+    ensures { λ r. ⌜ Finds (now (text .entry)) r ⌝ }
+{
+    let mut reader = fresh();
+    let mut site = start();
+    loop {
+        match read_step(text, reader) {
+            Step::Done => {
+                return Found::Counted {
+                    segments: site.segments,
+                    fields: site.fields,
+                    tables: site.tables,
+                };
+            }
+            Step::Refused(refusal) => {
+                return Found::Unread(refusal);
+            }
+            Step::Command { command, next } => match advance(site, command) {
+                Advanced::Refused(refusal) => {
+                    return Found::Unbuilt(refusal);
+                }
+                Advanced::To(further) => {
+                    reader = next;
+                    site = further;
+                }
+            },
+        }
+    }
+}
+
+// Stores the path of a text that reads and builds, from the start of each buffer.
+pub fn fill(
+    text: &[u8],
+    kinds: &mut [u8],
+    fields: &mut [f32],
+    tables: &mut [f32],
+    lengths: &mut [f32],
+)
+    requires { ⌜ (length (now text) ≤ 65536) × Holding (builtFrom (commandsOf (now text))) (length (now kinds)) (length (now fields)) (length (now tables)) (length (now lengths)) ⌝ }
+    ensures { λ _. ⌜ Filled (builtFrom (commandsOf (now (text .entry)))) (now (kinds .entry)) (now (fields .entry)) (now (tables .entry)) (now (lengths .entry)) (now (kinds .exit)) (now (fields .exit)) (now (tables .exit)) (now (lengths .exit)) ⌝ }
+{
+    let mut reader = fresh();
+    let mut site = start();
+    loop {
+        match read_step(text, reader) {
+            Step::Done => {
+                return;
+            }
+            Step::Refused(_) => {
+                return;
+            }
+            Step::Command { command, next } => {
+                site = lay(site, command, kinds, fields, tables, lengths);
+                reader = next;
+            }
+        }
+    }
+}
