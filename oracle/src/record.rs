@@ -1,5 +1,6 @@
 //! The lists of recorded answers that the programs replay_NAME run through the proved crates.
 
+mod arc;
 mod bezier;
 mod decimal;
 mod helpers;
@@ -16,13 +17,14 @@ pub struct Recording {
     list: fn(&mut Report, u64) -> (Vec<u8>, u64),
 }
 
-pub const RECORDINGS: [Recording; 6] = [
+pub const RECORDINGS: [Recording; 7] = [
     Recording { name: "math", list: |report, seed| helpers::list(report, &math::FAMILY, seed) },
     Recording { name: "trig", list: |report, seed| helpers::list(report, &trig::FAMILY, seed) },
     Recording { name: "table", list: table::list },
     Recording { name: "strict", list: strict::list },
     Recording { name: "decimal", list: decimal::list },
     Recording { name: "bezier", list: bezier::list },
+    Recording { name: "arc", list: arc::list },
 ];
 
 impl Recording {
