@@ -1,5 +1,6 @@
 //! The lists of recorded answers that the programs replay_NAME run through the proved crates.
 
+mod arc;
 mod bezier;
 mod decimal;
 mod helpers;
@@ -27,6 +28,7 @@ pub const RECORDINGS: &[Recording] = &[
     Recording { name: "svg", list: svg::list },
     Recording { name: "bezier", list: bezier::list },
     Recording { name: "spline", list: spline::list },
+    Recording { name: "arc", list: arc::list },
 ];
 
 impl Recording {

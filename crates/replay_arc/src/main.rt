@@ -1,0 +1,226 @@
+// Runs recorded lines and arcs of the Rust through the proved crates, and prints how many answers there
+// were and how many differ. `oracle/record arc` writes the records to this crate's stdin.
+ghost use Prim.Native.Nat.{_+_, _≤_};
+ghost use lib.ListN.{length};
+use arc::EllipticalArc;
+use bezier::Placed;
+use bezier::Turned;
+use bezier::Verdict;
+use ellipse::Chord;
+use math::Point;
+use records::float;
+use records::pattern;
+use table::Progress;
+
+// A block is a segment and six progresses. Its first line has a letter (a or l), the refusal's number or
+// 0, start, radii, rotation and end, the flags and whether the arc fell back to a line, each 0 or 1,
+// then the arc's 11 numbers (a line's length), 32 entries and the total; each further line has a
+// progress, and the position, the tangent and the heading there. All numbers are patterns of eight
+// hexadecimal digits without blanks.
+const BLOCK: usize = 715;
+
+const FIRST: usize = 421;
+
+const LINE: usize = 49;
+
+const LINES: usize = 6;
+
+fn main() {
+    let mut space = io::large_buffer();
+    let n = io::read_full(0, &mut space);
+    let different = differing(&space[..n]);
+    records::tell((n / BLOCK * LINES) as u64, different);
+}
+
+// How many lines of whole blocks hold another answer than the proved segments give.
+fn differing(text: &[u8]) -> u64 {
+    let mut different = 0;
+    for i in 0..text.len() / BLOCK {
+        different += missed(text, i * BLOCK);
+    }
+    different
+}
+
+// How many lines of the block at this place hold another answer.
+fn missed(text: &[u8], at: usize) -> u64
+    requires { ⌜ at + 715 ≤ length (now text) ⌝ }
+    ensures { λ r. ⌜ r ≤ 6 ⌝ }
+{
+    let mut different = 0;
+    for i in 0..LINES {
+        different += missed_at(text, at, at + FIRST + i * LINE);
+    }
+    different
+}
+
+// 1 where the line at `line` of the block at `at` holds another answer, else 0.
+fn missed_at(text: &[u8], at: usize, line: usize) -> u64
+    requires { ⌜ at + 715 ≤ length (now text) ⌝ }
+    requires { ⌜ line + 49 ≤ length (now text) ⌝ }
+    ensures { λ r. ⌜ r ≤ 1 ⌝ }
+{
+    if agrees(text, at, line) { 0 } else { 1 }
+}
+
+fn agrees(text: &[u8], at: usize, line: usize) -> bool
+    requires { ⌜ at + 715 ≤ length (now text) ⌝ }
+    requires { ⌜ line + 49 ≤ length (now text) ⌝ }
+{
+    match text[at] {
+        b'a' => arc_agrees(text, at, line),
+        b'l' => line_agrees(text, at, line),
+        _ => false,
+    }
+}
+
+fn arc_agrees(text: &[u8], at: usize, line: usize) -> bool
+    requires { ⌜ at + 715 ≤ length (now text) ⌝ }
+    requires { ⌜ line + 49 ≤ length (now text) ⌝ }
+{
+    let made = arc::arc(chord(text, at));
+    let number = pattern(text, at + 1);
+    let verdict = made.verdict;
+    if number_of(verdict) != number {
+        return false;
+    }
+    if number != 0 {
+        return true;
+    }
+    let own = made.arc;
+    if same_shape(own, text, at) {
+        arc_answers(own, text, line)
+    } else {
+        false
+    }
+}
+
+fn line_agrees(text: &[u8], at: usize, line: usize) -> bool
+    requires { ⌜ at + 715 ≤ length (now text) ⌝ }
+    requires { ⌜ line + 49 ≤ length (now text) ⌝ }
+{
+    let made = arc::line(point(text, at + 9), point(text, at + 49));
+    let number = pattern(text, at + 1);
+    let verdict = made.verdict;
+    if number_of(verdict) != number {
+        return false;
+    }
+    if number != 0 {
+        return true;
+    }
+    let own = made.line;
+    if floats::bits(arc::line_length(own)) != pattern(text, at + 68) {
+        return false;
+    }
+    let progress = progress_at(text, line);
+    let position = Placed::At(arc::line_position(own, progress));
+    let tangent = Placed::At(arc::line_tangent(own));
+    let turned = Turned::Degrees(arc::line_rotation_deg(own));
+    same_answers(position, tangent, turned, text, line)
+}
+
+// What the block at this place gives of an arc.
+fn chord(text: &[u8], at: usize) -> Chord
+    requires { ⌜ at + 715 ≤ length (now text) ⌝ }
+{
+    Chord {
+        start: point(text, at + 9),
+        radii: point(text, at + 25),
+        x_axis_rotation: float(pattern(text, at + 41)),
+        large_arc: text[at + 65] == b'1',
+        sweep: text[at + 66] == b'1',
+        end: point(text, at + 49),
+    }
+}
+
+// Whether the block at this place holds an arc's numbers, and its table unless it fell back to a line.
+fn same_shape(own: EllipticalArc, text: &[u8], at: usize) -> bool
+    requires { ⌜ at + 715 ≤ length (now text) ⌝ }
+{
+    let numbers = filling::arc_numbers(own.shape);
+    if own.line_fallback {
+        return text[at + 67] == b'1' && same_numbers(&numbers, text, at + 68);
+    }
+    let table = filling::table_numbers(own.table);
+    text[at + 67] == b'0'
+        && same_numbers(&numbers, text, at + 68)
+        && same_numbers(&table, text, at + 156)
+}
+
+// Whether the line at this place holds what an arc answers there.
+fn arc_answers(own: EllipticalArc, text: &[u8], line: usize) -> bool
+    requires { ⌜ line + 49 ≤ length (now text) ⌝ }
+{
+    let progress = progress_at(text, line);
+    let position = arc::arc_position(own, progress);
+    let tangent = arc::arc_tangent(own, progress);
+    let turned = arc::arc_rotation_deg(own, progress);
+    same_answers(position, tangent, turned, text, line)
+}
+
+// Whether the line at this place holds these answers.
+fn same_answers(position: Placed, tangent: Placed, turned: Turned, text: &[u8], line: usize) -> bool
+    requires { ⌜ line + 49 ≤ length (now text) ⌝ }
+{
+    same_place(position, text, line + 8)
+        && same_place(tangent, text, line + 24)
+        && same_turn(turned, text, line + 40)
+}
+
+// The progress of the line at this place.
+fn progress_at(text: &[u8], line: usize) -> Progress {
+    Progress {
+        value: float(pattern(text, line)),
+    }
+}
+
+// The point of the two patterns at this place.
+fn point(text: &[u8], at: usize) -> Point
+    requires { ⌜ at + 16 ≤ length (now text) ⌝ }
+{
+    Point {
+        x: float(pattern(text, at)),
+        y: float(pattern(text, at + 8)),
+    }
+}
+
+// The number of a refusal, or 0.
+fn number_of(verdict: Verdict) -> u32 {
+    match verdict {
+        Verdict::Accepted => 0,
+        Verdict::Refused(refusal) => answers::number(refusal),
+    }
+}
+
+// Whether these numbers, of which at most 33 are looked at, have the patterns from this place on.
+fn same_numbers(numbers: &[f32], text: &[u8], at: usize) -> bool
+    requires { ⌜ at + 264 ≤ length (now text) ⌝ }
+{
+    for i in 0..33usize {
+        if i < numbers.len() {
+            if floats::bits(numbers[i]) != pattern(text, at + i * 8) {
+                return false;
+            }
+        }
+    }
+    true
+}
+
+// Whether a place or a direction was given and has the two patterns at this place.
+fn same_place(placed: Placed, text: &[u8], at: usize) -> bool
+    requires { ⌜ at + 16 ≤ length (now text) ⌝ }
+{
+    match placed {
+        Placed::At(p) => {
+            floats::bits(p.x) == pattern(text, at) && floats::bits(p.y) == pattern(text, at + 8)
+        }
+        Placed::Refused(_) => false,
+    }
+}
+
+// Whether a heading was given and has the pattern at this place.
+fn same_turn(turned: Turned, text: &[u8], at: usize) -> bool {
+    match turned {
+        Turned::Degrees(degrees) => floats::bits(degrees) == pattern(text, at),
+        Turned::Refused(_) => false,
+    }
+}
