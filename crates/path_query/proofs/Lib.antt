@@ -1,0 +1,3 @@
+-- The laws of the queries.
+pub mod Seats
+pub mod Answering

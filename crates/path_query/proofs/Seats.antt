@@ -1,0 +1,81 @@
+-- What a query finds where a cursor stands: the segment's numbers and its table; and that what it works out there is what the definitions say. Assumes nothing.
+use mathlib.Core.Path.{_≡_, refl, sym, ap, _∙_, subst}
+use Prim.Native.Nat.{ℕ, zero, suc, _<_}
+use native.Mathlib.Omega.{arith}
+use mathlib.Core.List.{List}
+use lib.Dec.{T}
+use lib.ListN.{length, getD, drop}
+use lib.Ieee.{Float}
+use Rattle.math.specs.declared.points.Point.{Point}
+use Rattle.table.specs.declared.tables.Spot.{Spot}
+use Rattle.table.specs.Spots.{spotOf}
+use Rattle.bezier.specs.Curves.{aheadOf}
+use Rattle.segment.specs.declared.segments.PathSegment.{PathSegment}
+use Rattle.segment.specs.Segments.{kindOf, widthOf, hasTable, segmentOf}
+use Rattle.stored.specs.Stored.{before, Numbered, Stored, segmentIn}
+use Rattle.place.specs.declared.cursors.Cursor.{Cursor}
+use Rattle.place.specs.Cursors.{cursorOf}
+use Rattle.place.specs.Places.{placeOf, rawIn, rawWithin, tablePlace, TableThere, SomePlace}
+use Rattle.place.proofs.Tables.{findable}
+use Rattle.place.proofs.Standing.{cursor-own, cursor-tables, standing}
+use Rattle.heading.specs.Headings.{sampleOf, headingOf}
+use Rattle.path_query.specs.Flights.{flownWithin, flownOf, Seated, Flyable}
+
+-- ---- the numbers of a segment
+
+pub cursor-numbers : (kinds : List ℕ) (i : ℕ) {at : Cursor} → at ≡ cursorOf kinds i → at .numbers ≡ before widthOf kinds i
+unfolding cursorOf
+cursor-numbers kinds i e = ap (λ (cursor : Cursor). cursor .numbers) e
+
+-- a known kind reads as itself
+segment-kind : (kind : ℕ) (numbers : List Float) → kind < 5 → kindOf (segmentOf kind numbers) ≡ kind
+unfolding segmentOf
+segment-kind zero numbers known = refl
+segment-kind (suc zero) numbers known = refl
+segment-kind (suc (suc zero)) numbers known = refl
+segment-kind (suc (suc (suc zero))) numbers known = refl
+segment-kind (suc (suc (suc (suc zero)))) numbers known = refl
+segment-kind (suc (suc (suc (suc (suc kind))))) numbers known = absurd (omega arith)
+
+segment-in-kind : (kinds : List ℕ) (fields : List Float) → Numbered kinds fields → (i : ℕ) → i < length kinds → kindOf (segmentIn kinds fields i) ≡ getD kinds i 0
+unfolding segmentIn
+segment-in-kind kinds fields numbered i inside = segment-kind (getD kinds i 0) (drop (before widthOf kinds i) fields) (numbered .known i inside)
+
+-- the table of the segment that was read is in its place
+pub seated-table : {kinds : List ℕ} {fields tables : List Float} {at : Cursor} → Seated kinds fields tables at → (segment : PathSegment) → segment ≡ segmentIn kinds fields (at .segment)
+    → T (hasTable (kindOf segment)) → TableThere tables (at .tables)
+seated-table {kinds} {fields} {tables} {at} s segment same has =
+    let here = s .standing in
+    let kind = ap kindOf same ∙ segment-in-kind kinds fields (s .numbered) (at .segment) (here .inside) in
+    subst (TableThere tables) (sym (cursor-tables kinds (at .segment) (here .is))) (here .tabled (subst (λ (k : ℕ). T (hasTable k)) kind has))
+
+-- ---- a path with a segment
+
+module _ {kinds : List ℕ} {fields tables lengths : List Float} (f : Flyable kinds fields tables lengths) where
+  pub some-place : SomePlace kinds tables lengths
+  some-place = record { some = f .some; path = findable (f .path) }
+
+  pub seated : {at : Cursor} {i : ℕ} → at ≡ cursorOf kinds i → i < length kinds → Seated kinds fields tables at
+  seated e inside = record { standing = standing some-place e inside; numbered = record { few = f .path .few; known = f .path .known; numbers = f .path .numbers } }
+
+-- what passes the check and has a segment
+module _ {kinds : List ℕ} {fields tables lengths : List Float} (s : Stored kinds fields tables lengths) (some : 0 < length kinds) where
+  pub a-flight : Flyable kinds fields tables lengths
+  a-flight = record { some = some; path = s }
+
+  pub a-place : SomePlace kinds tables lengths
+  a-place = some-place a-flight
+
+-- ---- what is worked out
+
+module _ (kinds : List ℕ) (fields tables : List Float) (at : Cursor) (along : Float) where
+  pub flown-is : (segment : PathSegment) (raw : Float) (position tangent : Point) → at ≡ cursorOf kinds (at .segment) → segment ≡ segmentIn kinds fields (at .segment)
+      → raw ≡ rawWithin kinds tables (at .segment) along → position ≡ sampleOf segment raw → tangent ≡ headingOf segment raw (rawIn tables (at .tables) (aheadOf along))
+      → record { position = position; tangent = tangent } ≡ flownWithin kinds fields tables (at .segment) along
+  unfolding flownWithin
+  flown-is segment raw position tangent own s r p t = rw (p, t, s, r, cursor-tables kinds (at .segment) own)
+
+pub flight-is : (kinds : List ℕ) (fields tables lengths : List Float) (p : Float) (spot : Spot) (at : Cursor) → spot ≡ spotOf lengths p → at ≡ cursorOf kinds (spot .segment)
+    → flownWithin kinds fields tables (at .segment) (spot .progress .value) ≡ flownOf kinds fields tables lengths p
+unfolding flownWithin flownOf placeOf
+flight-is kinds fields tables lengths p spot at same own = rw (cursor-own kinds (spot .segment) own .0, same)

@@ -1,0 +1,3 @@
+-- What the queries of a stored path give.
+pub mod Flights
+pub mod Answered

@@ -1,0 +1,59 @@
+// The queries without the check, for callers that know the path to be a stored one with a segment.
+use crate::flights::Flown;
+use heading::inner::heading;
+use heading::sample;
+use place::Cursor;
+use place::first_cursor;
+use place::forward;
+use place::inner::raw_within;
+use segment::PathSegment;
+use segment::inner::segment_at;
+use table::Progress;
+use table::inner::spot;
+ghost use mathlib.Core.Path.{_≡_};
+ghost use Rattle.stored.specs.Stored.{segmentIn};
+ghost use Rattle.path_query.specs.Flights.{Flyable, Seated, flownOf, flownWithin};
+
+// The segment at which a cursor stands.
+fn segment_here(kinds: &[u8], fields: &[f32], tables: &[f32], at: Cursor) -> PathSegment
+    requires { ⌜ Seated (now kinds) (now fields) (now tables) at ⌝ }
+    ensures { λ r. ⌜ r ≡ segmentIn (now (kinds .entry)) (now (fields .entry)) (at .segment) ⌝ }
+{
+    let segment = at.segment;
+    segment_at(kinds[segment], fields, at.numbers)
+}
+
+// What is flown at a local progress on the segment at which a cursor stands.
+pub fn flown_within(
+    kinds: &[u8],
+    fields: &[f32],
+    tables: &[f32],
+    at: Cursor,
+    along: Progress,
+) -> Flown
+    requires { ⌜ Seated (now kinds) (now fields) (now tables) at ⌝ }
+    ensures { λ r. ⌜ r ≡ flownWithin (now (kinds .entry)) (now (fields .entry)) (now (tables .entry)) (at .segment) (along .value) ⌝ }
+{
+    let segment = segment_here(kinds, fields, tables, at);
+    let raw = raw_within(kinds, tables, at, along);
+    let position = sample(segment, raw);
+    let tangent = heading(segment, tables, at.tables, along, raw);
+    Flown { position, tangent }
+}
+
+// What is flown at a progress.
+pub fn flown(
+    kinds: &[u8],
+    fields: &[f32],
+    tables: &[f32],
+    lengths: &[f32],
+    progress: Progress,
+) -> Flown
+    requires { ⌜ Flyable (now kinds) (now fields) (now tables) (now lengths) ⌝ }
+    ensures { λ r. ⌜ r ≡ flownOf (now (kinds .entry)) (now (fields .entry)) (now (tables .entry)) (now (lengths .entry)) (progress .value) ⌝ }
+{
+    let found = spot(lengths, progress);
+    let along = found.progress;
+    let at = forward(kinds, first_cursor(kinds), found.segment);
+    flown_within(kinds, fields, tables, at, along)
+}
