@@ -3,16 +3,16 @@
 
 mod clock;
 
-use animato_path::bezier::QuadBezier;
+use animato_path::bezier::{PathEvaluate, QuadBezier};
 use animato_path::math::open;
-use animato_path::poly::{CompoundPath, LineSegment, PathSegment};
+use animato_path::poly::{CompoundPath, LineSegment, PathCommand, PathSegment};
 use animato_path::svg::SvgPathParser;
 use clock::{large, latency, throughput};
 
 const INPUTS: usize = 4096;
 
 fn main() {
-    let rows: [(&str, fn()); 8] = [
+    let rows: [(&str, fn()); 9] = [
         ("root", root),
         ("length", length),
         ("angles", angles),
@@ -21,6 +21,7 @@ fn main() {
         ("decimals", decimals),
         ("lookup", lookup),
         ("spot", spot),
+        ("build", build),
     ];
     let wanted: Vec<String> = std::env::args().skip(1).collect();
     if let Some(word) = wanted.iter().find(|word| rows.iter().all(|(name, _)| name != word)) {
@@ -242,6 +243,57 @@ fn spot() {
     let inputs: Vec<f32> = patterns().map(|bits| (bits >> 8) as f32 / 16_777_216.0).collect();
     let ours = |t: f32| kihavute::spot(&lengths, t).ok().flatten().map_or(0, |(_, local)| local);
     row("segment of a path of 40", throughput(&inputs, ours, |t| original_segment_at(&path, t).to_bits()));
+}
+
+#[inline(never)]
+fn original_build(commands: &[PathCommand]) -> u32 {
+    CompoundPath::from_commands(commands).arc_length().to_bits()
+}
+
+// a list of a MoveTo and 500 segments of one kind, some hundred metres each, by the segment; ours judges the whole list before
+// it writes, so that each table is made twice
+fn build() {
+    const COUNT: usize = 500;
+    let bits: Vec<u32> = patterns().collect();
+    let metres = |k: usize| (bits[k] % 1_000_000) as f32 / 1000.0;
+    let point = |k: usize| [metres(k), metres(k + 1)];
+    for (letter, name) in
+        [(b'L', "building a line"), (b'Q', "building a quad"), (b'C', "building a cubic"), (b'A', "building an arc")]
+    {
+        let mut commands = vec![PathCommand::MoveTo(point(0))];
+        let (mut letters, mut numbers) = (vec![b'M'], point(0).to_vec());
+        for k in 0..COUNT {
+            let [a, b, c] = [point(8 * k), point(8 * k + 2), point(8 * k + 4)];
+            let end = point(8 * k + 6);
+            let radii = [a[0] + 1.0, a[1] + 1.0];
+            letters.push(letter);
+            commands.push(match letter {
+                b'L' => PathCommand::LineTo(end),
+                b'Q' => PathCommand::QuadTo { control: b, end },
+                b'C' => PathCommand::CubicTo { control1: b, control2: c, end },
+                _ => PathCommand::ArcTo { radii, x_axis_rotation: 30.0, large_arc: k % 2 == 0, sweep: k % 3 == 0, end },
+            });
+            match letter {
+                b'L' => {}
+                b'Q' => numbers.extend(b),
+                b'C' => numbers.extend(b.into_iter().chain(c)),
+                _ => numbers.extend(radii.into_iter().chain([
+                    30.0,
+                    if k % 2 == 0 { 1.0 } else { 0.0 },
+                    if k % 3 == 0 { 1.0 } else { 0.0 },
+                ])),
+            }
+            numbers.extend(end);
+        }
+        let (mut kinds, mut fields) = (vec![0; COUNT], vec![0.0; 11 * COUNT]);
+        let (mut tables, mut lengths) = (vec![0.0; 33 * COUNT], vec![0.0; COUNT]);
+        let buffers = std::cell::RefCell::new((&mut kinds, &mut fields, &mut tables, &mut lengths));
+        let ours = || {
+            let (kinds, fields, tables, lengths) = &mut *buffers.borrow_mut();
+            kihavute::build(&letters, &numbers, kinds, fields, tables, lengths).map_or(0, |counts| counts[1] as u32)
+        };
+        row(name, large(ours, || original_build(&commands)).map(|time| time / COUNT as f64));
+    }
 }
 
 // fixed pseudo-random patterns

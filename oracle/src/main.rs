@@ -2,6 +2,7 @@
 
 mod bezier;
 mod bnf;
+mod build;
 mod compare;
 mod decimal;
 mod earley;
@@ -31,6 +32,7 @@ fn main() -> ExitCode {
             strict::compare_some(&mut report, SEED);
             decimal::compare_some(&mut report, SEED);
             bezier::compare(&mut report, SEED, 20_000);
+            build::compare(&mut report, SEED, 5_000);
             for recording in record::RECORDINGS {
                 recording.compare(&mut report, SEED);
             }
@@ -43,6 +45,12 @@ fn main() -> ExitCode {
         ["trig"] => math::compare(&mut report, &trig::FAMILY, SEED, 2_000_000),
         ["table"] => table::compare(&mut report, SEED, 1_000_000),
         ["bezier"] => bezier::compare(&mut report, SEED, 250_000),
+        ["build"] => build::compare(&mut report, SEED, 100_000),
+        ["build", "drawings"] => build::compare_drawings(&mut report),
+        ["build", seed, count] => match (seed.parse(), count.parse()) {
+            (Ok(seed), Ok(count)) => build::compare(&mut report, seed, count),
+            _ => return usage(),
+        },
         ["root_all"] => root_all::compare(&mut report),
         ["strict"] => strict::compare_all(&mut report),
         ["strict", "drawings"] => strict::compare_drawings(&mut report),
@@ -74,7 +82,7 @@ fn main() -> ExitCode {
 
 fn usage() -> ExitCode {
     eprintln!(
-        "oracle/run gate | math [SEED] | trig | table | bezier | root_all | strict [drawings | time | SEED COUNT] | \
+        "oracle/run gate | math [SEED] | trig | table | bezier | build [drawings | SEED COUNT] | root_all | strict [drawings | time | SEED COUNT] | \
          decimal edges | decimal printed PART | decimal KIND SEED COUNT | record NAME"
     );
     ExitCode::from(2)

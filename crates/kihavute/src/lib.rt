@@ -6,6 +6,7 @@ mod decimals;
 mod given;
 mod lookups;
 mod numbers;
+mod paths;
 mod points;
 mod strict_reading;
 mod turns;
