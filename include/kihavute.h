@@ -360,6 +360,29 @@ uint32_t kihavute_check(const uint8_t *kinds, size_t kinds_len, const float *fie
                         const float *tables, size_t tables_len, const float *lengths, size_t lengths_len,
                         uint64_t *answer, size_t answer_len);
 
+/* ---- Paths ----
+ * A stored path has four buffers. kinds: a byte for each segment, 0 line, 1 quad, 2 cubic, 3 arc, 4 an arc that fell back to a
+ * line. fields: for each segment its numbers, 4 (start, end), 6 (start, control, end), 8 (start, both controls, end), 11 and 11
+ * (start, end, centre, radii, rotation in degrees, start angle and angle swept in radians), x before y. tables: for each quad,
+ * cubic and arc of kind 3, 33 numbers: 32 running lengths along it and their total. lengths: for each segment the running length
+ * of the path up to its end. */
+
+/* Builds the path of a command list: letters (M L Q C A Z) and their 2, 2, 4, 6, 7 or 0 numbers. answer[0] to answer[3] get how
+ * many places of kinds, fields, tables and lengths are written from their starts; the others stay. Refused, with nothing written,
+ * in this order: 13 above 65,536 commands (their count); 9 at the first bad command; 10 at a segment that is an arc beyond 3600
+ * degrees in size and 11 at one where the running length becomes infinite or a NaN, segment by segment; 8 with the four counts
+ * needed. */
+uint32_t kihavute_build(const uint8_t *letters, size_t letters_len, const float *numbers, size_t numbers_len,
+                        uint8_t *kinds, size_t kinds_len, float *fields, size_t fields_len,
+                        float *tables, size_t tables_len, float *lengths, size_t lengths_len,
+                        uint64_t *answer, size_t answer_len);
+
+/* The same for a text of path data, with no command list between. Refused with 1 above 65,536 bytes (the count), with 2 to 7
+ * where it does not read to its end, then as above with 10, 11 and 8. */
+uint32_t kihavute_build_text(const uint8_t *text, size_t text_len, uint8_t *kinds, size_t kinds_len,
+                             float *fields, size_t fields_len, float *tables, size_t tables_len,
+                             float *lengths, size_t lengths_len, uint64_t *answer, size_t answer_len);
+
 /* ---- From bits to floats ---- */
 
 /* The float that has these bits. */

@@ -6,7 +6,7 @@ mod clock;
 use animato_path::bezier::{CatmullRomSpline, CubicBezierCurve, PathEvaluate, QuadBezier};
 use animato_path::math::open;
 use animato_path::morph::{MorphPath, resample};
-use animato_path::poly::{CompoundPath, EllipticalArc, LineSegment, PathSegment};
+use animato_path::poly::{CompoundPath, EllipticalArc, LineSegment, PathCommand, PathSegment};
 use animato_path::svg::SvgPathParser;
 use clock::{large, latency, slow, throughput};
 use kihavute::Chord;
@@ -21,6 +21,7 @@ fn main() {
         ("angles", angles),
         ("strict", strict),
         ("drawings", drawings),
+        ("build", build),
         ("read", read),
         ("decimals", decimals),
         ("shapes", shapes),
@@ -445,6 +446,57 @@ fn shapes() {
         list.borrow().len() as u32
     };
     row("evaluate, each point", each(large(ours, theirs)));
+}
+
+#[inline(never)]
+fn original_build(commands: &[PathCommand]) -> u32 {
+    CompoundPath::from_commands(commands).arc_length().to_bits()
+}
+
+// a list of a MoveTo and 500 segments of one kind, some hundred metres each, by the segment; ours judges the whole list before
+// it writes, so that each table is made twice
+fn build() {
+    const COUNT: usize = 500;
+    let bits: Vec<u32> = patterns().collect();
+    let metres = |k: usize| (bits[k] % 1_000_000) as f32 / 1000.0;
+    let point = |k: usize| [metres(k), metres(k + 1)];
+    for (letter, name) in
+        [(b'L', "building a line"), (b'Q', "building a quad"), (b'C', "building a cubic"), (b'A', "building an arc")]
+    {
+        let mut commands = vec![PathCommand::MoveTo(point(0))];
+        let (mut letters, mut numbers) = (vec![b'M'], point(0).to_vec());
+        for k in 0..COUNT {
+            let [a, b, c] = [point(8 * k), point(8 * k + 2), point(8 * k + 4)];
+            let end = point(8 * k + 6);
+            let radii = [a[0] + 1.0, a[1] + 1.0];
+            letters.push(letter);
+            commands.push(match letter {
+                b'L' => PathCommand::LineTo(end),
+                b'Q' => PathCommand::QuadTo { control: b, end },
+                b'C' => PathCommand::CubicTo { control1: b, control2: c, end },
+                _ => PathCommand::ArcTo { radii, x_axis_rotation: 30.0, large_arc: k % 2 == 0, sweep: k % 3 == 0, end },
+            });
+            match letter {
+                b'L' => {}
+                b'Q' => numbers.extend(b),
+                b'C' => numbers.extend(b.into_iter().chain(c)),
+                _ => numbers.extend(radii.into_iter().chain([
+                    30.0,
+                    if k % 2 == 0 { 1.0 } else { 0.0 },
+                    if k % 3 == 0 { 1.0 } else { 0.0 },
+                ])),
+            }
+            numbers.extend(end);
+        }
+        let (mut kinds, mut fields) = (vec![0; COUNT], vec![0.0; 11 * COUNT]);
+        let (mut tables, mut lengths) = (vec![0.0; 33 * COUNT], vec![0.0; COUNT]);
+        let buffers = std::cell::RefCell::new((&mut kinds, &mut fields, &mut tables, &mut lengths));
+        let ours = || {
+            let (kinds, fields, tables, lengths) = &mut *buffers.borrow_mut();
+            kihavute::build(&letters, &numbers, kinds, fields, tables, lengths).map_or(0, |counts| counts[1] as u32)
+        };
+        row(name, large(ours, || original_build(&commands)).map(|time| time / COUNT as f64));
+    }
 }
 
 // fixed pseudo-random patterns

@@ -3,6 +3,7 @@
 mod arc;
 mod bezier;
 mod bnf;
+mod build;
 mod compare;
 mod decimal;
 mod earley;
@@ -32,6 +33,7 @@ fn main() -> ExitCode {
     match words[..] {
         ["gate"] => {
             math::compare(&mut report, &math::FAMILY, SEED, 200_000);
+            build::compare(&mut report, SEED, 5_000);
             stored::compare(&mut report, SEED, 10_000);
             math::compare(&mut report, &trig::FAMILY, SEED, 100_000);
             morph::compare(&mut report, SEED, 2_000);
@@ -44,6 +46,12 @@ fn main() -> ExitCode {
             spline::compare(&mut report, SEED, 400);
             for recording in record::RECORDINGS {
                 recording.compare(&mut report, SEED);
+        ["build"] => build::compare(&mut report, SEED, 100_000),
+        ["build", "drawings"] => build::compare_drawings(&mut report),
+        ["build", seed, count] => match (seed.parse(), count.parse()) {
+            (Ok(seed), Ok(count)) => build::compare(&mut report, seed, count),
+            _ => return usage(),
+        },
             }
         }
         ["math"] => math::compare(&mut report, &math::FAMILY, SEED, 2_000_000),

@@ -48,6 +48,36 @@ unsafe extern "C" {
         answer: *mut u64,
         answer_len: usize,
     ) -> u32;
+    fn kihavute_build(
+        letters: *const u8,
+        letters_len: usize,
+        numbers: *const f32,
+        numbers_len: usize,
+        kinds: *mut u8,
+        kinds_len: usize,
+        fields: *mut f32,
+        fields_len: usize,
+        tables: *mut f32,
+        tables_len: usize,
+        lengths: *mut f32,
+        lengths_len: usize,
+        answer: *mut u64,
+        answer_len: usize,
+    ) -> u32;
+    fn kihavute_build_text(
+        text: *const u8,
+        text_len: usize,
+        kinds: *mut u8,
+        kinds_len: usize,
+        fields: *mut f32,
+        fields_len: usize,
+        tables: *mut f32,
+        tables_len: usize,
+        lengths: *mut f32,
+        lengths_len: usize,
+        answer: *mut u64,
+        answer_len: usize,
+    ) -> u32;
     fn kihavute_spot(
         lengths: *const f32,
         lengths_len: usize,
@@ -659,6 +689,68 @@ pub fn bounds(from: &[f32], to: &[f32], t: f32) -> Result<[Bits; 4], Refusal> {
         kihavute_bounds(from.as_ptr(), from.len(), to.as_ptr(), to.len(), t, answer, places)
     })?;
     Ok([given[0] as Bits, given[1] as Bits, given[2] as Bits, given[3] as Bits])
+}
+
+/// Builds the stored path of a command list into four buffers. Gives how many places of each are written: kinds, fields,
+/// tables, lengths. A refusal writes nothing.
+#[inline]
+pub fn build(
+    letters: &[u8],
+    numbers: &[f32],
+    kinds: &mut [u8],
+    fields: &mut [f32],
+    tables: &mut [f32],
+    lengths: &mut [f32],
+) -> Result<[usize; 4], Refusal> {
+    // SAFETY: the slices are whole and apart from each other, and the answer is the call's own
+    let given = judged(|answer, places| unsafe {
+        kihavute_build(
+            letters.as_ptr(),
+            letters.len(),
+            numbers.as_ptr(),
+            numbers.len(),
+            kinds.as_mut_ptr(),
+            kinds.len(),
+            fields.as_mut_ptr(),
+            fields.len(),
+            tables.as_mut_ptr(),
+            tables.len(),
+            lengths.as_mut_ptr(),
+            lengths.len(),
+            answer,
+            places,
+        )
+    })?;
+    Ok([0, 1, 2, 3].map(|k| given[k] as usize))
+}
+
+/// The same for a text of path data.
+#[inline]
+pub fn build_text(
+    text: &[u8],
+    kinds: &mut [u8],
+    fields: &mut [f32],
+    tables: &mut [f32],
+    lengths: &mut [f32],
+) -> Result<[usize; 4], Refusal> {
+    // SAFETY: the slices are whole and apart from each other, and the answer is the call's own
+    let given = judged(|answer, places| unsafe {
+        kihavute_build_text(
+            text.as_ptr(),
+            text.len(),
+            kinds.as_mut_ptr(),
+            kinds.len(),
+            fields.as_mut_ptr(),
+            fields.len(),
+            tables.as_mut_ptr(),
+            tables.len(),
+            lengths.as_mut_ptr(),
+            lengths.len(),
+            answer,
+            places,
+        )
+    })?;
+    Ok([0, 1, 2, 3].map(|k| given[k] as usize))
 }
 
 /// Where the quad of a start, a control and an end is at a progress.

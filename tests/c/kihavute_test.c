@@ -792,6 +792,52 @@ static void stored_paths(void) {
     same("a short answer", kihavute_check(kinds, 0, fields, 0, tables, 0, lengths, 0, answer, 7), 255);
 }
 
+static uint8_t kinds[4];
+static float fields[24], tables[70], lengths[4];
+
+/* a text into buffers of so many places, all cleared to 9 */
+static uint32_t built(const char *text, size_t kinds_len, size_t fields_len, size_t tables_len, size_t lengths_len) {
+    memset(kinds, 9, sizeof kinds);
+    for (size_t i = 0; i < 24; i++) fields[i] = 9;
+    for (size_t i = 0; i < 70; i++) tables[i] = 9;
+    for (size_t i = 0; i < 4; i++) lengths[i] = 9;
+    fresh();
+    return kihavute_build_text((const uint8_t *)text, strlen(text), kinds, kinds_len, fields, fields_len, tables, tables_len,
+                               lengths, lengths_len, answer, PLACES);
+}
+
+static void paths(void) {
+    /* a line of length 5 and the line back */
+    const uint8_t letters[] = {'M', 'L', 'Z'};
+    const float list[] = {0, 0, 3, 4};
+    memset(kinds, 9, sizeof kinds);
+    fresh();
+    answered("a list", kihavute_build(letters, 3, list, 4, kinds, 4, fields, 24, tables, 70, lengths, 4, answer, PLACES), 0, 4,
+             (uint64_t[]){2, 8, 0, 2});
+    same("its kinds", kinds[0] << 8 | kinds[1], 0);
+    same("a kind past them", kinds[2], 9);
+    same("its first length", bits(lengths[0]), bits(5));
+    same("its second length", bits(lengths[1]), bits(10));
+    fresh();
+    answered("a list with a number left over", kihavute_build(letters, 2, list, 3, kinds, 4, fields, 24, tables, 70, lengths, 4, answer, PLACES), 9, 1,
+             (uint64_t[]){1});
+    fresh();
+    answered("a list, a short answer", kihavute_build(letters, 3, list, 4, kinds, 4, fields, 24, tables, 70, lengths, 4, answer, 7), 255, 0, NULL);
+
+    answered("ZL1 2", built("ZL1 2", 4, 24, 70, 4), 0, 4, (uint64_t[]){0, 0, 0, 0});
+    answered("a quad and a fallback", built("M0 0Q1 1 2 0A0 1 0 0 0 5 4", 4, 24, 70, 4), 0, 4, (uint64_t[]){2, 17, 33, 2});
+    same("their kinds", kinds[0] << 8 | kinds[1], 1 << 8 | 4);
+    same("the quad's total", bits(tables[32]), bits(lengths[0]));
+    same("a table's place past them", bits(tables[33]), bits(9));
+    answered("a table one short", built("M0 0Q1 1 2 0", 4, 24, 32, 4), 8, 4, (uint64_t[]){1, 6, 33, 1});
+    same("nothing written", kinds[0], 9);
+    answered("1e19", built("M0 0L1e19 0", 4, 24, 70, 4), 0, 4, (uint64_t[]){1, 4, 0, 1});
+    answered("2e19", built("M0 0L2e19 0", 4, 24, 70, 4), 11, 1, (uint64_t[]){0});
+    answered("3600 degrees", built("M0 0A1 1 3600 0 0 1 1", 4, 24, 70, 4), 0, 4, (uint64_t[]){1, 11, 33, 1});
+    answered("the next above", built("M0 0A1 1 3600.0003 0 0 1 1", 4, 24, 70, 4), 10, 1, (uint64_t[]){0});
+    answered("a reading refusal after one of building", built("M0 0L2e19 0X", 4, 24, 70, 4), 6, 2, (uint64_t[]){'X', 11});
+}
+
 int main(void) {
     roots();
     angles();
@@ -801,6 +847,7 @@ int main(void) {
     curves();
     stored_paths();
     shapes();
+    paths();
     splines();
     strict_reading();
     decimals();

@@ -6,3 +6,4 @@ pub mod ReadingGiven
 pub mod SplinesGiven
 pub mod Putting
 pub mod CheckGiven
+pub mod PathsGiven

@@ -10,3 +10,4 @@ pub mod CurveTables
 pub mod Arcs
 pub mod Splines
 pub mod Morphs
+pub mod Paths

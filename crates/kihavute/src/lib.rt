@@ -9,6 +9,7 @@ mod given;
 mod lookups;
 mod morphs;
 mod numbers;
+mod paths;
 mod points;
 mod reading;
 mod splines;

@@ -1,0 +1,372 @@
+//! Paths built on both sides: command lists and texts into kinds, fields, tables and running lengths, by bits.
+
+use crate::compare::{Input, Report};
+use crate::math::alike;
+use crate::samples::{SPECIALS, Stream};
+use animato_path::poly::{CompoundPath, PathCommand, PathSegment};
+use animato_path::svg::SvgPathParser;
+use std::fmt;
+
+/// What a path is built of.
+#[derive(Clone)]
+enum Source {
+    List(Vec<PathCommand>),
+    Text(String),
+}
+
+/// What is built, and how many places a buffer lacks: the number of the buffer, or none.
+#[derive(Clone)]
+struct Asked {
+    source: Source,
+    short: Option<usize>,
+}
+
+/// A path in four buffers, floats by their bits; or the number of a refusal and what it carries.
+#[derive(Clone, PartialEq)]
+enum Answer {
+    Path {
+        kinds: Vec<u8>,
+        fields: Vec<u32>,
+        tables: Vec<u32>,
+        lengths: Vec<u32>,
+    },
+    Refused(u32, [u64; 4]),
+    /// The text does not read.
+    Unread,
+    /// A place was written that should not have been.
+    Overwritten,
+}
+
+use Answer::{Overwritten, Path, Refused, Unread};
+
+/// What stands in a buffer before the call.
+const BYTE: u8 = 0xA5;
+const FLOAT: u32 = 0xC0DE_F00D;
+
+/// A list in its stored form.
+pub fn stored(commands: &[PathCommand]) -> (Vec<u8>, Vec<f32>) {
+    let (mut letters, mut numbers) = (Vec::new(), Vec::new());
+    let flag = |set: bool| if set { 1.0 } else { 0.0 };
+    for command in commands {
+        letters.push(match *command {
+            PathCommand::MoveTo(end) => {
+                numbers.extend(end);
+                b'M'
+            }
+            PathCommand::LineTo(end) => {
+                numbers.extend(end);
+                b'L'
+            }
+            PathCommand::QuadTo { control, end } => {
+                numbers.extend(control.into_iter().chain(end));
+                b'Q'
+            }
+            PathCommand::CubicTo { control1, control2, end } => {
+                numbers.extend(control1.into_iter().chain(control2).chain(end));
+                b'C'
+            }
+            PathCommand::ArcTo { radii, x_axis_rotation, large_arc, sweep, end } => {
+                numbers.extend(radii);
+                numbers.extend([x_axis_rotation, flag(large_arc), flag(sweep)]);
+                numbers.extend(end);
+                b'A'
+            }
+            PathCommand::ClosePath => b'Z',
+        });
+    }
+    (letters, numbers)
+}
+
+// the Rust's segment in its stored form
+fn lay(segment: &PathSegment, kinds: &mut Vec<u8>, fields: &mut Vec<u32>, tables: &mut Vec<u32>) {
+    let mut points = |points: &[[f32; 2]]| fields.extend(points.as_flattened().iter().map(|x| alike(*x)));
+    let (kind, table) = match segment {
+        PathSegment::Line(line) => {
+            points(&[line.start(), line.end()]);
+            (0, None)
+        }
+        PathSegment::Quad(quad) => {
+            points(&[quad.start(), quad.control(), quad.end()]);
+            (1, Some(quad.open_table()))
+        }
+        PathSegment::Cubic(cubic) => {
+            points(&[cubic.start(), cubic.control1(), cubic.control2(), cubic.end()]);
+            (2, Some(cubic.open_table()))
+        }
+        PathSegment::Arc(arc) => {
+            points(&[arc.start(), arc.end(), arc.center(), arc.radii()]);
+            fields.extend(arc.open_angles().map(alike));
+            if arc.open_is_fallback() { (4, None) } else { (3, Some(arc.open_table())) }
+        }
+    };
+    kinds.push(kind);
+    if let Some((entries, total)) = table {
+        tables.extend(entries.into_iter().chain([total]).map(alike));
+    }
+}
+
+// the Rust's path; where document 01 refuses, the first segment decides, and a rotation before a length
+fn theirs(commands: &[PathCommand]) -> Answer {
+    let path = CompoundPath::from_commands(commands);
+    let (mut kinds, mut fields, mut tables) = (Vec::new(), Vec::new(), Vec::new());
+    let (lengths, _) = path.open_lengths();
+    for (number, (segment, length)) in path.segments().iter().zip(lengths).enumerate() {
+        if let PathSegment::Arc(arc) = segment {
+            let [rotation, _, _] = arc.open_angles();
+            if !arc.open_is_fallback() && !(rotation.abs() <= 3600.0) {
+                return Refused(10, [number as u64, 0, 0, 0]);
+            }
+        }
+        if !length.is_finite() {
+            return Refused(11, [number as u64, 0, 0, 0]);
+        }
+        lay(segment, &mut kinds, &mut fields, &mut tables);
+    }
+    Path { kinds, fields, tables, lengths: lengths.iter().map(|x| alike(*x)).collect() }
+}
+
+impl Asked {
+    fn commands(&self) -> Option<Vec<PathCommand>> {
+        match &self.source {
+            Source::List(commands) => Some(commands.clone()),
+            Source::Text(text) => SvgPathParser::try_parse(text).ok(),
+        }
+    }
+
+    fn expected(&self) -> Answer {
+        match (self.commands().map(|commands| theirs(&commands)), self.short) {
+            (None, _) => Unread,
+            (Some(Path { kinds, fields, tables, lengths }), Some(short)) => {
+                let counts = [kinds.len(), fields.len(), tables.len(), lengths.len()].map(|count| count as u64);
+                if counts[short] == 0 { Path { kinds, fields, tables, lengths } } else { Refused(8, counts) }
+            }
+            (Some(answer), _) => answer,
+        }
+    }
+
+    // the buffers have as many places as the Rust's path needs, and three more, or one too few in one of them
+    fn ours(&self) -> Answer {
+        let needs = match self.commands().map(|commands| theirs(&commands)) {
+            Some(Path { kinds, fields, tables, lengths }) => [kinds.len(), fields.len(), tables.len(), lengths.len()],
+            _ => [8, 64, 64, 8],
+        };
+        let mut places = needs.map(|count| count + 3);
+        if let Some(short) = self.short {
+            places[short] = needs[short].saturating_sub(1);
+        }
+        let mut kinds = vec![BYTE; places[0]];
+        let [mut fields, mut tables, mut lengths] = [1, 2, 3].map(|k| vec![f32::from_bits(FLOAT); places[k]]);
+        let given = match &self.source {
+            Source::List(commands) => {
+                let (letters, numbers) = stored(commands);
+                kihavute::build(&letters, &numbers, &mut kinds, &mut fields, &mut tables, &mut lengths)
+            }
+            Source::Text(text) => {
+                kihavute::build_text(text.as_bytes(), &mut kinds, &mut fields, &mut tables, &mut lengths)
+            }
+        };
+        let counts = given.unwrap_or([0; 4]);
+        let untouched = kinds.iter().skip(counts[0]).all(|byte| *byte == BYTE)
+            && [(&fields, counts[1]), (&tables, counts[2]), (&lengths, counts[3])]
+                .iter()
+                .all(|(buffer, count)| buffer.iter().skip(*count).all(|x| x.to_bits() == FLOAT));
+        match given {
+            _ if !untouched => Overwritten,
+            Err(refusal) if (2..=7).contains(&refusal.number) => Unread,
+            Err(refusal) => {
+                let [a, b, c, d, ..] = refusal.carried;
+                Refused(refusal.number, [a, b, c, d])
+            }
+            Ok(counts) => {
+                let bits = |buffer: &[f32], count: usize| buffer[..count].iter().map(|x| x.to_bits()).collect();
+                Path {
+                    kinds: kinds[..counts[0]].to_vec(),
+                    fields: bits(&fields, counts[1]),
+                    tables: bits(&tables, counts[2]),
+                    lengths: bits(&lengths, counts[3]),
+                }
+            }
+        }
+    }
+}
+
+impl fmt::Display for Asked {
+    fn fmt(&self, out: &mut fmt::Formatter) -> fmt::Result {
+        match &self.source {
+            Source::List(commands) => write!(out, "{commands:?}")?,
+            Source::Text(text) => write!(out, "{text:?}")?,
+        }
+        match self.short {
+            Some(short) => write!(out, ", buffer {short} one short"),
+            None => Ok(()),
+        }
+    }
+}
+
+impl fmt::Display for Answer {
+    fn fmt(&self, out: &mut fmt::Formatter) -> fmt::Result {
+        match self {
+            Path { kinds, fields, tables, lengths } => {
+                write!(out, "kinds {kinds:?} fields {fields:X?} tables {tables:X?} lengths {lengths:X?}")
+            }
+            Refused(number, carried) => write!(out, "refused {number} {carried:?}"),
+            Unread => write!(out, "not read"),
+            Overwritten => write!(out, "a place overwritten"),
+        }
+    }
+}
+
+impl Input for Asked {
+    // without a command, or without a byte
+    fn simpler(&self) -> Vec<Asked> {
+        let of = |source| Asked { source, short: self.short };
+        match &self.source {
+            Source::List(commands) => (0..commands.len())
+                .map(|left_out| {
+                    let mut fewer = commands.clone();
+                    fewer.remove(left_out);
+                    of(Source::List(fewer))
+                })
+                .collect(),
+            Source::Text(text) => text
+                .char_indices()
+                .map(|(at, letter)| of(Source::Text(format!("{}{}", &text[..at], &text[at + letter.len_utf8()..]))))
+                .collect(),
+        }
+    }
+}
+
+// ---- lists and texts
+
+// a coordinate: whole, with thousandths, near another, huge, tiny, special or of any bits
+fn number(stream: &mut Stream, kind: u32) -> f32 {
+    match if kind == 6 { stream.below(6) } else { kind } {
+        0 => stream.below(21) as f32 - 10.0,
+        1 => (stream.below(1 << 21) as f32 - 1_048_576.0) / 1000.0,
+        2 => (stream.below(3) as f32) * 0.5 + f32::from_bits(0x3380_0000 + stream.below(0x0100_0000)),
+        3 => f32::from_bits(stream.bits() & 0x807F_FFFF | (150 + stream.below(60)) << 23),
+        4 => f32::from_bits(SPECIALS[stream.below(SPECIALS.len() as u32) as usize]),
+        _ => f32::from_bits(stream.bits()),
+    }
+}
+
+fn command(stream: &mut Stream, kind: u32) -> PathCommand {
+    let point = |stream: &mut Stream| [number(stream, kind), number(stream, kind)];
+    match stream.below(12) {
+        0 => PathCommand::MoveTo(point(stream)),
+        1..3 => PathCommand::LineTo(point(stream)),
+        3..5 => PathCommand::QuadTo { control: point(stream), end: point(stream) },
+        5..7 => PathCommand::CubicTo { control1: point(stream), control2: point(stream), end: point(stream) },
+        7..11 => PathCommand::ArcTo {
+            radii: point(stream),
+            x_axis_rotation: match stream.below(6) {
+                0 => 3600.0,
+                1 => f32::from_bits(0x4561_0001),
+                2 => number(stream, kind),
+                _ => stream.below(721) as f32 - 360.0,
+            },
+            large_arc: stream.below(2) == 0,
+            sweep: stream.below(2) == 0,
+            end: point(stream),
+        },
+        _ => PathCommand::ClosePath,
+    }
+}
+
+fn list(stream: &mut Stream, kind: u32) -> Vec<PathCommand> {
+    let count = 1 + stream.below(8);
+    let mut commands: Vec<_> = (0..count).map(|_| command(stream, kind)).collect();
+    if stream.below(4) != 0 {
+        commands.insert(0, PathCommand::MoveTo([number(stream, kind), number(stream, kind)]));
+    }
+    commands
+}
+
+// a list as a text, some letters in lower case
+fn text(stream: &mut Stream, kind: u32) -> String {
+    let mut out = String::new();
+    for command in list(stream, kind) {
+        let (letters, numbers) = stored(&[command]);
+        let letter = if stream.below(3) == 0 { letters[0].to_ascii_lowercase() } else { letters[0] };
+        out.push(letter as char);
+        for number in numbers {
+            out.push([' ', ',', ' '][stream.below(3) as usize]);
+            out.push_str(&if number.is_finite() { format!("{number}") } else { "1e39".to_string() });
+        }
+    }
+    if stream.below(16) == 0 {
+        let at = stream.below(out.len() as u32 + 1) as usize;
+        out.insert(at, ['x', 'Z', '.', '-', '7', 'e', 'l'][stream.below(7) as usize]);
+    }
+    out
+}
+
+const KINDS: [&str; 7] = ["whole", "thousandths", "near", "huge", "special", "any bits", "mixed"];
+
+fn short(stream: &mut Stream) -> Option<usize> {
+    (stream.below(8) == 0).then(|| stream.below(4) as usize)
+}
+
+/// So many lists and so many texts of each kind of number.
+pub fn compare(report: &mut Report, seed: u64, count: u64) {
+    compare_known(report);
+    for (kind, name) in (0..).zip(KINDS) {
+        let mut stream = Stream::new(seed ^ u64::from(kind));
+        let lists =
+            (0..count).map(move |_| Asked { source: Source::List(list(&mut stream, kind)), short: short(&mut stream) });
+        report.group(&format!("building lists, {name}"), lists, Asked::ours, Asked::expected);
+        let mut stream = Stream::new(seed ^ 0x7E_0000 ^ u64::from(kind));
+        let texts =
+            (0..count).map(move |_| Asked { source: Source::Text(text(&mut stream, kind)), short: short(&mut stream) });
+        report.group(&format!("building texts, {name}"), texts, Asked::ours, Asked::expected);
+    }
+}
+
+/// The path texts that tools/drawings gathers, as texts and as lists.
+pub fn compare_drawings(report: &mut Report) {
+    let Ok(all) = std::fs::read_to_string("target/drawings/paths.txt") else {
+        println!("  no drawings are there: tools/drawings fetches them");
+        return;
+    };
+    let texts: Vec<&str> = all.lines().filter(|line| line.len() <= 65_536).collect();
+    let asked = texts.iter().map(|line| Asked { source: Source::Text(line.to_string()), short: None });
+    report.group("building drawings", asked, Asked::ours, Asked::expected);
+    let asked = texts.iter().filter_map(|line| {
+        let commands = SvgPathParser::try_parse(line).ok()?;
+        Some(Asked { source: Source::List(commands), short: None })
+    });
+    report.group("building drawings' lists", asked, Asked::ours, Asked::expected);
+}
+
+// document 01's cases, and the order of refusals; what is expected is written here
+fn compare_known(report: &mut Report) {
+    let cases: [(&str, Result<usize, (u32, u64)>); 14] = [
+        ("", Ok(0)),
+        ("M0 0L1e19 0", Ok(1)),
+        ("M0 0L2e19 0", Err((11, 0))),
+        ("M0 0L3 4L2e19 0", Err((11, 1))),
+        ("M0 0A1 1 3600 0 0 1 1", Ok(1)),
+        ("M0 0A1 1 3600.0002441406250 0 0 1 1", Err((10, 0))),
+        ("M0 0A1 1 4000 0 0 1e39 4", Err((10, 0))),
+        ("M0 0A0 1 4000 0 0 3 4", Ok(1)),
+        ("M0 0L2e19 0A1 1 4000 0 0 3 4", Err((11, 0))),
+        ("ZL1 2", Ok(0)),
+        ("ZL1 2L3 4Z", Ok(2)),
+        ("M1 2Z", Ok(1)),
+        ("M0 0A5e9 5e9 0 0 1 3 4", Err((11, 0))),
+        ("M1e39 0Z", Err((11, 0))),
+    ];
+    let mut equal = true;
+    for (text, expected) in cases {
+        let (mut kinds, mut numbers) = ([0; 8], [[0.0; 512]; 3]);
+        let [fields, tables, lengths] = &mut numbers;
+        let given = kihavute::build_text(text.as_bytes(), &mut kinds, fields, tables, lengths)
+            .map(|counts| counts[0])
+            .map_err(|refusal| (refusal.number, refusal.carried[0]));
+        if given != expected {
+            println!("  DIFFERENT in the cases known: {text:?}: ours {given:?}, expected {expected:?}");
+            equal = false;
+        }
+    }
+    report.count(cases.len() as u64, equal);
+}
