@@ -1,5 +1,5 @@
 -- The answers of the entries, case by case. Assumes nothing.
-use mathlib.Core.Path.{_≡_, refl, sym, ap, _∙_}
+use mathlib.Core.Path.{_≡_, refl, ap, _∙_}
 use Prim.Native.Nat.{ℕ, suc, _<_}
 use native.Mathlib.Omega.{arith}
 use mathlib.Core.Bool.{true, false}
@@ -7,7 +7,7 @@ use mathlib.Core.List.{List, [], _∷_}
 use lib.ListN.{length}
 use lib.Ieee.{Float}
 use Rattle.answers.specs.declared.refusals.Refusal.the-variants.{BadPath}
-use Rattle.stored.specs.Stored.{isStored, Stored}
+use Rattle.stored.specs.Stored.{isStored}
 use Rattle.place.specs.declared.places.Place.{Place}
 use Rattle.place.specs.Places.{placeOf}
 use Rattle.path_query.specs.declared.flights.Flown.{Flown}

@@ -15,7 +15,7 @@ use Rattle.segment.specs.Segments.{kindOf, widthOf, hasTable, segmentOf}
 use Rattle.stored.specs.Stored.{before, Numbered, Stored, segmentIn}
 use Rattle.place.specs.declared.cursors.Cursor.{Cursor}
 use Rattle.place.specs.Cursors.{cursorOf}
-use Rattle.place.specs.Places.{placeOf, rawIn, rawWithin, tablePlace, TableThere, SomePlace}
+use Rattle.place.specs.Places.{placeOf, rawIn, rawWithin, TableThere, SomePlace}
 use Rattle.place.proofs.Tables.{findable}
 use Rattle.place.proofs.Standing.{cursor-own, cursor-tables, standing}
 use Rattle.heading.specs.Headings.{sampleOf, headingOf}

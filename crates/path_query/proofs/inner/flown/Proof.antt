@@ -9,38 +9,27 @@ use Rattle.place.proofs.Standing.{spot-among, onward-first}
 use Rattle.path_query.proofs.Seats.{some-place, seated, flight-is}
 use Rattle.path_query.proofs.inner.flown.Statement.{statement}
 use Rattle.path_query.proofs.inner.flown.Tie as tie
-use Rattle.path_query.proofs.inner.flown.Reads as reads
-use Rattle.path_query.proofs.inner.flown.Lts as lts
-use Rattle.path_query.proofs.inner.flown_within.Reads as flown-within-reads
-use Rattle.place.proofs.first_cursor.Reads as first-cursor-reads
-use Rattle.place.proofs.forward.Reads as forward-reads
-use Rattle.table.proofs.inner.spot.Reads as spot-reads
 
 -- the spot's segment is one of the path's
 inside : (start : tie.Start) {spot : Spot} → spot ≡ spotOf (start .args .lengths .now) (start .args .progress .value) → spot .segment < length (start .args .kinds .now)
 inside start {spot} e = rw e (spot-among (some-place (start .pre)) (start .args .progress .value))
 
--- src/inner.rt:55:9
 spot-requires : tie.Need-spot-requires
 spot-requires c κs = search needs
 
--- src/inner.rt:57:29
 first-cursor-requires : tie.Need-first-cursor-requires
 first-cursor-requires c κs = search needs
 
--- src/inner.rt:57:9
 forward-requires : tie.Need-forward-requires
 forward-requires c κs =
     let start = c .before .before .before .before .before .before .before in
     onward-first (some-place (start .pre)) (c .first-cursor .ensures) (inside start (c .before .before .spot .ensures))
 
--- src/inner.rt:58:5
 flown-within-requires : tie.Need-flown-within-requires
 flown-within-requires c κs =
     let start = c .before .before .before .before .before .before .before .before in
     seated (start .pre) (c .forward .ensures) (inside start (c .before .before .before .spot .ensures))
 
--- src/inner.rt:45:1
 returns : tie.Need-returns
 returns c =
     let spot = c .before .before .before .before .spot in

@@ -1,6 +1,6 @@
 -- `path_query::inner::segment_here` meets its contract: the cursor stands at the segment's numbers. Assumes nothing.
 use borrow.Author.Needs.{needs}
-use mathlib.Core.Path.{_≡_, sym, ap, _∙_, subst}
+use mathlib.Core.Path.{sym, ap, _∙_, subst}
 use Prim.Native.Nat.{ℕ, _+_, _≤_}
 use lib.ListN.{length, getD, drop}
 use Rattle.segment.specs.Segments.{widthOf, segmentOf}
@@ -9,15 +9,10 @@ use Rattle.stored.proofs.Reading.{segment-numbers}
 use Rattle.path_query.proofs.Seats.{cursor-numbers}
 use Rattle.path_query.proofs.inner.segment_here.Statement.{statement}
 use Rattle.path_query.proofs.inner.segment_here.Tie as tie
-use Rattle.path_query.proofs.inner.segment_here.Reads as reads
-use Rattle.path_query.proofs.inner.segment_here.Lts as lts
-use Rattle.segment.proofs.inner.segment_at.Reads as segment-at-reads
 
--- src/inner.rt:23:16
 shared-slice-read-segment-at : tie.Need-shared-slice-read-segment-at
 shared-slice-read-segment-at c = search needs
 
--- src/inner.rt:23:5
 segment-at-requires : tie.Need-segment-at-requires
 segment-at-requires c κs =
     let start = c .before .before .before .before in
@@ -27,7 +22,6 @@ segment-at-requires c κs =
       subst (λ (n : ℕ). n + widthOf (getD (start .args .kinds .now) i 0) ≤ length (start .args .fields .now)) (sym (cursor-numbers _ _ (here .is))) (segment-numbers (start .pre .numbered) i (here .inside)),
     )
 
--- src/inner.rt:18:1
 returns : tie.Need-returns
 unfolding segmentIn
 returns c =

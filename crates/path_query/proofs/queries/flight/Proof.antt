@@ -10,32 +10,23 @@ use Rattle.path_query.proofs.Seats.{a-flight}
 use Rattle.path_query.proofs.Answering.{flew-some, flew-none, flew-bad}
 use Rattle.path_query.proofs.queries.flight.Statement.{statement}
 use Rattle.path_query.proofs.queries.flight.Tie as tie
-use Rattle.path_query.proofs.queries.flight.Reads as reads
-use Rattle.path_query.proofs.queries.flight.Lts as lts
-use Rattle.path_query.proofs.inner.flown.Reads as flown-reads
-use Rattle.stored.proofs.check_path.Reads as check-path-reads
 
--- src/queries.rt:53:8
 check-path-requires : tie.Need-check-path-requires
 check-path-requires c κs = search needs
 
--- src/queries.rt:55:13
 returns : tie.Need-returns
 unfolding originF zeroF
 returns c = flew-none _ _ _ _ _ _ (sym (c .before .before .check-path .ensures) ∙ c .before .if1 .taken) (c .if2 .taken) refl
 
--- src/queries.rt:60:27
 flown-requires : tie.Need-flown-requires
 flown-requires c κs =
     let a = c .before .before .before .before .before .before .before .args in
     a-flight (stored-rule (a .kinds .now) (a .fields .now) (a .tables .now) (a .lengths .now) (passed (sym (c .before .before .check-path .ensures) ∙ c .before .if1 .taken))) (omega (arith, c .if2 .left))
 
--- src/queries.rt:60:9
 returns-2 : tie.Need-returns-2
 returns-2 c =
     flew-some _ _ _ _ _ _ (sym (c .before .before .before .check-path .ensures) ∙ c .before .before .if1 .taken) (omega (arith, c .before .if2 .left)) (c .flown .ensures)
 
--- src/queries.rt:44:1
 returns-3 : tie.Need-returns-3
 returns-3 c = flew-bad _ _ _ _ _ (sym (c .before .check-path .ensures) ∙ c .if1 .left)
 

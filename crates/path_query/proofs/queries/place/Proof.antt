@@ -1,40 +1,29 @@
 -- `path_query::place` meets its contract: each way out is a case of `locatedOf`. Assumes nothing.
 use borrow.Author.Needs.{needs}
-use mathlib.Core.Path.{refl, sym, _∙_}
+use mathlib.Core.Path.{sym, _∙_}
 use native.Mathlib.Omega.{arith}
-use Rattle.floats.specs.Floats.{zeroF}
-use Rattle.math.specs.Math.{originF}
 use Rattle.floats.proofs.Tests.{passed}
 use Rattle.stored.proofs.Rule.{stored-rule}
 use Rattle.path_query.proofs.Seats.{a-place}
 use Rattle.path_query.proofs.Answering.{located-some, located-none, located-bad}
 use Rattle.path_query.proofs.queries.place.Statement.{statement}
 use Rattle.path_query.proofs.queries.place.Tie as tie
-use Rattle.path_query.proofs.queries.place.Reads as reads
-use Rattle.path_query.proofs.queries.place.Lts as lts
-use Rattle.place.proofs.inner.place.Reads as place-reads
-use Rattle.stored.proofs.check_path.Reads as check-path-reads
 
--- src/queries.rt:34:8
 check-path-requires : tie.Need-check-path-requires
 check-path-requires c κs = search needs
 
--- src/queries.rt:36:13
 returns : tie.Need-returns
 returns c = located-none _ _ _ _ _ (sym (c .before .before .check-path .ensures) ∙ c .before .if1 .taken) (c .if2 .taken)
 
--- src/queries.rt:38:28
 place-requires : tie.Need-place-requires
 place-requires c κs =
     let a = c .before .before .before .before .before .before .before .args in
     a-place (stored-rule (a .kinds .now) (a .fields .now) (a .tables .now) (a .lengths .now) (passed (sym (c .before .before .check-path .ensures) ∙ c .before .if1 .taken))) (omega (arith, c .if2 .left))
 
--- src/queries.rt:38:9
 returns-2 : tie.Need-returns-2
 returns-2 c =
     located-some _ _ _ _ _ _ (sym (c .before .before .before .check-path .ensures) ∙ c .before .before .if1 .taken) (omega (arith, c .before .if2 .left)) (c .place .ensures)
 
--- src/queries.rt:25:1
 returns-3 : tie.Need-returns-3
 returns-3 c = located-bad _ _ _ _ _ (sym (c .before .check-path .ensures) ∙ c .if1 .left)
 

@@ -5,33 +5,23 @@ use Rattle.bezier.specs.declared.curves.Placed.the-variants as Placed
 use Rattle.path_query.specs.Answered.{positionedOf}
 use Rattle.path_query.proofs.queries.position.Statement.{statement}
 use Rattle.path_query.proofs.queries.position.Tie as tie
-use Rattle.path_query.proofs.queries.position.Reads as reads
-use Rattle.path_query.proofs.queries.position.Lts as lts
-use Rattle.bezier.proofs.tidied.Reads as tidied-reads
-use Rattle.path_query.proofs.queries.flight.Reads as flight-reads
 
--- src/queries.rt:75:11
 flight-requires : tie.Need-flight-requires
 flight-requires c κs = search needs
 
--- src/queries.rt:76:20
 enum-known-flown : tie.Need-enum-known-flown
 enum-known-flown c = search needs
 
--- src/queries.rt:78:24
 tidied-requires : tie.Need-tidied-requires
 tidied-requires c κs = search needs
 
--- src/queries.rt:80:25
 enum-known-refusal : tie.Need-enum-known-refusal
 enum-known-refusal c = search needs
 
--- src/queries.rt:66:1
 returns : tie.Need-returns
 unfolding positionedOf
 returns c = rw (sym (c .before .before .before .before .before .flight .ensures) ∙ c .before .before .before .flown .given .1) (ap Placed.At (c .tidied .ensures))
 
--- src/queries.rt:66:1
 returns-2 : tie.Need-returns-2
 unfolding positionedOf
 returns-2 c = rw (sym (c .before .before .before .flight .ensures) ∙ c .before .refusal .given .1)

@@ -5,38 +5,26 @@ use Rattle.bezier.specs.declared.curves.Turned.the-variants as Turned
 use Rattle.path_query.specs.Answered.{turnedOf}
 use Rattle.path_query.proofs.queries.rotation_deg.Statement.{statement}
 use Rattle.path_query.proofs.queries.rotation_deg.Tie as tie
-use Rattle.path_query.proofs.queries.rotation_deg.Reads as reads
-use Rattle.path_query.proofs.queries.rotation_deg.Lts as lts
-use Rattle.angles.proofs.rotation_deg.Reads as rotation-deg-reads
-use Rattle.floats.proofs.tidy.Reads as tidy-reads
-use Rattle.path_query.proofs.queries.flight.Reads as flight-reads
 
--- src/queries.rt:113:11
 flight-requires : tie.Need-flight-requires
 flight-requires c κs = search needs
 
--- src/queries.rt:114:20
 enum-known-flown : tie.Need-enum-known-flown
 enum-known-flown c = search needs
 
--- src/queries.rt:116:34
 rotation-deg-requires : tie.Need-rotation-deg-requires
 rotation-deg-requires c κs = search needs
 
--- src/queries.rt:116:29
 tidy-requires : tie.Need-tidy-requires
 tidy-requires c κs = search needs
 
--- src/queries.rt:118:25
 enum-known-refusal : tie.Need-enum-known-refusal
 enum-known-refusal c = search needs
 
--- src/queries.rt:104:1
 returns : tie.Need-returns
 unfolding turnedOf
 returns c = rw (sym (c .before .before .before .before .before .before .flight .ensures) ∙ c .before .before .before .before .flown .given .1) (ap Turned.Degrees (c .tidy .ensures ∙ c .before .rotation-deg .ensures))
 
--- src/queries.rt:104:1
 returns-2 : tie.Need-returns-2
 unfolding turnedOf
 returns-2 c = rw (sym (c .before .before .before .flight .ensures) ∙ c .before .refusal .given .1)

@@ -5,33 +5,23 @@ use Rattle.bezier.specs.declared.curves.Placed.the-variants as Placed
 use Rattle.path_query.specs.Answered.{headedOf}
 use Rattle.path_query.proofs.queries.tangent.Statement.{statement}
 use Rattle.path_query.proofs.queries.tangent.Tie as tie
-use Rattle.path_query.proofs.queries.tangent.Reads as reads
-use Rattle.path_query.proofs.queries.tangent.Lts as lts
-use Rattle.bezier.proofs.tidied.Reads as tidied-reads
-use Rattle.path_query.proofs.queries.flight.Reads as flight-reads
 
--- src/queries.rt:94:11
 flight-requires : tie.Need-flight-requires
 flight-requires c κs = search needs
 
--- src/queries.rt:95:20
 enum-known-flown : tie.Need-enum-known-flown
 enum-known-flown c = search needs
 
--- src/queries.rt:97:24
 tidied-requires : tie.Need-tidied-requires
 tidied-requires c κs = search needs
 
--- src/queries.rt:99:25
 enum-known-refusal : tie.Need-enum-known-refusal
 enum-known-refusal c = search needs
 
--- src/queries.rt:85:1
 returns : tie.Need-returns
 unfolding headedOf
 returns c = rw (sym (c .before .before .before .before .before .flight .ensures) ∙ c .before .before .before .flown .given .1) (ap Placed.At (c .tidied .ensures))
 
--- src/queries.rt:85:1
 returns-2 : tie.Need-returns-2
 unfolding headedOf
 returns-2 c = rw (sym (c .before .before .before .flight .ensures) ∙ c .before .refusal .given .1)

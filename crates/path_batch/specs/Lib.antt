@@ -1,0 +1,2 @@
+-- What a batch of queries gives.
+pub mod Batches

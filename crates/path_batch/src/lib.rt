@@ -1,0 +1,6 @@
+// Many progresses along one stored path, which is checked once: for those who file packets.
+mod batches;
+
+pub use batches::Batch;
+pub use batches::places;
+pub use batches::positions;
