@@ -7,15 +7,15 @@ mod build;
 mod compare;
 mod decimal;
 mod earley;
-mod morph;
 mod math;
+mod morph;
 mod read;
 mod record;
-mod stored;
 mod root_all;
 mod samples;
 mod simple;
 mod spline;
+mod stored;
 mod strict;
 mod table;
 mod trig;
@@ -33,10 +33,7 @@ fn main() -> ExitCode {
     match words[..] {
         ["gate"] => {
             math::compare(&mut report, &math::FAMILY, SEED, 200_000);
-            build::compare(&mut report, SEED, 5_000);
-            stored::compare(&mut report, SEED, 10_000);
             math::compare(&mut report, &trig::FAMILY, SEED, 100_000);
-            morph::compare(&mut report, SEED, 2_000);
             table::compare(&mut report, SEED, 20_000);
             strict::compare_some(&mut report, SEED);
             read::compare_some(&mut report, SEED);
@@ -44,28 +41,31 @@ fn main() -> ExitCode {
             bezier::compare(&mut report, SEED, 20_000);
             arc::compare(&mut report, SEED, 5_000);
             spline::compare(&mut report, SEED, 400);
+            stored::compare(&mut report, SEED, 10_000);
+            build::compare(&mut report, SEED, 5_000);
+            morph::compare(&mut report, SEED, 2_000);
             for recording in record::RECORDINGS {
                 recording.compare(&mut report, SEED);
-        ["build"] => build::compare(&mut report, SEED, 100_000),
-        ["build", "drawings"] => build::compare_drawings(&mut report),
-        ["build", seed, count] => match (seed.parse(), count.parse()) {
-            (Ok(seed), Ok(count)) => build::compare(&mut report, seed, count),
-            _ => return usage(),
-        },
             }
         }
         ["math"] => math::compare(&mut report, &math::FAMILY, SEED, 2_000_000),
-        ["morph"] => morph::compare(&mut report, SEED, 250_000),
         ["math", seed] => match seed.parse() {
             Ok(seed) => math::compare(&mut report, &math::FAMILY, seed, 2_000_000),
             Err(_) => return usage(),
         },
         ["trig"] => math::compare(&mut report, &trig::FAMILY, SEED, 2_000_000),
         ["table"] => table::compare(&mut report, SEED, 1_000_000),
-        ["stored"] => stored::compare(&mut report, SEED, 350_000),
         ["bezier"] => bezier::compare(&mut report, SEED, 250_000),
         ["arc"] => arc::compare(&mut report, SEED, 420_000),
         ["spline"] => spline::compare(&mut report, SEED, 10_000),
+        ["stored"] => stored::compare(&mut report, SEED, 350_000),
+        ["build"] => build::compare(&mut report, SEED, 100_000),
+        ["build", "drawings"] => build::compare_drawings(&mut report),
+        ["build", seed, count] => match (seed.parse(), count.parse()) {
+            (Ok(seed), Ok(count)) => build::compare(&mut report, seed, count),
+            _ => return usage(),
+        },
+        ["morph"] => morph::compare(&mut report, SEED, 250_000),
         ["root_all"] => root_all::compare(&mut report),
         ["strict"] => strict::compare_all(&mut report),
         ["strict", "drawings"] => strict::compare_drawings(&mut report),

@@ -182,7 +182,6 @@ unsafe extern "C" {
         answer: *mut u64,
         answer_len: usize,
     ) -> u32;
-    fn kihavute_cubic_position(
     fn kihavute_check(
         kinds: *const u8,
         kinds_len: usize,
@@ -195,6 +194,7 @@ unsafe extern "C" {
         answer: *mut u64,
         answer_len: usize,
     ) -> u32;
+    fn kihavute_cubic_position(
         sx: f32,
         sy: f32,
         ax: f32,
