@@ -19,7 +19,7 @@ pub enum Size {
 }
 
 // How many letters and numbers a text stores, or its first refusal. No number is converted.
-pub(crate) fn measure(text: &[u8]) -> Size
+pub fn measure(text: &[u8]) -> Size
     requires { ⌜ length (now text) ≤ 65536 ⌝ }
     ensures { λ r. ⌜ r ≡ measureOf (commandsOf (now (text .entry))) ⌝ }
 {
