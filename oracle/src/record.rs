@@ -1,6 +1,7 @@
 //! The lists of recorded answers that the programs replay_NAME run through the proved crates.
 
 mod helpers;
+mod morph;
 mod strict;
 mod table;
 
@@ -14,11 +15,12 @@ pub struct Recording {
     list: fn(&mut Report, u64) -> (Vec<u8>, u64),
 }
 
-pub const RECORDINGS: [Recording; 4] = [
+pub const RECORDINGS: [Recording; 5] = [
     Recording { name: "math", list: |report, seed| helpers::list(report, &math::FAMILY, seed) },
     Recording { name: "trig", list: |report, seed| helpers::list(report, &trig::FAMILY, seed) },
     Recording { name: "table", list: table::list },
     Recording { name: "strict", list: strict::list },
+    Recording { name: "morph", list: morph::list },
 ];
 
 impl Recording {
