@@ -4,6 +4,7 @@ mod arc;
 mod bezier;
 mod decimal;
 mod helpers;
+mod morph;
 mod spline;
 mod strict;
 mod svg;
@@ -29,6 +30,7 @@ pub const RECORDINGS: &[Recording] = &[
     Recording { name: "bezier", list: bezier::list },
     Recording { name: "spline", list: spline::list },
     Recording { name: "arc", list: arc::list },
+    Recording { name: "morph", list: morph::list },
 ];
 
 impl Recording {
