@@ -4,3 +4,4 @@ pub mod Given
 pub mod Decimals
 pub mod StrictReading
 pub mod Curves
+pub mod Queries

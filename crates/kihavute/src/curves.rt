@@ -23,7 +23,7 @@ fn place(verdict: Verdict, placed: Placed, answer: &mut [u64]) -> u32
     }
 }
 
-fn give_place(placed: Placed, answer: &mut [u64]) -> u32
+pub(crate) fn give_place(placed: Placed, answer: &mut [u64]) -> u32
     ensures { λ r. ⌜ Given (placeGiven placed) (now (answer .entry)) r (now (answer .exit)) ⌝ }
 {
     match placed {
@@ -46,7 +46,7 @@ fn turn(verdict: Verdict, turned: Turned, answer: &mut [u64]) -> u32
     }
 }
 
-fn give_turn(turned: Turned, answer: &mut [u64]) -> u32
+pub(crate) fn give_turn(turned: Turned, answer: &mut [u64]) -> u32
     ensures { λ r. ⌜ Given (turnGiven turned) (now (answer .entry)) r (now (answer .exit)) ⌝ }
 {
     match turned {

@@ -7,5 +7,6 @@ mod given;
 mod lookups;
 mod numbers;
 mod points;
+mod queries;
 mod strict_reading;
 mod turns;
