@@ -215,6 +215,34 @@ static void lookups(void) {
     answered("spot, not finite", kihavute_spot(lengths, 3, 0.5f, answer, PLACES), 12, 0, NULL);
 }
 
+static void paths(void) {
+    const uint8_t kinds[] = {0, 0};
+    const float fields[] = {0, 0, 3, 4, 3, 4, 3, 9};
+    const float lengths[] = {5, 10};
+    const uint8_t unknown[] = {0, 5};
+
+    fresh();
+    answered("a place on a path", kihavute_place(kinds, 2, fields, 8, NULL, 0, lengths, 2, 0.75f, answer, PLACES), 0, 2, (uint64_t[]){1, bits(0.5f)});
+    fresh();
+    answered("a place at a running length", kihavute_place(kinds, 2, fields, 8, NULL, 0, lengths, 2, 0.5f, answer, PLACES), 0, 2, (uint64_t[]){0, bits(1)});
+    fresh();
+    answered("a place without segments", kihavute_place(kinds, 0, fields, 0, NULL, 0, lengths, 0, 0.5f, answer, PLACES), 0, 0, NULL);
+    fresh();
+    answered("a place, a number too few", kihavute_place(kinds, 2, fields, 7, NULL, 0, lengths, 2, 0.5f, answer, PLACES), 12, 0, NULL);
+    fresh();
+    answered("a place, a short answer", kihavute_place(kinds, 2, fields, 8, NULL, 0, lengths, 2, 0.5f, answer, 7), 255, 0, NULL);
+    fresh();
+    answered("a position on a path", kihavute_position(kinds, 2, fields, 8, NULL, 0, lengths, 2, 0.75f, answer, PLACES), 0, 2, (uint64_t[]){bits(3), bits(6.5f)});
+    fresh();
+    answered("a position without segments", kihavute_position(kinds, 0, fields, 0, NULL, 0, lengths, 0, 0.5f, answer, PLACES), 0, 2, (uint64_t[]){0, 0});
+    fresh();
+    answered("a position, an unknown kind", kihavute_position(unknown, 2, fields, 8, NULL, 0, lengths, 2, 0.5f, answer, PLACES), 12, 0, NULL);
+    fresh();
+    answered("a tangent on a path", kihavute_tangent(kinds, 2, fields, 8, NULL, 0, lengths, 2, 0.75f, answer, PLACES), 0, 2, (uint64_t[]){0, bits(1)});
+    fresh();
+    answered("a rotation on a path", kihavute_rotation(kinds, 2, fields, 8, NULL, 0, lengths, 2, 0.75f, answer, PLACES), 0, 1, (uint64_t[]){bits(90)});
+}
+
 static void curves(void) {
     const float nan = kihavute_float(NAN_BITS);
 
@@ -844,6 +872,7 @@ int main(void) {
     numbers();
     points();
     lookups();
+    paths();
     curves();
     stored_paths();
     shapes();

@@ -7,3 +7,4 @@ pub mod SplinesGiven
 pub mod Putting
 pub mod CheckGiven
 pub mod PathsGiven
+pub mod Querying

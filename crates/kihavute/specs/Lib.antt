@@ -11,3 +11,4 @@ pub mod Arcs
 pub mod Splines
 pub mod Morphs
 pub mod Paths
+pub mod Queries

@@ -14,5 +14,6 @@ mod points;
 mod reading;
 mod splines;
 mod stored_paths;
+mod queries;
 mod strict_reading;
 mod turns;
