@@ -148,33 +148,6 @@ uint32_t kihavute_raw_parameter(const float *entries, size_t entries_len, float 
  * and writes nothing: it has no segment to give. A total of at most 2^-23 gives the last segment at 1. */
 uint32_t kihavute_spot(const float *lengths, size_t lengths_len, float progress, uint64_t *answer, size_t answer_len);
 
-/* ---- A stored path ----
- * Four buffers: kinds (a byte for each segment: 0 line, 1 quad, 2 cubic, 3 arc, 4 arc that fell back to a line), fields
- * (4, 6, 8, 11 and 11 numbers for each), tables (33 numbers for each quad, cubic and arc: 32 running lengths and their
- * total) and lengths (the path's running length at the end of each segment). Each call checks the whole path first, which
- * reads every kind, table and length once, and refuses with 12 where the check fails. */
-
-/* The segment at this progress, counted from 0, and its raw parameter: answer[0] gets the segment, answer[1] the bits of
- * the raw parameter. A path without segments is accepted and writes nothing. */
-uint32_t kihavute_place(const uint8_t *kinds, size_t kinds_len, const float *fields, size_t fields_len, const float *tables,
-                        size_t tables_len, const float *lengths, size_t lengths_len, float progress, uint64_t *answer,
-                        size_t answer_len);
-
-/* The point at this progress, in path units: answer[0] and answer[1] get the bits of x and of y. (0, 0) without segments. */
-uint32_t kihavute_position(const uint8_t *kinds, size_t kinds_len, const float *fields, size_t fields_len,
-                           const float *tables, size_t tables_len, const float *lengths, size_t lengths_len, float progress,
-                           uint64_t *answer, size_t answer_len);
-
-/* The direction there, with the length 1, or (0, 0) where nothing tells: the bits of x and of y. */
-uint32_t kihavute_tangent(const uint8_t *kinds, size_t kinds_len, const float *fields, size_t fields_len,
-                          const float *tables, size_t tables_len, const float *lengths, size_t lengths_len, float progress,
-                          uint64_t *answer, size_t answer_len);
-
-/* That direction in degrees from the x axis towards the y axis: answer[0] gets the bits. */
-uint32_t kihavute_rotation(const uint8_t *kinds, size_t kinds_len, const float *fields, size_t fields_len,
-                           const float *tables, size_t tables_len, const float *lengths, size_t lengths_len, float progress,
-                           uint64_t *answer, size_t answer_len);
-
 /* ---- Quads and cubics ----
  * Each call makes the curve from (sx, sy) to (ex, ey), with the control (cx, cy) of a quad or the controls (ax, ay) and
  * (bx, by) of a cubic, and asks it one thing at a progress. Refused with 11, and answer[0] is 0, where the curve's length
@@ -409,6 +382,31 @@ uint32_t kihavute_build(const uint8_t *letters, size_t letters_len, const float 
 uint32_t kihavute_build_text(const uint8_t *text, size_t text_len, uint8_t *kinds, size_t kinds_len,
                              float *fields, size_t fields_len, float *tables, size_t tables_len,
                              float *lengths, size_t lengths_len, uint64_t *answer, size_t answer_len);
+
+/* ---- Queries of a stored path ----
+ * Each call checks the whole path first, which reads every kind, table and length once, and refuses with 12 where the
+ * check fails. */
+
+/* The segment at this progress, counted from 0, and its raw parameter: answer[0] gets the segment, answer[1] the bits of
+ * the raw parameter. A path without segments is accepted and writes nothing. */
+uint32_t kihavute_place(const uint8_t *kinds, size_t kinds_len, const float *fields, size_t fields_len, const float *tables,
+                        size_t tables_len, const float *lengths, size_t lengths_len, float progress, uint64_t *answer,
+                        size_t answer_len);
+
+/* The point at this progress, in path units: answer[0] and answer[1] get the bits of x and of y. (0, 0) without segments. */
+uint32_t kihavute_position(const uint8_t *kinds, size_t kinds_len, const float *fields, size_t fields_len,
+                           const float *tables, size_t tables_len, const float *lengths, size_t lengths_len, float progress,
+                           uint64_t *answer, size_t answer_len);
+
+/* The direction there, with the length 1, or (0, 0) where nothing tells: the bits of x and of y. */
+uint32_t kihavute_tangent(const uint8_t *kinds, size_t kinds_len, const float *fields, size_t fields_len,
+                          const float *tables, size_t tables_len, const float *lengths, size_t lengths_len, float progress,
+                          uint64_t *answer, size_t answer_len);
+
+/* That direction in degrees from the x axis towards the y axis: answer[0] gets the bits. */
+uint32_t kihavute_rotation(const uint8_t *kinds, size_t kinds_len, const float *fields, size_t fields_len,
+                           const float *tables, size_t tables_len, const float *lengths, size_t lengths_len, float progress,
+                           uint64_t *answer, size_t answer_len);
 
 /* ---- From bits to floats ---- */
 

@@ -11,10 +11,11 @@
 /// The bit pattern of a float; a NaN's is 7FC00000.
 pub type Bits = u32;
 
+mod paths;
 mod refusals;
 
-pub use refusals::Reason;
-pub use refusals::Refusal;
+pub use paths::{Path, Place, Progress, RawParameter};
+pub use refusals::{Reason, Refusal};
 
 unsafe extern "C" {
     safe fn kihavute_sqrt(x: f32) -> f32;

@@ -12,20 +12,45 @@ pub struct Refusal {
 /// A refusal by its name. Offsets count bytes of the text; commands, segments, points and entries count from 0.
 #[derive(Clone, Copy, Debug, PartialEq, Eq)]
 pub enum Reason {
-    TooLong { length: u64 },
-    UnexpectedEnd { offset: u64 },
-    ExpectedNumber { offset: u64 },
-    InvalidNumber { offset: u64 },
-    ExpectedFlag { offset: u64 },
-    UnsupportedCommand { letter: u8, offset: u64 },
-    MissingMoveTo { offset: u64 },
+    TooLong {
+        length: u64,
+    },
+    UnexpectedEnd {
+        offset: u64,
+    },
+    ExpectedNumber {
+        offset: u64,
+    },
+    InvalidNumber {
+        offset: u64,
+    },
+    ExpectedFlag {
+        offset: u64,
+    },
+    UnsupportedCommand {
+        letter: u8,
+        offset: u64,
+    },
+    MissingMoveTo {
+        offset: u64,
+    },
     /// The places needed of each output, in the call's order, zeros after the last.
-    NoRoom { needed: [u64; 4] },
-    BadList { command: u64 },
-    RotationRange { segment: u64 },
-    NotFinite { place: u64 },
+    NoRoom {
+        needed: [u64; 4],
+    },
+    BadList {
+        command: u64,
+    },
+    RotationRange {
+        segment: u64,
+    },
+    NotFinite {
+        place: u64,
+    },
     BadPath,
-    Range { found: u64 },
+    Range {
+        found: u64,
+    },
     ShortAnswer,
 }
 
@@ -93,7 +118,10 @@ impl fmt::Display for Reason {
                 write!(f, "the list is malformed at {command}; look at the letter, the numbers and the flags there")
             }
             Reason::RotationRange { segment } => {
-                write!(f, "the arc of segment {segment} has a rotation beyond 3600 degrees or none; bring it into range")
+                write!(
+                    f,
+                    "the arc of segment {segment} has a rotation beyond 3600 degrees or none; bring it into range"
+                )
             }
             Reason::NotFinite { place } => {
                 write!(f, "the length is no longer finite at {place}; use smaller coordinates")

@@ -215,7 +215,7 @@ static void lookups(void) {
     answered("spot, not finite", kihavute_spot(lengths, 3, 0.5f, answer, PLACES), 12, 0, NULL);
 }
 
-static void paths(void) {
+static void queries(void) {
     const uint8_t kinds[] = {0, 0};
     const float fields[] = {0, 0, 3, 4, 3, 4, 3, 9};
     const float lengths[] = {5, 10};
@@ -872,7 +872,7 @@ int main(void) {
     numbers();
     points();
     lookups();
-    paths();
+    queries();
     curves();
     stored_paths();
     shapes();
