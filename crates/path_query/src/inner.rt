@@ -4,7 +4,7 @@ use heading::inner::heading;
 use heading::sample;
 use place::Cursor;
 use place::first_cursor;
-use place::forward;
+use place::inner::forward;
 use place::inner::raw_within;
 use segment::PathSegment;
 use segment::inner::segment_at;

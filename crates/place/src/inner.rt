@@ -1,8 +1,8 @@
 // The lookups without their tests, for callers that know the path to be a stored one.
 use crate::cursors::Cursor;
-use crate::cursors::back;
+pub use crate::cursors::back;
 use crate::cursors::first_cursor;
-use crate::cursors::forward;
+pub use crate::cursors::forward;
 use crate::places::Place;
 use segment::has_table;
 use table::Progress;
