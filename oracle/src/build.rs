@@ -125,6 +125,14 @@ fn theirs(commands: &[PathCommand]) -> Answer {
     Path { kinds, fields, tables, lengths: lengths.iter().map(|x| alike(*x)).collect() }
 }
 
+/// The number of the refusal that document 01 has for a command list, where it has one.
+pub fn refused(commands: &[PathCommand]) -> Option<u32> {
+    match theirs(commands) {
+        Refused(number, _) => Some(number),
+        _ => None,
+    }
+}
+
 impl Asked {
     fn commands(&self) -> Option<Vec<PathCommand>> {
         match &self.source {
@@ -273,7 +281,7 @@ fn command(stream: &mut Stream, kind: u32) -> PathCommand {
     }
 }
 
-fn list(stream: &mut Stream, kind: u32) -> Vec<PathCommand> {
+pub fn list(stream: &mut Stream, kind: u32) -> Vec<PathCommand> {
     let count = 1 + stream.below(8);
     let mut commands: Vec<_> = (0..count).map(|_| command(stream, kind)).collect();
     if stream.below(4) != 0 {
@@ -301,7 +309,7 @@ fn text(stream: &mut Stream, kind: u32) -> String {
     out
 }
 
-const KINDS: [&str; 7] = ["whole", "thousandths", "near", "huge", "special", "any bits", "mixed"];
+pub const KINDS: [&str; 7] = ["whole", "thousandths", "near", "huge", "special", "any bits", "mixed"];
 
 fn short(stream: &mut Stream) -> Option<usize> {
     (stream.below(8) == 0).then(|| stream.below(4) as usize)

@@ -9,6 +9,7 @@ mod decimal;
 mod earley;
 mod math;
 mod morph;
+mod query;
 mod read;
 mod record;
 mod root_all;
@@ -43,6 +44,8 @@ fn main() -> ExitCode {
             spline::compare(&mut report, SEED, 400);
             stored::compare(&mut report, SEED, 10_000);
             build::compare(&mut report, SEED, 5_000);
+            query::compare(&mut report, SEED, 500);
+            query::compare_order(&mut report, SEED, 500);
             morph::compare(&mut report, SEED, 2_000);
             for recording in record::RECORDINGS {
                 recording.compare(&mut report, SEED);
@@ -63,6 +66,11 @@ fn main() -> ExitCode {
         ["build", "drawings"] => build::compare_drawings(&mut report),
         ["build", seed, count] => match (seed.parse(), count.parse()) {
             (Ok(seed), Ok(count)) => build::compare(&mut report, seed, count),
+            _ => return usage(),
+        },
+        ["query"] => query::compare(&mut report, SEED, 20_000),
+        ["order", seed, count] => match (seed.parse(), count.parse()) {
+            (Ok(seed), Ok(count)) => query::compare_order(&mut report, seed, count),
             _ => return usage(),
         },
         ["morph"] => morph::compare(&mut report, SEED, 250_000),
