@@ -2,6 +2,7 @@
 
 use crate::compare::{Input, Report};
 use crate::math::alike;
+use crate::read;
 use crate::samples::{SPECIALS, Stream};
 use animato_path::poly::{CompoundPath, PathCommand, PathSegment};
 use animato_path::svg::SvgPathParser;
@@ -328,6 +329,47 @@ pub fn compare(report: &mut Report, seed: u64, count: u64) {
             (0..count).map(move |_| Asked { source: Source::Text(text(&mut stream, kind)), short: short(&mut stream) });
         report.group(&format!("building texts, {name}"), texts, Asked::ours, Asked::expected);
     }
+}
+
+/// What a text is to answer in buffers with room for so many kinds, fields, tables and running lengths: the refusal's number
+/// or 0, the counts or what the refusal carries, the total's bits, and what is stored.
+pub struct Due {
+    pub number: u32,
+    pub values: Vec<u64>,
+    pub total: u32,
+    pub kinds: Vec<u8>,
+    pub numbers: [Vec<u32>; 3],
+}
+
+impl Due {
+    pub fn of(text: &str, room: [usize; 4]) -> Due {
+        let refused =
+            |number, values| Due { number, values, total: 0, kinds: vec![], numbers: [vec![], vec![], vec![]] };
+        let commands = match (SvgPathParser::try_parse(text), read::theirs(text.as_bytes())) {
+            (Ok(commands), _) => commands,
+            (Err(_), read::Said::Refused { number, carried }) => return refused(number, carried),
+            (Err(error), _) => panic!("{error}"),
+        };
+        match theirs(&commands) {
+            Path { kinds, fields, tables, lengths } => {
+                let counts = [kinds.len(), fields.len(), tables.len(), lengths.len()];
+                let values = counts.iter().map(|count| *count as u64).collect();
+                if counts.iter().zip(room).any(|(count, room)| *count > room) {
+                    return refused(8, values);
+                }
+                let total = alike(CompoundPath::from_commands(&commands).open_lengths().1);
+                Due { number: 0, values, total, kinds, numbers: [fields, tables, lengths] }
+            }
+            Refused(number, [segment, ..]) => refused(number, vec![segment]),
+            Unread | Overwritten => panic!("the original builds or is refused"),
+        }
+    }
+}
+
+/// These texts, each in buffers with more room than its path needs.
+pub fn compare_texts(report: &mut Report, name: &str, texts: impl Iterator<Item = String>) {
+    let asked = texts.map(|text| Asked { source: Source::Text(text), short: None });
+    report.group(name, asked, Asked::ours, Asked::expected);
 }
 
 /// The path texts that tools/drawings gathers, as texts and as lists.

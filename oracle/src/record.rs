@@ -5,6 +5,7 @@ mod bezier;
 mod decimal;
 mod helpers;
 mod morph;
+mod path;
 mod spline;
 mod strict;
 mod svg;
@@ -30,6 +31,7 @@ pub const RECORDINGS: &[Recording] = &[
     Recording { name: "bezier", list: bezier::list },
     Recording { name: "spline", list: spline::list },
     Recording { name: "arc", list: arc::list },
+    Recording { name: "path", list: path::list },
     Recording { name: "morph", list: morph::list },
 ];
 
