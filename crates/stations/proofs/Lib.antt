@@ -1,0 +1,6 @@
+-- The laws of the definitions of `specs/`.
+pub mod Asking
+pub mod Flying
+pub mod Lent
+pub mod Printing
+pub mod Telling
