@@ -1,12 +1,12 @@
 -- The tool's own buffers: a list stored in them, and the path built in them. Assumes nothing.
 use Prim.Native.Nat.{ℕ, _≤_}
 use mathlib.Core.Path.{_≡_, refl, sym, ap, _∙_}
-use mathlib.Core.List.{List, [], _∷_, _++_}
+use mathlib.Core.List.{List, []}
 use native.Mathlib.Omega.{arith}
 use lib.Ieee.{Float}
 use lib.ListN.{length, take, drop}
 use lib.Seq.{take-append-seam}
-use Rattle.answers.specs.Answers.{accepted, refused}
+use Rattle.answers.specs.Answers.{accepted}
 use Rattle.answers.specs.Report.{written}
 use Rattle.answers.specs.declared.refusals.Refusal.{Refusal}
 use Rattle.commands.proofs.ReadBack.{stored-passes}
@@ -18,7 +18,7 @@ use Rattle.segment.specs.declared.segments.PathSegment.{PathSegment}
 use Rattle.stored.specs.Layout.{kindsOf, fieldsOfAll, tablesOfAll, lengthsOfAll}
 use Rattle.stored.specs.Stored.{Stored}
 use Rattle.stored.proofs.Rule.{stored-rule}
-use Rattle.drawing.specs.Building.{Built, path, refusal, buildOf}
+use Rattle.drawing.specs.Building.{path, buildOf}
 use Rattle.path.specs.Answers.{answerOf, answered, segmentsWritten, Answers}
 use Rattle.path.specs.Paths.{lentOf, buildPathOf}
 use Rattle.path.specs.declared.sizes.Building.{Building}
@@ -26,7 +26,7 @@ use Rattle.path.specs.declared.sizes.Building.the-variants.{Built as Done, Refu
 use Rattle.path.specs.declared.sizes.Counts.{Counts}
 use Rattle.path.proofs.Sound.{built-stored}
 use Rattle.listing.specs.Lines.{refusalLine}
-use Rattle.listing.specs.Put.{Put, PutWithin}
+use Rattle.listing.specs.Put.{PutWithin}
 use Rattle.listing.proofs.Putting.{within-as}
 use Rattle.sections.specs.Sections.{Ready}
 use Rattle.stations.specs.Stations.{sectionsOf, builtOf, Sized, Numbered, Printed, Told}

@@ -1,14 +1,14 @@
 -- The three sections, put one after the other. Assumes nothing.
 use Prim.Native.Nat.{ℕ, _+_, _≤_}
-use mathlib.Core.Path.{_≡_, refl, sym, ap, _∙_}
+use mathlib.Core.Path.{_≡_, refl, ap}
 use mathlib.Core.List.{List}
 use native.Mathlib.Omega.{arith}
 use lib.Ieee.{Float}
 use lib.ListN.{length}
 use Rattle.svg.specs.Texts.{Outcome, commands, refusal}
 use Rattle.listing.specs.Lines.{headerLine}
-use Rattle.listing.specs.Put.{Put, PutWithin}
-use Rattle.listing.proofs.Putting.{put-length, put-same, within-as, within-then}
+use Rattle.listing.specs.Put.{PutWithin}
+use Rattle.listing.proofs.Putting.{put-length, within-as, within-then}
 use Rattle.plan.specs.Passes.{FewCommands, Listed}
 use Rattle.sections.specs.Sections.{segmentLines, stationLines}
 use Rattle.stations.specs.Stations.{commandsWord, segmentsWord, stationsWord, sectionsOf, Sized, Printed}

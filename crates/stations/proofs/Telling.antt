@@ -16,7 +16,7 @@ use Rattle.text_reader.specs.Plans.{firstLineOf}
 use Rattle.text_reader.specs.declared.line.FirstLine.{FirstLine}
 use Rattle.text_reader.specs.declared.line.FirstLine.the-variants.{Stations as Asked, Refused}
 use Rattle.listing.specs.Lines.{refusalLine}
-use Rattle.listing.specs.Put.{Put, PutWithin}
+use Rattle.listing.specs.Put.{PutWithin}
 use Rattle.listing.proofs.Putting.{within-as}
 use Rattle.plan.specs.Passes.{sizeOf}
 use Rattle.plan.specs.declared.sizes.Size.{Size}

@@ -1,5 +1,4 @@
 // A path that reads: built and listed.
-ghost use mathlib.Core.Path.{_≡_};
 ghost use Prim.Native.Nat.{_≤_};
 ghost use lib.ListN.{length, drop};
 ghost use Rattle.svg.specs.Texts.{commandsOf};
