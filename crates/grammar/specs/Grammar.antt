@@ -21,7 +21,7 @@ module _ (text : List ℕ) where
   abbrev pub comma : Span
   comma = Byte text commas
 
-  -- "0" | "1" | .. | "9"
+  -- "0" | "1" | "2" | "3" | "4" | "5" | "6" | "7" | "8" | "9"
   abbrev pub digit : Span
   digit = Byte text digits
 
