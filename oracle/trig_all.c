@@ -1,6 +1,6 @@
 // Runs sine and cosine of the proved library on every f32. Run it after a change of the crates `sums` or `trig`:
 //
-//   gcc -O2 -ffp-contract=off oracle/trig_all.c target/staticlib/libkihavute.a -lm -o trig_all
+//   gcc -O2 -ffp-contract=off oracle/trig_all.c target/native/libkihavute.a -lm -o trig_all
 //   ./trig_all main trig.bin && ./trig_all tiny && ./trig_all far && python3 oracle/trig_whole.py trig.bin
 //
 // main: every angle from 2^-12 to 64 in size. The largest distance to the sine and cosine of the reduced angle r, which whole

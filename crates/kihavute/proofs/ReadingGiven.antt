@@ -14,9 +14,9 @@ use Rattle.commands.specs.declared.checking.Checked.the-variants as Checked
 use Rattle.svg.specs.Readings.{ReadPath, answerOf}
 use Rattle.svg.specs.declared.reading.Reading.{Reading}
 use Rattle.svg.specs.declared.reading.Reading.the-variants as Reading
-use Rattle.kihavute.specs.Given.{Given}
+use Rattle.giving.specs.Given.{Given}
+use Rattle.giving.proofs.Giving.{given-same}
 use Rattle.kihavute.specs.Reading.{PathRead}
-use Rattle.kihavute.proofs.Giving.{given-same}
 
 pub reading-given : (reading : Reading) (places count : ℕ) → Reading.Read places count ≡ reading → accepted (places ∷ count ∷ []) ≡ answerOf reading
 reading-given reading places count is = ap answerOf is

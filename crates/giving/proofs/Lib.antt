@@ -1,0 +1,2 @@
+-- The laws of what leaves through C.
+pub mod Giving

@@ -1,0 +1,3 @@
+-- What leaves through C.
+pub mod Given
+pub mod Places

@@ -1,0 +1,32 @@
+-- `kihavute_arc_length` meets its contract: the made arc is the one that was given, and what it answers is given. Assumes nothing.
+use borrow.Author.Needs.{needs}
+use Rattle.arc.specs.declared.arcs.MadeArc.{MadeArc}
+use Rattle.arc.specs.Arcs.{arcLengthOf}
+use Rattle.giving.proofs.Giving.{given-same}
+use Rattle.kihavute_curves.specs.Curves.{lengthGiven}
+use Rattle.kihavute_curves.proofs.Asked.{asked-given}
+use Rattle.kihavute_curves.proofs.arcs.kihavute_arc_length.Statement.{statement}
+use Rattle.kihavute_curves.proofs.arcs.kihavute_arc_length.Tie as tie
+
+made-requires : tie.Need-made-requires
+made-requires c κs = search needs
+
+arc-length-requires : tie.Need-arc-length-requires
+arc-length-requires c κs = search needs
+
+measure-requires : tie.Need-measure-requires
+measure-requires c κs = search needs
+
+same-length : tie.Need-same-length
+same-length c = search needs
+
+returns : tie.Need-returns
+returns c =
+    let given = c .before .before in
+    let asked = given .before .before in
+    let start = asked .before .before .before in
+    given-same _ _ (asked-given (λ (m : MadeArc). m .verdict) lengthGiven (λ (m : MadeArc). arcLengthOf (m .arc)) _ (asked .before .made .ensures) (asked .arc-length .ensures)) (given .measure .ensures)
+
+pub kihavute-arc-length-spec : {M : Type 1} → statement M
+kihavute-arc-length-spec =
+    tie.close (tie.spec made-requires arc-length-requires measure-requires same-length returns)

@@ -1,0 +1,32 @@
+-- `kihavute_arc_position` meets its contract: the made arc is the one that was given, and what it answers is given. Assumes nothing.
+use borrow.Author.Needs.{needs}
+use Rattle.arc.specs.declared.arcs.MadeArc.{MadeArc}
+use Rattle.arc.specs.Arcs.{arcPlacedOf}
+use Rattle.giving.specs.Places.{placeGiven}
+use Rattle.giving.proofs.Giving.{given-same}
+use Rattle.kihavute_curves.proofs.Asked.{asked-given}
+use Rattle.kihavute_curves.proofs.arcs.kihavute_arc_position.Statement.{statement}
+use Rattle.kihavute_curves.proofs.arcs.kihavute_arc_position.Tie as tie
+
+made-requires : tie.Need-made-requires
+made-requires c κs = search needs
+
+arc-position-requires : tie.Need-arc-position-requires
+arc-position-requires c κs = search needs
+
+place-requires : tie.Need-place-requires
+place-requires c κs = search needs
+
+same-length : tie.Need-same-length
+same-length c = search needs
+
+returns : tie.Need-returns
+returns c =
+    let given = c .before .before in
+    let asked = given .before .before in
+    let start = asked .before .before .before in
+    given-same _ _ (asked-given (λ (m : MadeArc). m .verdict) placeGiven (λ (m : MadeArc). arcPlacedOf (m .arc) (start .args .progress)) _ (asked .before .made .ensures) (asked .arc-position .ensures)) (given .place .ensures)
+
+pub kihavute-arc-position-spec : {M : Type 1} → statement M
+kihavute-arc-position-spec =
+    tie.close (tie.spec made-requires arc-position-requires place-requires same-length returns)

@@ -1,0 +1,34 @@
+-- `kihavute_line_position` meets its contract: the made line is the one that was given, and what it answers is given. Assumes nothing.
+use borrow.Author.Needs.{needs}
+use Rattle.math.specs.declared.points.Point.{Point}
+use Rattle.bezier.specs.declared.curves.Placed.the-variants as Placed
+use Rattle.arc.specs.declared.lines.MadeLine.{MadeLine}
+use Rattle.arc.specs.Lines.{linePositionOf}
+use Rattle.giving.specs.Places.{placeGiven}
+use Rattle.giving.proofs.Giving.{given-same}
+use Rattle.kihavute_curves.proofs.Asked.{asked-given}
+use Rattle.kihavute_curves.proofs.arcs.kihavute_line_position.Statement.{statement}
+use Rattle.kihavute_curves.proofs.arcs.kihavute_line_position.Tie as tie
+
+line-requires : tie.Need-line-requires
+line-requires c κs = search needs
+
+line-position-requires : tie.Need-line-position-requires
+line-position-requires c κs = search needs
+
+place-requires : tie.Need-place-requires
+place-requires c κs = search needs
+
+same-length : tie.Need-same-length
+same-length c = search needs
+
+returns : tie.Need-returns
+returns c =
+    let given = c .before .before in
+    let asked = given .before .before in
+    let start = asked .before .before .before in
+    given-same _ _ (asked-given (λ (m : MadeLine). m .verdict) (λ (p : Point). placeGiven (Placed.At p)) (λ (m : MadeLine). linePositionOf (m .line) (start .args .progress)) _ (asked .before .line .ensures) (asked .line-position .ensures)) (given .place .ensures)
+
+pub kihavute-line-position-spec : {M : Type 1} → statement M
+kihavute-line-position-spec =
+    tie.close (tie.spec line-requires line-position-requires place-requires same-length returns)

@@ -1,0 +1,34 @@
+-- `kihavute_line_rotation_deg` meets its contract: the made line is the one that was given, and what it answers is given. Assumes nothing.
+use borrow.Author.Needs.{needs}
+use lib.Ieee.{Float}
+use Rattle.bezier.specs.declared.curves.Turned.the-variants as Turned
+use Rattle.arc.specs.declared.lines.MadeLine.{MadeLine}
+use Rattle.arc.specs.Lines.{lineRotationDegOf}
+use Rattle.giving.specs.Places.{turnGiven}
+use Rattle.giving.proofs.Giving.{given-same}
+use Rattle.kihavute_curves.proofs.Asked.{asked-given}
+use Rattle.kihavute_curves.proofs.arcs.kihavute_line_rotation_deg.Statement.{statement}
+use Rattle.kihavute_curves.proofs.arcs.kihavute_line_rotation_deg.Tie as tie
+
+line-requires : tie.Need-line-requires
+line-requires c κs = search needs
+
+line-rotation-deg-requires : tie.Need-line-rotation-deg-requires
+line-rotation-deg-requires c κs = search needs
+
+turn-requires : tie.Need-turn-requires
+turn-requires c κs = search needs
+
+same-length : tie.Need-same-length
+same-length c = search needs
+
+returns : tie.Need-returns
+returns c =
+    let given = c .before .before in
+    let asked = given .before .before in
+    let start = asked .before .before .before in
+    given-same _ _ (asked-given (λ (m : MadeLine). m .verdict) (λ (d : Float). turnGiven (Turned.Degrees d)) (λ (m : MadeLine). lineRotationDegOf (m .line)) _ (asked .before .line .ensures) (asked .line-rotation-deg .ensures)) (given .turn .ensures)
+
+pub kihavute-line-rotation-deg-spec : {M : Type 1} → statement M
+kihavute-line-rotation-deg-spec =
+    tie.close (tie.spec line-requires line-rotation-deg-requires turn-requires same-length returns)

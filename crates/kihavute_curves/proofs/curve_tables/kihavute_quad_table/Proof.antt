@@ -1,0 +1,45 @@
+-- `kihavute_quad_table` meets its contract: the made curve is the one of these points, and its table is what fills the output. Assumes nothing.
+use borrow.Author.Needs.{needs}
+use mathlib.Core.Path.{refl}
+use mathlib.Core.List.{[]}
+use Rattle.bezier.specs.declared.quads.MadeQuad.{MadeQuad}
+use Rattle.filling.specs.Filling.{tableNumbers}
+use Rattle.filling.proofs.FilledCases.{filled-made}
+use Rattle.kihavute_curves.proofs.curve_tables.kihavute_quad_table.Statement.{statement}
+use Rattle.kihavute_curves.proofs.curve_tables.kihavute_quad_table.Tie as tie
+
+quad-requires : tie.Need-quad-requires
+quad-requires c κs = search needs
+
+table-numbers-requires : tie.Need-table-numbers-requires
+table-numbers-requires c κs = search needs
+
+slice-aggregate-fill : tie.Need-slice-aggregate-fill
+slice-aggregate-fill c = search needs
+
+fill-requires : tie.Need-fill-requires
+fill-requires c κs = search needs
+
+same-length : tie.Need-same-length
+same-length c = search needs
+
+same-length-2 : tie.Need-same-length-2
+same-length-2 c = search needs
+
+returns : tie.Need-returns
+returns c =
+    let filled = c .before .before .before .before in
+    let listed = filled .before .before .before .before in
+    filled-made (λ (m : MadeQuad). m .verdict) (λ (m : MadeQuad). []) (λ (m : MadeQuad). tableNumbers (m .curve .table)) (listed .before .before .quad .ensures) refl (listed .table-numbers .ensures) (filled .fill .ensures)
+
+pub kihavute-quad-table-spec : {M : Type 1} → statement M
+kihavute-quad-table-spec =
+    tie.close
+    (tie.spec
+    quad-requires
+    table-numbers-requires
+    slice-aggregate-fill
+    fill-requires
+    same-length
+    same-length-2
+    returns)

@@ -1,0 +1,28 @@
+-- `kihavute_quad_rotation_deg` meets its contract: the made curve is the one of these points, and what it answers is given. Assumes nothing.
+use borrow.Author.Needs.{needs}
+use Rattle.giving.proofs.Giving.{given-same}
+use Rattle.kihavute_curves.proofs.CurvesGiven.{quad-rotation-given}
+use Rattle.kihavute_curves.proofs.curves.kihavute_quad_rotation_deg.Statement.{statement}
+use Rattle.kihavute_curves.proofs.curves.kihavute_quad_rotation_deg.Tie as tie
+
+quad-requires : tie.Need-quad-requires
+quad-requires c κs = search needs
+
+quad-rotation-deg-requires : tie.Need-quad-rotation-deg-requires
+quad-rotation-deg-requires c κs = search needs
+
+turn-requires : tie.Need-turn-requires
+turn-requires c κs = search needs
+
+same-length : tie.Need-same-length
+same-length c = search needs
+
+returns : tie.Need-returns
+returns c =
+    let given = c .before .before in
+    let asked = given .before .before in
+    given-same _ _ (quad-rotation-given _ _ _ _ (asked .before .quad .ensures) (asked .quad-rotation-deg .ensures)) (given .turn .ensures)
+
+pub kihavute-quad-rotation-deg-spec : {M : Type 1} → statement M
+kihavute-quad-rotation-deg-spec =
+    tie.close (tie.spec quad-requires quad-rotation-deg-requires turn-requires same-length returns)

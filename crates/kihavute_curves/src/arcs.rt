@@ -1,0 +1,262 @@
+// Lines and elliptical arcs: each call makes the segment that it is given, and asks it one thing.
+ghost use mathlib.Core.Path.{_≡_};
+ghost use Rattle.math.specs.Math.{pointOf};
+ghost use Rattle.arc.specs.Lines.{madeLineOf};
+ghost use Rattle.arc.specs.Arcs.{madeArcOf};
+ghost use Rattle.giving.specs.Given.{Given};
+ghost use Rattle.kihavute_curves.specs.Arcs.{chordOf, linePositionGiven, lineTangentGiven, lineRotationGiven, lineLengthGiven, arcPositionGiven, arcTangentGiven, arcRotationGiven, arcLengthGiven, ArcShape, ArcTable};
+use crate::curves::measure;
+use crate::curves::place;
+use crate::curves::turn;
+use answers::Values;
+use arc::MadeArc;
+use bezier::Placed;
+use bezier::Turned;
+use ellipse::Chord;
+use math::Point;
+use table::Progress;
+
+// ---- A line from (sx, sy) to (ex, ey).
+
+// Where it is at a progress.
+#[no_mangle]
+pub extern "C" fn kihavute_line_position(
+    sx: f32,
+    sy: f32,
+    ex: f32,
+    ey: f32,
+    progress: f32,
+    answer: &mut [u64],
+) -> u32
+    ensures { λ r. ⌜ Given (linePositionGiven (madeLineOf (pointOf sx sy) (pointOf ex ey)) progress) (now (answer .entry)) r (now (answer .exit)) ⌝ }
+{
+    let made = arc::line(Point { x: sx, y: sy }, Point { x: ex, y: ey });
+    let verdict = made.verdict;
+    let found = arc::line_position(made.line, Progress { value: progress });
+    place(verdict, Placed::At(found), answer)
+}
+
+// Where it heads, with the length 1.
+#[no_mangle]
+pub extern "C" fn kihavute_line_tangent(
+    sx: f32,
+    sy: f32,
+    ex: f32,
+    ey: f32,
+    answer: &mut [u64],
+) -> u32
+    ensures { λ r. ⌜ Given (lineTangentGiven (madeLineOf (pointOf sx sy) (pointOf ex ey))) (now (answer .entry)) r (now (answer .exit)) ⌝ }
+{
+    let made = arc::line(Point { x: sx, y: sy }, Point { x: ex, y: ey });
+    let verdict = made.verdict;
+    let found = arc::line_tangent(made.line);
+    place(verdict, Placed::At(found), answer)
+}
+
+// Where it heads, in degrees.
+#[no_mangle]
+pub extern "C" fn kihavute_line_rotation_deg(
+    sx: f32,
+    sy: f32,
+    ex: f32,
+    ey: f32,
+    answer: &mut [u64],
+) -> u32
+    ensures { λ r. ⌜ Given (lineRotationGiven (madeLineOf (pointOf sx sy) (pointOf ex ey))) (now (answer .entry)) r (now (answer .exit)) ⌝ }
+{
+    let made = arc::line(Point { x: sx, y: sy }, Point { x: ex, y: ey });
+    let verdict = made.verdict;
+    let found = arc::line_rotation_deg(made.line);
+    turn(verdict, Turned::Degrees(found), answer)
+}
+
+// How long it is.
+#[no_mangle]
+pub extern "C" fn kihavute_line_length(
+    sx: f32,
+    sy: f32,
+    ex: f32,
+    ey: f32,
+    answer: &mut [u64],
+) -> u32
+    ensures { λ r. ⌜ Given (lineLengthGiven (madeLineOf (pointOf sx sy) (pointOf ex ey))) (now (answer .entry)) r (now (answer .exit)) ⌝ }
+{
+    let made = arc::line(Point { x: sx, y: sy }, Point { x: ex, y: ey });
+    let verdict = made.verdict;
+    let total = arc::line_length(made.line);
+    measure(verdict, total, answer)
+}
+
+// ---- An arc from (sx, sy) to (ex, ey) with the radii rx and ry, its ellipse turned by so many degrees, and
+// two flags, of which 0 is no and any other number yes: the larger of two arcs, and the one that
+// turns towards growing angles.
+
+fn made(
+    sx: f32,
+    sy: f32,
+    rx: f32,
+    ry: f32,
+    rotation: f32,
+    large: u32,
+    sweep: u32,
+    ex: f32,
+    ey: f32,
+) -> MadeArc
+    ensures { λ r. ⌜ r ≡ madeArcOf (chordOf sx sy rx ry rotation large sweep ex ey) ⌝ }
+{
+    arc::arc(Chord {
+        start: Point { x: sx, y: sy },
+        radii: Point { x: rx, y: ry },
+        x_axis_rotation: rotation,
+        large_arc: large != 0,
+        sweep: sweep != 0,
+        end: Point { x: ex, y: ey },
+    })
+}
+
+// Where it is at a progress.
+#[no_mangle]
+pub extern "C" fn kihavute_arc_position(
+    sx: f32,
+    sy: f32,
+    rx: f32,
+    ry: f32,
+    rotation: f32,
+    large: u32,
+    sweep: u32,
+    ex: f32,
+    ey: f32,
+    progress: f32,
+    answer: &mut [u64],
+) -> u32
+    ensures { λ r. ⌜ Given (arcPositionGiven (madeArcOf (chordOf sx sy rx ry rotation large sweep ex ey)) progress) (now (answer .entry)) r (now (answer .exit)) ⌝ }
+{
+    let made = made(sx, sy, rx, ry, rotation, large, sweep, ex, ey);
+    let verdict = made.verdict;
+    let found = arc::arc_position(made.arc, Progress { value: progress });
+    place(verdict, found, answer)
+}
+
+// Where it heads at a progress, with the length 1.
+#[no_mangle]
+pub extern "C" fn kihavute_arc_tangent(
+    sx: f32,
+    sy: f32,
+    rx: f32,
+    ry: f32,
+    rotation: f32,
+    large: u32,
+    sweep: u32,
+    ex: f32,
+    ey: f32,
+    progress: f32,
+    answer: &mut [u64],
+) -> u32
+    ensures { λ r. ⌜ Given (arcTangentGiven (madeArcOf (chordOf sx sy rx ry rotation large sweep ex ey)) progress) (now (answer .entry)) r (now (answer .exit)) ⌝ }
+{
+    let made = made(sx, sy, rx, ry, rotation, large, sweep, ex, ey);
+    let verdict = made.verdict;
+    let found = arc::arc_tangent(made.arc, Progress { value: progress });
+    place(verdict, found, answer)
+}
+
+// Where it heads at a progress, in degrees.
+#[no_mangle]
+pub extern "C" fn kihavute_arc_rotation_deg(
+    sx: f32,
+    sy: f32,
+    rx: f32,
+    ry: f32,
+    rotation: f32,
+    large: u32,
+    sweep: u32,
+    ex: f32,
+    ey: f32,
+    progress: f32,
+    answer: &mut [u64],
+) -> u32
+    ensures { λ r. ⌜ Given (arcRotationGiven (madeArcOf (chordOf sx sy rx ry rotation large sweep ex ey)) progress) (now (answer .entry)) r (now (answer .exit)) ⌝ }
+{
+    let made = made(sx, sy, rx, ry, rotation, large, sweep, ex, ey);
+    let verdict = made.verdict;
+    let found = arc::arc_rotation_deg(made.arc, Progress { value: progress });
+    turn(verdict, found, answer)
+}
+
+// How long it is.
+#[no_mangle]
+pub extern "C" fn kihavute_arc_length(
+    sx: f32,
+    sy: f32,
+    rx: f32,
+    ry: f32,
+    rotation: f32,
+    large: u32,
+    sweep: u32,
+    ex: f32,
+    ey: f32,
+    answer: &mut [u64],
+) -> u32
+    ensures { λ r. ⌜ Given (arcLengthGiven (madeArcOf (chordOf sx sy rx ry rotation large sweep ex ey))) (now (answer .entry)) r (now (answer .exit)) ⌝ }
+{
+    let made = made(sx, sy, rx, ry, rotation, large, sweep, ex, ey);
+    let verdict = made.verdict;
+    let total = arc::arc_length(made.arc);
+    measure(verdict, total, answer)
+}
+
+// Its numbers: the ends, the centre, the radii, the rotation in degrees, the angle at which it
+// starts and by how much it turns, in radians; and whether it fell back to a line.
+#[no_mangle]
+pub extern "C" fn kihavute_arc_shape(
+    sx: f32,
+    sy: f32,
+    rx: f32,
+    ry: f32,
+    rotation: f32,
+    large: u32,
+    sweep: u32,
+    ex: f32,
+    ey: f32,
+    out: &mut [f32],
+    answer: &mut [u64],
+) -> u32
+    ensures { λ r. ⌜ ArcShape (madeArcOf (chordOf sx sy rx ry rotation large sweep ex ey)) (now (out .entry)) (now (answer .entry)) r (now (out .exit)) (now (answer .exit)) ⌝ }
+{
+    let made = made(sx, sy, rx, ry, rotation, large, sweep, ex, ey);
+    let verdict = made.verdict;
+    let arc = made.arc;
+    let numbers = filling::arc_numbers(arc.shape);
+    if arc.line_fallback {
+        return filling::fill(verdict, &numbers, Values::One(1), out, answer);
+    }
+    filling::fill(verdict, &numbers, Values::One(0), out, answer)
+}
+
+// Its table: 32 running lengths and then their total, or nothing where it fell back to a line; and
+// whether it did.
+#[no_mangle]
+pub extern "C" fn kihavute_arc_table(
+    sx: f32,
+    sy: f32,
+    rx: f32,
+    ry: f32,
+    rotation: f32,
+    large: u32,
+    sweep: u32,
+    ex: f32,
+    ey: f32,
+    out: &mut [f32],
+    answer: &mut [u64],
+) -> u32
+    ensures { λ r. ⌜ ArcTable (madeArcOf (chordOf sx sy rx ry rotation large sweep ex ey)) (now (out .entry)) (now (answer .entry)) r (now (out .exit)) (now (answer .exit)) ⌝ }
+{
+    let made = made(sx, sy, rx, ry, rotation, large, sweep, ex, ey);
+    let verdict = made.verdict;
+    let arc = made.arc;
+    let numbers = filling::table_numbers(arc.table);
+    if arc.line_fallback {
+        return filling::fill(verdict, &numbers[..0], Values::One(1), out, answer);
+    }
+    filling::fill(verdict, &numbers, Values::One(0), out, answer)
+}

@@ -1,0 +1,5 @@
+-- The laws of what paths and shapes give through C.
+pub mod Putting
+pub mod CheckGiven
+pub mod PathsGiven
+pub mod Querying

@@ -1,0 +1,23 @@
+-- `kihavute_tangent` meets its contract: what the entry below ensures is given. Assumes nothing.
+use borrow.Author.Needs.{needs}
+use mathlib.Core.Path.{ap}
+use Rattle.giving.specs.Places.{placeGiven}
+use Rattle.giving.proofs.Giving.{given-same}
+use Rattle.kihavute_paths.proofs.queries.kihavute_tangent.Statement.{statement}
+use Rattle.kihavute_paths.proofs.queries.kihavute_tangent.Tie as tie
+
+tangent-requires : tie.Need-tangent-requires
+tangent-requires c κs = search needs
+
+give-place-requires : tie.Need-give-place-requires
+give-place-requires c κs = search needs
+
+same-length : tie.Need-same-length
+same-length c = search needs
+
+returns : tie.Need-returns
+returns c = let given = c .before .before in given-same _ _ (ap placeGiven (given .before .before .tangent .ensures)) (given .give-place .ensures)
+
+pub kihavute-tangent-spec : {M : Type 1} → statement M
+kihavute-tangent-spec =
+    tie.close (tie.spec tangent-requires give-place-requires same-length returns)

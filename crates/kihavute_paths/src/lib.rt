@@ -1,0 +1,5 @@
+// The C interface's third part: paths, built, stored and asked, and shapes.
+mod morphs;
+mod paths;
+mod queries;
+mod stored_paths;

@@ -1,0 +1,62 @@
+// Stored paths built from a command list or from a text.
+ghost use Rattle.path.specs.Answers.{answerOf};
+ghost use Rattle.path.specs.Paths.{lentOf, buildPathOf};
+ghost use Rattle.path_text.specs.Builds.{buildTextOf};
+ghost use Rattle.giving.specs.Given.{Given};
+ghost use Rattle.kihavute_paths.specs.Paths.{PathBuilt};
+use answers::Values;
+use path::Building;
+
+// The counts of what was stored, one for each output.
+fn give_building(building: Building, answer: &mut [u64]) -> u32
+    ensures { λ r. ⌜ Given (answerOf building) (now (answer .entry)) r (now (answer .exit)) ⌝ }
+{
+    match building {
+        Building::Built {
+            segments,
+            fields: own,
+            tables: more,
+        } => giving::accept(Values::Four(segments, own, more, segments), answer),
+        Building::Refused(refusal) => giving::refuse(refusal, answer),
+    }
+}
+
+// Builds the stored path of a command list: kinds, fields, tables and running lengths, each from its buffer's start. Gives how many
+// places of each are stored. Where answer is too short, or the list is refused, no buffer is touched.
+#[no_mangle]
+pub extern "C" fn kihavute_build(
+    letters: &[u8],
+    numbers: &[f32],
+    kinds: &mut [u8],
+    fields: &mut [f32],
+    tables: &mut [f32],
+    lengths: &mut [f32],
+    answer: &mut [u64],
+) -> u32
+    ensures { λ r. ⌜ PathBuilt (buildPathOf (now (letters .entry)) (now (numbers .entry)) (lentOf (now (kinds .entry)) (now (fields .entry)) (now (tables .entry)) (now (lengths .entry)))) (now (kinds .entry)) (now (fields .entry)) (now (tables .entry)) (now (lengths .entry)) (now (answer .entry)) r (now (kinds .exit)) (now (fields .exit)) (now (tables .exit)) (now (lengths .exit)) (now (answer .exit)) ⌝ }
+{
+    if answer.len() < 8 {
+        return 255;
+    }
+    let building = path::build_path(letters, numbers, kinds, fields, tables, lengths);
+    give_building(building, answer)
+}
+
+// The same for a text, read and built in one call.
+#[no_mangle]
+pub extern "C" fn kihavute_build_text(
+    text: &[u8],
+    kinds: &mut [u8],
+    fields: &mut [f32],
+    tables: &mut [f32],
+    lengths: &mut [f32],
+    answer: &mut [u64],
+) -> u32
+    ensures { λ r. ⌜ PathBuilt (buildTextOf (now (text .entry)) (lentOf (now (kinds .entry)) (now (fields .entry)) (now (tables .entry)) (now (lengths .entry)))) (now (kinds .entry)) (now (fields .entry)) (now (tables .entry)) (now (lengths .entry)) (now (answer .entry)) r (now (kinds .exit)) (now (fields .exit)) (now (tables .exit)) (now (lengths .exit)) (now (answer .exit)) ⌝ }
+{
+    if answer.len() < 8 {
+        return 255;
+    }
+    let building = path_text::build_from_text(text, kinds, fields, tables, lengths);
+    give_building(building, answer)
+}

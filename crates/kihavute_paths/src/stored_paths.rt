@@ -1,0 +1,23 @@
+// Stored paths.
+ghost use Rattle.giving.specs.Given.{Given};
+ghost use Rattle.kihavute_paths.specs.StoredPaths.{checkGiven};
+use answers::Refusal;
+use answers::Values;
+
+// Whether four buffers hold a stored path: returns 0 and puts the count of its segments at the start of answer; returns 12 where they
+// do not.
+#[no_mangle]
+pub extern "C" fn kihavute_check(
+    kinds: &[u8],
+    fields: &[f32],
+    tables: &[f32],
+    lengths: &[f32],
+    answer: &mut [u64],
+) -> u32
+    ensures { λ r. ⌜ Given (checkGiven (now (kinds .entry)) (now (fields .entry)) (now (tables .entry)) (now (lengths .entry))) (now (answer .entry)) r (now (answer .exit)) ⌝ }
+{
+    if stored::check_path(kinds, fields, tables, lengths) {
+        return giving::accept(Values::One(kinds.len()), answer);
+    }
+    giving::refuse(Refusal::BadPath, answer)
+}
