@@ -1,4 +1,4 @@
--- The first length that is not finite: all before it are, and it is not. Assumes nothing.
+-- The first length that is not finite: all before it are, and it is not. It lies in the list, or is the list's length. Assumes nothing.
 use mathlib.Core.Path.{_≡_, refl, sym, ap, _∙_}
 use Prim.Native.Nat.{ℕ, zero, suc, _≤_, _<_}
 use native.Mathlib.Nat.{le-of-suc-le-suc, not-suc-le-zero}
@@ -6,8 +6,9 @@ use native.Mathlib.Omega.{arith}
 use mathlib.Core.Bool.{Bool, true, false, cond}
 use mathlib.Core.List.{List, [], _∷_}
 use lib.ListN.{length}
-use lib.Ieee.{Float}
+use lib.Ieee.{Float, ofBits}
 use lib.Ieee.Scale.{finite}
+use Rattle.floats.specs.Floats.{zeroF}
 use Rattle.table.specs.Lookup.{at}
 use Rattle.polyline.specs.Lengths.{firstNotFinite}
 
@@ -21,6 +22,13 @@ finite-more (x ∷ xs) (suc k) h l e = next (finite x) h (λ g. finite-more xs k
     next : (b : Bool) → suc k ≤ cond b (suc (firstNotFinite xs)) 0 → (k ≤ firstNotFinite xs → suc k ≤ firstNotFinite xs) → suc (suc k) ≤ cond b (suc (firstNotFinite xs)) 0
     next true g rest = let m = rest (le-of-suc-le-suc g) in omega arith
     next false g rest = absurd (not-suc-le-zero g)
+
+-- running lengths start at 0, which is finite
+pub finite-start : (xs : List Float) → 0 < length xs → at xs 0 ≡ zeroF → 1 ≤ firstNotFinite xs
+finite-start xs some e = finite-more xs 0 (omega arith) some (ap finite e ∙ zero-finite)
+  where
+    zero-finite : finite zeroF ≡ true
+    zero-finite = unfold zeroF ofBits in refl
 
 -- the one that is not
 pub finite-stop : (xs : List Float) (k : ℕ) → k ≤ firstNotFinite xs → k < length xs → finite (at xs k) ≡ false → firstNotFinite xs ≡ k
@@ -43,3 +51,13 @@ finite-before (x ∷ xs) k h = go (finite x) refl k h (λ j g. finite-before xs 
     go true e zero g rest = e
     go true e (suc k) g rest = rest k (le-of-suc-le-suc g)
     go false e k g rest = absurd (not-suc-le-zero g)
+
+-- no more than there are
+pub finite-upto : (xs : List Float) → firstNotFinite xs ≤ length xs
+unfolding firstNotFinite
+finite-upto [] = omega arith
+finite-upto (x ∷ xs) = go (finite x) (finite-upto xs)
+  where
+    go : (b : Bool) → firstNotFinite xs ≤ length xs → cond b (suc (firstNotFinite xs)) 0 ≤ suc (length xs)
+    go true h = omega arith
+    go false h = omega arith

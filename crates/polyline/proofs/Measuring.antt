@@ -8,7 +8,7 @@ use mathlib.Core.List.{List}
 use borrow.Author.Tests.{lt-ltb, le-ltb, ltb-false}
 use lib.ListN.{length}
 use lib.Dec.{T, ltb}
-use lib.Ieee.{Float, binary32, add, ofBits}
+use lib.Ieee.{Float, binary32, add}
 use lib.Ieee.Scale.{finite}
 use Rattle.floats.specs.Floats.{zeroF}
 use Rattle.floats.proofs.Tests.{passed}
@@ -18,23 +18,19 @@ use Rattle.polyline.specs.Lengths.{legOf, lengthsOf, totalOf, firstNotFi
 use Rattle.polyline.specs.declared.inner.Measured.{Measured}
 use Rattle.polyline.specs.declared.inner.Measured.the-variants.{Total, NotFinite}
 use Rattle.polyline.proofs.Legs.{lengths-count, lengths-first, lengths-next, total-is}
-use Rattle.polyline.proofs.FirstNotFinite.{finite-more, finite-stop, finite-before}
+use Rattle.polyline.proofs.FirstNotFinite.{finite-more, finite-start, finite-stop, finite-before}
 
 pub record Measuring (points : List Float) (total : Float) (i : ℕ) : Type 0 where
   pub upto : i ≤ countOf points - 1
   pub here : total ≡ at (lengthsOf points) i
   pub fine : suc i ≤ firstNotFinite (lengthsOf points)
 
-zero-finite : finite zeroF ≡ true
-unfolding zeroF ofBits
-zero-finite = refl
-
 module _ (points : List Float) where
   pub measuring-start : (total : Float) → total ≡ zeroF → Measuring points total 0
   measuring-start total e = record {
     upto = omega arith;
     here = e ∙ sym (lengths-first points);
-    fine = finite-more (lengthsOf points) 0 (omega arith) (let n = lengths-count points in omega arith) (ap finite (lengths-first points) ∙ zero-finite);
+    fine = finite-start (lengthsOf points) (let n = lengths-count points in omega arith) (lengths-first points);
   }
 
   module _ (total : Float) (i : ℕ) (m : Measuring points total i) (inside : i + 1 < countOf points) (leg next : Float) (l : leg ≡ legOf points i) (n : next ≡ add binary32 total leg) where

@@ -1,4 +1,4 @@
--- What a digit, a pattern and its float are, case by case as the code tests. Assumes nothing.
+-- What a digit of either base, a pattern and its float are, case by case as the code tests. Assumes nothing.
 use native.Mathlib.Omega.{arith}
 use borrow.Author.Tests.{eqb-true, eq-eqb, lt-ltb, le-ltb, le-leb, lt-leb}
 use Prim.Native.Nat.{ℕ, _+_, _-_, _*_, _%_, _/_, _≤_, _<_}
@@ -9,6 +9,7 @@ use lib.Dec.{T, eqb}
 use lib.ListN.{length, getD}
 use lib.Ieee.{Float, binary32, nan, nanBits, ofBits}
 use Rattle.records.specs.Records.{digitOf, halfOf, patternOf, floatOf}
+use Rattle.records.specs.Decimals.{decimalOf}
 
 -- ---- a digit
 
@@ -32,6 +33,21 @@ module _ (byte : ℕ) where
   pub past-F : 70 < byte → 0 ≡ digitOf byte
   unfolding digitOf
   past-F h = simp (le-ltb byte 48 (omega arith), lt-leb byte 57 (omega arith), le-ltb byte 65 (omega arith), lt-leb byte 70 h)
+
+-- ---- a decimal digit
+
+module _ (byte : ℕ) where
+  pub decimal-below : byte < 48 → 9 ≡ decimalOf byte
+  unfolding decimalOf
+  decimal-below h = simp (lt-ltb byte 48 h)
+
+  pub decimal-within : 48 ≤ byte → byte ≤ 57 → byte - 48 ≡ decimalOf byte
+  unfolding decimalOf
+  decimal-within low high = simp (le-ltb byte 48 low, le-leb byte 57 high)
+
+  pub decimal-above : 57 < byte → 9 ≡ decimalOf byte
+  unfolding decimalOf
+  decimal-above h = simp (le-ltb byte 48 (omega arith), lt-leb byte 57 h)
 
 -- ---- a pattern
 

@@ -1,5 +1,26 @@
 // What the programs share that replay recorded answers: patterns of eight hexadecimal digits in the
-// records, and the line that they print.
+// records, numbers of few decimal digits, rows of both, how an answer is held against them, and the line
+// that the programs print.
+mod curves;
+mod decimals;
+mod given;
+mod numbers;
+
+pub use curves::number_of;
+pub use curves::placed;
+pub use curves::same_answers;
+pub use curves::turned;
+pub use decimals::held;
+pub use decimals::one;
+pub use decimals::three;
+pub use decimals::two;
+pub use given::first_of;
+pub use given::has_bits;
+pub use given::point;
+pub use given::same_point;
+pub use numbers::read_numbers;
+pub use numbers::same_bytes;
+pub use numbers::same_numbers;
 ghost use Prim.Native.Nat.{_<_};
 ghost use mathlib.Core.Path.{_≡_};
 ghost use Rattle.records.specs.Records.{digitOf, halfOf, patternOf, floatOf};

@@ -3,13 +3,17 @@
 ghost use Prim.Native.Nat.{_+_, _≤_};
 ghost use lib.ListN.{length};
 use arc::EllipticalArc;
+use arc::LineSegment;
 use bezier::Placed;
 use bezier::Turned;
-use bezier::Verdict;
 use ellipse::Chord;
-use math::Point;
 use records::float;
+use records::has_bits;
+use records::number_of;
 use records::pattern;
+use records::point;
+use records::same_answers;
+use records::same_numbers;
 use table::Progress;
 
 // A block is a segment and six progresses. Its first line has a letter (a or l), the refusal's number or
@@ -108,14 +112,11 @@ fn line_agrees(text: &[u8], at: usize, line: usize) -> bool
         return true;
     }
     let own = made.line;
-    if floats::bits(arc::line_length(own)) != pattern(text, at + 68) {
-        return false;
+    if has_bits(arc::line_length(own), pattern(text, at + 68)) {
+        line_answers(own, text, line)
+    } else {
+        false
     }
-    let progress = progress_at(text, line);
-    let position = Placed::At(arc::line_position(own, progress));
-    let tangent = Placed::At(arc::line_tangent(own));
-    let turned = Turned::Degrees(arc::line_rotation_deg(own));
-    same_answers(position, tangent, turned, text, line)
 }
 
 // What the block at this place gives of an arc.
@@ -138,12 +139,23 @@ fn same_shape(own: EllipticalArc, text: &[u8], at: usize) -> bool
 {
     let numbers = filling::arc_numbers(own.shape);
     if own.line_fallback {
-        return text[at + 67] == b'1' && same_numbers(&numbers, text, at + 68);
+        return text[at + 67] == b'1' && same_numbers(&numbers, text, at + 68, 8);
     }
     let table = filling::table_numbers(own.table);
     text[at + 67] == b'0'
-        && same_numbers(&numbers, text, at + 68)
-        && same_numbers(&table, text, at + 156)
+        && same_numbers(&numbers, text, at + 68, 8)
+        && same_numbers(&table, text, at + 156, 8)
+}
+
+// Whether the line at this place holds what a line segment answers there.
+fn line_answers(own: LineSegment, text: &[u8], line: usize) -> bool
+    requires { ⌜ line + 49 ≤ length (now text) ⌝ }
+{
+    let progress = progress_at(text, line);
+    let position = Placed::At(arc::line_position(own, progress));
+    let tangent = Placed::At(arc::line_tangent(own));
+    let turned = Turned::Degrees(arc::line_rotation_deg(own));
+    same_answers(position, tangent, turned, text, line + 8)
 }
 
 // Whether the line at this place holds what an arc answers there.
@@ -154,73 +166,12 @@ fn arc_answers(own: EllipticalArc, text: &[u8], line: usize) -> bool
     let position = arc::arc_position(own, progress);
     let tangent = arc::arc_tangent(own, progress);
     let turned = arc::arc_rotation_deg(own, progress);
-    same_answers(position, tangent, turned, text, line)
-}
-
-// Whether the line at this place holds these answers.
-fn same_answers(position: Placed, tangent: Placed, turned: Turned, text: &[u8], line: usize) -> bool
-    requires { ⌜ line + 49 ≤ length (now text) ⌝ }
-{
-    same_place(position, text, line + 8)
-        && same_place(tangent, text, line + 24)
-        && same_turn(turned, text, line + 40)
+    same_answers(position, tangent, turned, text, line + 8)
 }
 
 // The progress of the line at this place.
 fn progress_at(text: &[u8], line: usize) -> Progress {
     Progress {
         value: float(pattern(text, line)),
-    }
-}
-
-// The point of the two patterns at this place.
-fn point(text: &[u8], at: usize) -> Point
-    requires { ⌜ at + 16 ≤ length (now text) ⌝ }
-{
-    Point {
-        x: float(pattern(text, at)),
-        y: float(pattern(text, at + 8)),
-    }
-}
-
-// The number of a refusal, or 0.
-fn number_of(verdict: Verdict) -> u32 {
-    match verdict {
-        Verdict::Accepted => 0,
-        Verdict::Refused(refusal) => answers::number(refusal),
-    }
-}
-
-// Whether these numbers, of which at most 33 are looked at, have the patterns from this place on.
-fn same_numbers(numbers: &[f32], text: &[u8], at: usize) -> bool
-    requires { ⌜ at + 264 ≤ length (now text) ⌝ }
-{
-    for i in 0..33usize {
-        if i < numbers.len() {
-            if floats::bits(numbers[i]) != pattern(text, at + i * 8) {
-                return false;
-            }
-        }
-    }
-    true
-}
-
-// Whether a place or a direction was given and has the two patterns at this place.
-fn same_place(placed: Placed, text: &[u8], at: usize) -> bool
-    requires { ⌜ at + 16 ≤ length (now text) ⌝ }
-{
-    match placed {
-        Placed::At(p) => {
-            floats::bits(p.x) == pattern(text, at) && floats::bits(p.y) == pattern(text, at + 8)
-        }
-        Placed::Refused(_) => false,
-    }
-}
-
-// Whether a heading was given and has the pattern at this place.
-fn same_turn(turned: Turned, text: &[u8], at: usize) -> bool {
-    match turned {
-        Turned::Degrees(degrees) => floats::bits(degrees) == pattern(text, at),
-        Turned::Refused(_) => false,
     }
 }

@@ -4,10 +4,13 @@ ghost use Prim.Native.Nat.{_+_, _≤_};
 ghost use lib.ListN.{length};
 use bezier::Placed;
 use bezier::Turned;
-use bezier::Verdict;
-use math::Point;
 use records::float;
+use records::has_bits;
+use records::number_of;
 use records::pattern;
+use records::point;
+use records::same_answers;
+use records::same_numbers;
 use table::Progress;
 use table::Table;
 
@@ -95,7 +98,7 @@ fn quad_agrees(text: &[u8], at: usize, line: usize) -> bool
     let tangent = bezier::quad_tangent(curve, progress);
     let turned = bezier::quad_rotation_deg(curve, progress);
     let table = curve.table;
-    same_answers(table, position, tangent, turned, text, at, line)
+    same_curve(table, position, tangent, turned, text, at, line)
 }
 
 fn cubic_agrees(text: &[u8], at: usize, line: usize) -> bool
@@ -123,11 +126,11 @@ fn cubic_agrees(text: &[u8], at: usize, line: usize) -> bool
     let tangent = bezier::cubic_tangent(curve, progress);
     let turned = bezier::cubic_rotation_deg(curve, progress);
     let table = curve.table;
-    same_answers(table, position, tangent, turned, text, at, line)
+    same_curve(table, position, tangent, turned, text, at, line)
 }
 
 // Whether the block at `at` holds this table, and the line at `line` these answers.
-fn same_answers(
+fn same_curve(
     table: Table,
     position: Placed,
     tangent: Placed,
@@ -139,28 +142,7 @@ fn same_answers(
     requires { ⌜ at + 583 ≤ length (now text) ⌝ }
     requires { ⌜ line + 49 ≤ length (now text) ⌝ }
 {
-    same_table(table, text, at + 73)
-        && same_place(position, text, line + 8)
-        && same_place(tangent, text, line + 24)
-        && same_turn(turned, text, line + 40)
-}
-
-// The point of the two patterns at this place.
-fn point(text: &[u8], at: usize) -> Point
-    requires { ⌜ at + 16 ≤ length (now text) ⌝ }
-{
-    Point {
-        x: float(pattern(text, at)),
-        y: float(pattern(text, at + 8)),
-    }
-}
-
-// The number of a refusal, or 0.
-fn number_of(verdict: Verdict) -> u32 {
-    match verdict {
-        Verdict::Accepted => 0,
-        Verdict::Refused(refusal) => answers::number(refusal),
-    }
+    same_table(table, text, at + 73) && same_answers(position, tangent, turned, text, line + 8)
 }
 
 // Whether a table's entries and its total have the 33 patterns at this place.
@@ -168,30 +150,5 @@ fn same_table(table: Table, text: &[u8], at: usize) -> bool
     requires { ⌜ at + 264 ≤ length (now text) ⌝ }
 {
     let entries = table.entries;
-    for i in 0..32usize {
-        if floats::bits(entries[i]) != pattern(text, at + i * 8) {
-            return false;
-        }
-    }
-    floats::bits(table.total) == pattern(text, at + 256)
-}
-
-// Whether a place or a direction was given and has the two patterns at this place.
-fn same_place(placed: Placed, text: &[u8], at: usize) -> bool
-    requires { ⌜ at + 16 ≤ length (now text) ⌝ }
-{
-    match placed {
-        Placed::At(p) => {
-            floats::bits(p.x) == pattern(text, at) && floats::bits(p.y) == pattern(text, at + 8)
-        }
-        Placed::Refused(_) => false,
-    }
-}
-
-// Whether a heading was given and has the pattern at this place.
-fn same_turn(turned: Turned, text: &[u8], at: usize) -> bool {
-    match turned {
-        Turned::Degrees(degrees) => floats::bits(degrees) == pattern(text, at),
-        Turned::Refused(_) => false,
-    }
+    same_numbers(&entries, text, at, 8) && has_bits(table.total, pattern(text, at + 256))
 }

@@ -1,10 +1,12 @@
 // Runs recorded numbers of the Rust's own reader through the proved crates, and prints how many there
 // were and how many differ. `oracle/record decimal` writes the records to this crate's stdin.
-ghost use Prim.Native.Nat.{_+_, _≤_, _<_};
+ghost use Prim.Native.Nat.{_+_, _≤_};
 ghost use lib.ListN.{length};
 use answers::Values;
 use decimal::Read;
+use records::has_bits;
 use records::pattern;
+use records::three;
 
 // The bytes of a record: v and the value's pattern or r and the refusal's number, as eight
 // hexadecimal digits; the count of bytes taken or the refusal's place, and the text's length, as
@@ -40,8 +42,8 @@ fn agrees(lines: &[u8], at: usize) -> bool
     requires { ⌜ at + 131 ≤ length (now lines) ⌝ }
 {
     let due = pattern(lines, at + 1);
-    let place = three(lines[at + 9], lines[at + 10], lines[at + 11]);
-    let size = three(lines[at + 12], lines[at + 13], lines[at + 14]);
+    let place = three(lines, at + 9);
+    let size = three(lines, at + 12);
     if 115 < size {
         return false;
     }
@@ -52,7 +54,7 @@ fn agrees(lines: &[u8], at: usize) -> bool
 
 fn same(read: Read, letter: u8, due: u32, place: usize) -> bool {
     match read {
-        Read::Value(value, end) => letter == b'v' && floats::bits(value) == due && end == place,
+        Read::Value(value, end) => letter == b'v' && has_bits(value, due) && end == place,
         Read::Refused(refusal) => {
             letter == b'r'
                 && answers::number(refusal) == due
@@ -66,22 +68,5 @@ fn only(values: Values) -> usize {
     match values {
         Values::One(value) => value,
         _ => 1000,
-    }
-}
-
-// The number of three digits.
-fn three(a: u8, b: u8, c: u8) -> usize
-    ensures { λ r. ⌜ r < 1000 ⌝ }
-{
-    digit(a) * 100 + digit(b) * 10 + digit(c)
-}
-
-// What a digit stands for, and 9 for any other byte.
-fn digit(byte: u8) -> usize
-    ensures { λ r. ⌜ r < 10 ⌝ }
-{
-    match byte {
-        b'0'..=b'9' => (byte - b'0') as usize,
-        _ => 9,
     }
 }

@@ -4,7 +4,9 @@ ghost use Prim.Native.Nat.{_+_, _≤_};
 ghost use lib.ListN.{length};
 use math::Point;
 use records::float;
+use records::has_bits;
 use records::pattern;
+use records::same_point;
 
 // The bytes of a record, which is a line: the helper's letter, then five operands and two answers as
 // patterns of eight hexadecimal digits, a space before each. Places that a helper does not use hold
@@ -49,31 +51,23 @@ fn agrees(text: &[u8], at: usize) -> bool
     let p = Point { x: a, y: b };
     let q = Point { x: c, y: d };
     match text[at] {
-        b'r' => number(root::sqrt(a), x),
-        b't' => number(floats::tidy(a), x),
-        b'm' => number(floats::min(a, b), x),
-        b'M' => number(floats::max(a, b), x),
-        b'c' => number(floats::clamp(a, b, c), x),
-        b'C' => number(math::clamp01(a), x),
-        b'l' => number(math::lerp(a, b, c), x),
-        b'd' => number(math::deg_to_rad(a), x),
-        b'D' => number(math::rad_to_deg(a), x),
-        b'a' => point(math::add(p, q), x, y),
-        b's' => point(math::sub(p, q), x, y),
-        b'k' => point(math::scale(p, c), x, y),
-        b'p' => number(math::dot(p, q), x),
-        b'n' => number(math::length(p), x),
-        b'w' => number(math::distance(p, q), x),
-        b'u' => point(math::normalize(p), x, y),
-        b'L' => point(math::lerp_point(p, q, e), x, y),
+        b'r' => has_bits(root::sqrt(a), x),
+        b't' => has_bits(floats::tidy(a), x),
+        b'm' => has_bits(floats::min(a, b), x),
+        b'M' => has_bits(floats::max(a, b), x),
+        b'c' => has_bits(floats::clamp(a, b, c), x),
+        b'C' => has_bits(math::clamp01(a), x),
+        b'l' => has_bits(math::lerp(a, b, c), x),
+        b'd' => has_bits(math::deg_to_rad(a), x),
+        b'D' => has_bits(math::rad_to_deg(a), x),
+        b'a' => same_point(math::add(p, q), x, y),
+        b's' => same_point(math::sub(p, q), x, y),
+        b'k' => same_point(math::scale(p, c), x, y),
+        b'p' => has_bits(math::dot(p, q), x),
+        b'n' => has_bits(math::length(p), x),
+        b'w' => has_bits(math::distance(p, q), x),
+        b'u' => same_point(math::normalize(p), x, y),
+        b'L' => same_point(math::lerp_point(p, q, e), x, y),
         _ => false,
     }
-}
-
-fn number(found: f32, due: u32) -> bool {
-    floats::bits(found) == due
-}
-
-fn point(found: Point, x: u32, y: u32) -> bool {
-    number(found.x, x) && number(found.y, y)
 }

@@ -9,7 +9,11 @@ use morph::Bounded;
 use morph::Evaluated;
 use morph::Morphed;
 use records::float;
+use records::has_bits;
+use records::held;
 use records::pattern;
+use records::read_numbers;
+use records::same_numbers;
 use resample::Resampled;
 
 // A line has a letter (r: resample, m: a morph with a resolution, d: with the default, e: evaluate, b:
@@ -61,8 +65,8 @@ fn agrees(line: &[u8]) -> bool {
     }
     let from = numbers_at(line, 38);
     let to = numbers_at(line, TO);
-    let n = held(pattern(line, 2));
-    let m = held(pattern(line, 11));
+    let n = held(pattern(line, 2), 16);
+    let m = held(pattern(line, 11), 16);
     let count = pattern(line, 20) as usize;
     let t = float(pattern(line, 29));
     match line[0] {
@@ -77,37 +81,11 @@ fn agrees(line: &[u8]) -> bool {
 
 // The 16 patterns from this place on, as floats.
 fn numbers_at(line: &[u8], at: usize) -> [f32; 16]
-    requires { ⌜ at ≤ 1024 ⌝ }
     ensures { λ r. ⌜ 16 ≡ length r ⌝ }
 {
     let mut numbers = [0.0f32; 16];
-    for i in 0..16usize {
-        numbers[i] = float(pattern(line, at + i * 9));
-    }
+    read_numbers(line, at, 9, &mut numbers);
     numbers
-}
-
-// The count, at most 16.
-fn held(count: u32) -> usize
-    ensures { λ r. ⌜ r ≤ 16 ⌝ }
-{
-    if count > 16 {
-        return 16;
-    }
-    count as usize
-}
-
-// Whether an output holds the 16 patterns from this place on.
-fn holds(line: &[u8], out: &[f32; 16], at: usize) -> bool
-    requires { ⌜ at ≤ 1024 ⌝ }
-{
-    let mut same = true;
-    for i in 0..16usize {
-        if floats::bits(out[i]) != pattern(line, at + i * 9) {
-            same = false;
-        }
-    }
-    same
 }
 
 // Whether the answer has this number and these values.
@@ -132,7 +110,7 @@ fn refused(line: &[u8], refusal: Refusal) -> bool {
 fn resampled(line: &[u8], points: &[f32], count: usize) -> bool {
     let mut out = [float(BEFORE); 16];
     let given = resample::resample(points, count, &mut out);
-    if holds(line, &out, FIRST) {
+    if same_numbers(&out, line, FIRST, 9) {
         match given {
             Resampled::Numbers(numbers) => answered(line, 0, Values::One(numbers)),
             Resampled::Refused(refusal) => refused(line, refusal),
@@ -153,8 +131,8 @@ fn morphed(line: &[u8], from: &[f32], to: &[f32], resolution: usize) -> bool {
     let mut one = [float(BEFORE); 16];
     let mut other = [float(BEFORE); 16];
     let given = morph::morph(from, to, resolution, &mut one, &mut other);
-    if holds(line, &one, FIRST) {
-        if holds(line, &other, SECOND) {
+    if same_numbers(&one, line, FIRST, 9) {
+        if same_numbers(&other, line, SECOND, 9) {
             of_morph(line, given)
         } else {
             false
@@ -168,8 +146,8 @@ fn morphed_by_default(line: &[u8], from: &[f32], to: &[f32]) -> bool {
     let mut one = [float(BEFORE); 16];
     let mut other = [float(BEFORE); 16];
     let given = morph::morph_default(from, to, &mut one, &mut other);
-    if holds(line, &one, FIRST) {
-        if holds(line, &other, SECOND) {
+    if same_numbers(&one, line, FIRST, 9) {
+        if same_numbers(&other, line, SECOND, 9) {
             of_morph(line, given)
         } else {
             false
@@ -182,7 +160,7 @@ fn morphed_by_default(line: &[u8], from: &[f32], to: &[f32]) -> bool {
 fn evaluated(line: &[u8], from: &[f32], to: &[f32], t: f32) -> bool {
     let mut out = [float(BEFORE); 16];
     let given = morph::evaluate(from, to, t, &mut out);
-    if holds(line, &out, FIRST) {
+    if same_numbers(&out, line, FIRST, 9) {
         match given {
             Evaluated::Numbers(numbers) => answered(line, 0, Values::One(numbers)),
             Evaluated::Refused(refusal) => refused(line, refusal),
@@ -194,7 +172,7 @@ fn evaluated(line: &[u8], from: &[f32], to: &[f32], t: f32) -> bool {
 
 // Whether one bound has the pattern at this place.
 fn bound(line: &[u8], at: usize, x: f32) -> bool {
-    floats::bits(x) == pattern(line, at)
+    has_bits(x, pattern(line, at))
 }
 
 fn bounded(line: &[u8], from: &[f32], to: &[f32], t: f32) -> bool {

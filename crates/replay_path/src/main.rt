@@ -5,6 +5,9 @@ ghost use lib.ListN.{length};
 use answers::Values;
 use path::Building;
 use records::pattern;
+use records::same_bytes;
+use records::three;
+use records::two;
 
 // The bytes of a record: the text's length as two digits; the text, which has at most 90 bytes, and
 // blanks up to 90; the refusal's number, or 0, as two digits, and three values as three digits each,
@@ -66,23 +69,9 @@ fn agrees(lines: &[u8], at: usize) -> bool
         &mut lengths,
     );
     let answered = answers_as(building, &lengths, lines, at + 92);
-    let of_kinds = same_kinds(&kinds, lines, at + 111);
+    let of_kinds = same_bytes(&kinds, b'0', lines, at + 111);
     let sum = mixed(mixed(mixed(0, &fields), &tables), &lengths);
     answered & of_kinds & (sum == pattern(lines, at + 119) as u64)
-}
-
-fn same_kinds(kinds: &[u8], lines: &[u8], at: usize) -> bool
-    requires { ⌜ at + length (now kinds) ≤ length (now lines) ⌝ }
-{
-    let mut same = true;
-    for i in 0..kinds.len() {
-        same = same & is_kind(kinds[i], lines[at + i]);
-    }
-    same
-}
-
-fn is_kind(kind: u8, byte: u8) -> bool {
-    kind as usize == digit(byte)
 }
 
 // One pattern for a pattern before and all these numbers: for each, what is so far times an odd factor,
@@ -153,29 +142,4 @@ fn has(a: usize, b: usize, c: usize, lines: &[u8], at: usize) -> bool
     let second = three(lines, at + 3);
     let third = three(lines, at + 6);
     (first == a) & (second == b) & (third == c)
-}
-
-// The number that three digits stand for.
-fn three(lines: &[u8], at: usize) -> usize
-    requires { ⌜ at + 3 ≤ length (now lines) ⌝ }
-{
-    two(lines, at) * 10 + digit(lines[at + 2])
-}
-
-// The number that two digits stand for.
-fn two(lines: &[u8], at: usize) -> usize
-    requires { ⌜ at + 2 ≤ length (now lines) ⌝ }
-    ensures { λ r. ⌜ r < 100 ⌝ }
-{
-    digit(lines[at]) * 10 + digit(lines[at + 1])
-}
-
-// What a digit stands for, and 9 for any other byte.
-fn digit(byte: u8) -> usize
-    ensures { λ r. ⌜ r < 10 ⌝ }
-{
-    match byte {
-        b'0'..=b'9' => (byte - b'0') as usize,
-        _ => 9,
-    }
 }

@@ -3,10 +3,14 @@
 ghost use Prim.Native.Nat.{_+_, _≤_};
 ghost use mathlib.Core.Path.{_≡_};
 ghost use lib.ListN.{length};
-use bezier::Placed;
-use bezier::Turned;
+use records::first_of;
 use records::float;
+use records::has_bits;
+use records::held;
 use records::pattern;
+use records::placed;
+use records::read_numbers;
+use records::turned;
 use spline_query::Measured;
 use spline_table::Tabled;
 use table::Progress;
@@ -98,22 +102,11 @@ fn queries_missed(
 
 // The nine patterns from this place on, as floats.
 fn numbers_at(text: &[u8], at: usize) -> [f32; 9]
-    requires { ⌜ at + 81 ≤ length (now text) ⌝ }
     ensures { λ r. ⌜ 9 ≡ length r ⌝ }
 {
     let mut numbers = [0.0f32; 9];
-    for i in 0..9usize {
-        numbers[i] = float(pattern(text, at + i * 9));
-    }
+    read_numbers(text, at, 9, &mut numbers);
     numbers
-}
-
-// The count, at most this many.
-fn held(count: u32, most: usize) -> usize
-    ensures { λ r. ⌜ r ≤ most ⌝ }
-{
-    let wanted = count as usize;
-    if wanted < most { wanted } else { most }
 }
 
 // What making a table answered, and the places it was lent a part of, zeros where nothing was stored.
@@ -144,16 +137,6 @@ fn tabled(found: Tabled, number: u32, value: u32) -> bool {
     }
 }
 
-// The first of the values that a refusal carries, or 0.
-fn first_of(values: answers::Values) -> usize {
-    match values {
-        answers::Values::Nothing => 0,
-        answers::Values::One(a) => a,
-        answers::Values::Two(a, _) => a,
-        answers::Values::Four(a, _, _, _) => a,
-    }
-}
-
 // Whether eight places of the table hold what is recorded.
 fn entries_agree(text: &[u8], at: usize, table: [f32; 64]) -> bool
     requires { ⌜ at + 144 ≤ length (now text) ⌝ }
@@ -161,7 +144,7 @@ fn entries_agree(text: &[u8], at: usize, table: [f32; 64]) -> bool
 {
     for i in 0..8usize {
         let place = held(pattern(text, at + i * 18), 63);
-        if floats::bits(table[place]) != pattern(text, at + i * 18 + 9) {
+        if !has_bits(table[place], pattern(text, at + i * 18 + 9)) {
             return false;
         }
     }
@@ -241,23 +224,9 @@ fn told(text: &[u8], line: usize, numbers: &[f32], table: &[f32]) -> bool
     )
 }
 
-fn placed(found: Placed, number: u32, x: u32, y: u32) -> bool {
-    match found {
-        Placed::At(p) => number == 0 && floats::bits(p.x) == x && floats::bits(p.y) == y,
-        Placed::Refused(refusal) => answers::number(refusal) == number,
-    }
-}
-
-fn turned(found: Turned, number: u32, degrees: u32) -> bool {
-    match found {
-        Turned::Degrees(own) => number == 0 && floats::bits(own) == degrees,
-        Turned::Refused(refusal) => answers::number(refusal) == number,
-    }
-}
-
 fn measured(found: Measured, number: u32, length: u32) -> bool {
     match found {
-        Measured::Length(own) => number == 0 && floats::bits(own) == length,
+        Measured::Length(own) => number == 0 && has_bits(own, length),
         Measured::Refused(refusal) => answers::number(refusal) == number,
     }
 }

@@ -1,6 +1,6 @@
 // Runs recorded verdicts of a general parser through strict reading, and prints how many there were
 // and how many differ. `oracle/record strict` writes the records to this crate's stdin.
-ghost use Prim.Native.Nat.{_+_, _≤_, _<_};
+ghost use Prim.Native.Nat.{_+_, _≤_};
 ghost use lib.ListN.{length};
 use strict::Verdict;
 
@@ -36,7 +36,7 @@ fn missed(lines: &[u8], at: usize) -> u64
 fn agrees(lines: &[u8], at: usize) -> bool
     requires { ⌜ at + 64 ≤ length (now lines) ⌝ }
 {
-    let size = digit(lines[at + 1]) * 10 + digit(lines[at + 2]);
+    let size = records::two(lines, at + 1);
     if 60 < size {
         return false;
     }
@@ -50,15 +50,5 @@ fn letter(verdict: Verdict) -> u8 {
         Verdict::Yes => b'y',
         Verdict::No => b'n',
         Verdict::Refused(_) => b'r',
-    }
-}
-
-// What a digit stands for, and 9 for any other byte.
-fn digit(byte: u8) -> usize
-    ensures { λ r. ⌜ r < 10 ⌝ }
-{
-    match byte {
-        b'0'..=b'9' => (byte - b'0') as usize,
-        _ => 9,
     }
 }

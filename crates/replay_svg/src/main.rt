@@ -1,9 +1,14 @@
 // Runs recorded answers of the Rust's reader through the proved one, and prints how many there were
 // and how many differ. `oracle/record svg` writes the records to this crate's stdin.
-ghost use Prim.Native.Nat.{_+_, _*_, _≤_, _<_};
+ghost use Prim.Native.Nat.{_+_, _≤_};
 ghost use lib.ListN.{length};
 use answers::Values;
-use records::pattern;
+use records::first_of;
+use records::one;
+use records::same_bytes;
+use records::same_numbers;
+use records::three;
+use records::two;
 use svg::Reading;
 
 // The bytes of a record: the text's length as two digits; the text, which has at most 32 bytes, and
@@ -44,7 +49,7 @@ fn missed(lines: &[u8], at: usize) -> u64
 fn agrees(lines: &[u8], at: usize) -> bool
     requires { ⌜ at + 128 ≤ length (now lines) ⌝ }
 {
-    let size = digit(lines[at]) * 10 + digit(lines[at + 1]);
+    let size = two(lines, at);
     if 32 < size {
         return false;
     }
@@ -54,29 +59,9 @@ fn agrees(lines: &[u8], at: usize) -> bool
     let to = from + size;
     let reading = svg::read_path(&lines[from..to], &mut letters, &mut numbers);
     let answered = answers_as(reading, lines, at + 34);
-    let lettered = same_letters(&letters, lines, at + 41);
-    let numbered = same_numbers(&numbers, lines, at + 47);
+    let lettered = same_bytes(&letters, 0, lines, at + 41);
+    let numbered = same_numbers(&numbers, lines, at + 47, 8);
     answered & lettered & numbered
-}
-
-fn same_letters(letters: &[u8], lines: &[u8], at: usize) -> bool
-    requires { ⌜ at + length (now letters) ≤ length (now lines) ⌝ }
-{
-    let mut same = true;
-    for i in 0..letters.len() {
-        same = same & (letters[i] == lines[at + i]);
-    }
-    same
-}
-
-fn same_numbers(numbers: &[f32], lines: &[u8], at: usize) -> bool
-    requires { ⌜ at + length (now numbers) * 8 ≤ length (now lines) ⌝ }
-{
-    let mut same = true;
-    for i in 0..numbers.len() {
-        same = same & (floats::bits(numbers[i]) == pattern(lines, at + i * 8));
-    }
-    same
 }
 
 // Whether the number and the two values at this place are the reader's.
@@ -106,29 +91,12 @@ fn same_answer(number: u32, values: Values, lines: &[u8], at: usize) -> bool
 {
     let a = three(lines, at + 1);
     let b = three(lines, at + 4);
-    let same = number as usize == digit(lines[at]);
+    let same = number as usize == one(lines, at);
     match values {
         Values::Nothing => false,
         Values::One(x) => same & (x == a) & (b == 0),
         Values::Two(x, y) => same & (x == a) & (y == b),
         Values::Four(_, _, _, _) => false,
-    }
-}
-
-// The number that three digits stand for.
-fn three(lines: &[u8], at: usize) -> usize
-    requires { ⌜ at + 3 ≤ length (now lines) ⌝ }
-{
-    digit(lines[at]) * 100 + digit(lines[at + 1]) * 10 + digit(lines[at + 2])
-}
-
-// What a digit stands for, and 9 for any other byte.
-fn digit(byte: u8) -> usize
-    ensures { λ r. ⌜ r < 10 ⌝ }
-{
-    match byte {
-        b'0'..=b'9' => (byte - b'0') as usize,
-        _ => 9,
     }
 }
 
@@ -164,16 +132,7 @@ fn has(reading: Reading, number: u32, value: usize) -> bool {
             numbers: _,
         } => (number == 0) & (letters == value),
         Reading::Refused(refusal) => {
-            (answers::number(refusal) == number) & first_is(answers::carried(refusal), value)
+            (answers::number(refusal) == number) & (first_of(answers::carried(refusal)) == value)
         }
-    }
-}
-
-fn first_is(values: Values, value: usize) -> bool {
-    match values {
-        Values::Nothing => false,
-        Values::One(x) => x == value,
-        Values::Two(x, _) => x == value,
-        Values::Four(x, _, _, _) => x == value,
     }
 }

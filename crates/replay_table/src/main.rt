@@ -4,7 +4,10 @@ ghost use Prim.Native.Nat.{_+_, _≤_};
 ghost use mathlib.Core.Path.{_≡_};
 ghost use lib.ListN.{length};
 use records::float;
+use records::has_bits;
+use records::held;
 use records::pattern;
+use records::read_numbers;
 use table::Looked;
 use table::Progress;
 use table::Spotted;
@@ -54,13 +57,10 @@ fn missed(text: &[u8], at: usize) -> u64
 
 // The 32 patterns from this place on, as floats.
 fn lengths_at(text: &[u8], at: usize) -> [f32; 32]
-    requires { ⌜ at + 288 ≤ length (now text) ⌝ }
     ensures { λ r. ⌜ 32 ≡ length r ⌝ }
 {
     let mut lengths = [0.0f32; 32];
-    for i in 0..32usize {
-        lengths[i] = float(pattern(text, at + i * 9));
-    }
+    read_numbers(text, at, 9, &mut lengths);
     lengths
 }
 
@@ -85,7 +85,7 @@ fn agrees(text: &[u8], at: usize, lengths: [f32; 32], total: f32, line: usize) -
     requires { ⌜ 32 ≡ length lengths ⌝ }
     requires { ⌜ line + 36 ≤ length (now text) ⌝ }
 {
-    let count = held(pattern(text, at + 2));
+    let count = held(pattern(text, at + 2), 32);
     let progress = Progress {
         value: float(pattern(text, line)),
     };
@@ -115,16 +115,9 @@ fn agrees(text: &[u8], at: usize, lengths: [f32; 32], total: f32, line: usize) -
     }
 }
 
-// The count, at most 32.
-fn held(count: u32) -> usize
-    ensures { λ r. ⌜ r ≤ 32 ⌝ }
-{
-    if count < 32 { count as usize } else { 32 }
-}
-
 fn looked(found: Looked, number: u32, first: u32) -> bool {
     match found {
-        Looked::At(raw) => number == 0 && floats::bits(table::number_of(raw)) == first,
+        Looked::At(raw) => number == 0 && has_bits(table::number_of(raw), first),
         Looked::Refused(refusal) => answers::number(refusal) == number,
     }
 }
@@ -133,7 +126,7 @@ fn spotted(found: Spotted, number: u32, first: u32, second: u32) -> bool {
     match found {
         Spotted::At(spot) => {
             let along = spot.progress;
-            number == 0 && spot.segment == first as usize && floats::bits(along.value) == second
+            number == 0 && spot.segment == first as usize && has_bits(along.value, second)
         }
         Spotted::NoSegment => number == 0,
         Spotted::Refused(refusal) => answers::number(refusal) == number,

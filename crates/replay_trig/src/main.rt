@@ -5,6 +5,7 @@ ghost use Prim.Native.Nat.{_+_, _≤_};
 ghost use lib.ListN.{length};
 use math::Point;
 use records::float;
+use records::has_bits;
 use records::pattern;
 use trig::SinCos;
 
@@ -50,21 +51,17 @@ fn agrees(text: &[u8], at: usize) -> bool
     let p = Point { x: a, y: b };
     let q = Point { x: c, y: d };
     match text[at] {
-        b's' => number(trig::sin(a), x),
-        b'c' => number(trig::cos(a), x),
+        b's' => has_bits(trig::sin(a), x),
+        b'c' => has_bits(trig::cos(a), x),
         b'p' => both(trig::sin_cos(a), x, y),
-        b'a' => number(arctan::atan2(a, b), x),
-        b'h' => number(angles::rotation_deg(p), x),
-        b'b' => number(angles::angle_between(p, q), x),
+        b'a' => has_bits(arctan::atan2(a, b), x),
+        b'h' => has_bits(angles::rotation_deg(p), x),
+        b'b' => has_bits(angles::angle_between(p, q), x),
         _ => false,
     }
 }
 
-fn number(found: f32, due: u32) -> bool {
-    floats::bits(found) == due
-}
-
 // The cosine stands before the sine, as x before y.
 fn both(found: SinCos, x: u32, y: u32) -> bool {
-    number(found.cos, x) && number(found.sin, y)
+    has_bits(found.cos, x) && has_bits(found.sin, y)
 }

@@ -9,7 +9,8 @@ use Rattle.floats.specs.Floats.{clamp01Of}
 use Rattle.math.specs.declared.points.Point.{Point}
 use Rattle.math.specs.Math.{originF, subOf, normalizeOf, lerpPointOf}
 use Rattle.table.specs.Lookup.{earlierOf, laterOf}
-use Rattle.spline.specs.Formula.{countOf, pointAt, scaledOf, curveOf, sampleBy, splineSampleOf, tangentBy, splineDirectionOf}
+use Rattle.polyline.specs.Points.{countOf, pointAt}
+use Rattle.spline.specs.Formula.{scaledOf, curveOf, sampleBy, splineSampleOf, tangentBy, splineDirectionOf}
 
 less-one : (n : ℕ) → suc (suc (suc n)) - 1 ≡ suc (suc n)
 less-one n = omega arith

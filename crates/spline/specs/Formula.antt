@@ -1,16 +1,16 @@
 -- The formula of `CatmullRomSpline` (source document 001, bezier.rs, `sample_raw`), each operation rounded once in its order. Points are a list of numbers, x before y.
 -- Definitions only.
-use Prim.Native.Nat.{ℕ, zero, suc, _+_, _-_, _*_, _/_, _≤_, _<_, min}
+use Prim.Native.Nat.{ℕ, zero, suc, _+_, _-_, _≤_, _<_, min}
 use mathlib.Core.Bool.{cond}
 use mathlib.Core.List.{List}
 use lib.Dec.{T, ltb, eqb}
-use lib.ListN.{length}
 use lib.IntN.{pos}
 use lib.Ieee.{Float, binary32, ofBits, add, sub, mul, neg, le, ofInt, toUnsigned}
 use Rattle.floats.specs.Floats.{zeroF, clamp01Of}
 use Rattle.math.specs.declared.points.Point.{Point}
 use Rattle.math.specs.Math.{originF, pointOf, subOf, normalizeOf, lerpPointOf}
-use Rattle.table.specs.Lookup.{at, earlierOf, laterOf}
+use Rattle.table.specs.Lookup.{earlierOf, laterOf}
+use Rattle.polyline.specs.Points.{countOf, pointAt}
 
 -- ---- constants, each by its bits
 
@@ -28,15 +28,6 @@ fourF = ofBits binary32 0x4080_0000
 
 unfoldable pub fiveF : Float
 fiveF = ofBits binary32 0x40a0_0000
-
--- ---- points
-
--- how many there are: two numbers each
-abbrev pub countOf : List Float → ℕ
-countOf points = length points / 2
-
-unfoldable pub pointAt : List Float → ℕ → Point
-pointAt points i = pointOf (at points (2 * i)) (at points (2 * i + 1))
 
 -- ---- between p1 and p2, one coordinate
 

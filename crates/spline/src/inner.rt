@@ -5,24 +5,15 @@ use math::clamp01;
 use math::lerp_point;
 use math::normalize;
 use math::sub;
+use polyline::inner::point_at;
 use table::RawParameter;
 use table::earlier;
 use table::later;
 use table::number_of;
 ghost use mathlib.Core.Path.{_≡_};
 ghost use Prim.Native.Nat.{_+_, _-_, _≤_, _<_};
-ghost use Rattle.spline.specs.Formula.{countOf, pointAt, scaledOf, indexOf, beforeSpan, afterSpan, alongOf, curveOf, splineSampleOf, splineDirectionOf, InSpans};
-
-// The point number i.
-pub fn point_at(points: &[f32], i: usize) -> Point
-    requires { ⌜ i < countOf (now points) ⌝ }
-    ensures { λ r. ⌜ r ≡ pointAt (now (points .entry)) i ⌝ }
-{
-    Point {
-        x: points[2 * i],
-        y: points[2 * i + 1],
-    }
-}
+ghost use Rattle.polyline.specs.Points.{countOf};
+ghost use Rattle.spline.specs.Formula.{scaledOf, indexOf, beforeSpan, afterSpan, alongOf, curveOf, splineSampleOf, splineDirectionOf, InSpans};
 
 // The number of the span at `scaled`, from 0 to the number of spans: its whole part, but not past the last span.
 fn span_index(segments: usize, scaled: f32) -> usize

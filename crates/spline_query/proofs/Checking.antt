@@ -12,8 +12,9 @@ use lib.Ieee.{Float}
 use lib.Ieee.Fits.{and-l, and-r}
 use Rattle.table.specs.Lookup.{at, lastOf}
 use Rattle.table.specs.Sound.{tableIsSound, SoundTable}
-use Rattle.spline.specs.Formula.{countOf}
-use Rattle.spline_table.specs.Tables.{lastEntryOf, mostPoints, isOdd}
+use Rattle.polyline.specs.Points.{countOf}
+use Rattle.polyline.specs.Judging.{isOdd}
+use Rattle.spline_table.specs.Tables.{lastEntryOf, mostPoints}
 use Rattle.spline_query.specs.Queries.{splineTotal, splineIsSound, SoundSpline}
 
 -- ---- the tests of the check

@@ -14,8 +14,10 @@ use Rattle.table.specs.Lookup.{at}
 use Rattle.order.specs.Stated.{F32Table}
 use Rattle.table.specs.Sound.{tableIsSound}
 use Rattle.bezier.proofs.Steady.{Steady, steady}
-use Rattle.spline.specs.Formula.{countOf, splineSampleOf}
-use Rattle.spline_table.specs.Tables.{lastEntryOf, splineLengthsOf, mostPoints, isOdd, entries, splineTableOf}
+use Rattle.polyline.specs.Points.{countOf}
+use Rattle.polyline.specs.Judging.{isOdd}
+use Rattle.spline.specs.Formula.{splineSampleOf}
+use Rattle.spline_table.specs.Tables.{lastEntryOf, splineLengthsOf, mostPoints, entries, splineTableOf}
 use Rattle.spline_table.proofs.Made.{Accepted, accepted-when, entries-count, entries-sound, made-table}
 use Rattle.spline_query.specs.Queries.{splineTotal, splineIsSound, splineRaw, splinePositionOf, SoundSpline}
 use Rattle.spline_query.proofs.Checking.{sound-spline, sound-table}

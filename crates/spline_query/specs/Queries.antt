@@ -19,8 +19,10 @@ use Rattle.bezier.specs.declared.curves.Turned.{Turned}
 use Rattle.bezier.specs.declared.curves.Turned.the-variants as Turned
 use Rattle.bezier.specs.declared.curves.Verdict.{Verdict}
 use Rattle.bezier.specs.declared.curves.Verdict.the-variants as Verdict
-use Rattle.spline.specs.Formula.{countOf, splineSampleOf, splineDirectionOf}
-use Rattle.spline_table.specs.Tables.{lastEntryOf, mostPoints, isOdd}
+use Rattle.polyline.specs.Points.{countOf}
+use Rattle.polyline.specs.Judging.{isOdd}
+use Rattle.spline.specs.Formula.{splineSampleOf, splineDirectionOf}
+use Rattle.spline_table.specs.Tables.{lastEntryOf, mostPoints}
 use Rattle.spline_query.specs.declared.queries.Measured.{Measured}
 use Rattle.spline_query.specs.declared.queries.Measured.the-variants as Measured
 

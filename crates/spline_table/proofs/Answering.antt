@@ -12,8 +12,10 @@ use Rattle.answers.specs.declared.refusals.Refusal.{Refusal}
 use Rattle.answers.specs.declared.refusals.Refusal.the-variants.{BadList, Range, NotFinite, NoRoom}
 use Rattle.samples.specs.Samples.{lengthsOf}
 use Rattle.samples.proofs.Made.{made-count}
-use Rattle.spline.specs.Formula.{countOf, splineSampleOf}
-use Rattle.spline_table.specs.Tables.{lastEntryOf, splineLengthsOf, mostPoints, firstNotFinite, Outcome, entries, refusal, splineTableOf, SplineTable}
+use Rattle.polyline.specs.Points.{countOf}
+use Rattle.polyline.specs.Lengths.{firstNotFinite}
+use Rattle.spline.specs.Formula.{splineSampleOf}
+use Rattle.spline_table.specs.Tables.{lastEntryOf, splineLengthsOf, mostPoints, Outcome, entries, refusal, splineTableOf, SplineTable}
 use Rattle.spline_table.specs.declared.tables.Tabled.the-variants.{Stored, Refused}
 
 module _ (points before : List Float) where

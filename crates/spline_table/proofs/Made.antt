@@ -13,6 +13,7 @@ use lib.Ieee.Scale.{finite}
 use Rattle.answers.specs.declared.refusals.Values.the-variants.{One}
 use Rattle.answers.specs.declared.refusals.Refusal.{Refusal}
 use Rattle.answers.specs.declared.refusals.Refusal.the-variants.{BadList, Range, NotFinite, NoRoom}
+use Rattle.floats.proofs.Tests.{passed}
 use Rattle.table.specs.Lookup.{at, lastOf}
 use Rattle.table.specs.Sound.{tableIsSound, SoundTable}
 use Rattle.table.specs.Sums.{sumOf}
@@ -20,9 +21,12 @@ use Rattle.order.specs.Stated.{F32Table}
 use Rattle.samples.specs.Samples.{stepsOf, lengthsOf, totalOf}
 use Rattle.samples.proofs.Made.{made-sound, made-fits, made-count}
 use Rattle.samples.proofs.Stepping.{steps-count}
-use Rattle.spline.specs.Formula.{countOf, splineSampleOf}
-use Rattle.spline_table.specs.Tables.{lastEntryOf, splineLengthsOf, mostPoints, isOdd, firstNotFinite, Outcome, entries, refusal, roomed, splineTableOf}
-use Rattle.spline_table.proofs.Finding.{none-finite}
+use Rattle.polyline.specs.Points.{countOf}
+use Rattle.polyline.specs.Lengths.{firstNotFinite}
+use Rattle.polyline.specs.Judging.{isOdd}
+use Rattle.polyline.proofs.FirstNotFinite.{finite-before}
+use Rattle.spline.specs.Formula.{splineSampleOf}
+use Rattle.spline_table.specs.Tables.{lastEntryOf, splineLengthsOf, mostPoints, Outcome, entries, refusal, roomed, splineTableOf}
 
 pub record Accepted (points : List Float) (room : ℕ) (stored : List Float) : Type 0 where
   pub even : isOdd points ≡ false
@@ -77,7 +81,7 @@ LastOf xs = at xs (lastOf xs)
 
 module _ (points : List Float) (fine : length (splineLengthsOf points) ≤ firstNotFinite (splineLengthsOf points)) where
   last-finite : T (finite (LastOf (splineLengthsOf points)))
-  last-finite = none-finite (splineLengthsOf points) fine (lastOf (splineLengthsOf points)) (omega (arith, entries-count points))
+  last-finite = passed (finite-before (splineLengthsOf points) (lastOf (splineLengthsOf points)) (omega (arith, entries-count points, fine)))
 
   pub entries-sound : T (tableIsSound (splineLengthsOf points) (LastOf (splineLengthsOf points)))
   entries-sound =

@@ -1,13 +1,12 @@
 -- The table of a spline (document 01, "Points and shapes" and "The answers"; source document 001, bezier.rs, `build_table`). Points are a list of numbers, x before y; entries count
 -- from 0 and are running lengths in path units. Definitions only.
-use Prim.Native.Nat.{ℕ, suc, _-_, _*_, _%_, _≤_, _<_}
+use Prim.Native.Nat.{ℕ, _-_, _*_, _≤_, _<_}
 use mathlib.Core.Path.{_≡_}
-use mathlib.Core.Bool.{Bool, cond}
+use mathlib.Core.Bool.{cond}
 use mathlib.Core.List.{List, [], _∷_}
-use lib.Dec.{ltb, eqb}
+use lib.Dec.{ltb}
 use lib.ListN.{length}
 use lib.Ieee.{Float}
-use lib.Ieee.Scale.{finite}
 use Rattle.answers.specs.Answers.{Answer, refused, accepted}
 use Rattle.answers.specs.Report.{written}
 use Rattle.answers.specs.declared.refusals.Values.the-variants.{One}
@@ -15,7 +14,10 @@ use Rattle.answers.specs.declared.refusals.Refusal.{Refusal}
 use Rattle.answers.specs.declared.refusals.Refusal.the-variants.{BadList, Range, NotFinite, NoRoom}
 use Rattle.table.specs.Sound.{countable}
 use Rattle.samples.specs.Samples.{lengthsOf}
-use Rattle.spline.specs.Formula.{countOf, splineSampleOf}
+use Rattle.polyline.specs.Points.{countOf}
+use Rattle.polyline.specs.Lengths.{firstNotFinite}
+use Rattle.polyline.specs.Judging.{isOdd}
+use Rattle.spline.specs.Formula.{splineSampleOf}
 use Rattle.spline_table.specs.declared.tables.Tabled.{Tabled}
 use Rattle.spline_table.specs.declared.tables.Tabled.the-variants.{Stored, Refused}
 
@@ -34,15 +36,6 @@ splineLengthsOf points = lengthsOf (splineSampleOf points) (lastEntryOf (countOf
 -- "points above 4,096"
 abbrev pub mostPoints : ℕ
 mostPoints = 4096
-
--- "a point list has an odd count of numbers"
-abbrev pub isOdd : List Float → Bool
-isOdd points = eqb (length points % 2) 1
-
--- "a running length becomes infinite or NaN": the number of the first such entry, or how many there are where each is finite
-unfoldable pub firstNotFinite : List Float → ℕ
-firstNotFinite [] = 0
-firstNotFinite (own ∷ lengths) = cond (finite own) (suc (firstNotFinite lengths)) 0
 
 -- what making a table comes to
 pub data Outcome : Type 0 where

@@ -8,8 +8,9 @@ ghost use mathlib.Core.Path.{_≡_};
 ghost use Prim.Native.Nat.{_≤_};
 ghost use Rattle.answers.specs.Report.{written};
 ghost use Rattle.samples.specs.Samples.{lengthsOf};
+ghost use Rattle.polyline.specs.Lengths.{firstNotFinite};
 ghost use Rattle.spline.specs.Formula.{splineSampleOf};
-ghost use Rattle.spline_table.specs.Tables.{lastEntryOf, firstNotFinite, mostPoints, Sampled, Roomy};
+ghost use Rattle.spline_table.specs.Tables.{lastEntryOf, mostPoints, Sampled, Roomy};
 
 // The number of the last entry: 16 entries for each span, one span fewer than points.
 pub fn last_entry(count: usize) -> usize

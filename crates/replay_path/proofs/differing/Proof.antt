@@ -1,12 +1,9 @@
 -- The invariant: no more records than those before i differ, and i has not passed the count. The measure is what is left of the count. Assumes nothing.
 use borrow.Author.Needs.{needs}
 use native.Mathlib.Omega.{arith}
-use Prim.Native.Nat.{ℕ, _-_, _/_, _≤_}
+use Prim.Native.Nat.{_-_, _≤_}
 use Rattle.replay_path.proofs.differing.Statement.{statement}
 use Rattle.replay_path.proofs.differing.Tie as tie
-
-counted : (different i count : ℕ) → different ≤ i → i ≤ count / 128 → different ≤ count
-counted different i count h g = omega arith
 
 abbrev Inv-loop : tie.InvT-loop
 Inv-loop lines different₀ i₀ i-end different i = (different ≤ i) × (i ≤ i-end)
@@ -36,7 +33,7 @@ loop-again : tie.Need-loop-again Inv-loop μ-loop
 loop-again c = search needs
 
 returns : tie.Need-returns Inv-loop μ-loop
-returns c = counted _ _ _ (c .before .loop .inv .0) (c .before .loop .inv .1)
+returns c = omega (arith, c .before .loop .inv .0, c .before .loop .inv .1)
 
 pub differing-spec : {M : Type 1} → statement M
 differing-spec =

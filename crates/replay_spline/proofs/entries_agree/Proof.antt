@@ -25,14 +25,11 @@ pattern-requires c κs = search needs
 held-requires : tie.Need-held-requires Inv-loop μ-loop
 held-requires c κs = search needs
 
-mul-bits : tie.Need-mul-bits Inv-loop μ-loop
-mul-bits c = search needs
+mul-has-bits : tie.Need-mul-has-bits Inv-loop μ-loop
+mul-has-bits c = search needs
 
-array-read-bits : tie.Need-array-read-bits Inv-loop μ-loop
-array-read-bits c = search needs
-
-bits-requires : tie.Need-bits-requires Inv-loop μ-loop
-bits-requires c κs = search needs
+array-read-has-bits : tie.Need-array-read-has-bits Inv-loop μ-loop
+array-read-has-bits c = search needs
 
 mul-pattern-2 : tie.Need-mul-pattern-2 Inv-loop μ-loop
 mul-pattern-2 c = search needs
@@ -45,6 +42,9 @@ add-pattern-3 c = search needs
 
 pattern-requires-2 : tie.Need-pattern-requires-2 Inv-loop μ-loop
 pattern-requires-2 c κs = search needs
+
+has-bits-requires : tie.Need-has-bits-requires Inv-loop μ-loop
+has-bits-requires c κs = search needs
 
 returns : tie.Need-returns Inv-loop μ-loop
 returns c = search needs
@@ -72,13 +72,13 @@ entries-agree-spec =
     add-pattern
     pattern-requires
     held-requires
-    mul-bits
-    array-read-bits
-    bits-requires
+    mul-has-bits
+    array-read-has-bits
     mul-pattern-2
     add-pattern-2
     add-pattern-3
     pattern-requires-2
+    has-bits-requires
     returns
     add-i
     loop-less

@@ -7,7 +7,8 @@ use denote.Ref.{now}
 use lib.Dec.{le→leb}
 use lib.Ieee.{inFloat}
 use Rattle.floats.specs.Floats.{clamp01Of}
-use Rattle.spline.specs.Formula.{countOf, indexOf, alongOf, curveOf, InSpans}
+use Rattle.polyline.specs.Points.{countOf}
+use Rattle.spline.specs.Formula.{indexOf, alongOf, curveOf, InSpans}
 use Rattle.spline.proofs.Spans.{scaled-is, in-spans, index-lt}
 use Rattle.spline.proofs.inner.curve.Statement.{statement}
 use Rattle.spline.proofs.inner.curve.Tie as tie

@@ -1,0 +1,13 @@
+-- The bits that are compared are those of the definition. Assumes nothing.
+use borrow.Author.Needs.{needs}
+use Rattle.records.proofs.given.has_bits.Statement.{statement}
+use Rattle.records.proofs.given.has_bits.Tie as tie
+
+bits-requires : tie.Need-bits-requires
+bits-requires c κs = search needs
+
+returns : tie.Need-returns
+returns c = cc
+
+pub has-bits-spec : {M : Type 1} → statement M
+has-bits-spec = tie.close (tie.spec bits-requires returns)
