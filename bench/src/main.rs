@@ -554,10 +554,12 @@ fn original_flown(path: &CompoundPath, t: f32) -> [f32; 4] {
 
 // one query; ours checks the whole path first: its time by the element stored stands below
 fn place() {
-    let inputs: Vec<f32> = patterns().take(64).map(|bits| (bits >> 8) as f32 / 16_777_216.0).collect();
+    let inputs: Vec<f32> = patterns().take(16).map(|bits| (bits >> 8) as f32 / 16_777_216.0).collect();
+    let all = |side: &dyn Fn(f32) -> u32| inputs.iter().fold(0u32, |sum, t| sum.wrapping_add(side(*t)));
     for path in SIZES.map(Flown::of) {
         let ours = |t: f32| path.ours.place(Progress(t)).ok().flatten().map_or(0, |place| place.segment as u32);
-        let times = slow(&inputs, ours, |t| original_place(&path.theirs, t).0);
+        let theirs = |t: f32| original_place(&path.theirs, t).0;
+        let times = large(|| all(&ours), || all(&theirs)).map(|time| time / inputs.len() as f64);
         row(&format!("a place on {} segments", path.count), times);
         println!("{:28} {:9.3}", "  for each number stored", times[0] / path.stored as f64);
     }
@@ -567,8 +569,7 @@ fn place() {
 fn places() {
     const COUNT: usize = 1000;
     let rising: Vec<Progress> = (0..COUNT).map(|k| Progress(k as f32 / 999.0)).collect();
-    let any: Vec<Progress> =
-        patterns().take(COUNT).map(|bits| Progress((bits >> 8) as f32 / 16_777_216.0)).collect();
+    let any: Vec<Progress> = patterns().take(COUNT).map(|bits| Progress((bits >> 8) as f32 / 16_777_216.0)).collect();
     let lent = RefCell::new((vec![0; COUNT], vec![0.0f32; COUNT], vec![0.0f32; 4 * COUNT]));
     let each = |times: [f64; 2]| times.map(|time| time / COUNT as f64);
     for path in SIZES.map(Flown::of) {

@@ -89,7 +89,8 @@ fn lines(asked: &Asked) -> String {
 fn progresses(stream: &mut Stream, commands: &[PathCommand], beyond: f32) -> Vec<f32> {
     let path = CompoundPath::from_commands(commands);
     let (lengths, total) = path.open_lengths();
-    let near = |length: f32| (-4..=4).map(move |more| f32::from_bits((length / total).to_bits().wrapping_add_signed(more)));
+    let near =
+        |length: f32| (-4..=4).map(move |more| f32::from_bits((length / total).to_bits().wrapping_add_signed(more)));
     let meeting = lengths.iter().flat_map(|length| near(*length).filter(move |t| total * t == *length && *t < 1.0));
     let met: Vec<f32> = meeting.collect();
     let meets = if met.is_empty() { 0.5 } else { met[stream.below(met.len() as u32) as usize] };
