@@ -9,7 +9,7 @@ use animato_path::morph::{MorphPath, resample};
 use animato_path::poly::{CompoundPath, EllipticalArc, LineSegment, PathCommand, PathSegment};
 use animato_path::svg::SvgPathParser;
 use clock::{large, latency, slow, throughput};
-use kihavute::Chord;
+use kihavute::{Chord, Path, Progress};
 use std::cell::RefCell;
 
 const INPUTS: usize = 4096;
@@ -28,6 +28,8 @@ fn main() {
         ("lookup", lookup),
         ("curves", curves),
         ("spot", spot),
+        ("place", place),
+        ("places", places),
         ("splines", splines),
     ];
     let wanted: Vec<String> = std::env::args().skip(1).collect();
@@ -496,6 +498,107 @@ fn build() {
             kihavute::build(&letters, &numbers, kinds, fields, tables, lengths).map_or(0, |counts| counts[1] as u32)
         };
         row(name, large(ours, || original_build(&commands)).map(|time| time / COUNT as f64));
+    }
+}
+
+// a path of so many segments, lines, quads, cubics and arcs in turn of some hundred metres, on both sides
+struct Flown {
+    count: usize,
+    ours: Path,
+    theirs: CompoundPath,
+    /// The elements of the four buffers.
+    stored: u64,
+}
+
+impl Flown {
+    fn of(count: usize) -> Flown {
+        let bits: Vec<u32> = patterns().collect();
+        let metres = |k: usize| (bits[k % INPUTS] % 1_000_000) as f32 / 1000.0;
+        let point = |k: usize| [metres(k), metres(k + 1)];
+        let (mut letters, mut numbers) = (vec![b'M'], point(0).to_vec());
+        let mut commands = vec![PathCommand::MoveTo(point(0))];
+        for k in 0..count {
+            let [control1, control2, end, radii] = [0, 2, 4, 6].map(|more| point(7 * k + more));
+            let (letter, own, command) = match k % 4 {
+                0 => (b'L', vec![], PathCommand::LineTo(end)),
+                1 => (b'Q', control1.to_vec(), PathCommand::QuadTo { control: control1, end }),
+                2 => (b'C', [control1, control2].concat(), PathCommand::CubicTo { control1, control2, end }),
+                _ => {
+                    let arc = PathCommand::ArcTo { radii, x_axis_rotation: 30.0, large_arc: false, sweep: true, end };
+                    (b'A', vec![radii[0], radii[1], 30.0, 0.0, 1.0], arc)
+                }
+            };
+            letters.push(letter);
+            numbers.extend(own.into_iter().chain(end));
+            commands.push(command);
+        }
+        let room = kihavute::build(&letters, &numbers, &mut [], &mut [], &mut [], &mut []);
+        let stored = room.expect_err("there is no room").carried[..4].iter().sum();
+        let ours = Path::from_commands(&letters, &numbers).expect("it builds");
+        Flown { count, ours, theirs: CompoundPath::from_commands(&commands), stored }
+    }
+}
+
+const SIZES: [usize; 3] = [16, 256, 4096];
+
+#[inline(never)]
+fn original_place(path: &CompoundPath, t: f32) -> (u32, f32) {
+    path.open_place_at(t).map_or((0, 0.0), |(segment, raw)| (segment as u32, raw))
+}
+
+#[inline(never)]
+fn original_flown(path: &CompoundPath, t: f32) -> [f32; 4] {
+    let ([x, y], [tx, ty]) = (path.position(t), path.tangent(t));
+    [x, y, tx, ty]
+}
+
+// one query; ours checks the whole path first: its time by the element stored stands below
+fn place() {
+    let inputs: Vec<f32> = patterns().take(16).map(|bits| (bits >> 8) as f32 / 16_777_216.0).collect();
+    let all = |side: &dyn Fn(f32) -> u32| inputs.iter().fold(0u32, |sum, t| sum.wrapping_add(side(*t)));
+    for path in SIZES.map(Flown::of) {
+        let ours = |t: f32| path.ours.place(Progress(t)).ok().flatten().map_or(0, |place| place.segment as u32);
+        let theirs = |t: f32| original_place(&path.theirs, t).0;
+        let times = large(|| all(&ours), || all(&theirs)).map(|time| time / inputs.len() as f64);
+        row(&format!("a place on {} segments", path.count), times);
+        println!("{:28} {:9.3}", "  for each number stored", times[0] / path.stored as f64);
+    }
+}
+
+// a batch of 1,000, by the progress: ours checks the path once; the Rust is asked one by one
+fn places() {
+    const COUNT: usize = 1000;
+    let rising: Vec<Progress> = (0..COUNT).map(|k| Progress(k as f32 / 999.0)).collect();
+    let any: Vec<Progress> = patterns().take(COUNT).map(|bits| Progress((bits >> 8) as f32 / 16_777_216.0)).collect();
+    let lent = RefCell::new((vec![0; COUNT], vec![0.0f32; COUNT], vec![0.0f32; 4 * COUNT]));
+    let each = |times: [f64; 2]| times.map(|time| time / COUNT as f64);
+    for path in SIZES.map(Flown::of) {
+        for (order, progresses) in [("rising", &rising), ("any", &any)] {
+            let ours = || {
+                let (segments, raws, _) = &mut *lent.borrow_mut();
+                path.ours.places(progresses, segments, raws).map_or(0, |count| count as u32)
+            };
+            let theirs = || {
+                let (segments, raws, _) = &mut *lent.borrow_mut();
+                for (k, t) in progresses.iter().enumerate() {
+                    (segments[k], raws[k]) = original_place(&path.theirs, t.0);
+                }
+                segments[0]
+            };
+            row(&format!("places on {}, {order}", path.count), each(large(ours, theirs)));
+            let ours = || {
+                let (_, _, out) = &mut *lent.borrow_mut();
+                path.ours.positions(progresses, out).map_or(0, |count| count as u32)
+            };
+            let theirs = || {
+                let (_, _, out) = &mut *lent.borrow_mut();
+                for (four, t) in out.chunks_exact_mut(4).zip(progresses) {
+                    four.copy_from_slice(&original_flown(&path.theirs, t.0));
+                }
+                out[0].to_bits()
+            };
+            row(&format!("positions on {}, {order}", path.count), each(large(ours, theirs)));
+        }
     }
 }
 

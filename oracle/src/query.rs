@@ -1,51 +1,46 @@
-//! Queries of a path on both sides: place, position, tangent and heading at many progresses, by bits. And demand 3 tried on
-//! the compiled library: the pair of segment and raw parameter at rising progresses.
+//! Queries of a path on both sides: place, position, tangent and heading at many progresses, each by itself and in a batch, by
+//! bits. And demand 3 tried on the compiled library: the pairs of segment and raw parameter at rising progresses.
 
 use crate::build;
 use crate::compare::{Input, Report};
 use crate::math::alike;
 use crate::samples::Stream;
 use animato_path::bezier::PathEvaluate;
-use animato_path::poly::{CompoundPath, PathCommand, PathSegment};
+use animato_path::poly::{CompoundPath, PathCommand};
 use kihavute::{Path, Progress};
 use std::fmt;
 
 /// A path's commands, and the progresses at which it is asked.
 #[derive(Clone)]
-struct Asked {
-    commands: Vec<PathCommand>,
-    progresses: Vec<f32>,
+pub struct Asked {
+    pub commands: Vec<PathCommand>,
+    pub progresses: Vec<f32>,
 }
 
 /// At each progress the segment and the bits of raw parameter, x, y, the direction's two and the heading; or the number of
 /// the refusal that document 01 has for the path.
 #[derive(Clone, PartialEq)]
-enum Answer {
-    Flown(Vec<(Option<u64>, [u32; 6])>),
+pub enum Answer {
+    Flown(Vec<Flight>),
     Refused(u32),
+    /// A batch answers another thing than the single queries, or writes past its answers.
+    Apart,
 }
 
-use Answer::{Flown, Refused};
+/// The segment, where there is one, and the bits of the six numbers.
+pub type Flight = (Option<u64>, [u32; 6]);
 
-// the raw parameter of a local progress on the Rust's segment
-fn raw(segment: &PathSegment, local: f32) -> f32 {
-    match segment {
-        PathSegment::Quad(quad) => quad.open_raw_t(local),
-        PathSegment::Cubic(cubic) => cubic.open_raw_t(local),
-        PathSegment::Arc(arc) if !arc.open_is_fallback() => arc.open_raw_t(local),
-        _ => animato_path::math::open::clamp01(local),
-    }
-}
+use Answer::{Apart, Flown, Refused};
 
 impl Asked {
-    fn theirs(&self) -> Answer {
+    pub fn theirs(&self) -> Answer {
         if let Some(number) = build::refused(&self.commands) {
             return Refused(number);
         }
         let path = CompoundPath::from_commands(&self.commands);
         let at = |t: f32| {
-            let found = path.open_segment_at(t);
-            let raw = found.map_or(0.0, |(number, local)| raw(&path.segments()[number], local));
+            let found = path.open_place_at(t);
+            let raw = found.map_or(0.0, |(_, raw)| raw);
             let ([x, y], [tx, ty]) = (path.position(t), path.tangent(t));
             let numbers = [raw, x, y, tx, ty, path.rotation_deg(t)];
             (found.map(|(number, _)| number as u64), numbers.map(alike))
@@ -53,7 +48,7 @@ impl Asked {
         Flown(self.progresses.iter().map(|t| at(*t)).collect())
     }
 
-    fn ours(&self) -> Answer {
+    pub fn ours(&self) -> Answer {
         let (letters, numbers) = build::stored(&self.commands);
         let path = match Path::from_commands(&letters, &numbers) {
             Ok(path) => path,
@@ -67,8 +62,33 @@ impl Asked {
             let numbers = [raw, x, y, tx, ty, path.rotation_deg(t)?];
             Ok((place.map(|place| place.segment as u64), numbers.map(f32::to_bits)))
         };
-        let asked: Result<_, kihavute::Refusal> = self.progresses.iter().map(|t| at(*t)).collect();
-        asked.map_or_else(|refusal| Refused(refusal.number), Flown)
+        let asked: Result<Vec<Flight>, kihavute::Refusal> = self.progresses.iter().map(|t| at(*t)).collect();
+        match asked {
+            Ok(single) if self.is_batch(&path, &single) => Flown(single),
+            Ok(_) => Apart,
+            Err(refusal) => Refused(refusal.number),
+        }
+    }
+
+    // whether the batches give what the single queries give, and write nothing past it
+    fn is_batch(&self, path: &Path, single: &[Flight]) -> bool {
+        const UNTOUCHED: u32 = 0xC0DE_F00D;
+        let untouched = f32::from_bits(UNTOUCHED);
+        let count = single.len();
+        let (mut segments, mut raws) = (vec![UNTOUCHED; count + 1], vec![untouched; count + 1]);
+        let mut out = vec![untouched; 4 * count + 1];
+        let progresses: Vec<Progress> = self.progresses.iter().copied().map(Progress).collect();
+        let placed = path.places(&progresses, &mut segments, &mut raws);
+        let flown = path.positions(&progresses, &mut out);
+        let places = if path.is_empty() { 0 } else { count };
+        let same = |k: usize| {
+            let (segment, [raw, numbers @ .., _]) = single[k];
+            let found = (u64::from(segments[k]), raws[k].to_bits());
+            let due = segment.map_or((u64::from(UNTOUCHED), UNTOUCHED), |segment| (segment, raw));
+            found == due && (0..4).all(|n| out[4 * k + n].to_bits() == numbers[n])
+        };
+        let past = [segments[count], raws[count].to_bits(), out[4 * count].to_bits()];
+        placed == Ok(places) && flown == Ok(count) && (0..count).all(same) && past == [UNTOUCHED; 3]
     }
 }
 
@@ -84,6 +104,7 @@ impl fmt::Display for Answer {
         match self {
             Flown(places) => write!(out, "{places:X?}"),
             Refused(number) => write!(out, "refused {number}"),
+            Apart => write!(out, "another batch than single queries"),
         }
     }
 }
@@ -138,24 +159,29 @@ pub fn compare(report: &mut Report, seed: u64, count: u64) {
 
 // ---- demand 3
 
-// rising progresses, neighbours among them
-fn rising(stream: &mut Stream) -> Vec<f32> {
+// rising progresses of a batch, neighbours among them
+const RISING: usize = 1001;
+
+fn rising(stream: &mut Stream) -> Vec<Progress> {
     let mut all = vec![0.0, 1.0];
-    while all.len() < 1000 {
+    while all.len() < RISING {
         let bits = match stream.below(3) {
             0 => stream.below(0x3F80_0000),
             _ => (stream.below(1 << 24) as f32 / 16_777_216.0).to_bits(),
         };
         all.extend((0..4).map(|more| f32::from_bits((bits + more).min(0x3F80_0000))));
     }
+    all.truncate(RISING);
     all.sort_by(f32::total_cmp);
-    all
+    all.into_iter().map(Progress).collect()
 }
 
-/// Over so many random paths: no pair of rising progresses steps back, and the ends are the first and the last place.
+/// Over so many random paths, a batch each: no pair of rising progresses steps back, and the ends are the first and the last
+/// place.
 pub fn compare_order(report: &mut Report, seed: u64, count: u64) {
     let mut stream = Stream::new(seed ^ 0xD3);
     let (mut paths, mut pairs) = (0u64, 0u64);
+    let (mut segments, mut raws) = ([0; RISING], [0.0; RISING]);
     let mut equal = true;
     while equal && paths < count {
         let kind = stream.below(build::KINDS.len() as u32);
@@ -164,19 +190,18 @@ pub fn compare_order(report: &mut Report, seed: u64, count: u64) {
         if path.is_empty() || path.arc_length() <= f32::EPSILON {
             continue;
         }
-        let places: Vec<_> = rising(&mut stream).into_iter().map(|t| path.place(Progress(t)).ok().flatten()).collect();
-        let back = places.windows(2).position(|pair| pair[0].is_none() || !(pair[0] <= pair[1]));
-        let (first, last) = (places[0], places[places.len() - 1]);
-        let ends = first.is_some_and(|place| place.segment == 0 && place.raw.value().to_bits() == 0)
-            && last.is_some_and(|place| place.segment == path.len() - 1 && place.raw.value() == 1.0);
-        if back.is_some() || !ends {
+        let filled = path.places(&rising(&mut stream), &mut segments, &mut raws);
+        let place = |k: usize| (segments[k], raws[k]);
+        let back = (1..RISING).find(|k| !(place(k - 1) <= place(*k)));
+        let ends = segments[0] == 0 && raws[0].to_bits() == 0 && place(RISING - 1) == (path.len() as u32 - 1, 1.0);
+        if filled != Ok(RISING) || back.is_some() || !ends {
             println!(
                 "  STEPS BACK, or does not start at 0 or end at 1: letters {letters:?} numbers {numbers:?} at {back:?}"
             );
             equal = false;
         }
         paths += 1;
-        pairs += places.len() as u64 - 1;
+        pairs += RISING as u64 - 1;
         if paths % 100_000 == 0 {
             println!("  {paths} paths, {pairs} pairs, {:.0} s", report.seconds());
         }

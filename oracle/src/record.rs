@@ -6,6 +6,7 @@ mod decimal;
 mod helpers;
 mod morph;
 mod path;
+mod query;
 mod spline;
 mod strict;
 mod svg;
@@ -32,6 +33,7 @@ pub const RECORDINGS: &[Recording] = &[
     Recording { name: "spline", list: spline::list },
     Recording { name: "arc", list: arc::list },
     Recording { name: "path", list: path::list },
+    Recording { name: "query", list: query::list },
     Recording { name: "morph", list: morph::list },
 ];
 

@@ -11,6 +11,28 @@
 /// The bit pattern of a float; a NaN's is 7FC00000.
 pub type Bits = u32;
 
+/// Declares functions that answer: they return 0 or a refusal's number, and are lent an answer last. `[T]` is a slice, and
+/// `mut [T]` an output: to C a pointer and the count of elements behind it.
+macro_rules! answering {
+    ($(fn $name:ident($($arguments:tt)*);)*) => {
+        $(answering!(@ $name () $($arguments)*);)*
+    };
+    (@ $name:ident ($($before:tt)*) $own:ident: mut [$item:ty] $(, $($rest:tt)*)?) => {
+        answering!(@ $name ($($before)* $own: *mut $item, _: usize,) $($($rest)*)?);
+    };
+    (@ $name:ident ($($before:tt)*) $own:ident: [$item:ty] $(, $($rest:tt)*)?) => {
+        answering!(@ $name ($($before)* $own: *const $item, _: usize,) $($($rest)*)?);
+    };
+    (@ $name:ident ($($before:tt)*) $own:ident: $number:ty $(, $($rest:tt)*)?) => {
+        answering!(@ $name ($($before)* $own: $number,) $($($rest)*)?);
+    };
+    (@ $name:ident ($($arguments:tt)*)) => {
+        unsafe extern "C" {
+            fn $name($($arguments)* answer: *mut u64, _: usize) -> u32;
+        }
+    };
+}
+
 mod paths;
 mod refusals;
 
@@ -41,397 +63,62 @@ unsafe extern "C" {
     safe fn kihavute_lerp_point(ax: f32, ay: f32, bx: f32, by: f32, t: f32) -> u64;
     safe fn kihavute_rotation_deg(x: f32, y: f32) -> u32;
     safe fn kihavute_angle_between(ux: f32, uy: f32, vx: f32, vy: f32) -> u32;
-    fn kihavute_raw_parameter(
-        entries: *const f32,
-        entries_len: usize,
-        total: f32,
-        progress: f32,
-        answer: *mut u64,
-        answer_len: usize,
-    ) -> u32;
+}
+
+answering! {
+    fn kihavute_raw_parameter(entries: [f32], total: f32, progress: f32);
     fn kihavute_build(
-        letters: *const u8,
-        letters_len: usize,
-        numbers: *const f32,
-        numbers_len: usize,
-        kinds: *mut u8,
-        kinds_len: usize,
-        fields: *mut f32,
-        fields_len: usize,
-        tables: *mut f32,
-        tables_len: usize,
-        lengths: *mut f32,
-        lengths_len: usize,
-        answer: *mut u64,
-        answer_len: usize,
-    ) -> u32;
-    fn kihavute_build_text(
-        text: *const u8,
-        text_len: usize,
-        kinds: *mut u8,
-        kinds_len: usize,
-        fields: *mut f32,
-        fields_len: usize,
-        tables: *mut f32,
-        tables_len: usize,
-        lengths: *mut f32,
-        lengths_len: usize,
-        answer: *mut u64,
-        answer_len: usize,
-    ) -> u32;
-    fn kihavute_spot(
-        lengths: *const f32,
-        lengths_len: usize,
-        progress: f32,
-        answer: *mut u64,
-        answer_len: usize,
-    ) -> u32;
-    fn kihavute_resample(
-        points: *const f32,
-        points_len: usize,
-        count: usize,
-        out: *mut f32,
-        out_len: usize,
-        answer: *mut u64,
-        answer_len: usize,
-    ) -> u32;
-    fn kihavute_morph(
-        from: *const f32,
-        from_len: usize,
-        to: *const f32,
-        to_len: usize,
-        resolution: usize,
-        out_from: *mut f32,
-        out_from_len: usize,
-        out_to: *mut f32,
-        out_to_len: usize,
-        answer: *mut u64,
-        answer_len: usize,
-    ) -> u32;
-    fn kihavute_morph_default(
-        from: *const f32,
-        from_len: usize,
-        to: *const f32,
-        to_len: usize,
-        out_from: *mut f32,
-        out_from_len: usize,
-        out_to: *mut f32,
-        out_to_len: usize,
-        answer: *mut u64,
-        answer_len: usize,
-    ) -> u32;
-    fn kihavute_evaluate(
-        from: *const f32,
-        from_len: usize,
-        to: *const f32,
-        to_len: usize,
-        t: f32,
-        out: *mut f32,
-        out_len: usize,
-        answer: *mut u64,
-        answer_len: usize,
-    ) -> u32;
-    fn kihavute_bounds(
-        from: *const f32,
-        from_len: usize,
-        to: *const f32,
-        to_len: usize,
-        t: f32,
-        answer: *mut u64,
-        answer_len: usize,
-    ) -> u32;
-    fn kihavute_quad_position(
-        sx: f32,
-        sy: f32,
-        cx: f32,
-        cy: f32,
-        ex: f32,
-        ey: f32,
-        progress: f32,
-        answer: *mut u64,
-        answer_len: usize,
-    ) -> u32;
-    fn kihavute_quad_tangent(
-        sx: f32,
-        sy: f32,
-        cx: f32,
-        cy: f32,
-        ex: f32,
-        ey: f32,
-        progress: f32,
-        answer: *mut u64,
-        answer_len: usize,
-    ) -> u32;
-    fn kihavute_quad_rotation_deg(
-        sx: f32,
-        sy: f32,
-        cx: f32,
-        cy: f32,
-        ex: f32,
-        ey: f32,
-        progress: f32,
-        answer: *mut u64,
-        answer_len: usize,
-    ) -> u32;
-    fn kihavute_quad_length(
-        sx: f32,
-        sy: f32,
-        cx: f32,
-        cy: f32,
-        ex: f32,
-        ey: f32,
-        answer: *mut u64,
-        answer_len: usize,
-    ) -> u32;
-    fn kihavute_check(
-        kinds: *const u8,
-        kinds_len: usize,
-        fields: *const f32,
-        fields_len: usize,
-        tables: *const f32,
-        tables_len: usize,
-        lengths: *const f32,
-        lengths_len: usize,
-        answer: *mut u64,
-        answer_len: usize,
-    ) -> u32;
-    fn kihavute_cubic_position(
-        sx: f32,
-        sy: f32,
-        ax: f32,
-        ay: f32,
-        bx: f32,
-        by: f32,
-        ex: f32,
-        ey: f32,
-        progress: f32,
-        answer: *mut u64,
-        answer_len: usize,
-    ) -> u32;
-    fn kihavute_cubic_tangent(
-        sx: f32,
-        sy: f32,
-        ax: f32,
-        ay: f32,
-        bx: f32,
-        by: f32,
-        ex: f32,
-        ey: f32,
-        progress: f32,
-        answer: *mut u64,
-        answer_len: usize,
-    ) -> u32;
+        letters: [u8], numbers: [f32], kinds: mut [u8], fields: mut [f32], tables: mut [f32], lengths: mut [f32]
+    );
+    fn kihavute_build_text(text: [u8], kinds: mut [u8], fields: mut [f32], tables: mut [f32], lengths: mut [f32]);
+    fn kihavute_spot(lengths: [f32], progress: f32);
+    fn kihavute_resample(points: [f32], count: usize, out: mut [f32]);
+    fn kihavute_morph(from: [f32], to: [f32], resolution: usize, out_from: mut [f32], out_to: mut [f32]);
+    fn kihavute_morph_default(from: [f32], to: [f32], out_from: mut [f32], out_to: mut [f32]);
+    fn kihavute_evaluate(from: [f32], to: [f32], t: f32, out: mut [f32]);
+    fn kihavute_bounds(from: [f32], to: [f32], t: f32);
+    fn kihavute_quad_position(sx: f32, sy: f32, cx: f32, cy: f32, ex: f32, ey: f32, progress: f32);
+    fn kihavute_quad_tangent(sx: f32, sy: f32, cx: f32, cy: f32, ex: f32, ey: f32, progress: f32);
+    fn kihavute_quad_rotation_deg(sx: f32, sy: f32, cx: f32, cy: f32, ex: f32, ey: f32, progress: f32);
+    fn kihavute_quad_length(sx: f32, sy: f32, cx: f32, cy: f32, ex: f32, ey: f32);
+    fn kihavute_check(kinds: [u8], fields: [f32], tables: [f32], lengths: [f32]);
+    fn kihavute_cubic_position(sx: f32, sy: f32, ax: f32, ay: f32, bx: f32, by: f32, ex: f32, ey: f32, progress: f32);
+    fn kihavute_cubic_tangent(sx: f32, sy: f32, ax: f32, ay: f32, bx: f32, by: f32, ex: f32, ey: f32, progress: f32);
     fn kihavute_cubic_rotation_deg(
-        sx: f32,
-        sy: f32,
-        ax: f32,
-        ay: f32,
-        bx: f32,
-        by: f32,
-        ex: f32,
-        ey: f32,
-        progress: f32,
-        answer: *mut u64,
-        answer_len: usize,
-    ) -> u32;
-    fn kihavute_cubic_length(
-        sx: f32,
-        sy: f32,
-        ax: f32,
-        ay: f32,
-        bx: f32,
-        by: f32,
-        ex: f32,
-        ey: f32,
-        answer: *mut u64,
-        answer_len: usize,
-    ) -> u32;
-    fn kihavute_quad_table(
-        sx: f32,
-        sy: f32,
-        cx: f32,
-        cy: f32,
-        ex: f32,
-        ey: f32,
-        out: *mut f32,
-        out_len: usize,
-        answer: *mut u64,
-        answer_len: usize,
-    ) -> u32;
-    fn kihavute_cubic_table(
-        sx: f32,
-        sy: f32,
-        ax: f32,
-        ay: f32,
-        bx: f32,
-        by: f32,
-        ex: f32,
-        ey: f32,
-        out: *mut f32,
-        out_len: usize,
-        answer: *mut u64,
-        answer_len: usize,
-    ) -> u32;
-    fn kihavute_line_position(
-        sx: f32,
-        sy: f32,
-        ex: f32,
-        ey: f32,
-        progress: f32,
-        answer: *mut u64,
-        answer_len: usize,
-    ) -> u32;
-    fn kihavute_line_tangent(sx: f32, sy: f32, ex: f32, ey: f32, answer: *mut u64, answer_len: usize) -> u32;
-    fn kihavute_line_rotation_deg(sx: f32, sy: f32, ex: f32, ey: f32, answer: *mut u64, answer_len: usize) -> u32;
-    fn kihavute_line_length(sx: f32, sy: f32, ex: f32, ey: f32, answer: *mut u64, answer_len: usize) -> u32;
+        sx: f32, sy: f32, ax: f32, ay: f32, bx: f32, by: f32, ex: f32, ey: f32, progress: f32
+    );
+    fn kihavute_cubic_length(sx: f32, sy: f32, ax: f32, ay: f32, bx: f32, by: f32, ex: f32, ey: f32);
+    fn kihavute_quad_table(sx: f32, sy: f32, cx: f32, cy: f32, ex: f32, ey: f32, out: mut [f32]);
+    fn kihavute_cubic_table(sx: f32, sy: f32, ax: f32, ay: f32, bx: f32, by: f32, ex: f32, ey: f32, out: mut [f32]);
+    fn kihavute_line_position(sx: f32, sy: f32, ex: f32, ey: f32, progress: f32);
+    fn kihavute_line_tangent(sx: f32, sy: f32, ex: f32, ey: f32);
+    fn kihavute_line_rotation_deg(sx: f32, sy: f32, ex: f32, ey: f32);
+    fn kihavute_line_length(sx: f32, sy: f32, ex: f32, ey: f32);
     fn kihavute_arc_position(
-        sx: f32,
-        sy: f32,
-        rx: f32,
-        ry: f32,
-        rotation: f32,
-        large: u32,
-        sweep: u32,
-        ex: f32,
-        ey: f32,
-        progress: f32,
-        answer: *mut u64,
-        answer_len: usize,
-    ) -> u32;
+        sx: f32, sy: f32, rx: f32, ry: f32, rotation: f32, large: u32, sweep: u32, ex: f32, ey: f32, progress: f32
+    );
     fn kihavute_arc_tangent(
-        sx: f32,
-        sy: f32,
-        rx: f32,
-        ry: f32,
-        rotation: f32,
-        large: u32,
-        sweep: u32,
-        ex: f32,
-        ey: f32,
-        progress: f32,
-        answer: *mut u64,
-        answer_len: usize,
-    ) -> u32;
+        sx: f32, sy: f32, rx: f32, ry: f32, rotation: f32, large: u32, sweep: u32, ex: f32, ey: f32, progress: f32
+    );
     fn kihavute_arc_rotation_deg(
-        sx: f32,
-        sy: f32,
-        rx: f32,
-        ry: f32,
-        rotation: f32,
-        large: u32,
-        sweep: u32,
-        ex: f32,
-        ey: f32,
-        progress: f32,
-        answer: *mut u64,
-        answer_len: usize,
-    ) -> u32;
-    fn kihavute_arc_length(
-        sx: f32,
-        sy: f32,
-        rx: f32,
-        ry: f32,
-        rotation: f32,
-        large: u32,
-        sweep: u32,
-        ex: f32,
-        ey: f32,
-        answer: *mut u64,
-        answer_len: usize,
-    ) -> u32;
+        sx: f32, sy: f32, rx: f32, ry: f32, rotation: f32, large: u32, sweep: u32, ex: f32, ey: f32, progress: f32
+    );
+    fn kihavute_arc_length(sx: f32, sy: f32, rx: f32, ry: f32, rotation: f32, large: u32, sweep: u32, ex: f32, ey: f32);
     fn kihavute_arc_shape(
-        sx: f32,
-        sy: f32,
-        rx: f32,
-        ry: f32,
-        rotation: f32,
-        large: u32,
-        sweep: u32,
-        ex: f32,
-        ey: f32,
-        out: *mut f32,
-        out_len: usize,
-        answer: *mut u64,
-        answer_len: usize,
-    ) -> u32;
+        sx: f32, sy: f32, rx: f32, ry: f32, rotation: f32, large: u32, sweep: u32, ex: f32, ey: f32, out: mut [f32]
+    );
     fn kihavute_arc_table(
-        sx: f32,
-        sy: f32,
-        rx: f32,
-        ry: f32,
-        rotation: f32,
-        large: u32,
-        sweep: u32,
-        ex: f32,
-        ey: f32,
-        out: *mut f32,
-        out_len: usize,
-        answer: *mut u64,
-        answer_len: usize,
-    ) -> u32;
-    fn kihavute_spline_table(
-        points: *const f32,
-        points_len: usize,
-        table: *mut f32,
-        table_len: usize,
-        answer: *mut u64,
-        answer_len: usize,
-    ) -> u32;
-    fn kihavute_spline_position(
-        points: *const f32,
-        points_len: usize,
-        table: *const f32,
-        table_len: usize,
-        progress: f32,
-        answer: *mut u64,
-        answer_len: usize,
-    ) -> u32;
-    fn kihavute_spline_tangent(
-        points: *const f32,
-        points_len: usize,
-        table: *const f32,
-        table_len: usize,
-        progress: f32,
-        answer: *mut u64,
-        answer_len: usize,
-    ) -> u32;
-    fn kihavute_spline_rotation_deg(
-        points: *const f32,
-        points_len: usize,
-        table: *const f32,
-        table_len: usize,
-        progress: f32,
-        answer: *mut u64,
-        answer_len: usize,
-    ) -> u32;
-    fn kihavute_spline_length(
-        points: *const f32,
-        points_len: usize,
-        table: *const f32,
-        table_len: usize,
-        answer: *mut u64,
-        answer_len: usize,
-    ) -> u32;
-    fn kihavute_number(text: *const u8, text_len: usize, answer: *mut u64, answer_len: usize) -> u32;
-    fn kihavute_strict(text: *const u8, text_len: usize, answer: *mut u64, answer_len: usize) -> u32;
-    fn kihavute_read(
-        text: *const u8,
-        text_len: usize,
-        letters: *mut u8,
-        letters_len: usize,
-        numbers: *mut f32,
-        numbers_len: usize,
-        answer: *mut u64,
-        answer_len: usize,
-    ) -> u32;
-    fn kihavute_check_commands(
-        letters: *const u8,
-        letters_len: usize,
-        numbers: *const f32,
-        numbers_len: usize,
-        answer: *mut u64,
-        answer_len: usize,
-    ) -> u32;
+        sx: f32, sy: f32, rx: f32, ry: f32, rotation: f32, large: u32, sweep: u32, ex: f32, ey: f32, out: mut [f32]
+    );
+    fn kihavute_spline_table(points: [f32], table: mut [f32]);
+    fn kihavute_spline_position(points: [f32], table: [f32], progress: f32);
+    fn kihavute_spline_tangent(points: [f32], table: [f32], progress: f32);
+    fn kihavute_spline_rotation_deg(points: [f32], table: [f32], progress: f32);
+    fn kihavute_spline_length(points: [f32], table: [f32]);
+    fn kihavute_number(text: [u8]);
+    fn kihavute_strict(text: [u8]);
+    fn kihavute_read(text: [u8], letters: mut [u8], numbers: mut [f32]);
+    fn kihavute_check_commands(letters: [u8], numbers: [f32]);
 }
 
 // what a call with an answer gives: the values that it wrote, zeros after them

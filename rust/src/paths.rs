@@ -2,78 +2,44 @@
 
 use crate::refusals::{Reason, Refusal};
 
-unsafe extern "C" {
-    fn kihavute_place(
-        kinds: *const u8,
-        kinds_len: usize,
-        fields: *const f32,
-        fields_len: usize,
-        tables: *const f32,
-        tables_len: usize,
-        lengths: *const f32,
-        lengths_len: usize,
-        progress: f32,
-        answer: *mut u64,
-        answer_len: usize,
-    ) -> u32;
-    fn kihavute_position(
-        kinds: *const u8,
-        kinds_len: usize,
-        fields: *const f32,
-        fields_len: usize,
-        tables: *const f32,
-        tables_len: usize,
-        lengths: *const f32,
-        lengths_len: usize,
-        progress: f32,
-        answer: *mut u64,
-        answer_len: usize,
-    ) -> u32;
-    fn kihavute_tangent(
-        kinds: *const u8,
-        kinds_len: usize,
-        fields: *const f32,
-        fields_len: usize,
-        tables: *const f32,
-        tables_len: usize,
-        lengths: *const f32,
-        lengths_len: usize,
-        progress: f32,
-        answer: *mut u64,
-        answer_len: usize,
-    ) -> u32;
-    fn kihavute_rotation(
-        kinds: *const u8,
-        kinds_len: usize,
-        fields: *const f32,
-        fields_len: usize,
-        tables: *const f32,
-        tables_len: usize,
-        lengths: *const f32,
-        lengths_len: usize,
-        progress: f32,
-        answer: *mut u64,
-        answer_len: usize,
-    ) -> u32;
+answering! {
+    fn kihavute_place(kinds: [u8], fields: [f32], tables: [f32], lengths: [f32], progress: f32);
+    fn kihavute_position(kinds: [u8], fields: [f32], tables: [f32], lengths: [f32], progress: f32);
+    fn kihavute_tangent(kinds: [u8], fields: [f32], tables: [f32], lengths: [f32], progress: f32);
+    fn kihavute_rotation(kinds: [u8], fields: [f32], tables: [f32], lengths: [f32], progress: f32);
+    fn kihavute_places(
+        kinds: [u8], fields: [f32], tables: [f32], lengths: [f32], progresses: [f32], segments: mut [u32], raws: mut [f32]
+    );
+    fn kihavute_positions(
+        kinds: [u8], fields: [f32], tables: [f32], lengths: [f32], progresses: [f32], out: mut [f32]
+    );
 }
 
-// a query of a stored path through C
-type Query = unsafe extern "C" fn(
-    *const u8,
-    usize,
-    *const f32,
-    usize,
-    *const f32,
-    usize,
-    *const f32,
-    usize,
-    f32,
-    *mut u64,
-    usize,
-) -> u32;
+// calls one of these on the four buffers of a path
+macro_rules! ask {
+    ($path:expr, $query:ident($($argument:expr),*)) => {
+        // SAFETY: the slices are whole, each output is borrowed alone, and the answer is the call's own
+        crate::judged(|answer, places| unsafe {
+            $query(
+                $path.kinds.as_ptr(),
+                $path.kinds.len(),
+                $path.fields.as_ptr(),
+                $path.fields.len(),
+                $path.tables.as_ptr(),
+                $path.tables.len(),
+                $path.lengths.as_ptr(),
+                $path.lengths.len(),
+                $($argument,)*
+                answer,
+                places,
+            )
+        })
+    };
+}
 
 /// How far along by length: 0 at the start, 1 at the end. A NaN counts as 0, and the rest is clamped.
 #[derive(Clone, Copy, Debug, PartialEq, PartialOrd)]
+#[repr(transparent)]
 pub struct Progress(pub f32);
 
 /// The parameter of a segment's own formula, from 0 to 1. Only a lookup makes one.
@@ -167,47 +133,69 @@ impl Path {
         &self.lengths
     }
 
-    /// The segment at a progress and its raw parameter; `None` without segments. The whole path is checked at each call.
+    /// The segment at a progress and its raw parameter; `None` without segments. The whole path is checked at each call, as
+    /// in each single query: [`places`](Path::places) and [`positions`](Path::positions) check it once for many progresses.
     pub fn place(&self, progress: Progress) -> Result<Option<Place>, Refusal> {
-        let given = self.ask(kihavute_place, progress)?;
+        let given = ask!(self, kihavute_place(progress.0))?;
         let place = Place { segment: given[0] as usize, raw: RawParameter(f32::from_bits(given[1] as u32)) };
         Ok((!self.is_empty()).then_some(place))
     }
 
     /// The point at a progress, in path units; (0, 0) without segments.
     pub fn position(&self, progress: Progress) -> Result<[f32; 2], Refusal> {
-        let given = self.ask(kihavute_position, progress)?;
+        let given = ask!(self, kihavute_position(progress.0))?;
         Ok([given[0], given[1]].map(|bits| f32::from_bits(bits as u32)))
     }
 
     /// The direction at a progress, of length 1, or (0, 0) where nothing tells.
     pub fn tangent(&self, progress: Progress) -> Result<[f32; 2], Refusal> {
-        let given = self.ask(kihavute_tangent, progress)?;
+        let given = ask!(self, kihavute_tangent(progress.0))?;
         Ok([given[0], given[1]].map(|bits| f32::from_bits(bits as u32)))
     }
 
     /// That direction in degrees from the x axis towards the y axis.
     pub fn rotation_deg(&self, progress: Progress) -> Result<f32, Refusal> {
-        Ok(f32::from_bits(self.ask(kihavute_rotation, progress)?[0] as u32))
+        Ok(f32::from_bits(ask!(self, kihavute_rotation(progress.0))?[0] as u32))
     }
 
-    fn ask(&self, query: Query, progress: Progress) -> Result<[u64; 8], Refusal> {
-        // SAFETY: the slices are whole, and the answer is the call's own
-        crate::judged(|answer, places| unsafe {
-            query(
-                self.kinds.as_ptr(),
-                self.kinds.len(),
-                self.fields.as_ptr(),
-                self.fields.len(),
-                self.tables.as_ptr(),
-                self.tables.len(),
-                self.lengths.as_ptr(),
-                self.lengths.len(),
-                progress.0,
-                answer,
-                places,
-            )
-        })
+    /// The segment at each progress and its raw parameter, each from its buffer's start; how many are written: one for each
+    /// progress, none without segments. The path is checked once. A buffer that is too short refuses the call with what is
+    /// needed, and nothing is written.
+    ///
+    /// ```
+    /// use kihavute::{Path, Progress};
+    ///
+    /// let path = Path::from_text(b"M0 0 L3 4 Q6 4 6 8").unwrap();
+    /// let progresses = [0.0, 0.25, 1.0].map(Progress);
+    /// let (mut segments, mut raws) = ([0; 3], [0.0; 3]);
+    /// assert_eq!(path.places(&progresses, &mut segments, &mut raws), Ok(3));
+    /// let place = path.place(Progress(0.25)).unwrap().expect("a path with a segment");
+    /// assert_eq!((segments[1] as usize, raws[1]), (place.segment, place.raw.value()));
+    /// assert_eq!((segments[2], raws[2]), (1, 1.0));
+    /// ```
+    pub fn places(&self, progresses: &[Progress], segments: &mut [u32], raws: &mut [f32]) -> Result<usize, Refusal> {
+        let (lent, count) = (progresses.as_ptr().cast(), progresses.len());
+        let (out, places) = (segments.as_mut_ptr(), segments.len());
+        let given = ask!(self, kihavute_places(lent, count, out, places, raws.as_mut_ptr(), raws.len()))?;
+        Ok(given[0] as usize)
+    }
+
+    /// The point and the direction at each progress, x, y, direction's x, y, from the buffer's start; how many progresses are
+    /// looked up: each. Without segments all numbers are 0. The path is checked once. A buffer that is too short refuses the
+    /// call with what is needed, and nothing is written.
+    ///
+    /// ```
+    /// use kihavute::{Path, Progress};
+    ///
+    /// let path = Path::from_text(b"M0 0 L3 4").unwrap();
+    /// let mut out = [0.0; 8];
+    /// assert_eq!(path.positions(&[Progress(0.0), Progress(0.5)], &mut out), Ok(2));
+    /// assert_eq!(out, [0.0, 0.0, 0.6, 0.8, 1.5, 2.0, 0.6, 0.8]);
+    /// ```
+    pub fn positions(&self, progresses: &[Progress], out: &mut [f32]) -> Result<usize, Refusal> {
+        let (lent, count) = (progresses.as_ptr().cast(), progresses.len());
+        let given = ask!(self, kihavute_positions(lent, count, out.as_mut_ptr(), out.len()))?;
+        Ok(given[0] as usize)
     }
 }
 
@@ -241,5 +229,39 @@ mod tests {
         assert_eq!(empty.position(Progress(0.5)), Ok([0.0, 0.0]));
         let refusal = Path::from_commands(b"ML", &[0.0, 0.0, 2e19, 0.0]).expect_err("its length is not finite");
         assert_eq!(refusal.reason(), Reason::NotFinite { place: 0 });
+    }
+
+    #[test]
+    fn a_batch_is_its_single_queries() {
+        let path = Path::from_text(b"M0 0L3 4Q6 4 6 8C6 12 9 12 9 8A2 2 0 0 1 13 8A0 1 0 0 1 14 8").expect("it builds");
+        let mut progresses: Vec<Progress> = (0..=100).map(|k| Progress(k as f32 / 100.0)).collect();
+        progresses.extend([f32::NAN, 0.7, -1.0, 0.3, f32::INFINITY, 0.0, 1.0, 0.5].map(Progress));
+        let count = progresses.len();
+        let (mut segments, mut raws, mut out) = (vec![9; count + 1], vec![9.0; count + 1], vec![9.0; 4 * count + 1]);
+        assert_eq!(path.places(&progresses, &mut segments, &mut raws), Ok(count));
+        assert_eq!(path.positions(&progresses, &mut out), Ok(count));
+        for (k, progress) in progresses.into_iter().enumerate() {
+            let raw = RawParameter(raws[k]);
+            assert_eq!(path.place(progress), Ok(Some(Place { segment: segments[k] as usize, raw })));
+            assert_eq!(path.position(progress), Ok([out[4 * k], out[4 * k + 1]]));
+            assert_eq!(path.tangent(progress), Ok([out[4 * k + 2], out[4 * k + 3]]));
+        }
+        assert_eq!((segments[count], raws[count], out[4 * count]), (9, 9.0, 9.0));
+    }
+
+    #[test]
+    fn a_batch_without_room_or_without_segments() {
+        let path = Path::from_text(b"M0 0L3 4").expect("it builds");
+        let (mut segments, mut raws, mut out) = ([9; 2], [9.0; 3], [9.0; 11]);
+        let three = [0.0, 0.5, 1.0].map(Progress);
+        let refusal = path.places(&three, &mut segments, &mut raws).expect_err("a place too few");
+        assert_eq!(refusal.reason(), Reason::NoRoom { needed: [3, 3, 0, 0] });
+        let refusal = path.positions(&three, &mut out).expect_err("a place too few");
+        assert_eq!(refusal.reason(), Reason::NoRoom { needed: [12, 0, 0, 0] });
+        assert_eq!((segments, raws, out), ([9; 2], [9.0; 3], [9.0; 11]));
+        let empty = Path::default();
+        assert_eq!(empty.places(&three[1..2], &mut segments, &mut raws), Ok(0));
+        assert_eq!(empty.positions(&three[1..2], &mut out), Ok(1));
+        assert_eq!((segments, raws, &out[..5]), ([9; 2], [9.0; 3], &[0.0, 0.0, 0.0, 0.0, 9.0][..]));
     }
 }

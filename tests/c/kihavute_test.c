@@ -243,6 +243,63 @@ static void queries(void) {
     answered("a rotation on a path", kihavute_rotation(kinds, 2, fields, 8, NULL, 0, lengths, 2, 0.75f, answer, PLACES), 0, 1, (uint64_t[]){bits(90)});
 }
 
+// the same path asked for many progresses in one call; what stands past the answers stays
+static void batches(void) {
+    const uint8_t kinds[] = {0, 0};
+    const float fields[] = {0, 0, 3, 4, 3, 4, 3, 9};
+    const float lengths[] = {5, 10};
+    const float progresses[] = {0.75f, 0, 1, kihavute_float(NAN_BITS), 0.5f};
+    uint32_t segments[] = {7, 7, 7, 7, 7, 7};
+    float raws[] = {7, 7, 7, 7, 7, 7};
+    float out[] = {7, 7, 7, 7, 7, 7, 7, 7, 7};
+
+    fresh();
+    answered("places, a raw too few", kihavute_places(kinds, 2, fields, 8, NULL, 0, lengths, 2, progresses, 5, segments, 6, raws, 4, answer, PLACES), 8, 2, (uint64_t[]){5, 5});
+    fresh();
+    answered("places, a segment too few", kihavute_places(kinds, 2, fields, 8, NULL, 0, lengths, 2, progresses, 5, segments, 4, raws, 6, answer, PLACES), 8, 2, (uint64_t[]){5, 5});
+    fresh();
+    answered("places, a path and room that fail", kihavute_places(kinds, 2, fields, 7, NULL, 0, lengths, 2, progresses, 5, segments, 0, raws, 0, answer, PLACES), 12, 0, NULL);
+    fresh();
+    answered("places, a short answer", kihavute_places(kinds, 2, fields, 8, NULL, 0, lengths, 2, progresses, 5, segments, 6, raws, 6, answer, 7), 255, 0, NULL);
+    fresh();
+    answered("places without segments", kihavute_places(kinds, 0, fields, 0, NULL, 0, lengths, 0, progresses, 5, segments, 0, raws, 0, answer, PLACES), 0, 0, NULL);
+    for (size_t k = 0; k < 6; k++) {
+        same("segments untouched", segments[k], 7);
+        same("raws untouched", bits(raws[k]), bits(7));
+    }
+    fresh();
+    answered("places of no progress", kihavute_places(kinds, 2, fields, 8, NULL, 0, lengths, 2, progresses, 0, segments, 0, raws, 0, answer, PLACES), 0, 1, (uint64_t[]){0});
+    fresh();
+    answered("places", kihavute_places(kinds, 2, fields, 8, NULL, 0, lengths, 2, progresses, 5, segments, 6, raws, 6, answer, PLACES), 0, 1, (uint64_t[]){5});
+    const uint32_t due[] = {1, 0, 1, 0, 0, 7};
+    const float due_raws[] = {0.5f, 0, 1, 0, 1, 7};
+    for (size_t k = 0; k < 6; k++) {
+        same("a segment of a batch", segments[k], due[k]);
+        same("a raw parameter of a batch", bits(raws[k]), bits(due_raws[k]));
+    }
+
+    fresh();
+    answered("positions, a number too few", kihavute_positions(kinds, 2, fields, 8, NULL, 0, lengths, 2, progresses, 2, out, 7, answer, PLACES), 8, 1, (uint64_t[]){8});
+    fresh();
+    answered("positions, an unknown kind", kihavute_positions((uint8_t[]){0, 5}, 2, fields, 8, NULL, 0, lengths, 2, progresses, 2, out, 9, answer, PLACES), 12, 0, NULL);
+    fresh();
+    answered("positions, a short answer", kihavute_positions(kinds, 2, fields, 8, NULL, 0, lengths, 2, progresses, 2, out, 9, answer, 0), 255, 0, NULL);
+    for (size_t k = 0; k < 9; k++) {
+        same("positions untouched", bits(out[k]), bits(7));
+    }
+    fresh();
+    answered("positions without segments", kihavute_positions(kinds, 0, fields, 0, NULL, 0, lengths, 0, progresses, 1, out, 9, answer, PLACES), 0, 1, (uint64_t[]){1});
+    for (size_t k = 0; k < 9; k++) {
+        same("zeros without segments", bits(out[k]), k < 4 ? 0 : bits(7));
+    }
+    fresh();
+    answered("positions", kihavute_positions(kinds, 2, fields, 8, NULL, 0, lengths, 2, progresses, 2, out, 9, answer, PLACES), 0, 1, (uint64_t[]){2});
+    const float flown[] = {3, 6.5f, 0, 1, 0, 0, 0.6f, 0.8f, 7};
+    for (size_t k = 0; k < 9; k++) {
+        same("a number of a batch", bits(out[k]), bits(flown[k]));
+    }
+}
+
 static void curves(void) {
     const float nan = kihavute_float(NAN_BITS);
 
@@ -873,6 +930,7 @@ int main(void) {
     points();
     lookups();
     queries();
+    batches();
     curves();
     stored_paths();
     shapes();

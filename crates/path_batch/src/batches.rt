@@ -40,16 +40,17 @@ fn fill_places(
     ensures { λ _. ⌜ FilledPlaces (now (kinds .entry)) (now (tables .entry)) (now (lengths .entry)) (now (progresses .entry)) (now (segments .entry)) (now (raws .entry)) (now (segments .exit)) (now (raws .exit)) ⌝ }
 {
     let mut at = first_cursor(kinds);
-    let mut k = 0usize;
-    while k < progresses.len() {
-        let progress = progresses[k];
+    let mut i = 0usize;
+    while i < progresses.len() {
+        let progress = progresses[i];
         let found = spot(lengths, Progress { value: progress });
         let along = found.progress;
-        at = moved(kinds, at, found.segment);
-        let raw = raw_within(kinds, tables, at, along);
-        segments[k] = found.segment as u32;
-        raws[k] = tidy(number_of(raw));
-        k += 1;
+        let here = moved(kinds, at, found.segment);
+        let raw = raw_within(kinds, tables, here, along);
+        segments[i] = found.segment as u32;
+        raws[i] = tidy(number_of(raw));
+        at = here;
+        i += 1;
     }
 }
 

@@ -44,8 +44,20 @@ impl CompoundPath {
     /// The number of the segment at this progress and the local progress on it.
     pub fn open_segment_at(&self, t: f32) -> Option<(usize, f32)> {
         let (segment, local) = self.segment_at(t)?;
-        let index = self.segments.iter().position(|other| core::ptr::eq(other, segment))?;
-        Some((index, local))
+        let past = core::ptr::from_ref(segment) as usize - self.segments.as_ptr() as usize;
+        Some((past / core::mem::size_of::<PathSegment>(), local))
+    }
+
+    /// The number of the segment at this progress and its raw parameter.
+    pub fn open_place_at(&self, t: f32) -> Option<(usize, f32)> {
+        let (index, local) = self.open_segment_at(t)?;
+        let raw = match &self.segments[index] {
+            PathSegment::Quad(quad) => quad.open_raw_t(local),
+            PathSegment::Cubic(cubic) => cubic.open_raw_t(local),
+            PathSegment::Arc(arc) if !arc.line_fallback => arc.table.raw_t(local),
+            _ => math::clamp01(local),
+        };
+        Some((index, raw))
     }
 }
 

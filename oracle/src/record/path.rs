@@ -155,7 +155,8 @@ fn command(stream: &mut Stream) -> String {
     format!("{}{}", char::from(letter), numbers.join([" ", ","][stream.below(2) as usize]))
 }
 
-fn text(stream: &mut Stream) -> String {
+/// A text of two to eight commands.
+pub fn text(stream: &mut Stream) -> String {
     let first = if stream.below(16) == 0 { "Z".to_string() } else { format!("M{} {}", number(stream), number(stream)) };
     (0..1 + stream.below(7)).fold(first, |text, _| text + &command(stream))
 }

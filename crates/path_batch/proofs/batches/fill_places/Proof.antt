@@ -1,7 +1,7 @@
 -- `path_batch::batches::fill_places` meets its contract. The loop keeps what is filled up to its place and where the cursor stands, `Looking`; the measure is what is left of
 -- the progresses. Assumes nothing.
 use borrow.Author.Needs.{needs}
-use Prim.Native.Nat.{_-_}
+use Prim.Native.Nat.{_-_, _<_}
 use mathlib.Core.Path.{_≡_, refl, ap, _∙_}
 use native.Mathlib.Omega.{arith}
 use lib.ListN.{length, take, getD}
@@ -19,13 +19,13 @@ use Rattle.path_batch.proofs.batches.fill_places.Statement.{statement}
 use Rattle.path_batch.proofs.batches.fill_places.Tie as tie
 
 abbrev Inv-loop : tie.InvT-loop
-Inv-loop kinds fields tables lengths progresses segments₀ raws₀ at₀ k₀ segments raws at k =
-    Looking kinds progresses at k
-    × (segments ≡ written (segmentsFor kinds tables lengths (take k progresses)) segments₀)
-    × (raws ≡ written (rawsFor kinds tables lengths (take k progresses)) raws₀)
+Inv-loop kinds fields tables lengths progresses segments₀ raws₀ at₀ i₀ segments raws at i =
+    Looking kinds progresses at i
+    × (segments ≡ written (segmentsFor kinds tables lengths (take i progresses)) segments₀)
+    × (raws ≡ written (rawsFor kinds tables lengths (take i progresses)) raws₀)
 
 abbrev μ-loop : tie.MeasureT-loop
-μ-loop kinds fields tables lengths progresses segments₀ raws₀ at₀ k₀ segments raws at k = length progresses - k
+μ-loop kinds fields tables lengths progresses segments₀ raws₀ at₀ i₀ segments raws at i = length progresses - i
 
 first-cursor-requires : tie.Need-first-cursor-requires Inv-loop μ-loop
 first-cursor-requires c κs = search needs
@@ -77,7 +77,7 @@ slice-write-segments c =
     let l = c .before .before .before .before .before .before .before .loop in
     let start = c .before .before .before .before .before .before .before .before .before .before .before .before .before .before .before .before in
     let a = start .args in
-    let n : length (l .segments) ≡ length (a .segments .now) = rw (l .inv .1) (each-size (λ p. placeOf (a .kinds .now) (a .tables .now) (a .lengths .now) p .segment) (a .progresses .now) (a .segments .now) (l .k) (l .inv .0 .upto) (start .pre .segmentsRoom)) in
+    let n : length (l .segments) ≡ length (a .segments .now) = rw (l .inv .1) (each-size (λ p. placeOf (a .kinds .now) (a .tables .now) (a .lengths .now) p .segment) (a .progresses .now) (a .segments .now) (l .i) (l .inv .0 .upto) (start .pre .segmentsRoom)) in
     let room = start .pre .segmentsRoom in
     omega arith
 
@@ -98,12 +98,12 @@ slice-write-raws c =
     let l = c .before .before .before .before .before .before .before .before .before .loop in
     let start = c .before .before .before .before .before .before .before .before .before .before .before .before .before .before .before .before .before .before in
     let a = start .args in
-    let n : length (l .raws) ≡ length (a .raws .now) = rw (l .inv .2) (each-size (λ p. placeOf (a .kinds .now) (a .tables .now) (a .lengths .now) p .raw .value) (a .progresses .now) (a .raws .now) (l .k) (l .inv .0 .upto) (start .pre .rawsRoom)) in
+    let n : length (l .raws) ≡ length (a .raws .now) = rw (l .inv .2) (each-size (λ p. placeOf (a .kinds .now) (a .tables .now) (a .lengths .now) p .raw .value) (a .progresses .now) (a .raws .now) (l .i) (l .inv .0 .upto) (start .pre .rawsRoom)) in
     let room = start .pre .rawsRoom in
     omega arith
 
-add-k : tie.Need-add-k Inv-loop μ-loop
-add-k c =
+add-i : tie.Need-add-i Inv-loop μ-loop
+add-i c =
     let more = c .before .before .before .before .before .before .before .before .loop-test .taken in
     let good = c .before .before .before .before .before .before .before .before .before .before .before .before .before .before .before .before .before .before .good in
     omega arith
@@ -119,12 +119,13 @@ loop-again c =
     let spot = c .before .before .before .before .before .before .spot in
     let moved = c .before .before .before .before .moved in
     let raw = c .before .before .before .raw-within in
-    let p = getD (a .progresses .now) (l .k) nan in
+    let p = getD (a .progresses .now) (l .i) nan in
     let pair = place-is (a .kinds .now) (a .tables .now) (a .lengths .now) p (spot .result) (moved .result) (raw .result) (spot .ensures) (moved .ensures) (raw .ensures) in
-    let more = c .before .before .before .before .before .before .before .before .loop-test .taken in (
+    let test = c .before .before .before .before .before .before .before .before .loop-test .taken in
+    let more : l .i < length (a .progresses .now) = omega (arith, test) in (
       looking-next (moved .result) (spot .result .segment) (moved .ensures) (among (start .pre .path) (l .inv .0) p (spot .ensures)) more,
-      each-next (λ p. placeOf (a .kinds .now) (a .tables .now) (a .lengths .now) p .segment) (a .progresses .now) (a .segments .now) (l .segments) (l .k) _ more (start .pre .segmentsRoom) (l .inv .1) (ap (λ (found : Place). found .segment) pair),
-      each-next (λ p. placeOf (a .kinds .now) (a .tables .now) (a .lengths .now) p .raw .value) (a .progresses .now) (a .raws .now) (l .raws) (l .k) _ more (start .pre .rawsRoom) (l .inv .2) (c .tidy .ensures ∙ c .before .number-of .ensures ∙ ap (λ (found : Place). found .raw .value) pair),
+      each-next (λ p. placeOf (a .kinds .now) (a .tables .now) (a .lengths .now) p .segment) (a .progresses .now) (a .segments .now) (l .segments) (l .i) _ more (start .pre .segmentsRoom) (l .inv .1) (ap (λ (found : Place). found .segment) pair),
+      each-next (λ p. placeOf (a .kinds .now) (a .tables .now) (a .lengths .now) p .raw .value) (a .progresses .now) (a .raws .now) (l .raws) (l .i) _ more (start .pre .rawsRoom) (l .inv .2) (c .tidy .ensures ∙ c .before .number-of .ensures ∙ ap (λ (found : Place). found .raw .value) pair),
     )
 
 same-length : tie.Need-same-length Inv-loop μ-loop
@@ -132,20 +133,20 @@ same-length c =
     let l = c .before .loop in
     let start = c .before .before .before .before .before .before .before .before .before .before in
     let a = start .args in
-    rw (l .inv .1) (each-size (λ p. placeOf (a .kinds .now) (a .tables .now) (a .lengths .now) p .segment) (a .progresses .now) (a .segments .now) (l .k) (l .inv .0 .upto) (start .pre .segmentsRoom))
+    rw (l .inv .1) (each-size (λ p. placeOf (a .kinds .now) (a .tables .now) (a .lengths .now) p .segment) (a .progresses .now) (a .segments .now) (l .i) (l .inv .0 .upto) (start .pre .segmentsRoom))
 
 same-length-2 : tie.Need-same-length-2 Inv-loop μ-loop
 same-length-2 c =
     let l = c .before .loop in
     let start = c .before .before .before .before .before .before .before .before .before .before in
     let a = start .args in
-    rw (l .inv .2) (each-size (λ p. placeOf (a .kinds .now) (a .tables .now) (a .lengths .now) p .raw .value) (a .progresses .now) (a .raws .now) (l .k) (l .inv .0 .upto) (start .pre .rawsRoom))
+    rw (l .inv .2) (each-size (λ p. placeOf (a .kinds .now) (a .tables .now) (a .lengths .now) p .raw .value) (a .progresses .now) (a .raws .now) (l .i) (l .inv .0 .upto) (start .pre .rawsRoom))
 
 returns : tie.Need-returns Inv-loop μ-loop
 returns c =
     let l = c .before .loop in
     let a = c .before .before .before .before .before .before .before .before .before .before .args in
-    let all : take (l .k) (a .progresses .now) ≡ a .progresses .now = take-all (l .k) (a .progresses .now) (omega arith) in
+    let all : take (l .i) (a .progresses .now) ≡ a .progresses .now = take-all (l .i) (a .progresses .now) (omega arith) in
     record {
       segmentsAre = l .inv .1 ∙ ap (λ (ps : List Float). written (segmentsFor (a .kinds .now) (a .tables .now) (a .lengths .now) ps) (a .segments .now)) all;
       rawsAre = l .inv .2 ∙ ap (λ (ps : List Float). written (rawsFor (a .kinds .now) (a .tables .now) (a .lengths .now) ps) (a .raws .now)) all;
@@ -171,7 +172,7 @@ fill-places-spec =
     tidy-requires
     mul-raws
     slice-write-raws
-    add-k
+    add-i
     loop-less
     loop-again
     same-length
