@@ -16,6 +16,7 @@ mod root_all;
 mod samples;
 mod simple;
 mod spline;
+mod stations;
 mod stored;
 mod strict;
 mod table;
@@ -73,6 +74,7 @@ fn main() -> ExitCode {
             (Ok(seed), Ok(count)) => query::compare_order(&mut report, seed, count),
             _ => return usage(),
         },
+        ["stations", "program"] => stations::compare_program(&mut report, SEED, 100),
         ["morph"] => morph::compare(&mut report, SEED, 250_000),
         ["root_all"] => root_all::compare(&mut report),
         ["strict"] => strict::compare_all(&mut report),

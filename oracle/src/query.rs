@@ -39,7 +39,7 @@ fn raw(segment: &PathSegment, local: f32) -> f32 {
 
 impl Asked {
     fn theirs(&self) -> Answer {
-        if let Some(number) = build::refused(&self.commands) {
+        if let Some((number, _)) = build::refused(&self.commands) {
             return Refused(number);
         }
         let path = CompoundPath::from_commands(&self.commands);
