@@ -11,9 +11,11 @@
 /// The bit pattern of a float; a NaN's is 7FC00000.
 pub type Bits = u32;
 
+mod listings;
 mod paths;
 mod refusals;
 
+pub use listings::{LISTING, listing, listing_into};
 pub use paths::{Path, Place, Progress, RawParameter};
 pub use refusals::{Reason, Refusal};
 

@@ -3,3 +3,4 @@ pub mod Putting
 pub mod CheckGiven
 pub mod PathsGiven
 pub mod Querying
+pub mod ListingsGiven

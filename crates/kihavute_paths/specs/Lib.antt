@@ -3,3 +3,4 @@ pub mod StoredPaths
 pub mod Morphs
 pub mod Paths
 pub mod Queries
+pub mod Listings
