@@ -123,6 +123,26 @@ impl fmt::Display for Listing {
 
 // ---- the proved tool
 
+// what stands in the output before a call
+const BYTE: u8 = 0xA5;
+
+// what the library writes; an output that is one place short must be refused with the count needed and left as it was
+fn ours(plan: &[u8]) -> Vec<u8> {
+    let mut out = vec![BYTE; kihavute::LISTING + 3];
+    let mut needed = [0; 8];
+    needed[0] = kihavute::LISTING as u64;
+    let short = kihavute::listing_into(plan, &mut out[..kihavute::LISTING - 1]);
+    if short != Err(kihavute::Refusal { number: 8, carried: needed }) || out.iter().any(|byte| *byte != BYTE) {
+        return b"a short output is not refused, or written".to_vec();
+    }
+    let size = kihavute::listing_into(plan, &mut out).expect("every listing fits");
+    if out[size..].iter().any(|byte| *byte != BYTE) {
+        return b"a place past the listing is written".to_vec();
+    }
+    out.truncate(size);
+    out
+}
+
 // what the compiled program prints; elsewhere than on x86-64 through an emulator
 fn printed(plan: &[u8]) -> Vec<u8> {
     let program = "target/bin/station";
@@ -245,6 +265,24 @@ fn group(report: &mut Report, name: &str, plans: Vec<Text>, ours: fn(&[u8]) -> V
     let numbers = (1..14).filter(|number| refused[*number] > 0);
     let tally: Vec<String> = numbers.map(|number| format!("{} with {number}", refused[number])).collect();
     println!("  {name}: {calls} plans, {} listed, refused {}, {:.0} s", refused[0], tally.join(", "), report.seconds());
+}
+
+/// These plans through the library.
+pub fn compare_plans(report: &mut Report, name: &str, plans: Vec<Text>) {
+    group(report, name, plans, ours);
+}
+
+/// Random plans through the library.
+pub fn compare(report: &mut Report, seed: u64, count: u64) {
+    compare_plans(report, "random plans", plans(seed, count).collect());
+}
+
+/// Real drawings as plans, through the library.
+pub fn compare_drawings(report: &mut Report, count: usize) {
+    match drawings(count) {
+        Some(plans) => compare_plans(report, "real drawings as plans", plans),
+        None => println!("  no drawings are there: tools/drawings fetches them"),
+    }
 }
 
 /// Random plans and real drawings as plans, through the program.

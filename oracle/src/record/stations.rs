@@ -3,7 +3,8 @@
 //! A plan stands after its count of bytes, four digits, and the listings one after another.
 
 use crate::compare::Report;
-use crate::stations::{due, plans};
+use crate::stations::{compare_plans, due, plans};
+use crate::strict::Text;
 
 // how many random plans follow the telling ones
 const RANDOM: u64 = 60;
@@ -108,11 +109,14 @@ fn limits() -> Vec<Vec<u8>> {
 }
 
 /// The plans as the program reads them, the listings that it is to print, and how many there are.
-pub fn list(_report: &mut Report, seed: u64) -> (Vec<u8>, Vec<u8>, u64) {
+pub fn list(report: &mut Report, seed: u64) -> (Vec<u8>, Vec<u8>, u64) {
     let telling = TELLING.iter().map(|plan| plan.as_bytes().to_vec()).chain([b"3\nM0 0\xFFL1 1".to_vec()]);
     let random = plans(seed, 4 * RANDOM).map(|plan| plan.0).filter(|plan| plan.len() < 200 && due(plan).len() < 2000);
     let all: Vec<Vec<u8>> = telling.chain(limits()).chain(random.take(RANDOM as usize)).collect();
     let stdin: Vec<u8> = all.iter().flat_map(|plan| [format!("{:04}", plan.len()).as_bytes(), plan].concat()).collect();
     assert!(stdin.len() <= 65_536, "the program takes one buffer of plans, not {} bytes", stdin.len());
-    (stdin, all.iter().flat_map(|plan| due(plan)).collect(), all.len() as u64)
+    let listings = all.iter().flat_map(|plan| due(plan)).collect();
+    let count = all.len() as u64;
+    compare_plans(report, "plans, recorded", all.into_iter().map(Text).collect());
+    (stdin, listings, count)
 }
