@@ -1,5 +1,8 @@
-/* Prints the length and the direction of a leg, in the unit of its ends. ./run compiles and runs it; four numbers
- * (x and y of the start, then of the end) take the place of the leg below. */
+/* Prints the length and the direction of a leg, in the unit of its ends; four numbers (x and y of the start, then of the end) take
+ * the place of the leg below. After tools/native-archive kihavute:
+ *
+ *     gcc -Iinclude examples/leg.c target/native/libkihavute.a -o leg && ./leg
+ */
 
 #include <stdio.h>
 #include <stdlib.h>

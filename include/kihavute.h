@@ -1,8 +1,13 @@
 /* Kihavute: the path library of a lidar flight controller, proved in Rattle. This is its C interface.
  *
- * Build:  ./run makes target/native/libkihavute.a for this machine; link it, nothing else is needed.
- * Limits: no function allocates, blocks, keeps state or reads anything but its arguments. Each is defined for
- *         every bit pattern of its arguments and may be called from any thread.
+ * Build:  tools/native-archive kihavute makes target/native/libkihavute.a for this machine; link it, nothing else is needed.
+ * State:  none. No function allocates, blocks or reads anything but its arguments, and each is defined for every bit pattern
+ *         of them. Any thread may call any function, and several at the same time.
+ * Memory: every buffer is the caller's, before, during and after a call. A call reads what is lent as const, writes to what is
+ *         not, and keeps no pointer. Calls at the same time may share what they read, and no output and no answer.
+ * Limits: 65,536 bytes of text, 65,536 commands, 65,536 segments of a path, 4,096 points of a list; 4,096 bytes, 256 commands
+ *         and 2 to 1,000 stations of a plan; angles of 64 radians for sine and cosine, rotations of 3,600 degrees.
+ *         What lies beyond is refused, or a NaN where that is said.
  * Units:  coordinates and lengths are in the unit of the path, times t are pure numbers, angles say theirs.
  * Bits:   a function that returns uint32_t gives the bits of a float, as IEEE 754 binary32 lays them out. A NaN is
  *         always 0x7FC00000 there, whatever NaN went in. A function that returns uint64_t gives two such
@@ -15,12 +20,20 @@
  * Order:  each operation rounds once, to nearest with ties to even, in the order written beside each name. No
  *         multiplication is fused with an addition.
  *
- * Example: the length and the direction of a leg from (1, 2) to (4, 6).
+ * Example: a plan is built into the caller's buffers, and asked for the place at half of its length.
  *
- *     uint64_t way = kihavute_sub(4, 6, 1, 2);
- *     float x = kihavute_x(way), y = kihavute_y(way);
- *     float length = kihavute_float(kihavute_length(x, y));        // 5
- *     uint64_t direction = kihavute_normalize(x, y);               // (0.6, 0.8)
+ *     static const char plan[] = "M0 0 H30 V40";
+ *     uint8_t kinds[8];
+ *     float fields[88], tables[264], lengths[8];                       // room for 8 segments of any kind
+ *     uint64_t answer[8];
+ *     uint32_t refusal = kihavute_build_text((const uint8_t *)plan, sizeof plan - 1, kinds, 8, fields, 88, tables, 264,
+ *                                            lengths, 8, answer, 8);
+ *     if (refusal != KIHAVUTE_ACCEPTED) return (int)refusal;           // answer has what it carries
+ *     size_t segments = answer[0], numbers = answer[1], entries = answer[2];
+ *     refusal = kihavute_position(kinds, segments, fields, numbers, tables, entries, lengths, segments, 0.5f, answer, 8);
+ *     if (refusal != KIHAVUTE_ACCEPTED) return (int)refusal;
+ *     float x = kihavute_float((uint32_t)answer[0]), y = kihavute_float((uint32_t)answer[1]);
+ *     printf("(%g, %g)\n", x, y);                                      // prints (30, 5)
  */
 #ifndef KIHAVUTE_H
 #define KIHAVUTE_H
@@ -426,6 +439,19 @@ uint32_t kihavute_positions(const uint8_t *kinds, size_t kinds_len, const float 
                             const float *tables, size_t tables_len, const float *lengths, size_t lengths_len,
                             const float *progresses, size_t progresses_len, float *out, size_t out_len, uint64_t *answer,
                             size_t answer_len);
+
+/* ---- The station tool ----
+ * A plan is the number of stations, 2 to 1,000, in 1 to 9 digits, a LF, and path data of at most 4,096 bytes and 256 commands.
+ * Its listing is text, each line with a LF: the commands, the segments with their running lengths and the stations with their
+ * segment, place and direction, station k of n at the progress k / (n - 1), each section after its count, floats as the eight
+ * hexadecimal digits of their bits; or, for a plan that is refused, one line: `refused`, the number and what it carries. */
+
+/* Writes the listing of a plan from the start of output: answer[0] gets how many bytes it has, and what stands past them stays.
+ * A plan that is refused is accepted here: its listing says so. Refused with 8, and answer[0] is 65,536, where output has
+ * fewer than 65,536 places, which every listing fits in; then nothing is written. It holds the buffers of a path on its stack:
+ * call it from a thread with more than 64 KiB. */
+uint32_t kihavute_stations(const uint8_t *input, size_t input_len, uint8_t *output, size_t output_len,
+                           uint64_t *answer, size_t answer_len);
 
 /* ---- From bits to floats ---- */
 

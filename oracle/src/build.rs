@@ -126,10 +126,10 @@ fn theirs(commands: &[PathCommand]) -> Answer {
     Path { kinds, fields, tables, lengths: lengths.iter().map(|x| alike(*x)).collect() }
 }
 
-/// The number of the refusal that document 01 has for a command list, where it has one.
-pub fn refused(commands: &[PathCommand]) -> Option<u32> {
+/// The refusal that document 01 has for a command list, where it has one: its number and the segment.
+pub fn refused(commands: &[PathCommand]) -> Option<(u32, u64)> {
     match theirs(commands) {
-        Refused(number, _) => Some(number),
+        Refused(number, [segment, ..]) => Some((number, segment)),
         _ => None,
     }
 }
@@ -291,8 +291,8 @@ pub fn list(stream: &mut Stream, kind: u32) -> Vec<PathCommand> {
     commands
 }
 
-// a list as a text, some letters in lower case
-fn text(stream: &mut Stream, kind: u32) -> String {
+/// A list as a text, some letters in lower case.
+pub fn text(stream: &mut Stream, kind: u32) -> String {
     let mut out = String::new();
     for command in list(stream, kind) {
         let (letters, numbers) = stored(&[command]);

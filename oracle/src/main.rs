@@ -16,6 +16,7 @@ mod root_all;
 mod samples;
 mod simple;
 mod spline;
+mod stations;
 mod stored;
 mod strict;
 mod table;
@@ -47,6 +48,7 @@ fn main() -> ExitCode {
             query::compare(&mut report, SEED, 500);
             query::compare_order(&mut report, SEED, 500);
             morph::compare(&mut report, SEED, 2_000);
+            stations::compare(&mut report, SEED, 1_000);
             for recording in record::RECORDINGS {
                 recording.compare(&mut report, SEED);
             }
@@ -71,6 +73,15 @@ fn main() -> ExitCode {
         ["query"] => query::compare(&mut report, SEED, 20_000),
         ["order", seed, count] => match (seed.parse(), count.parse()) {
             (Ok(seed), Ok(count)) => query::compare_order(&mut report, seed, count),
+            _ => return usage(),
+        },
+        ["stations"] => {
+            stations::compare(&mut report, SEED, 20_000);
+            stations::compare_drawings(&mut report, 2_000);
+            stations::compare_program(&mut report, SEED, 100);
+        }
+        ["stations", seed, count] => match (seed.parse(), count.parse()) {
+            (Ok(seed), Ok(count)) => stations::compare(&mut report, seed, count),
             _ => return usage(),
         },
         ["morph"] => morph::compare(&mut report, SEED, 250_000),

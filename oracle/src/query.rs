@@ -34,7 +34,7 @@ use Answer::{Apart, Flown, Refused};
 
 impl Asked {
     pub fn theirs(&self) -> Answer {
-        if let Some(number) = build::refused(&self.commands) {
+        if let Some((number, _)) = build::refused(&self.commands) {
             return Refused(number);
         }
         let path = CompoundPath::from_commands(&self.commands);

@@ -33,9 +33,11 @@ macro_rules! answering {
     };
 }
 
+mod listings;
 mod paths;
 mod refusals;
 
+pub use listings::{LISTING, listing, listing_into};
 pub use paths::{Path, Place, Progress, RawParameter};
 pub use refusals::{Reason, Refusal};
 

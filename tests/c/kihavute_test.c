@@ -923,6 +923,44 @@ static void paths(void) {
     answered("a reading refusal after one of building", built("M0 0L2e19 0X", 4, 24, 70, 4), 6, 2, (uint64_t[]){'X', 11});
 }
 
+static void stations(void) {
+    /* document 01's example of the station tool */
+    static const char plan[] = "3\nM0 0L3 4";
+    static const char due[] = "commands 2\n"
+                              "M 00000000 00000000\n"
+                              "L 40400000 40800000\n"
+                              "segments 1\n"
+                              "line 40A00000\n"
+                              "stations 3\n"
+                              "0 0 00000000 00000000 3F19999A 3F4CCCCD\n"
+                              "1 0 3FC00000 40000000 3F19999A 3F4CCCCD\n"
+                              "2 0 40400000 40800000 3F19999A 3F4CCCCD\n";
+    static uint8_t out[65537];
+    const uint8_t *input = (const uint8_t *)plan;
+    const size_t input_len = sizeof plan - 1, due_len = sizeof due - 1;
+
+    memset(out, 9, sizeof out);
+    fresh();
+    answered("a plan, a short answer", kihavute_stations(input, input_len, out, 65536, answer, 7), 255, 0, NULL);
+    fresh();
+    answered("a plan, a short output", kihavute_stations(input, input_len, out, 65535, answer, PLACES), 8, 1, (uint64_t[]){65536});
+    same("nothing written", out[0], 9);
+    fresh();
+    answered("01's example", kihavute_stations(input, input_len, out, 65536, answer, PLACES), 0, 1, (uint64_t[]){due_len});
+    same("its bytes", memcmp(out, due, due_len), 0);
+    size_t past = due_len;
+    while (past < sizeof out && out[past] == 9) past++;
+    same("nothing past them", past, sizeof out);
+
+    fresh();
+    answered("an empty plan", kihavute_stations(input, 0, out, 65537, answer, PLACES), 0, 1, (uint64_t[]){13});
+    same("what it says", memcmp(out, "refused 13 0\n", 13), 0);
+    same("what stood past it stays", memcmp(out + 13, due + 13, due_len - 13), 0);
+    fresh();
+    answered("a plan of a letter", kihavute_stations((const uint8_t *)"2\nM0 0S", 7, out, 65536, answer, PLACES), 0, 1, (uint64_t[]){14});
+    same("what it says", memcmp(out, "refused 6 S 4\n", 14), 0);
+}
+
 int main(void) {
     roots();
     angles();
@@ -940,6 +978,7 @@ int main(void) {
     decimals();
     reading();
     lists();
+    stations();
     printf("%d passed, %d failed\n", passed, failed);
     return failed != 0;
 }

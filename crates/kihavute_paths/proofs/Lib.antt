@@ -4,3 +4,4 @@ pub mod CheckGiven
 pub mod PathsGiven
 pub mod Querying
 pub mod BatchesGiven
+pub mod ListingsGiven

@@ -4,3 +4,4 @@ pub mod Morphs
 pub mod Paths
 pub mod Queries
 pub mod Batches
+pub mod Listings

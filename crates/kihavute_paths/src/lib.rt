@@ -1,5 +1,6 @@
-// The C interface's third part: paths, built, stored and asked, and shapes.
+// The C interface's third part: paths, built, stored and asked, the station tool, and shapes.
 mod batches;
+mod listings;
 mod morphs;
 mod paths;
 mod queries;

@@ -6,7 +6,7 @@ ghost use lib.ListN.{length};
 ghost use Rattle.listing.specs.Numbers.{hexDigit, hexDigits, decimalOf, bitsField, numberField};
 ghost use Rattle.listing.specs.Put.{Put, PutWithin};
 
-pub fn put_byte(out: &mut [u8], at: usize, byte: u8) -> usize
+pub(crate) fn put_byte(out: &mut [u8], at: usize, byte: u8) -> usize
     requires { ⌜ at < length (now out) ⌝ }
     ensures { λ r. ⌜ Put (byte ∷ []) at (now (out .entry)) (now (out .exit)) r ⌝ }
 {
@@ -14,7 +14,7 @@ pub fn put_byte(out: &mut [u8], at: usize, byte: u8) -> usize
     at + 1
 }
 
-pub fn put_word(out: &mut [u8], at: usize, word: &[u8]) -> usize
+pub(crate) fn put_word(out: &mut [u8], at: usize, word: &[u8]) -> usize
     requires { ⌜ at + length (now word) ≤ length (now out) ⌝ }
     ensures { λ r. ⌜ Put (now (word .entry)) at (now (out .entry)) (now (out .exit)) r ⌝ }
 {
@@ -51,7 +51,7 @@ fn put_hex(out: &mut [u8], at: usize, count: usize, value: u32) -> usize
 }
 
 // A number to the base 10.
-pub fn put_decimal(out: &mut [u8], at: usize, value: usize) -> usize
+fn put_decimal(out: &mut [u8], at: usize, value: usize) -> usize
     requires { ⌜ at + length (decimalOf value) ≤ length (now out) ⌝ }
     ensures { λ r. ⌜ Put (decimalOf value) at (now (out .entry)) (now (out .exit)) r ⌝ }
 {
@@ -63,7 +63,7 @@ pub fn put_decimal(out: &mut [u8], at: usize, value: usize) -> usize
 }
 
 // A number below 1,000 to the base 10.
-pub fn put_small(out: &mut [u8], at: usize, value: usize) -> usize
+pub(crate) fn put_small(out: &mut [u8], at: usize, value: usize) -> usize
     requires { ⌜ (value < 1000) × (at + 3 ≤ length (now out)) ⌝ }
     ensures { λ r. ⌜ PutWithin 3 (decimalOf value) at (now (out .entry)) (now (out .exit)) r ⌝ }
 {
@@ -71,7 +71,7 @@ pub fn put_small(out: &mut [u8], at: usize, value: usize) -> usize
 }
 
 // A space and a number to the base 10.
-pub fn put_number(out: &mut [u8], at: usize, value: usize) -> usize
+pub(crate) fn put_number(out: &mut [u8], at: usize, value: usize) -> usize
     requires { ⌜ at + 21 ≤ length (now out) ⌝ }
     ensures { λ r. ⌜ PutWithin 21 (numberField value) at (now (out .entry)) (now (out .exit)) r ⌝ }
 {
@@ -80,7 +80,7 @@ pub fn put_number(out: &mut [u8], at: usize, value: usize) -> usize
 }
 
 // A space and the bits of a number, in eight digits to the base 16.
-pub fn put_bits(out: &mut [u8], at: usize, value: f32) -> usize
+pub(crate) fn put_bits(out: &mut [u8], at: usize, value: f32) -> usize
     requires { ⌜ at + 9 ≤ length (now out) ⌝ }
     ensures { λ r. ⌜ PutWithin 9 (bitsField value) at (now (out .entry)) (now (out .exit)) r ⌝ }
 {

@@ -38,8 +38,8 @@ pub fn tell(out: &mut [u8], input: &[u8]) -> usize
     ensures { λ r. ⌜ PutWithin 65536 (stationsOf (now (input .entry))) 0 (now (out .entry)) (now (out .exit)) r ⌝ }
 {
     match first_line(input) {
-        FirstLine::Refused(refusal) => {
-            return put_refusal(out, 0, refusal);
+        FirstLine::Refused(reason) => {
+            return put_refusal(out, 0, reason);
         }
         FirstLine::Stations { count, next } => {
             return answer(out, input, next, count);

@@ -1,8 +1,8 @@
 // The station tool's way to its bytes: a reader that keeps the lent text and its place, over proved
 // steps on the text and the place.
 mod line;
-mod path;
 mod reader;
+mod steps;
 
 pub use line::FirstLine;
 pub use reader::TextReader;

@@ -3,7 +3,7 @@ ghost use mathlib.Core.Path.{_≡_};
 ghost use Rattle.text_reader.specs.Plans.{firstLineOf, stepOf};
 use crate::line::FirstLine;
 use crate::line::line_at;
-use crate::path::step_at;
+use crate::steps::step_at;
 use svg::Reader;
 use svg::Step;
 

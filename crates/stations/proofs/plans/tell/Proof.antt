@@ -9,8 +9,8 @@ use Rattle.stations.proofs.plans.tell.Tie as tie
 first-line-requires : tie.Need-first-line-requires
 first-line-requires c κs = search needs
 
-enum-known-refusal : tie.Need-enum-known-refusal
-enum-known-refusal c = search needs
+enum-known-reason : tie.Need-enum-known-reason
+enum-known-reason c = search needs
 
 put-refusal-requires : tie.Need-put-refusal-requires
 put-refusal-requires c κs = search needs
@@ -19,7 +19,7 @@ same-length : tie.Need-same-length
 same-length c = search needs
 
 returns : tie.Need-returns
-returns c = line-refused _ _ _ _ _ (c .before .before .before .before .before .before .before .first-line .ensures) _ (c .before .before .before .before .before .refusal .given .1) (c .before .before .put-refusal .ensures)
+returns c = line-refused _ _ _ _ _ (c .before .before .before .before .before .before .before .first-line .ensures) _ (c .before .before .before .before .before .reason .given .1) (c .before .before .put-refusal .ensures)
 
 enum-known-count : tie.Need-enum-known-count
 enum-known-count c = search needs
@@ -40,7 +40,7 @@ tell-spec =
     tie.close
     (tie.spec
     first-line-requires
-    enum-known-refusal
+    enum-known-reason
     put-refusal-requires
     same-length
     returns

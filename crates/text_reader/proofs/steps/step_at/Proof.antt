@@ -1,8 +1,8 @@
--- `text_reader::path::step_at` meets its contract: the part that is lent is what stands from the place on. Assumes nothing.
+-- `text_reader::steps::step_at` meets its contract: the part that is lent is what stands from the place on. Assumes nothing.
 use borrow.Author.Needs.{needs}
 use Rattle.text_reader.proofs.Paths.{step-inside, step-past}
-use Rattle.text_reader.proofs.path.step_at.Statement.{statement}
-use Rattle.text_reader.proofs.path.step_at.Tie as tie
+use Rattle.text_reader.proofs.steps.step_at.Statement.{statement}
+use Rattle.text_reader.proofs.steps.step_at.Tie as tie
 
 sub-read-step : tie.Need-sub-read-step
 sub-read-step c = search needs

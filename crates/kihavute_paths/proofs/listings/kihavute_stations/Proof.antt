@@ -1,0 +1,50 @@
+-- `kihavute_stations` meets its contract: the answer's length is judged first, then the output's; then the tool's own promise is reported. Assumes nothing.
+use borrow.Author.Needs.{needs}
+use Rattle.kihavute_paths.proofs.ListingsGiven.{not-listed, no-room, listed}
+use Rattle.kihavute_paths.proofs.listings.kihavute_stations.Statement.{statement}
+use Rattle.kihavute_paths.proofs.listings.kihavute_stations.Tie as tie
+
+returns : tie.Need-returns
+returns c = not-listed _ _ _ (c .if1 .taken)
+
+refuse-requires : tie.Need-refuse-requires
+refuse-requires c κs = search needs
+
+same-length : tie.Need-same-length
+same-length c = search needs
+
+returns-2 : tie.Need-returns-2
+returns-2 c =
+    let a = c .before .before .before .before .before .before .before .before .before .args in
+    no-room (a .input .now) (a .output .now) (a .answer .now) _ _ (c .before .before .before .before .before .if1 .left) (c .before .before .before .before .if2 .taken) (c .before .before .refuse .ensures)
+
+stations-requires : tie.Need-stations-requires
+stations-requires c κs = search needs
+
+accept-requires : tie.Need-accept-requires
+accept-requires c κs = search needs
+
+same-length-2 : tie.Need-same-length-2
+same-length-2 c = search needs
+
+same-length-3 : tie.Need-same-length-3
+same-length-3 c = search needs
+
+returns-3 : tie.Need-returns-3
+returns-3 c =
+    let a = c .before .before .before .before .before .before .before .before .before .before .before .before .before .args in
+    listed (a .input .now) (a .output .now) (a .answer .now) _ _ (c .before .before .before .before .before .before .before .before .before .if1 .left) _ _ (c .before .before .before .before .before .before .before .before .if2 .left) (c .before .before .before .before .before .before .stations .ensures) (c .before .before .accept .ensures)
+
+pub kihavute-stations-spec : {M : Type 1} → statement M
+kihavute-stations-spec =
+    tie.close
+    (tie.spec
+    returns
+    refuse-requires
+    same-length
+    returns-2
+    stations-requires
+    accept-requires
+    same-length-2
+    same-length-3
+    returns-3)

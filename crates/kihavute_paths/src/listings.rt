@@ -1,0 +1,20 @@
+// The station tool's work.
+ghost use Rattle.kihavute_paths.specs.Listings.{PlanListed};
+use answers::Refusal;
+use answers::Values;
+
+// Writes the listing of a plan from the output's start, and gives its length. An output of fewer than 65,536 places is refused with the
+// count needed. Where it is refused, or answer is too short, the output is not touched.
+#[no_mangle]
+pub extern "C" fn kihavute_stations(input: &[u8], output: &mut [u8], answer: &mut [u64]) -> u32
+    ensures { λ r. ⌜ PlanListed (now (input .entry)) (now (output .entry)) (now (answer .entry)) r (now (output .exit)) (now (answer .exit)) ⌝ }
+{
+    if answer.len() < 8 {
+        return 255;
+    }
+    if output.len() < 65536 {
+        return giving::refuse(Refusal::NoRoom(Values::One(65536)), answer);
+    }
+    let length = stations::stations(input, output);
+    giving::accept(Values::One(length), answer)
+}

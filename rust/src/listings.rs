@@ -1,0 +1,57 @@
+//! The station tool: from the bytes of a plan to the bytes of its listing.
+
+use crate::Refusal;
+
+answering! {
+    fn kihavute_stations(input: [u8], output: mut [u8]);
+}
+
+/// How many bytes every listing fits in.
+pub const LISTING: usize = 65_536;
+
+/// The listing of a plan as the station tool prints it: its commands, its segments and its stations, or the line of a refusal.
+/// A plan is the number of stations in 1 to 9 digits, a LF, and path data.
+///
+/// ```
+/// let listing = kihavute::listing(b"3\nM0 0L3 4");
+/// assert!(listing.starts_with(b"commands 2\nM 00000000 00000000\nL 40400000 40800000\nsegments 1\nline 40A00000\n"));
+/// assert_eq!(kihavute::listing(b"1\nM0 0L3 4"), b"refused 13 1\n");
+/// ```
+pub fn listing(plan: &[u8]) -> Vec<u8> {
+    let mut out = vec![0; LISTING];
+    let size = listing_into(plan, &mut out).expect("every listing fits");
+    out.truncate(size);
+    out
+}
+
+/// Writes that listing from the start of a lent output: how many bytes it has. Refused with 8, which carries `LISTING`, where
+/// the output is shorter than that; it is then left as it was.
+pub fn listing_into(plan: &[u8], out: &mut [u8]) -> Result<usize, Refusal> {
+    // SAFETY: each pointer is good for the length beside it, no two overlap, and the library keeps none
+    let given = crate::judged(|answer, places| unsafe {
+        kihavute_stations(plan.as_ptr(), plan.len(), out.as_mut_ptr(), out.len(), answer, places)
+    })?;
+    Ok(given[0] as usize)
+}
+
+#[cfg(test)]
+mod tests {
+    use super::*;
+    use crate::Reason;
+
+    #[test]
+    fn a_short_output_is_left_as_it_was() {
+        let mut out = vec![7; LISTING - 1];
+        let refusal = listing_into(b"3\nM0 0L3 4", &mut out).expect_err("it is one byte short");
+        assert_eq!(refusal.reason(), Reason::NoRoom { needed: [LISTING as u64, 0, 0, 0] });
+        assert!(out.iter().all(|byte| *byte == 7));
+    }
+
+    #[test]
+    fn only_the_listing_is_written() {
+        let mut out = vec![7; LISTING + 1];
+        assert_eq!(listing_into(b"", &mut out), Ok(13));
+        assert_eq!(&out[..13], b"refused 13 0\n");
+        assert!(out[13..].iter().all(|byte| *byte == 7));
+    }
+}
