@@ -155,13 +155,19 @@ held-of before letters stood numbers places count (commands list) m f =
     (ap (take places) (f .0) ∙ take-written (lettersOf list) before places l, ap (take count) (f .1) ∙ take-written (numbersOf list) stood count n)
 held-of before letters stood numbers places count (refusal reason) m f = absurd f
 
-within-of : (l n places count : ℕ) (outcome : Outcome) → Counted places count ≡ measureOf outcome → Room outcome l n → (places ≤ l) × (count ≤ n)
+within-of :
+    (before letters : List ℕ) (stood numbers : List Float) (places count : ℕ) (outcome : Outcome) → Counted places count ≡ measureOf outcome
+    → Room outcome (length before) (length stood)
+    → Filled outcome before stood letters numbers
+    → (places ≤ length letters) × (count ≤ length numbers)
 unfolding measureOf
-within-of l n places count (commands list) m room =
+within-of before letters stood numbers places count (commands list) m room f =
     let p : places ≡ length (lettersOf list) = cc in
-    let q : count ≡ length (numbersOf list) = cc in
-    (omega (arith, p, room .0), omega (arith, q, room .1))
-within-of l n places count (refusal reason) m room = absurd room
+    let q : count ≡ length (numbersOf list) = cc in (
+      omega (arith, p, room .0, ap length (f .0) ∙ length-written (lettersOf list) before (room .0)),
+      omega (arith, q, room .1, ap length (f .1) ∙ length-written (numbersOf list) stood (room .1)),
+    )
+within-of before letters stood numbers places count (refusal reason) m room f = absurd room
 
 module _ (text before letters : List ℕ) (stood numbers : List Float) (r : Stored) (s : Stores text before letters stood numbers r) where
   as-told : (q : Stored) → r ≡ q → Stores text before letters stood numbers q
@@ -171,10 +177,10 @@ module _ (text before letters : List ℕ) (stood numbers : List Float) (r : Stor
   told-refused reason e = sym (as-told (Unstored reason) e .said)
 
   module _ (places count : ℕ) (e : r ≡ Whole places count) where
-    pub whole-within : (places ≤ length before) × (count ≤ length stood)
+    pub whole-within : (places ≤ length letters) × (count ≤ length numbers)
     whole-within =
         let told = as-told (Whole places count) e .said in
-        within-of (length before) (length stood) places count (commandsOf text) (told .0) (told .1)
+        within-of before letters stood numbers places count (commandsOf text) (told .0) (told .1) (told .2)
 
     pub whole-held : Held (commandsOf text) (take places letters) (take count numbers)
     whole-held =
@@ -185,8 +191,8 @@ module _ (text before letters : List ℕ) (stood numbers : List Float) (r : Stor
     full-holding : Holding text before letters stood numbers reader places count
     full-holding = as-told (Full reader places count) e .said .0
 
-    pub full-within : (places ≤ length before) × (count ≤ length stood)
-    full-within = (full-holding .lettersIn, full-holding .numbersIn)
+    pub full-within : (places ≤ length letters) × (count ≤ length numbers)
+    full-within = held-within text before letters stood numbers reader places count full-holding
 
     pub full-begun : Begun text (take places letters) (take count numbers) reader
     full-begun = begun text before letters stood numbers reader places count full-holding

@@ -81,18 +81,18 @@ fn give(held: &[u8], kept: &[f32], letters: &mut [u8], numbers: &mut [f32]) -> R
     }
 }
 
-// Reads a text into a command list: letters and numbers, each from its buffer's start. A refusal
-// writes nothing, and what stands past the counted places is left as it was.
-pub fn read_path(text: &[u8], letters: &mut [u8], numbers: &mut [f32]) -> Reading
+// Reads a text by way of two buffers, in which something else may stand before and after.
+fn read_by(
+    text: &[u8],
+    held: &mut [u8],
+    kept: &mut [f32],
+    letters: &mut [u8],
+    numbers: &mut [f32],
+) -> Reading
+    requires { ⌜ length (now text) ≤ 65536 ⌝ }
     ensures { λ r. ⌜ ReadPath (now (text .entry)) (now (letters .entry)) (now (numbers .entry)) r (now (letters .exit)) (now (numbers .exit)) ⌝ }
 {
-    let size = text.len();
-    if 65536 < size {
-        return Reading::Refused(Refusal::TooLong(size));
-    }
-    let mut held = [0u8; 256];
-    let mut kept = [0.0f32; 512];
-    match fill(text, fresh(), 0, 0, &mut held, &mut kept) {
+    match fill(text, fresh(), 0, 0, held, kept) {
         Stored::Refused(refusal) => {
             return Reading::Refused(refusal);
         }
@@ -117,4 +117,39 @@ pub fn read_path(text: &[u8], letters: &mut [u8], numbers: &mut [f32]) -> Readin
             );
         }
     }
+}
+
+// Reads a text that most likely needs few places.
+fn read_short(text: &[u8], letters: &mut [u8], numbers: &mut [f32]) -> Reading
+    requires { ⌜ length (now text) ≤ 65536 ⌝ }
+    ensures { λ r. ⌜ ReadPath (now (text .entry)) (now (letters .entry)) (now (numbers .entry)) r (now (letters .exit)) (now (numbers .exit)) ⌝ }
+{
+    let mut held = [0u8; 256];
+    let mut kept = [0.0f32; 512];
+    read_by(text, &mut held, &mut kept, letters, numbers)
+}
+
+// The same with more room, which takes longer to clear.
+fn read_long(text: &[u8], letters: &mut [u8], numbers: &mut [f32]) -> Reading
+    requires { ⌜ length (now text) ≤ 65536 ⌝ }
+    ensures { λ r. ⌜ ReadPath (now (text .entry)) (now (letters .entry)) (now (numbers .entry)) r (now (letters .exit)) (now (numbers .exit)) ⌝ }
+{
+    let mut held = [0u8; 2048];
+    let mut kept = [0.0f32; 4096];
+    read_by(text, &mut held, &mut kept, letters, numbers)
+}
+
+// Reads a text into a command list: letters and numbers, each from its buffer's start. A refusal
+// writes nothing, and what stands past the counted places is left as it was.
+pub fn read_path(text: &[u8], letters: &mut [u8], numbers: &mut [f32]) -> Reading
+    ensures { λ r. ⌜ ReadPath (now (text .entry)) (now (letters .entry)) (now (numbers .entry)) r (now (letters .exit)) (now (numbers .exit)) ⌝ }
+{
+    let size = text.len();
+    if 65536 < size {
+        return Reading::Refused(Refusal::TooLong(size));
+    }
+    if size <= 2048 {
+        return read_short(text, letters, numbers);
+    }
+    read_long(text, letters, numbers)
 }
