@@ -421,6 +421,26 @@ fn long_texts(report: &mut Report) {
     println!("  texts of about 65,536 bytes: {calls} texts, {:.0} s", report.seconds());
 }
 
+// so many commands, whole or with an end that is refused, that the reader's own buffers of 256 letters and 512 numbers,
+// and past 2,048 bytes of 2,048 and 4,096, are just full or one command too small
+fn full_buffers(report: &mut Report) {
+    let parts = ["z", "h1 ", "l1 2 ", "q1 2 3 4 ", "c1 2 3 4 5 6 ", "a1 2 3 011.5 6 "];
+    let counts = [84, 85, 86, 127, 128, 129, 254, 255, 256, 257, 258, 682, 683, 1023, 1024, 2046, 2047, 2048, 2049];
+    let ends = ["", "z", "l7 8", "h", "l1", "x", "a1 1 0 2", "l1e"];
+    let mut inputs = Vec::new();
+    for part in parts {
+        for count in counts {
+            for end in ends {
+                for padding in [0, 2048] {
+                    let text = format!("M0 0{}{end}{}", part.repeat(count), " ".repeat(padding));
+                    inputs.push(Text(text.into_bytes()));
+                }
+            }
+        }
+    }
+    compare_texts(report, "texts about the reader's own buffers", inputs.into_iter());
+}
+
 // ---- stored lists
 
 #[derive(Clone)]
@@ -536,6 +556,7 @@ pub fn compare_some(report: &mut Report, seed: u64) {
     compare_made(report, seed, 200_000);
     other_bytes(report, seed, 200_000);
     long_texts(report);
+    full_buffers(report);
     lists(report, seed, 100_000);
 }
 
@@ -545,5 +566,6 @@ pub fn compare_all(report: &mut Report, seed: u64) {
     tails(report, 5);
     other_bytes(report, seed, 5_000_000);
     long_texts(report);
+    full_buffers(report);
     lists(report, seed, 1_000_000);
 }

@@ -8,13 +8,14 @@ use native.Mathlib.Omega.{arith}
 use borrow.Author.Tests.{lt-ltb, le-ltb}
 use lib.Ieee.{Float}
 use lib.ListN.{length}
+use Rattle.answers.specs.Report.{written}
 use Rattle.answers.specs.declared.refusals.Values.the-variants.{Two}
 use Rattle.answers.specs.declared.refusals.Refusal.{Refusal}
 use Rattle.answers.specs.declared.refusals.Refusal.the-variants.{TooLong, NoRoom}
 use Rattle.commands.specs.Stored.{lettersOf, numbersOf}
 use Rattle.commands.specs.declared.command.PathCommand.{PathCommand}
-use Rattle.svg.specs.Texts.{Outcome, commands, refusal, commandsOf, measureOf, Room, Filled}
-use Rattle.svg.specs.Readings.{readPathOf, ReadPath}
+use Rattle.svg.specs.Texts.{Outcome, commands, refusal, commandsOf, measureOf, Room, Filled, Held}
+use Rattle.svg.specs.Readings.{readPathOf, ReadPath, Gives}
 use Rattle.svg.specs.declared.passes.Size.{Size}
 use Rattle.svg.specs.declared.passes.Size.the-variants.{Counted, Refused as Unmeasured}
 use Rattle.svg.specs.declared.reading.Reading.the-variants.{Read, Refused}
@@ -93,3 +94,28 @@ module _ (text letters : List ℕ) (numbers : List Float) where
           let e = enough g h in
           let w = rw (l .is) at f in
           record { answer = rw (e, l .letters, l .numbers); lettersAfter = rw e (w .0); numbersAfter = rw e (w .1) }
+
+-- ---- a text whose commands two lists hold
+
+module _ (held : List ℕ) (kept : List Float) where
+  held-measured : (outcome : Outcome) → Held outcome held kept → measureOf outcome ≡ Counted (length held) (length kept)
+  unfolding measureOf
+  held-measured (commands list) h = rw (h .0, h .1)
+  held-measured (refusal reason) h = absurd h
+
+  held-filled : (letters : List ℕ) (numbers : List Float) (outcome : Outcome) → Held outcome held kept → Filled outcome letters numbers (written held letters) (written kept numbers)
+  held-filled letters numbers (commands list) h = (ap (λ l. written l letters) (h .0), ap (λ l. written l numbers) (h .1))
+  held-filled letters numbers (refusal reason) h = absurd h
+
+  module _ (letters : List ℕ) (numbers : List Float) where
+    pub give-no-letters : length letters < length held → Gives held letters kept numbers (Refused (NoRoom (Two (length held) (length kept)))) letters numbers
+    give-no-letters few = record { said = λ text short h. no-letters text letters numbers short (length held) (length kept) (held-measured (commandsOf text) h) few }
+
+    pub give-no-numbers : length held ≤ length letters → length numbers < length kept → Gives held letters kept numbers (Refused (NoRoom (Two (length held) (length kept)))) letters numbers
+    give-no-numbers enough few = record { said = λ text short h. no-numbers text letters numbers short (length held) (length kept) (held-measured (commandsOf text) h) enough few }
+
+    pub give-all :
+        (letters′ : List ℕ) (numbers′ : List Float) → length held ≤ length letters → length kept ≤ length numbers → letters′ ≡ written held letters → numbers′ ≡ written kept numbers
+        → Gives held letters kept numbers (Read (length held) (length kept)) letters′ numbers′
+    give-all letters′ numbers′ g f l n =
+        record { said = λ text short h. read-whole text letters numbers short (length held) (length kept) (held-measured (commandsOf text) h) letters′ numbers′ g f (rw (l, n) (held-filled letters numbers (commandsOf text) h)) }

@@ -3,6 +3,8 @@ pub mod StepCases
 pub mod Ahead
 pub mod Texts
 pub mod PassLaws
+pub mod Copying
+pub mod Holding
 pub mod Passing
 pub mod Answering
 pub mod Unique

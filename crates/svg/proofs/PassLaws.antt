@@ -14,6 +14,7 @@ use Rattle.commands.specs.declared.command.PathCommand.{PathCommand}
 use Rattle.commands.specs.declared.command.PathCommand.the-variants.{MoveTo, LineTo, QuadTo, CubicTo, ArcTo, ClosePath}
 use Rattle.svg.specs.Steps.{freshOf, readStepOf}
 use Rattle.svg.specs.Texts.{Outcome, commands, refusal, prepend, readFrom, commandsOf, measureOf, Room, Filled}
+pub use Rattle.svg.specs.Texts.{onto, Known, Counting}
 use Rattle.svg.specs.declared.steps.Reader.{Reader}
 use Rattle.svg.specs.declared.steps.Step.the-variants.{Command, Done, Refused}
 use Rattle.svg.specs.declared.passes.Size.{Size}
@@ -23,26 +24,26 @@ use Rattle.svg.proofs.Texts.{from-done, from-refused, from-command}
 
 -- ---- lists of commands
 
-letters-append : (a b : List PathCommand) → lettersOf (a ++ b) ≡ lettersOf a ++ lettersOf b
+pub letters-append : (a b : List PathCommand) → lettersOf (a ++ b) ≡ lettersOf a ++ lettersOf b
 unfolding lettersOf
 letters-append [] b = refl
 letters-append (x ∷ a) b = ap (λ l. letterOf x ∷ l) (letters-append a b)
 
-numbers-append : (a b : List PathCommand) → numbersOf (a ++ b) ≡ numbersOf a ++ numbersOf b
+pub numbers-append : (a b : List PathCommand) → numbersOf (a ++ b) ≡ numbersOf a ++ numbersOf b
 unfolding numbersOf
 numbers-append [] b = refl
 numbers-append (x ∷ a) b = ap (λ l. argumentsOf x ++ l) (numbers-append a b) ∙ sym (append-assoc (argumentsOf x) (numbersOf a) (numbersOf b))
 
 module _ (done : List PathCommand) (command : PathCommand) where
-  letters-more : lettersOf (done ++ (command ∷ [])) ≡ lettersOf done ++ (letterOf command ∷ [])
+  pub letters-more : lettersOf (done ++ (command ∷ [])) ≡ lettersOf done ++ (letterOf command ∷ [])
   unfolding lettersOf
   letters-more = letters-append done (command ∷ [])
 
-  numbers-more : numbersOf (done ++ (command ∷ [])) ≡ numbersOf done ++ argumentsOf command
+  pub numbers-more : numbersOf (done ++ (command ∷ [])) ≡ numbersOf done ++ argumentsOf command
   unfolding numbersOf
   numbers-more = numbers-append done (command ∷ []) ∙ ap (λ l. numbersOf done ++ l) (append-nil (argumentsOf command))
 
-few-arguments : (command : PathCommand) → length (argumentsOf command) ≤ 7
+pub few-arguments : (command : PathCommand) → length (argumentsOf command) ≤ 7
 few-arguments (MoveTo end) = omega arith
 few-arguments (LineTo end) = omega arith
 few-arguments (QuadTo control end) = omega arith
@@ -52,10 +53,6 @@ few-arguments ClosePath = omega arith
 
 -- ---- the outcome of a text whose first commands are known
 
-abbrev pub onto : List PathCommand → Outcome → Outcome
-onto done (commands rest) = commands (done ++ rest)
-onto done (refusal reason) = refusal reason
-
 onto-prepend : (done : List PathCommand) (command : PathCommand) (outcome : Outcome) → onto done (prepend command outcome) ≡ onto (done ++ (command ∷ [])) outcome
 onto-prepend done command (commands rest) = ap commands (sym (append-assoc done (command ∷ []) rest))
 onto-prepend done command (refusal reason) = refl
@@ -63,12 +60,6 @@ onto-prepend done command (refusal reason) = refl
 onto-nothing : (outcome : Outcome) → outcome ≡ onto [] outcome
 onto-nothing (commands rest) = refl
 onto-nothing (refusal reason) = refl
-
--- the commands up to a state are known, and enough steps are left for the others
-pub record Known (text : List ℕ) (reader : Reader) (done : List PathCommand) : Type 0 where
-  pub steps : ℕ
-  pub enough : length text < steps + reader .at
-  pub whole : commandsOf text ≡ onto done (readFrom steps text reader)
 
 pub known-none : (text : List ℕ) → Known text freshOf []
 unfolding commandsOf
@@ -87,14 +78,6 @@ module _ (text : List ℕ) (reader : Reader) (done : List PathCommand) (k : Know
       record { steps = m .0; enough = m .1; whole = k .whole ∙ ap (onto done) (m .2) ∙ onto-prepend done command (readFrom (m .0) text next) }
 
 -- ---- the first pass
-
-pub record Counting (text : List ℕ) (reader : Reader) (place at : ℕ) : Type 0 where
-  pub done : List PathCommand
-  pub known : Known text reader done
-  pub letters : place ≡ length (lettersOf done)
-  pub numbers : at ≡ length (numbersOf done)
-  pub place-le : place ≤ reader .at
-  pub at-le : at ≤ 7 * place
 
 pub counting-none : (text : List ℕ) → Counting text freshOf 0 0
 unfolding lettersOf numbersOf
@@ -144,7 +127,7 @@ unfolding lettersOf numbersOf
 filling-none text before stood room = record { done = []; known = known-none text; places = refl; count = refl; lettersNow = refl; numbersNow = refl; room = room }
 
 -- the commands known have room, and those to come
-room-of : (l n : ℕ) (done : List PathCommand) (whole rest : Outcome) → Room whole l n → whole ≡ onto done rest → (length (lettersOf done) ≤ l) × (length (numbersOf done) ≤ n)
+pub room-of : (l n : ℕ) (done : List PathCommand) (whole rest : Outcome) → Room whole l n → whole ≡ onto done rest → (length (lettersOf done) ≤ l) × (length (numbersOf done) ≤ n)
 room-of l n done (refusal reason) rest room e = absurd room
 room-of l n done (commands list) (refusal reason) room e = let z : _≡_ {A = ℕ} 0 1 = cc in absurd (omega arith)
 room-of l n done (commands list) (commands rest) room e =

@@ -92,8 +92,8 @@ pub record Passing (text : List ℕ) (from remembered : ℕ) (placed : Bool) (pl
   pub placed-is : reader .placed ≡ placed
   pub counting : Counting text reader place at
 
-pub passing-none : (text : List ℕ) → Passing text 0 0 false 0 0
-passing-none text = record { reader = freshOf; from-is = refl; letter-is = refl; placed-is = refl; counting = counting-none text }
+pub passing-from : (text : List ℕ) (reader : Reader) (place at : ℕ) → Counting text reader place at → Passing text (reader .at) (reader .letter) (reader .placed) place at
+passing-from text reader place at counting = record { reader = reader; from-is = refl; letter-is = refl; placed-is = refl; counting = counting }
 
 -- the step that a pass agrees with
 record Stepped (text : List ℕ) (reader : Reader) (width next letter : ℕ) : Type 0 where

@@ -1,5 +1,5 @@
 -- The answer of the reader's entry (document 01, "The answers"). Definitions only.
-use Prim.Native.Nat.{ℕ}
+use Prim.Native.Nat.{ℕ, _≤_}
 use mathlib.Core.Path.{_≡_}
 use mathlib.Core.Bool.{Bool, _||_, cond}
 use mathlib.Core.List.{List, [], _∷_}
@@ -11,7 +11,7 @@ use Rattle.answers.specs.Report.{written}
 use Rattle.answers.specs.declared.refusals.Values.the-variants.{Two}
 use Rattle.answers.specs.declared.refusals.Refusal.the-variants.{TooLong, NoRoom}
 use Rattle.commands.specs.Stored.{lettersOf, numbersOf}
-use Rattle.svg.specs.Texts.{Outcome, commands, refusal, commandsOf}
+use Rattle.svg.specs.Texts.{Outcome, commands, refusal, commandsOf, Held}
 use Rattle.svg.specs.declared.reading.Reading.{Reading}
 use Rattle.svg.specs.declared.reading.Reading.the-variants.{Read, Refused}
 
@@ -50,3 +50,7 @@ pub record ReadPath (text letters : List ℕ) (numbers : List Float) (r : Readin
   pub answer : answerOf r ≡ answered (readPathOf text (length letters) (length numbers))
   pub lettersAfter : letters′ ≡ written (lettersWritten (readPathOf text (length letters) (length numbers))) letters
   pub numbersAfter : numbers′ ≡ written (numbersWritten (readPathOf text (length letters) (length numbers))) numbers
+
+-- the answer for any text whose commands two lists hold
+pub record Gives (held letters : List ℕ) (kept numbers : List Float) (r : Reading) (letters′ : List ℕ) (numbers′ : List Float) : Type 0 where
+  pub said : (text : List ℕ) → length text ≤ 65536 → Held (commandsOf text) held kept → ReadPath text letters numbers r letters′ numbers′

@@ -1,11 +1,12 @@
-// The two passes over a text: the first counts, the second stores.
+// The passes over a text: one stores while there is room, the other only counts.
 ghost use mathlib.Core.Path.{_≡_};
 ghost use Prim.Native.Nat.{_≤_};
 ghost use lib.ListN.{length};
-ghost use Rattle.svg.specs.Texts.{commandsOf, measureOf, Room, Filled};
+ghost use Rattle.answers.specs.Report.{written};
+ghost use Rattle.svg.specs.Texts.{commandsOf, measureOf, Counting, Holding, Stores};
 use crate::steps::Pass;
+use crate::steps::Reader;
 use crate::steps::Step;
-use crate::steps::fresh;
 use crate::steps::pass_step;
 use crate::steps::read_step;
 use answers::Refusal;
@@ -23,11 +24,19 @@ pub fn measure(text: &[u8]) -> Size
     requires { ⌜ length (now text) ≤ 65536 ⌝ }
     ensures { λ r. ⌜ r ≡ measureOf (commandsOf (now (text .entry))) ⌝ }
 {
-    let mut from: usize = 0;
-    let mut remembered: u8 = 0;
-    let mut placed = false;
-    let mut place: usize = 0;
-    let mut at: usize = 0;
+    measure_on(text, crate::steps::fresh(), 0, 0)
+}
+
+// The same where the commands up to a state are counted already.
+pub(crate) fn measure_on(text: &[u8], reader: Reader, letters: usize, numbers: usize) -> Size
+    requires { ⌜ (length (now text) ≤ 65536) × Counting (now text) reader letters numbers ⌝ }
+    ensures { λ r. ⌜ r ≡ measureOf (commandsOf (now (text .entry))) ⌝ }
+{
+    let mut from: usize = reader.at;
+    let mut remembered: u8 = reader.letter;
+    let mut placed = reader.placed;
+    let mut place: usize = letters;
+    let mut at: usize = numbers;
     loop {
         match pass_step(text, from, remembered, placed) {
             Pass::Done => {
@@ -54,28 +63,94 @@ pub fn measure(text: &[u8]) -> Size
     }
 }
 
-// Stores the commands of a text that reads, from the start of each buffer.
-pub(crate) fn fill(text: &[u8], letters: &mut [u8], numbers: &mut [f32])
-    requires { ⌜ Room (commandsOf (now text)) (length (now letters)) (length (now numbers)) ⌝ }
-    ensures { λ _. ⌜ Filled (commandsOf (now (text .entry))) (now (letters .entry)) (now (numbers .entry)) (now (letters .exit)) (now (numbers .exit)) ⌝ }
+// How far a text is stored.
+pub enum Stored {
+    // All of it, in so many places of each buffer.
+    Whole {
+        letters: usize,
+        numbers: usize,
+    },
+    Refused(Refusal),
+    // The next command has no room: the state before it, and the places that are taken.
+    Full {
+        reader: Reader,
+        letters: usize,
+        numbers: usize,
+    },
+}
+
+// Stores the commands of a text from a state on, past those that stand in the buffers already, while
+// there is room.
+pub(crate) fn fill(
+    text: &[u8],
+    from: Reader,
+    first: usize,
+    start: usize,
+    letters: &mut [u8],
+    numbers: &mut [f32],
+) -> Stored
+    requires { ⌜ Holding (now text) (now letters) (now letters) (now numbers) (now numbers) from first start ⌝ }
+    ensures { λ r. ⌜ Stores (now (text .entry)) (now (letters .entry)) (now (letters .exit)) (now (numbers .entry)) (now (numbers .exit)) r ⌝ }
 {
-    let mut reader = fresh();
-    let mut place: usize = 0;
-    let mut at: usize = 0;
+    let mut reader = from;
+    let mut place: usize = first;
+    let mut at: usize = start;
     loop {
         match read_step(text, reader) {
             Step::Done => {
-                return;
+                return Stored::Whole {
+                    letters: place,
+                    numbers: at,
+                };
             }
-            Step::Refused(_) => {
-                return;
+            Step::Refused(refusal) => {
+                return Stored::Refused(refusal);
             }
             Step::Command { command, next } => {
+                let more = width(command);
+                if letters.len() <= place {
+                    return Stored::Full {
+                        reader,
+                        letters: place,
+                        numbers: at,
+                    };
+                }
+                if numbers.len() - at < more {
+                    return Stored::Full {
+                        reader,
+                        letters: place,
+                        numbers: at,
+                    };
+                }
                 store(letters, numbers, place, at, command);
-                at += width(command);
+                at += more;
                 place += 1;
                 reader = next;
             }
         }
+    }
+}
+
+// Puts letters at the start of a buffer, and touches no other place.
+pub(crate) fn copy_letters(letters: &[u8], out: &mut [u8])
+    requires { ⌜ length (now letters) ≤ length (now out) ⌝ }
+    ensures { λ _. ⌜ now (out .exit) ≡ written (now (letters .entry)) (now (out .entry)) ⌝ }
+{
+    let mut k: usize = 0;
+    while k < letters.len() {
+        out[k] = letters[k];
+        k += 1;
+    }
+}
+
+// The same of numbers.
+pub(crate) fn copy_numbers(numbers: &[f32], out: &mut [f32])
+    requires { ⌜ length (now numbers) ≤ length (now out) ⌝ }
+    ensures { λ _. ⌜ now (out .exit) ≡ written (now (numbers .entry)) (now (out .entry)) ⌝ }
+{
+    let mut k: usize = 0;
+    while k < numbers.len() {
+        out[k] = numbers[k];
+        k += 1;
     }
 }

@@ -1,9 +1,18 @@
-// The entry of the reader.
+// The entry of the reader. A refusal writes nothing, so that a text is read into buffers of the
+// reader's own, and copied where all of it is right. What does not fit there is passed twice: it is
+// counted before it is stored.
+ghost use Prim.Native.Nat.{_≤_};
 ghost use lib.ListN.{length};
-ghost use Rattle.svg.specs.Readings.{ReadPath};
+ghost use Rattle.svg.specs.Readings.{ReadPath, Gives};
+ghost use Rattle.svg.specs.Texts.{Begun};
 use crate::passes::Size;
+use crate::passes::Stored;
+use crate::passes::copy_letters;
+use crate::passes::copy_numbers;
 use crate::passes::fill;
-use crate::passes::measure;
+use crate::passes::measure_on;
+use crate::steps::Reader;
+use crate::steps::fresh;
 use answers::Refusal;
 use answers::Values;
 
@@ -13,16 +22,21 @@ pub enum Reading {
     Refused(Refusal),
 }
 
-// Reads a text into a command list: letters and numbers, each from its buffer's start. A refusal
-// writes nothing, and what stands past the counted places is left as it was.
-pub fn read_path(text: &[u8], letters: &mut [u8], numbers: &mut [f32]) -> Reading
+// The rest of a text of which the commands up to a state are held.
+fn read_on(
+    text: &[u8],
+    reader: Reader,
+    held: &[u8],
+    kept: &[f32],
+    letters: &mut [u8],
+    numbers: &mut [f32],
+) -> Reading
+    requires { ⌜ (length (now text) ≤ 65536) × Begun (now text) (now held) (now kept) reader ⌝ }
     ensures { λ r. ⌜ ReadPath (now (text .entry)) (now (letters .entry)) (now (numbers .entry)) r (now (letters .exit)) (now (numbers .exit)) ⌝ }
 {
-    let size = text.len();
-    if 65536 < size {
-        return Reading::Refused(Refusal::TooLong(size));
-    }
-    match measure(text) {
+    let first = held.len();
+    let start = kept.len();
+    match measure_on(text, reader, first, start) {
         Size::Refused(refusal) => {
             return Reading::Refused(refusal);
         }
@@ -36,11 +50,106 @@ pub fn read_path(text: &[u8], letters: &mut [u8], numbers: &mut [f32]) -> Readin
             if numbers.len() < count {
                 return Reading::Refused(Refusal::NoRoom(Values::Two(places, count)));
             }
-            fill(text, letters, numbers);
+            copy_letters(held, letters);
+            copy_numbers(kept, numbers);
+            fill(text, reader, first, start, letters, numbers);
             return Reading::Read {
                 letters: places,
                 numbers: count,
             };
         }
     }
+}
+
+// Gives the commands of a text, all of which are held.
+fn give(held: &[u8], kept: &[f32], letters: &mut [u8], numbers: &mut [f32]) -> Reading
+    ensures { λ r. ⌜ Gives (now (held .entry)) (now (letters .entry)) (now (kept .entry)) (now (numbers .entry)) r (now (letters .exit)) (now (numbers .exit)) ⌝ }
+{
+    let places = held.len();
+    let count = kept.len();
+    if letters.len() < places {
+        return Reading::Refused(Refusal::NoRoom(Values::Two(places, count)));
+    }
+    if numbers.len() < count {
+        return Reading::Refused(Refusal::NoRoom(Values::Two(places, count)));
+    }
+    copy_letters(held, letters);
+    copy_numbers(kept, numbers);
+    Reading::Read {
+        letters: places,
+        numbers: count,
+    }
+}
+
+// Reads a text by way of two buffers, in which something else may stand before and after.
+fn read_by(
+    text: &[u8],
+    held: &mut [u8],
+    kept: &mut [f32],
+    letters: &mut [u8],
+    numbers: &mut [f32],
+) -> Reading
+    requires { ⌜ length (now text) ≤ 65536 ⌝ }
+    ensures { λ r. ⌜ ReadPath (now (text .entry)) (now (letters .entry)) (now (numbers .entry)) r (now (letters .exit)) (now (numbers .exit)) ⌝ }
+{
+    match fill(text, fresh(), 0, 0, held, kept) {
+        Stored::Refused(refusal) => {
+            return Reading::Refused(refusal);
+        }
+        Stored::Whole {
+            letters: places,
+            numbers: count,
+        } => {
+            return give(&held[..places], &kept[..count], letters, numbers);
+        }
+        Stored::Full {
+            reader,
+            letters: first,
+            numbers: start,
+        } => {
+            return read_on(
+                text,
+                reader,
+                &held[..first],
+                &kept[..start],
+                letters,
+                numbers,
+            );
+        }
+    }
+}
+
+// Reads a text that most likely needs few places.
+fn read_short(text: &[u8], letters: &mut [u8], numbers: &mut [f32]) -> Reading
+    requires { ⌜ length (now text) ≤ 65536 ⌝ }
+    ensures { λ r. ⌜ ReadPath (now (text .entry)) (now (letters .entry)) (now (numbers .entry)) r (now (letters .exit)) (now (numbers .exit)) ⌝ }
+{
+    let mut held = [0u8; 256];
+    let mut kept = [0.0f32; 512];
+    read_by(text, &mut held, &mut kept, letters, numbers)
+}
+
+// The same with more room, which takes longer to clear.
+fn read_long(text: &[u8], letters: &mut [u8], numbers: &mut [f32]) -> Reading
+    requires { ⌜ length (now text) ≤ 65536 ⌝ }
+    ensures { λ r. ⌜ ReadPath (now (text .entry)) (now (letters .entry)) (now (numbers .entry)) r (now (letters .exit)) (now (numbers .exit)) ⌝ }
+{
+    let mut held = [0u8; 2048];
+    let mut kept = [0.0f32; 4096];
+    read_by(text, &mut held, &mut kept, letters, numbers)
+}
+
+// Reads a text into a command list: letters and numbers, each from its buffer's start. A refusal
+// writes nothing, and what stands past the counted places is left as it was.
+pub fn read_path(text: &[u8], letters: &mut [u8], numbers: &mut [f32]) -> Reading
+    ensures { λ r. ⌜ ReadPath (now (text .entry)) (now (letters .entry)) (now (numbers .entry)) r (now (letters .exit)) (now (numbers .exit)) ⌝ }
+{
+    let size = text.len();
+    if 65536 < size {
+        return Reading::Refused(Refusal::TooLong(size));
+    }
+    if size <= 2048 {
+        return read_short(text, letters, numbers);
+    }
+    read_long(text, letters, numbers)
 }

@@ -1,26 +1,24 @@
--- `svg::passes::fill` meets its contract. The loop keeps that the commands up to its place are known and written; the measure is what is left of
+-- `svg::passes::fill` meets its contract. The loop keeps that the commands up to its place are known and stored; the measure is what is left of
 -- the text, of which each step passes a byte. Assumes nothing.
 use borrow.Author.Needs.{needs}
 use native.Mathlib.Omega.{arith}
 use mathlib.Core.Path.{sym, _∙_}
 use Prim.Native.Nat.{_-_}
 use lib.ListN.{length}
-use Rattle.svg.proofs.PassLaws.{Filling, filling-none, same-letters, same-numbers, never-refused, filled, fits, filling-more}
+use Rattle.svg.specs.Texts.{Holding}
 use Rattle.svg.proofs.Ahead.{step-ahead}
+use Rattle.svg.proofs.Holding.{held-letters, held-numbers, held-within, held-whole, held-refused, full-of-letters, full-of-numbers, holding-more}
 use Rattle.svg.proofs.passes.fill.Statement.{statement}
 use Rattle.svg.proofs.passes.fill.Tie as tie
 
 abbrev Inv-loop : tie.InvT-loop
-Inv-loop text letters₀ numbers₀ reader₀ place₀ at₀ letters numbers reader place at = Filling text letters₀ letters numbers₀ numbers reader place at
+Inv-loop text first start letters₀ numbers₀ reader₀ place₀ at₀ letters numbers reader place at = Holding text letters₀ letters numbers₀ numbers reader place at
 
 abbrev μ-loop : tie.MeasureT-loop
-μ-loop text letters₀ numbers₀ reader₀ place₀ at₀ letters numbers reader place at = length text - reader .at
-
-fresh-requires : tie.Need-fresh-requires Inv-loop μ-loop
-fresh-requires c κs = search needs
+μ-loop text first start letters₀ numbers₀ reader₀ place₀ at₀ letters numbers reader place at = length text - reader .at
 
 loop-holds : tie.Need-loop-holds Inv-loop μ-loop
-loop-holds c = rw (c .fresh .ensures) (filling-none _ _ _ (c .before .before .before .before .pre))
+loop-holds c = c .before .before .before .pre
 
 read-step-requires : tie.Need-read-step-requires Inv-loop μ-loop
 read-step-requires c κs = search needs
@@ -29,46 +27,67 @@ enum-told : tie.Need-enum-told Inv-loop μ-loop
 enum-told c = search needs
 
 same-length : tie.Need-same-length Inv-loop μ-loop
-same-length c = same-letters _ _ (c .before .before .before .loop .letters) _ (c .before .before .before .loop .numbers) (c .before .before .before .loop .reader) (c .before .before .before .loop .place) (c .before .before .before .loop .at) (c .before .before .before .loop .inv)
+same-length c = let l = c .before .before .before in held-letters _ _ (l .loop .letters) _ (l .loop .numbers) (l .loop .reader) (l .loop .place) (l .loop .at) (l .loop .inv)
 
 same-length-2 : tie.Need-same-length-2 Inv-loop μ-loop
-same-length-2 c = same-numbers _ _ (c .before .before .before .loop .letters) _ (c .before .before .before .loop .numbers) (c .before .before .before .loop .reader) (c .before .before .before .loop .place) (c .before .before .before .loop .at) (c .before .before .before .loop .inv)
+same-length-2 c = let l = c .before .before .before in held-numbers _ _ (l .loop .letters) _ (l .loop .numbers) (l .loop .reader) (l .loop .place) (l .loop .at) (l .loop .inv)
 
 returns : tie.Need-returns Inv-loop μ-loop
-returns c = filled _ _ (c .before .before .before .loop .letters) _ (c .before .before .before .loop .numbers) (c .before .before .before .loop .reader) (c .before .before .before .loop .place) (c .before .before .before .loop .at) (c .before .before .before .loop .inv) (sym (c .before .before .read-step .ensures) ∙ c .enum-told .given .1)
+returns c = let l = c .before .before .before in held-whole _ _ (l .loop .letters) _ (l .loop .numbers) (l .loop .reader) (l .loop .place) (l .loop .at) (l .loop .inv) (sym (c .before .before .read-step .ensures) ∙ c .enum-told .given .1)
 
-enum-told-2 : tie.Need-enum-told-2 Inv-loop μ-loop
-enum-told-2 c = search needs
+enum-known-refusal : tie.Need-enum-known-refusal Inv-loop μ-loop
+enum-known-refusal c = search needs
 
 same-length-3 : tie.Need-same-length-3 Inv-loop μ-loop
-same-length-3 c = same-letters _ _ (c .before .before .before .loop .letters) _ (c .before .before .before .loop .numbers) (c .before .before .before .loop .reader) (c .before .before .before .loop .place) (c .before .before .before .loop .at) (c .before .before .before .loop .inv)
+same-length-3 c = let l = c .before .before .before .before in held-letters _ _ (l .loop .letters) _ (l .loop .numbers) (l .loop .reader) (l .loop .place) (l .loop .at) (l .loop .inv)
 
 same-length-4 : tie.Need-same-length-4 Inv-loop μ-loop
-same-length-4 c = same-numbers _ _ (c .before .before .before .loop .letters) _ (c .before .before .before .loop .numbers) (c .before .before .before .loop .reader) (c .before .before .before .loop .place) (c .before .before .before .loop .at) (c .before .before .before .loop .inv)
+same-length-4 c = let l = c .before .before .before .before in held-numbers _ _ (l .loop .letters) _ (l .loop .numbers) (l .loop .reader) (l .loop .place) (l .loop .at) (l .loop .inv)
 
 returns-2 : tie.Need-returns-2 Inv-loop μ-loop
-returns-2 c = absurd (never-refused _ _ (c .before .before .before .loop .letters) _ (c .before .before .before .loop .numbers) (c .before .before .before .loop .reader) (c .before .before .before .loop .place) (c .before .before .before .loop .at) (c .before .before .before .loop .inv) _ (sym (c .before .before .read-step .ensures) ∙ c .enum-told2 .given .1))
+returns-2 c = let l = c .before .before .before .before in held-refused _ _ (l .loop .letters) _ (l .loop .numbers) (l .loop .reader) (l .loop .place) (l .loop .at) (l .loop .inv) _ (sym (c .before .before .before .read-step .ensures) ∙ c .before .refusal .given .1)
 
 enum-known-command : tie.Need-enum-known-command Inv-loop μ-loop
 enum-known-command c = search needs
 
-store-requires : tie.Need-store-requires Inv-loop μ-loop
-store-requires c κs = fits _ _ (c .before .before .before .before .before .before .loop .letters) _ (c .before .before .before .before .before .before .loop .numbers) (c .before .before .before .before .before .before .loop .reader) (c .before .before .before .before .before .before .loop .place) (c .before .before .before .before .before .before .loop .at) (c .before .before .before .before .before .before .loop .inv) _ _ (sym (c .before .before .before .before .before .read-step .ensures) ∙ c .before .before .before .command .given .1)
-
 width-requires : tie.Need-width-requires Inv-loop μ-loop
 width-requires c κs = search needs
 
+same-length-5 : tie.Need-same-length-5 Inv-loop μ-loop
+same-length-5 c = let l = c .before .before .before .before .before .before in held-letters _ _ (l .loop .letters) _ (l .loop .numbers) (l .loop .reader) (l .loop .place) (l .loop .at) (l .loop .inv)
+
+same-length-6 : tie.Need-same-length-6 Inv-loop μ-loop
+same-length-6 c = let l = c .before .before .before .before .before .before in held-numbers _ _ (l .loop .letters) _ (l .loop .numbers) (l .loop .reader) (l .loop .place) (l .loop .at) (l .loop .inv)
+
+returns-3 : tie.Need-returns-3 Inv-loop μ-loop
+returns-3 c = let l = c .before .before .before .before .before .before in full-of-letters _ _ (l .loop .letters) _ (l .loop .numbers) (l .loop .reader) (l .loop .place) (l .loop .at) (l .loop .inv) _ _ (sym (c .before .before .before .before .before .read-step .ensures) ∙ c .before .before .before .command .given .1) (c .if1 .taken)
+
+sub-if2 : tie.Need-sub-if2 Inv-loop μ-loop
+sub-if2 c = let l = c .before .before .before .before .before .before in omega (arith, held-within _ _ (l .loop .letters) _ (l .loop .numbers) (l .loop .reader) (l .loop .place) (l .loop .at) (l .loop .inv))
+
+same-length-7 : tie.Need-same-length-7 Inv-loop μ-loop
+same-length-7 c = let l = c .before .before .before .before .before .before .before in held-letters _ _ (l .loop .letters) _ (l .loop .numbers) (l .loop .reader) (l .loop .place) (l .loop .at) (l .loop .inv)
+
+same-length-8 : tie.Need-same-length-8 Inv-loop μ-loop
+same-length-8 c = let l = c .before .before .before .before .before .before .before in held-numbers _ _ (l .loop .letters) _ (l .loop .numbers) (l .loop .reader) (l .loop .place) (l .loop .at) (l .loop .inv)
+
+returns-4 : tie.Need-returns-4 Inv-loop μ-loop
+returns-4 c = let l = c .before .before .before .before .before .before .before in full-of-numbers _ _ (l .loop .letters) _ (l .loop .numbers) (l .loop .reader) (l .loop .place) (l .loop .at) (l .loop .inv) _ _ (sym (c .before .before .before .before .before .before .read-step .ensures) ∙ c .before .before .before .before .command .given .1) _ (c .before .before .width .ensures) (omega (arith, c .if2 .taken, held-within _ _ (l .loop .letters) _ (l .loop .numbers) (l .loop .reader) (l .loop .place) (l .loop .at) (l .loop .inv)))
+
+store-requires : tie.Need-store-requires Inv-loop μ-loop
+store-requires c κs = let l = c .before .before .before .before .before .before .before .before .before in (omega (arith, c .before .before .before .if1 .left), omega (arith, c .before .before .if2 .left, c .before .before .before .before .width .ensures, held-within _ _ (l .loop .letters) _ (l .loop .numbers) (l .loop .reader) (l .loop .place) (l .loop .at) (l .loop .inv)))
+
 add-at : tie.Need-add-at Inv-loop μ-loop
-add-at c = omega (arith, fits _ _ (c .before .before .before .before .before .before .before .before .before .before .before .before .loop .letters) _ (c .before .before .before .before .before .before .before .before .before .before .before .before .loop .numbers) (c .before .before .before .before .before .before .before .before .before .before .before .before .loop .reader) (c .before .before .before .before .before .before .before .before .before .before .before .before .loop .place) (c .before .before .before .before .before .before .before .before .before .before .before .before .loop .at) (c .before .before .before .before .before .before .before .before .before .before .before .before .loop .inv) _ _ (sym (c .before .before .before .before .before .before .before .before .before .before .before .read-step .ensures) ∙ c .before .before .before .before .before .before .before .before .before .command .given .1), same-numbers _ _ (c .before .before .before .before .before .before .before .before .before .before .before .before .loop .letters) _ (c .before .before .before .before .before .before .before .before .before .before .before .before .loop .numbers) (c .before .before .before .before .before .before .before .before .before .before .before .before .loop .reader) (c .before .before .before .before .before .before .before .before .before .before .before .before .loop .place) (c .before .before .before .before .before .before .before .before .before .before .before .before .loop .at) (c .before .before .before .before .before .before .before .before .before .before .before .before .loop .inv), c .width .ensures, c .before .before .before .before .before .before .before .before .before .before .before .before .before .before .before .before .before)
+add-at c = let l = c .before .before .before .before .before .before .before .before .before .before .before .before .before .before in omega (arith, c .before .before .before .before .before .before .before .if2 .left, held-within _ _ (l .loop .letters) _ (l .loop .numbers) (l .loop .reader) (l .loop .place) (l .loop .at) (l .loop .inv), held-numbers _ _ (l .loop .letters) _ (l .loop .numbers) (l .loop .reader) (l .loop .place) (l .loop .at) (l .loop .inv), c .before .before .before .before .before .before .before .before .before .before .before .before .before .before .before .before .before .before)
 
 add-place : tie.Need-add-place Inv-loop μ-loop
-add-place c = omega (arith, fits _ _ (c .before .before .before .before .before .before .before .before .before .before .before .before .loop .letters) _ (c .before .before .before .before .before .before .before .before .before .before .before .before .loop .numbers) (c .before .before .before .before .before .before .before .before .before .before .before .before .loop .reader) (c .before .before .before .before .before .before .before .before .before .before .before .before .loop .place) (c .before .before .before .before .before .before .before .before .before .before .before .before .loop .at) (c .before .before .before .before .before .before .before .before .before .before .before .before .loop .inv) _ _ (sym (c .before .before .before .before .before .before .before .before .before .before .before .read-step .ensures) ∙ c .before .before .before .before .before .before .before .before .before .command .given .1), same-letters _ _ (c .before .before .before .before .before .before .before .before .before .before .before .before .loop .letters) _ (c .before .before .before .before .before .before .before .before .before .before .before .before .loop .numbers) (c .before .before .before .before .before .before .before .before .before .before .before .before .loop .reader) (c .before .before .before .before .before .before .before .before .before .before .before .before .loop .place) (c .before .before .before .before .before .before .before .before .before .before .before .before .loop .at) (c .before .before .before .before .before .before .before .before .before .before .before .before .loop .inv), c .before .before .before .before .before .before .before .before .before .before .before .before .before .before .before .before .before)
+add-place c = omega (arith, c .before .before .before .before .before .before .before .before .if1 .left, c .before .before .before .before .before .before .before .before .before .before .before .before .before .before .before .before .before .before)
 
 loop-less : tie.Need-loop-less Inv-loop μ-loop
-loop-less c = omega (arith, step-ahead _ _ _ _ (sym (c .before .before .before .before .before .before .before .before .before .before .before .read-step .ensures) ∙ c .before .before .before .before .before .before .before .before .before .command .given .1))
+loop-less c = omega (arith, step-ahead _ _ _ _ (sym (c .before .before .before .before .before .before .before .before .before .before .before .before .before .read-step .ensures) ∙ c .before .before .before .before .before .before .before .before .before .before .before .command .given .1))
 
 loop-again : tie.Need-loop-again Inv-loop μ-loop
-loop-again c = filling-more _ _ (c .before .before .before .before .before .before .before .before .before .before .before .before .loop .letters) _ (c .before .before .before .before .before .before .before .before .before .before .before .before .loop .numbers) (c .before .before .before .before .before .before .before .before .before .before .before .before .loop .reader) (c .before .before .before .before .before .before .before .before .before .before .before .before .loop .place) (c .before .before .before .before .before .before .before .before .before .before .before .before .loop .at) (c .before .before .before .before .before .before .before .before .before .before .before .before .loop .inv) _ _ (sym (c .before .before .before .before .before .before .before .before .before .before .before .read-step .ensures) ∙ c .before .before .before .before .before .before .before .before .before .command .given .1) _ _ _ (c .width .ensures) (c .before .before .before .before .before .store .ensures)
+loop-again c = let l = c .before .before .before .before .before .before .before .before .before .before .before .before .before .before in holding-more _ _ (l .loop .letters) _ (l .loop .numbers) (l .loop .reader) (l .loop .place) (l .loop .at) (l .loop .inv) _ _ (sym (c .before .before .before .before .before .before .before .before .before .before .before .before .before .read-step .ensures) ∙ c .before .before .before .before .before .before .before .before .before .before .before .command .given .1) _ _ _ (c .before .before .before .before .before .before .before .before .before .width .ensures) (omega (arith, c .before .before .before .before .before .before .before .before .if1 .left)) (omega (arith, c .before .before .before .before .before .before .before .if2 .left, held-within _ _ (l .loop .letters) _ (l .loop .numbers) (l .loop .reader) (l .loop .place) (l .loop .at) (l .loop .inv))) (c .before .before .before .before .store .ensures)
 
 pub fill-spec : {M : Type 1} → statement M
 fill-spec =
@@ -76,20 +95,26 @@ fill-spec =
     (tie.spec
     Inv-loop
     μ-loop
-    fresh-requires
     loop-holds
     read-step-requires
     enum-told
     same-length
     same-length-2
     returns
-    enum-told-2
+    enum-known-refusal
     same-length-3
     same-length-4
     returns-2
     enum-known-command
-    store-requires
     width-requires
+    same-length-5
+    same-length-6
+    returns-3
+    sub-if2
+    same-length-7
+    same-length-8
+    returns-4
+    store-requires
     add-at
     add-place
     loop-less

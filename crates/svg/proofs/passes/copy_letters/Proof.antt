@@ -1,0 +1,53 @@
+-- The invariant: the letters before k are in (`Copied`). The measure is the count of those left. Assumes nothing.
+use borrow.Author.Needs.{needs}
+use Prim.Native.Nat.{_-_}
+use mathlib.Core.Path.{refl}
+use lib.ListN.{length}
+use Rattle.svg.proofs.Copying.{Copied, copied-start, copied-more, copied-done}
+use Rattle.svg.proofs.passes.copy_letters.Statement.{statement}
+use Rattle.svg.proofs.passes.copy_letters.Tie as tie
+
+abbrev Inv-loop : tie.InvT-loop
+Inv-loop letters out₀ k₀ out k = Copied letters out₀ out k
+
+abbrev μ-loop : tie.MeasureT-loop
+μ-loop letters out₀ k₀ out k = length letters - k
+
+loop-holds : tie.Need-loop-holds Inv-loop μ-loop
+loop-holds c = copied-start (search needs)
+
+shared-slice-read-out : tie.Need-shared-slice-read-out Inv-loop μ-loop
+shared-slice-read-out c = search needs
+
+slice-write-out : tie.Need-slice-write-out Inv-loop μ-loop
+slice-write-out c = search needs
+
+add-k : tie.Need-add-k Inv-loop μ-loop
+add-k c = search needs
+
+loop-less : tie.Need-loop-less Inv-loop μ-loop
+loop-less c = search needs
+
+loop-again : tie.Need-loop-again Inv-loop μ-loop
+loop-again c = let l = c .before in copied-more 0 _ (l .before .loop .inv) (l .loop-test .taken) refl
+
+same-length : tie.Need-same-length Inv-loop μ-loop
+same-length c = c .before .loop .inv .size
+
+returns : tie.Need-returns Inv-loop μ-loop
+returns c = copied-done (c .before .loop .inv) (c .loop-test .left)
+
+pub copy-letters-spec : {M : Type 1} → statement M
+copy-letters-spec =
+    tie.close
+    (tie.spec
+    Inv-loop
+    μ-loop
+    loop-holds
+    shared-slice-read-out
+    slice-write-out
+    add-k
+    loop-less
+    loop-again
+    same-length
+    returns)
