@@ -398,9 +398,9 @@ uint32_t kihavute_build_text(const uint8_t *text, size_t text_len, uint8_t *kind
 
 /* ---- Queries of a stored path ----
  * Each call checks the whole path first, which reads every kind, table and length once, and refuses with 12 where the
- * check fails. That takes about half a nanosecond for each element of the four arrays, so the time of a single query grows with
- * the path. Ask for one place now and then by the single queries; to file many packets of one flight, collect their progresses
- * and ask by kihavute_places or kihavute_positions, which check the path once for all of them. */
+ * check fails. That takes 0.2 to 0.4 ns for each element of the four arrays (x86-64), so the time of a single query grows
+ * with the path. Ask for one place now and then by the single queries; to file many packets of one flight, collect their
+ * progresses and ask by kihavute_places or kihavute_positions, which check the path once for all of them. */
 
 /* The segment at this progress, counted from 0, and its raw parameter: answer[0] gets the segment, answer[1] the bits of
  * the raw parameter. A path without segments is accepted and writes nothing. */

@@ -149,11 +149,11 @@ pub fn spot(lengths: &[f32], progress: Progress) -> Spot
     requires { ⌜ SoundPath (now lengths) ⌝ }
     ensures { λ r. ⌜ r ≡ spotOf (now (lengths .entry)) (progress .value) ⌝ }
 {
-    let last = lengths.len() - 1;
-    let total = lengths[last];
+    let end = lengths.len() - 1;
+    let total = lengths[end];
     if total <= EPSILON {
         return Spot {
-            segment: last,
+            segment: end,
             progress: Progress { value: 1.0 },
         };
     }

@@ -10,8 +10,8 @@ use Rattle.table.proofs.Target.{target-real}
 use Rattle.table.proofs.inner.spot.Statement.{statement}
 use Rattle.table.proofs.inner.spot.Tie as tie
 
-sub-last : tie.Need-sub-last
-sub-last c = search needs
+sub-end : tie.Need-sub-end
+sub-end c = search needs
 
 mul-total : tie.Need-mul-total
 mul-total c = search needs
@@ -43,4 +43,4 @@ returns-2 c =
     rw (rw total at (c .before .before .if1 .left), ← c .before .clamp01 .ensures) (rw total at (c .spot-at .ensures))
 
 pub spot-spec : {M : Type 1} → statement M
-spot-spec = tie.close (tie.spec sub-last mul-total shared-slice-read-total returns clamp01-requires spot-at-requires returns-2)
+spot-spec = tie.close (tie.spec sub-end mul-total shared-slice-read-total returns clamp01-requires spot-at-requires returns-2)
