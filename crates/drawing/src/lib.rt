@@ -3,6 +3,8 @@ mod pens;
 mod strokes;
 
 pub use pens::Pen;
+pub use pens::drawn;
 pub use pens::fresh;
+pub use pens::moved;
 pub use strokes::Drawn;
 pub use strokes::draw;

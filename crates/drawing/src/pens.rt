@@ -23,7 +23,7 @@ pub fn fresh() -> Pen
 }
 
 // The pen at the start of a subpath.
-pub(crate) fn moved(point: Point) -> Pen
+pub fn moved(point: Point) -> Pen
     ensures { λ r. ⌜ r ≡ movedOf point ⌝ }
 {
     Pen {
@@ -34,7 +34,7 @@ pub(crate) fn moved(point: Point) -> Pen
 }
 
 // The pen at the end of a drawing command: the subpath's start stays.
-pub(crate) fn drawn(pen: Pen, end: Point) -> Pen
+pub fn drawn(pen: Pen, end: Point) -> Pen
     ensures { λ r. ⌜ r ≡ drawnOf pen end ⌝ }
 {
     let start = pen.start;

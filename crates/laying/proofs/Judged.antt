@@ -3,18 +3,24 @@ use Prim.Native.Nat.{ℕ, _+_, _≤_, _<_}
 use mathlib.Core.Path.{_≡_, refl, sym, ap, subst, _∙_}
 use mathlib.Core.Bool.{Bool, true, false}
 use mathlib.Core.List.{List, [], _∷_, _++_, append-nil}
+use native.Mathlib.Nat.{add-zero}
 use native.Mathlib.Omega.{arith}
-use lib.Ieee.{Float}
+use lib.Ieee.{Float, binary32, add}
 use lib.Ieee.Scale.{finite}
 use lib.ListN.{length, set}
 use lib.Seq.{sets}
 use Rattle.answers.specs.declared.refusals.Refusal.the-variants.{NotFinite}
+use Rattle.math.specs.declared.points.Point.{Point}
 use Rattle.commands.specs.declared.command.PathCommand.{PathCommand}
+use Rattle.commands.specs.declared.command.PathCommand.the-variants.{LineTo}
 use Rattle.table.specs.declared.tables.Table.{Table}
-use Rattle.segment.specs.Segments.{kindOf, hasTable, fieldsOf, tableFor, tableNumbers, lengthFor}
+use Rattle.arc.specs.declared.lines.LineSegment.{LineSegment}
+use Rattle.arc.specs.Lines.{lineOf, lineLengthOf}
+use Rattle.segment.specs.Segments.{kindOf, hasTable, tablesOf, fieldsOf, tableFor, tableNumbers, lengthFor}
 use Rattle.segment.specs.declared.segments.PathSegment.{PathSegment}
+use Rattle.segment.specs.declared.segments.PathSegment.the-variants.{Line}
 use Rattle.stored.specs.Layout.{kindsOf, fieldsOfAll, tableStored, tablesOfAll, runningOf}
-use Rattle.drawing.specs.Drawing.{drawOf}
+use Rattle.drawing.specs.Drawing.{drawnOf, drawOf}
 use Rattle.drawing.specs.Building.{lengthAfter}
 use Rattle.drawing.specs.declared.pens.Pen.{Pen}
 use Rattle.drawing.specs.declared.strokes.Drawn.{Drawn}
@@ -92,6 +98,35 @@ module _ (site : Site) (segment : PathSegment) (pen : Pen) where
         tablesAfter = g ∙ ap (sets tables (site .tables)) (sym tables-one);
         lengthsAfter = ap (set lengths (site .segments)) h;
       }
+
+-- ---- a line, whose numbers are known
+
+module _ (site : Site) (line : LineSegment) (pen : Pen) where
+  pub line-fits : (kinds fields tables lengths : ℕ) → Room site (Segment (Line line) pen) kinds fields tables lengths → site .fields + 4 ≤ fields
+  line-fits kinds fields tables lengths room = fields-fit site (Line line) pen kinds fields tables lengths room
+
+  no-table : tableStored (Line line) ≡ []
+  unfolding hasTable tablesOf
+  no-table = table-none (Line line) refl
+
+  pub line-laid :
+      (kinds : List ℕ) (fields tables lengths fields′ : List Float) (l : Float) (next : Pen)
+      → fields′ ≡ sets fields (site .fields) (fieldsOf (Line line))
+      → l ≡ add binary32 (site .length) (lineLengthOf line)
+      → next ≡ pen
+      → Laid site (Segment (Line line) pen) kinds fields tables lengths (record { pen = next; length = l; segments = site .segments + 1; fields = site .fields + 4; tables = site .tables })
+      (set kinds (site .segments) 0) fields′ tables (set lengths (site .segments) l)
+  unfolding lengthFor afterOf
+  line-laid kinds fields tables lengths fields′ l next f h p =
+      segment-laid site (Line line) pen kinds fields tables lengths _ 0 fields′ tables l refl f (ap (sets tables (site .tables)) (sym no-table)) h (rw (p, h, no-table, add-zero))
+
+pub line-drawn : (pen : Pen) (command : PathCommand) (end : Point) → command ≡ LineTo end → pen .placed ≡ true → drawOf pen command ≡ Segment (Line (lineOf (pen .current) end)) (drawnOf pen end)
+unfolding drawOf
+line-drawn pen command end e p = rw (e, p)
+
+pub line-undrawn : (pen next : Pen) (command : PathCommand) (end : Point) → command ≡ LineTo end → pen .placed ≡ false → next ≡ drawnOf pen end → drawOf pen command ≡ Moved next
+unfolding drawOf
+line-undrawn pen next command end e p n = rw (e, p, n)
 
 -- nothing is stored
 module _ (site : Site) (kinds : List ℕ) (fields tables lengths : List Float) where

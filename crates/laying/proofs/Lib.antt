@@ -4,3 +4,5 @@ pub mod Layouts
 pub mod Judged
 pub mod Along
 pub mod Filling
+pub mod Tallying
+pub mod Foreseen

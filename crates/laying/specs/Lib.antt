@@ -1,2 +1,3 @@
 -- One command at a site. Definitions only.
 pub mod Sites
+pub mod Tallies

@@ -3,19 +3,27 @@ ghost use mathlib.Core.Path.{_≡_};
 ghost use Prim.Native.Nat.{_+_, _≤_};
 ghost use lib.ListN.{length};
 ghost use Rattle.stored.specs.Layout.{tableStored};
-ghost use Rattle.drawing.specs.Drawing.{drawOf};
+ghost use Rattle.arc.specs.Lines.{lineOf};
+ghost use Rattle.segment.specs.declared.segments.PathSegment.the-variants.{Line};
+ghost use Rattle.drawing.specs.Drawing.{drawnOf, drawOf};
 ghost use Rattle.drawing.specs.Building.{lengthAfter};
 ghost use Rattle.drawing.specs.declared.strokes.Drawn.the-variants.{Segment};
 ghost use Rattle.laying.specs.Sites.{Few, TableLaid, Room, Laid, afterOf, movedOf, advanceOf};
 use crate::sites::Advanced;
 use crate::sites::Site;
+pub use crate::tallies::count;
 use answers::Refusal;
+use arc::LineSegment;
+use arc::line_length;
 use commands::PathCommand;
+use commands::inner::put_two;
 use drawing::Drawn;
 use drawing::Pen;
 use drawing::draw;
+use drawing::drawn;
 use floats::is_finite;
 use floats::tidy;
+use math::Point;
 use segment::PathSegment;
 use segment::has_table;
 use segment::inner::put_segment;
@@ -26,7 +34,7 @@ use segment::segment_table;
 use segment::width;
 
 // How many numbers a segment's table stores.
-fn table_width(segment: PathSegment) -> usize
+pub(crate) fn table_width(segment: PathSegment) -> usize
     ensures { λ r. ⌜ r ≡ length (tableStored segment) ⌝ }
 {
     if has_table(kind(segment)) {
@@ -117,8 +125,38 @@ fn lay_segment(
     after(site, segment, length, pen)
 }
 
-// Stores what a command draws at a site, and gives the next site. A rotation out of range draws nothing here: `advance` refuses it.
-pub fn lay(
+// Stores the line from the current point to an end: what `lay_segment` does, with a line known.
+fn lay_line(
+    site: Site,
+    end: Point,
+    kinds: &mut [u8],
+    fields: &mut [f32],
+    tables: &mut [f32],
+    lengths: &mut [f32],
+) -> Site
+    requires { ⌜ Few site × Room site (Segment (Line (lineOf (site .pen .current) end)) (drawnOf (site .pen) end)) (length (now kinds)) (length (now fields)) (length (now tables)) (length (now lengths)) ⌝ }
+    ensures { λ r. ⌜ Laid site (Segment (Line (lineOf (site .pen .current) end)) (drawnOf (site .pen) end)) (now (kinds .entry)) (now (fields .entry)) (now (tables .entry)) (now (lengths .entry)) r (now (kinds .exit)) (now (fields .exit)) (now (tables .exit)) (now (lengths .exit)) ⌝ }
+{
+    let pen = site.pen;
+    let start = pen.current;
+    let place = site.segments;
+    let at = site.fields;
+    kinds[place] = 0;
+    put_two(fields, at, start.x, start.y);
+    put_two(fields, at + 2, end.x, end.y);
+    let length = tidy(site.length + line_length(LineSegment { start, end }));
+    lengths[place] = length;
+    Site {
+        pen: drawn(pen, end),
+        length,
+        segments: place + 1,
+        fields: at + 4,
+        tables: site.tables,
+    }
+}
+
+// Stores what any command draws at a site. A rotation out of range draws nothing here: `advance` refuses it.
+fn lay_any(
     site: Site,
     command: PathCommand,
     kinds: &mut [u8],
@@ -137,4 +175,26 @@ pub fn lay(
         }
         Drawn::OutOfRange => site,
     }
+}
+
+// Stores what a command draws at a site, and gives the next site. A line goes its own way, which copies no segment.
+pub fn lay(
+    site: Site,
+    command: PathCommand,
+    kinds: &mut [u8],
+    fields: &mut [f32],
+    tables: &mut [f32],
+    lengths: &mut [f32],
+) -> Site
+    requires { ⌜ Few site × Room site (drawOf (site .pen) command) (length (now kinds)) (length (now fields)) (length (now tables)) (length (now lengths)) ⌝ }
+    ensures { λ r. ⌜ Laid site (drawOf (site .pen) command) (now (kinds .entry)) (now (fields .entry)) (now (tables .entry)) (now (lengths .entry)) r (now (kinds .exit)) (now (fields .exit)) (now (tables .exit)) (now (lengths .exit)) ⌝ }
+{
+    if let PathCommand::LineTo(end) = command {
+        let pen = site.pen;
+        if pen.placed {
+            return lay_line(site, end, kinds, fields, tables, lengths);
+        }
+        return moved(site, drawn(pen, end));
+    }
+    lay_any(site, command, kinds, fields, tables, lengths)
 }

@@ -2,7 +2,12 @@
 // of commands go along.
 pub mod inner;
 mod sites;
+mod tallies;
 
 pub use sites::Advanced;
 pub use sites::Site;
 pub use sites::start;
+pub use tallies::Outlook;
+pub use tallies::Tallied;
+pub use tallies::Tally;
+pub use tallies::opening;

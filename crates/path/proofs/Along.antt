@@ -17,12 +17,17 @@ use Rattle.stored.specs.Layout.{kindsOf, fieldsOfAll, tablesOfAll}
 use Rattle.drawing.specs.Drawing.{drawOf}
 use Rattle.drawing.specs.Building.{Built, path, refusal, buildOf}
 use Rattle.laying.specs.Sites.{startOf, advanceOf, drawnBy, Few, Holds, Room, Laid}
+use Rattle.laying.specs.Tallies.{tallyOf, Scant, talliedOf}
 use Rattle.laying.specs.declared.sites.Site.{Site}
 use Rattle.laying.specs.declared.sites.Advanced.the-variants.{To, Refused}
+use Rattle.laying.specs.declared.tallies.Tally.{Tally}
+use Rattle.laying.specs.declared.tallies.Tallied.the-variants as Tallied
 use Rattle.laying.proofs.Along.{At, at-none, at-few, at-all, at-next, at-refused}
 use Rattle.laying.proofs.Filling.{Filling, filling-none, filling-more, roomed, same-kinds, same-fields, same-tables, same-lengths}
+use Rattle.laying.proofs.Foreseen.{Calm, calm-start, foreseen}
 use Rattle.path.specs.Answers.{measureOf, Holding, Filled}
 use Rattle.path.specs.Paths.{builtBy}
+use Rattle.path.specs.declared.sizes.Size.{Size}
 use Rattle.path.specs.declared.sizes.Size.the-variants as Size
 use Rattle.path.proofs.Lists.{Formed, formed, Passed, passed-none, passed-end, passed-bad, passed-fits, passed-next}
 
@@ -88,6 +93,49 @@ module _ (letters : List ℕ) (numbers : List Float) (site : Site) (place at : �
             done = k .done ++ drawnBy (drawOf (site .pen) command);
             known = at-next (k .commands) (k .done) site (k .known) command next a;
           }
+
+-- ---- the first pass, where nothing is measured: a site that the tally is of
+
+pub record Surveying (letters : List ℕ) (numbers : List Float) (tally : Tally) (place at : ℕ) : Type 0 where
+  pub site : Site
+  pub same : tallyOf site ≡ tally
+  pub calm : Calm site
+  pub measuring : Measuring letters numbers site place at
+
+pub surveying-none : (letters : List ℕ) (numbers : List Float) → checkCommandsOf letters numbers ≡ accepted [] → Surveying letters numbers (tallyOf startOf) 0 0
+surveying-none letters numbers e = record { site = startOf; same = refl; calm = calm-start; measuring = measuring-none letters numbers e }
+
+-- what a tally of such a site says
+pub counted-at : (site : Site) (tally : Tally) (size : Size) → tallyOf site ≡ tally → Size.Counted (site .segments) (site .fields) (site .tables) ≡ size → Size.Counted (tally .segments) (tally .fields) (tally .tables) ≡ size
+unfolding tallyOf
+counted-at site tally size e h = subst (λ (t : Tally). Size.Counted (t .segments) (t .fields) (t .tables) ≡ size) e h
+
+pub scant-at : (site : Site) (tally : Tally) → tallyOf site ≡ tally → Few site → Scant tally
+unfolding tallyOf
+scant-at site tally e few = subst Scant e (record { segments = few .segments; fields = few .fields; tables = few .tables })
+
+module _ (letters : List ℕ) (numbers : List Float) (tally : Tally) (place at : ℕ) (k : Surveying letters numbers tally place at) where
+  pub surveying-inside : at ≤ length numbers
+  surveying-inside = k .measuring .passed .inside
+
+  pub surveyed-all : length letters ≤ place → Size.Counted (tally .segments) (tally .fields) (tally .tables) ≡ measureOf (builtBy (listed 0 letters numbers))
+  surveyed-all past = counted-at (k .site) tally (measureOf (builtBy (listed 0 letters numbers))) (k .same) (measured-all letters numbers (k .site) place at (k .measuring) past)
+
+  module _ (here : place < length letters) (checked : checkCommandsOf letters numbers ≡ accepted []) where
+    few : Few (k .site)
+    few = measuring-few letters numbers (k .site) place at (k .measuring) here checked
+
+    pub surveying-scant : Scant tally
+    surveying-scant = scant-at (k .site) tally (k .same) few
+
+    module _ (command : PathCommand) (e : commandOf (getD letters place 0) (drop at numbers) ≡ Command command) where
+      pub surveying-fits : at + length (argumentsOf command) ≤ length numbers
+      surveying-fits = measuring-fits letters numbers (k .site) place at (k .measuring) here command e
+
+      pub surveying-more : (width : ℕ) (next : Tally) → width ≡ length (argumentsOf command) → talliedOf tally command ≡ Tallied.To next → Surveying letters numbers next (place + 1) (at + width)
+      surveying-more width next w a =
+          let f = foreseen (k .site) few (k .calm) command next (ap (λ t. talliedOf t command) (k .same) ∙ a) in
+          record { site = f .0; same = f .2; calm = f .3; measuring = measuring-more letters numbers (k .site) place at (k .measuring) here command e width (f .0) w (f .1) }
 
 -- ---- the second pass
 

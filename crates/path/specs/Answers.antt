@@ -15,6 +15,8 @@ use Rattle.segment.specs.declared.segments.PathSegment.{PathSegment}
 use Rattle.stored.specs.Layout.{kindsOf, fieldsOfAll, tablesOfAll, lengthsOfAll}
 use Rattle.drawing.specs.Building.{Built, path, refusal}
 use Rattle.laying.specs.Sites.{Holds}
+use Rattle.laying.specs.declared.tallies.Outlook.{Outlook}
+use Rattle.laying.specs.declared.tallies.Outlook.the-variants as Outlook
 use Rattle.path.specs.declared.sizes.Building.{Building}
 use Rattle.path.specs.declared.sizes.Building.the-variants as Building
 use Rattle.path.specs.declared.sizes.Size.{Size}
@@ -67,6 +69,11 @@ pub record Answers (built : Built) (kinds : List ℕ) (fields tables lengths : L
 unfoldable pub measureOf : Built → Size
 measureOf (path list) = Size.Counted (length (kindsOf list)) (length (fieldsOfAll list)) (length (tablesOfAll list))
 measureOf (refusal reason) = Size.Refused reason
+
+-- what a count that measures nothing tells of what is built, where it tells anything
+abbrev pub Foretells : Built → Outlook → Type 0
+Foretells built (Outlook.Counted segments fields tables) = Size.Counted segments fields tables ≡ measureOf built
+Foretells built Outlook.Unsure = Unit {0}
 
 -- it builds, and has room in the buffers
 abbrev pub Holding : Built → ℕ → ℕ → ℕ → ℕ → Type 0

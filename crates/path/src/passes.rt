@@ -1,11 +1,11 @@
-// The two passes over a command list: the first judges and counts, the second stores.
+// The two passes over a command list: the first counts, and measures only where it must, the second stores.
 ghost use mathlib.Core.Path.{_≡_};
 ghost use mathlib.Core.List.{[]};
 ghost use lib.ListN.{length};
 ghost use Rattle.answers.specs.Answers.{accepted};
 ghost use Rattle.commands.specs.Listed.{listed};
 ghost use Rattle.commands.specs.Checked.{checkCommandsOf};
-ghost use Rattle.path.specs.Answers.{measureOf, Holding, Filled};
+ghost use Rattle.path.specs.Answers.{measureOf, Foretells, Holding, Filled};
 ghost use Rattle.path.specs.Paths.{builtBy};
 use crate::sizes::Size;
 use answers::Refusal;
@@ -13,12 +13,49 @@ use commands::inner::Decoded;
 use commands::inner::decode;
 use commands::width;
 use laying::Advanced;
+use laying::Outlook;
+use laying::Tallied;
 use laying::inner::advance;
+use laying::inner::count;
 use laying::inner::lay;
+use laying::opening;
 use laying::start;
 
-// What a well-formed list builds: the places needed, or its first refusal.
-pub fn measure(letters: &[u8], numbers: &[f32]) -> Size
+// What a well-formed list builds, where no length need be measured to tell.
+fn survey(letters: &[u8], numbers: &[f32]) -> Outlook
+    requires { ⌜ checkCommandsOf (now letters) (now numbers) ≡ accepted [] ⌝ }
+    ensures { λ r. ⌜ Foretells (builtBy (listed 0 (now (letters .entry)) (now (numbers .entry)))) r ⌝ }
+{
+    let size = letters.len();
+    let mut tally = opening();
+    let mut place: usize = 0;
+    let mut at: usize = 0;
+    while place < size {
+        match decode(letters[place], numbers, at) {
+            Decoded::Bad => {
+                return Outlook::Unsure;
+            }
+            Decoded::Command(command) => match count(tally, command) {
+                Tallied::Unsure => {
+                    return Outlook::Unsure;
+                }
+                Tallied::To(next) => {
+                    at += width(command);
+                    place += 1;
+                    tally = next;
+                }
+            },
+        }
+    }
+    Outlook::Counted {
+        segments: tally.segments,
+        fields: tally.fields,
+        tables: tally.tables,
+    }
+}
+
+// The same with every length measured: the places needed, or the first refusal.
+fn judge(letters: &[u8], numbers: &[f32]) -> Size
     requires { ⌜ checkCommandsOf (now letters) (now numbers) ≡ accepted [] ⌝ }
     ensures { λ r. ⌜ r ≡ measureOf (builtBy (listed 0 (now (letters .entry)) (now (numbers .entry)))) ⌝ }
 {
@@ -47,6 +84,29 @@ pub fn measure(letters: &[u8], numbers: &[f32]) -> Size
         segments: site.segments,
         fields: site.fields,
         tables: site.tables,
+    }
+}
+
+// What a well-formed list builds: the places needed, or its first refusal.
+pub fn measure(letters: &[u8], numbers: &[f32]) -> Size
+    requires { ⌜ checkCommandsOf (now letters) (now numbers) ≡ accepted [] ⌝ }
+    ensures { λ r. ⌜ r ≡ measureOf (builtBy (listed 0 (now (letters .entry)) (now (numbers .entry)))) ⌝ }
+{
+    match survey(letters, numbers) {
+        Outlook::Counted {
+            segments,
+            fields,
+            tables,
+        } => {
+            return Size::Counted {
+                segments,
+                fields,
+                tables,
+            };
+        }
+        Outlook::Unsure => {
+            return judge(letters, numbers);
+        }
     }
 }
 

@@ -17,13 +17,17 @@ use Rattle.svg.proofs.PassLaws.{onto as ontoCommands, Known, known-none, known-
 use Rattle.drawing.specs.Drawing.{drawOf}
 use Rattle.drawing.specs.Building.{Built, path, refusal, buildOf}
 use Rattle.laying.specs.Sites.{startOf, advanceOf, drawnBy, Few, Room, Laid}
+use Rattle.laying.specs.Tallies.{tallyOf, Scant, talliedOf}
 use Rattle.laying.specs.declared.sites.Site.{Site}
 use Rattle.laying.specs.declared.sites.Advanced.the-variants.{To, Refused}
+use Rattle.laying.specs.declared.tallies.Tally.{Tally}
+use Rattle.laying.specs.declared.tallies.Tallied.the-variants as Tallied
 use Rattle.laying.proofs.Along.{At, at-none, at-few, at-all, at-next, at-refused}
 use Rattle.laying.proofs.Filling.{Filling, filling-none, filling-more, roomed, same-kinds, same-fields, same-tables, same-lengths}
+use Rattle.laying.proofs.Foreseen.{Calm, calm-start, foreseen}
 use Rattle.path.specs.Answers.{measureOf, Holding, Filled}
 use Rattle.path.specs.declared.sizes.Size.the-variants as Size
-use Rattle.path.proofs.Along.{counts-are, Holdable, holdable, filled-is}
+use Rattle.path.proofs.Along.{counts-are, counted-at, scant-at, Holdable, holdable, filled-is}
 use Rattle.path_text.specs.Builds.{builtFrom}
 
 -- the rest of a text whose first commands are known
@@ -73,6 +77,33 @@ module _ (text : List ℕ) (reader : Reader) (site : Site) (k : Measuring text r
           done = k .done ++ drawnBy (drawOf (site .pen) command);
           drawn = at-next (k .passed) (k .done) site (k .drawn) command further a;
         }
+
+-- ---- the first pass, where nothing is measured: a site that the tally is of
+
+pub record Surveying (text : List ℕ) (reader : Reader) (tally : Tally) : Type 0 where
+  pub site : Site
+  pub same : tallyOf site ≡ tally
+  pub calm : Calm site
+  pub measuring : Measuring text reader site
+
+pub surveying-none : (text : List ℕ) → Surveying text freshOf (tallyOf startOf)
+surveying-none text = record { site = startOf; same = refl; calm = calm-start; measuring = measuring-none text }
+
+module _ (text : List ℕ) (reader : Reader) (tally : Tally) (k : Surveying text reader tally) where
+  pub surveyed-all : readStepOf text reader ≡ Done → Size.Counted (tally .segments) (tally .fields) (tally .tables) ≡ measureOf (builtFrom (commandsOf text))
+  surveyed-all e = counted-at (k .site) tally (measureOf (builtFrom (commandsOf text))) (k .same) (measured-all text reader (k .site) (k .measuring) e)
+
+  module _ (command : PathCommand) (next : Reader) (e : readStepOf text reader ≡ Command command next) (short : length text ≤ 65536) where
+    few : Few (k .site)
+    few = measuring-few text reader (k .site) (k .measuring) command next e short
+
+    pub surveying-scant : Scant tally
+    surveying-scant = scant-at (k .site) tally (k .same) few
+
+    pub surveying-more : (further : Tally) → talliedOf tally command ≡ Tallied.To further → Surveying text next further
+    surveying-more further a =
+        let f = foreseen (k .site) few (k .calm) command further (ap (λ t. talliedOf t command) (k .same) ∙ a) in
+        record { site = f .0; same = f .2; calm = f .3; measuring = measuring-more text reader (k .site) (k .measuring) command next e (f .0) (f .1) }
 
 -- ---- the second pass
 

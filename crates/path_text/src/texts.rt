@@ -1,14 +1,18 @@
-// The two passes over a text: the first judges and counts, the second stores.
+// The two passes over a text: the first counts, and measures only where it must, the second stores.
 ghost use mathlib.Core.Path.{_≡_};
 ghost use Prim.Native.Nat.{_≤_};
 ghost use lib.ListN.{length};
 ghost use Rattle.svg.specs.Texts.{commandsOf};
-ghost use Rattle.path.specs.Answers.{Holding, Filled};
+ghost use Rattle.path.specs.Answers.{Foretells, Holding, Filled};
 ghost use Rattle.path_text.specs.Builds.{builtFrom, Finds};
 use answers::Refusal;
 use laying::Advanced;
+use laying::Outlook;
+use laying::Tallied;
 use laying::inner::advance;
+use laying::inner::count;
 use laying::inner::lay;
+use laying::opening;
 use laying::start;
 use svg::Step;
 use svg::fresh;
@@ -28,8 +32,40 @@ pub enum Found {
     Unbuilt(Refusal),
 }
 
+// What a text builds, where it reads and no length need be measured to tell.
+fn survey(text: &[u8]) -> Outlook
+    requires { ⌜ length (now text) ≤ 65536 ⌝ }
+    ensures { λ r. ⌜ Foretells (builtFrom (commandsOf (now (text .entry)))) r ⌝ }
+{
+    let mut reader = fresh();
+    let mut tally = opening();
+    loop {
+        match read_step(text, reader) {
+            Step::Done => {
+                return Outlook::Counted {
+                    segments: tally.segments,
+                    fields: tally.fields,
+                    tables: tally.tables,
+                };
+            }
+            Step::Refused(_) => {
+                return Outlook::Unsure;
+            }
+            Step::Command { command, next } => match count(tally, command) {
+                Tallied::Unsure => {
+                    return Outlook::Unsure;
+                }
+                Tallied::To(further) => {
+                    reader = next;
+                    tally = further;
+                }
+            },
+        }
+    }
+}
+
 // Reads and judges segment by segment, up to the first refusal of either kind.
-pub fn measure(text: &[u8]) -> Found
+fn judge(text: &[u8]) -> Found
     requires { ⌜ length (now text) ≤ 65536 ⌝ }
     ensures { λ r. ⌜ Finds (now (text .entry)) r ⌝ }
 {
@@ -56,6 +92,29 @@ pub fn measure(text: &[u8]) -> Found
                     site = further;
                 }
             },
+        }
+    }
+}
+
+// What a text builds, up to the first refusal of either kind.
+pub fn measure(text: &[u8]) -> Found
+    requires { ⌜ length (now text) ≤ 65536 ⌝ }
+    ensures { λ r. ⌜ Finds (now (text .entry)) r ⌝ }
+{
+    match survey(text) {
+        Outlook::Counted {
+            segments,
+            fields,
+            tables,
+        } => {
+            return Found::Counted {
+                segments,
+                fields,
+                tables,
+            };
+        }
+        Outlook::Unsure => {
+            return judge(text);
         }
     }
 }

@@ -1,0 +1,2 @@
+-- Points near the origin.
+pub mod Calm

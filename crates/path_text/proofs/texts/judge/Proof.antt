@@ -1,0 +1,84 @@
+-- `path_text::texts::judge` meets its contract. The loop keeps that the commands up to its place are known and what they draw is counted; the measure is what is
+-- left of the text, of which each step passes a byte. Assumes nothing.
+use borrow.Author.Needs.{needs}
+use Prim.Native.Nat.{_-_}
+use mathlib.Core.Path.{sym, _∙_}
+use native.Mathlib.Omega.{arith}
+use lib.ListN.{length}
+use Rattle.svg.proofs.Ahead.{step-ahead}
+use Rattle.path_text.proofs.Steps.{Measuring, measuring-none, measured-all, measured-unread, measuring-few, measured-unbuilt, measuring-more}
+use Rattle.path_text.proofs.texts.judge.Statement.{statement}
+use Rattle.path_text.proofs.texts.judge.Tie as tie
+
+abbrev Inv-loop : tie.InvT-loop
+Inv-loop text reader₀ site₀ reader site = Measuring text reader site
+
+abbrev μ-loop : tie.MeasureT-loop
+μ-loop text reader₀ site₀ reader site = length text - reader .at
+
+fresh-requires : tie.Need-fresh-requires Inv-loop μ-loop
+fresh-requires c κs = search needs
+
+start-requires : tie.Need-start-requires Inv-loop μ-loop
+start-requires c κs = search needs
+
+loop-holds : tie.Need-loop-holds Inv-loop μ-loop
+loop-holds c = rw (c .before .fresh .ensures, c .start .ensures) (measuring-none _)
+
+read-step-requires : tie.Need-read-step-requires Inv-loop μ-loop
+read-step-requires c κs = search needs
+
+enum-told : tie.Need-enum-told Inv-loop μ-loop
+enum-told c = search needs
+
+returns : tie.Need-returns Inv-loop μ-loop
+returns c = measured-all _ (c .before .before .before .loop .reader) (c .before .before .before .loop .site) (c .before .before .before .loop .inv) (sym (c .before .before .read-step .ensures) ∙ c .enum-told .given .1)
+
+enum-known-refusal : tie.Need-enum-known-refusal Inv-loop μ-loop
+enum-known-refusal c = search needs
+
+returns-2 : tie.Need-returns-2 Inv-loop μ-loop
+returns-2 c = measured-unread _ (c .before .before .before .before .loop .reader) (c .before .before .before .before .loop .site) (c .before .before .before .before .loop .inv) _ (sym (c .before .before .before .read-step .ensures) ∙ c .before .refusal .given .1)
+
+enum-known-command : tie.Need-enum-known-command Inv-loop μ-loop
+enum-known-command c = search needs
+
+advance-requires : tie.Need-advance-requires Inv-loop μ-loop
+advance-requires c κs = measuring-few _ (c .before .before .before .before .loop .reader) (c .before .before .before .before .loop .site) (c .before .before .before .before .loop .inv) _ _ (sym (c .before .before .before .read-step .ensures) ∙ c .before .command .given .1) (c .before .before .before .before .before .before .before .before .pre)
+
+enum-known-refusal-2 : tie.Need-enum-known-refusal-2 Inv-loop μ-loop
+enum-known-refusal-2 c = search needs
+
+returns-3 : tie.Need-returns-3 Inv-loop μ-loop
+returns-3 c = measured-unbuilt _ (c .before .before .before .before .before .before .before .before .loop .reader) (c .before .before .before .before .before .before .before .before .loop .site) (c .before .before .before .before .before .before .before .before .loop .inv) _ _ (sym (c .before .before .before .before .before .before .before .read-step .ensures) ∙ c .before .before .before .before .before .command .given .1) _ (sym (c .before .before .before .advance .ensures) ∙ c .before .refusal2 .given .1)
+
+enum-known-further : tie.Need-enum-known-further Inv-loop μ-loop
+enum-known-further c = search needs
+
+loop-less : tie.Need-loop-less Inv-loop μ-loop
+loop-less c = omega (arith, step-ahead _ _ _ _ (sym (c .before .before .before .before .before .before .before .read-step .ensures) ∙ c .before .before .before .before .before .command .given .1))
+
+loop-again : tie.Need-loop-again Inv-loop μ-loop
+loop-again c = measuring-more _ (c .before .before .before .before .before .before .before .before .loop .reader) (c .before .before .before .before .before .before .before .before .loop .site) (c .before .before .before .before .before .before .before .before .loop .inv) _ _ (sym (c .before .before .before .before .before .before .before .read-step .ensures) ∙ c .before .before .before .before .before .command .given .1) _ (sym (c .before .before .before .advance .ensures) ∙ c .before .further .given .1)
+
+pub judge-spec : {M : Type 1} → statement M
+judge-spec =
+    tie.close
+    (tie.spec
+    Inv-loop
+    μ-loop
+    fresh-requires
+    start-requires
+    loop-holds
+    read-step-requires
+    enum-told
+    returns
+    enum-known-refusal
+    returns-2
+    enum-known-command
+    advance-requires
+    enum-known-refusal-2
+    returns-3
+    enum-known-further
+    loop-less
+    loop-again)
