@@ -1,0 +1,65 @@
+-- Document 01's example of the station tool, held to the definition of its output by computation. Assumes nothing.
+use Prim.Native.Nat.{ℕ}
+use mathlib.Core.Path.{_≡_, refl}
+use mathlib.Core.List.{List, [], _∷_}
+use lib.Ieee.{span, climb, size, odd, units, round, neg, sum, add, sub, mul, div, lt, eq, le, ne, ofInt, ofFields, ofBits, toBits, isNan, fits, whole}
+use Rattle.scan.specs.Bytes.{among}
+use Rattle.scan.specs.Numbers.{wholeOf, pointOf, fractionOf, markOf as markOf-of-scan-numbers, exponentOf as exponentOf-of-scan-numbers, endOf, placesOf, noDigit, noExponentDigit, scanNumberOf}
+use Rattle.scan.specs.Runs.{stands, pastOne, pastAll, pastMarkOf}
+use Rattle.scan.specs.Scan.{leading, scan}
+use Rattle.digits.specs.Digits.{digitsAmong, val}
+use Rattle.digits.specs.Exponent.{capped, exponentOf as exponentOf-of-digits-exponent}
+use Rattle.decimal.specs.Decimal.{falls, riseOf, fallOf, valueOf, numberOf}
+use Rattle.floats.specs.Floats.{zeroF, oneF, epsilonF, largestF, minOf, maxOf, clampOf, clamp01Of}
+use Rattle.root.specs.Root.{rootDigits, rootOf, sqrtOf}
+use Rattle.math.specs.Math.{lerpOf, originF, addOf, subOf, scaleOf, dotOf, lengthOf, distanceOf, normalizeOf, lerpPointOf}
+use Rattle.table.specs.Lookup.{firstNotBelow, targetOf, shareOf, markOf as markOf-of-table-lookup, placeOf as placeOf-of-table-lookup, rawAt, rawOf}
+use Rattle.table.specs.Spots.{before as before-of-table-spots, pathTotal, spotAt, spotOf}
+use Rattle.segment.specs.Segments.{widthOf, tablesOf, hasTable, segmentOf, tableFor, lengthFor}
+use Rattle.stored.specs.Layout.{kindsOf, fieldsOfAll, tableStored, tablesOfAll, runningOf, lengthsOfAll}
+use Rattle.stored.specs.Stored.{before as before-of-stored-stored, areKnown, tablesAreSound, isStored, segmentIn, tableIn}
+use Rattle.commands.specs.Stored.{lettersOf, numbersOf}
+use Rattle.groups.specs.Groups.{readMoveOf, readLineOf, readHorizontalOf, readVerticalOf, readCubicOf, readQuadOf, readArcOf, readGroupOf}
+use Rattle.groups.specs.Letters.{isLetterOf, meaningOf}
+use Rattle.groups.specs.Numbers.{readNumberOf, flagAt, readFlagOf, readFlagsOf, movedOf, readPairOf}
+use Rattle.svg.specs.Steps.{isRelativeOf, needsPointOf, repeatedOf, afterOf, dueGroupOf, dueLetterOf, dueAgainOf, nextDueOf, readStepOf}
+use Rattle.svg.specs.Texts.{readFrom, commandsOf}
+use Rattle.arc.specs.Arcs.{isFallback, mostDegrees, inRange, fallbackShape, noTable, fallenBack, fitted, outOfRange, madeArcOf, arcPositionOf, arcTangentOf, arcPlacedOf, arcHeadingOf, arcTurnedOf, arcLengthOf}
+use Rattle.arc.specs.Lines.{lineLengthOf, linePointOf, linePositionOf, lineTangentOf, lineRotationDegOf, madeLineOf}
+use Rattle.drawing.specs.Building.{buildFrom, buildOf}
+use Rattle.drawing.specs.Drawing.{freshOf, arcOf, arcStrokeOf, drawOf}
+use Rattle.place.specs.Cursors.{cursorOf}
+use Rattle.place.specs.Places.{rawIn, rawFor, tablePlace, rawWithin, placeOf as placeOf-of-place-places}
+use Rattle.heading.specs.Headings.{sampleOf, quadHeading, cubicHeading, headingOf}
+use Rattle.path_query.specs.Flights.{flownWithin, flownOf, flightOf}
+use Rattle.text_reader.specs.Plans.{judged, firstLineOf}
+use Rattle.listing.specs.Lines.{bitsFields, argumentFields, commandLine, pointFields, kindName, segmentLine, headerLine, segmentField, stationLine}
+use Rattle.listing.specs.Numbers.{hexDigit, hexDigits, decimalFrom, decimalOf, bitsField, numberField}
+use Rattle.plan.specs.Passes.{commandLines}
+use Rattle.sections.specs.Sections.{linesTo, segmentLines, progressOf, foundOf, stationOf, stationLines}
+use Rattle.stations.specs.Stations.{sectionsOf, readOf, planOf, stationsOf}
+
+pub example-listed :
+    -- `3`, LF, `M0 0L3 4`
+    stationsOf (51 ∷ 10 ∷ 77 ∷ 48 ∷ 32 ∷ 48 ∷ 76 ∷ 51 ∷ 32 ∷ 52 ∷ [])
+    -- `commands 2`
+    ≡ 99 ∷ 111 ∷ 109 ∷ 109 ∷ 97 ∷ 110 ∷ 100 ∷ 115 ∷ 32 ∷ 50 ∷ 10
+    -- `M 00000000 00000000`
+    ∷ 77 ∷ 32 ∷ 48 ∷ 48 ∷ 48 ∷ 48 ∷ 48 ∷ 48 ∷ 48 ∷ 48 ∷ 32 ∷ 48 ∷ 48 ∷ 48 ∷ 48 ∷ 48 ∷ 48 ∷ 48 ∷ 48 ∷ 10
+    -- `L 40400000 40800000`
+    ∷ 76 ∷ 32 ∷ 52 ∷ 48 ∷ 52 ∷ 48 ∷ 48 ∷ 48 ∷ 48 ∷ 48 ∷ 32 ∷ 52 ∷ 48 ∷ 56 ∷ 48 ∷ 48 ∷ 48 ∷ 48 ∷ 48 ∷ 10
+    -- `segments 1`
+    ∷ 115 ∷ 101 ∷ 103 ∷ 109 ∷ 101 ∷ 110 ∷ 116 ∷ 115 ∷ 32 ∷ 49 ∷ 10
+    -- `line 40A00000`
+    ∷ 108 ∷ 105 ∷ 110 ∷ 101 ∷ 32 ∷ 52 ∷ 48 ∷ 65 ∷ 48 ∷ 48 ∷ 48 ∷ 48 ∷ 48 ∷ 10
+    -- `stations 3`
+    ∷ 115 ∷ 116 ∷ 97 ∷ 116 ∷ 105 ∷ 111 ∷ 110 ∷ 115 ∷ 32 ∷ 51 ∷ 10
+    -- `0 0 00000000 00000000 3F19999A 3F4CCCCD`
+    ∷ 48 ∷ 32 ∷ 48 ∷ 32 ∷ 48 ∷ 48 ∷ 48 ∷ 48 ∷ 48 ∷ 48 ∷ 48 ∷ 48 ∷ 32 ∷ 48 ∷ 48 ∷ 48 ∷ 48 ∷ 48 ∷ 48 ∷ 48 ∷ 48 ∷ 32 ∷ 51 ∷ 70 ∷ 49 ∷ 57 ∷ 57 ∷ 57 ∷ 57 ∷ 65 ∷ 32 ∷ 51 ∷ 70 ∷ 52 ∷ 67 ∷ 67 ∷ 67 ∷ 67 ∷ 68 ∷ 10
+    -- `1 0 3FC00000 40000000 3F19999A 3F4CCCCD`
+    ∷ 49 ∷ 32 ∷ 48 ∷ 32 ∷ 51 ∷ 70 ∷ 67 ∷ 48 ∷ 48 ∷ 48 ∷ 48 ∷ 48 ∷ 32 ∷ 52 ∷ 48 ∷ 48 ∷ 48 ∷ 48 ∷ 48 ∷ 48 ∷ 48 ∷ 32 ∷ 51 ∷ 70 ∷ 49 ∷ 57 ∷ 57 ∷ 57 ∷ 57 ∷ 65 ∷ 32 ∷ 51 ∷ 70 ∷ 52 ∷ 67 ∷ 67 ∷ 67 ∷ 67 ∷ 68 ∷ 10
+    -- `2 0 40400000 40800000 3F19999A 3F4CCCCD`
+    ∷ 50 ∷ 32 ∷ 48 ∷ 32 ∷ 52 ∷ 48 ∷ 52 ∷ 48 ∷ 48 ∷ 48 ∷ 48 ∷ 48 ∷ 32 ∷ 52 ∷ 48 ∷ 56 ∷ 48 ∷ 48 ∷ 48 ∷ 48 ∷ 48 ∷ 32 ∷ 51 ∷ 70 ∷ 49 ∷ 57 ∷ 57 ∷ 57 ∷ 57 ∷ 65 ∷ 32 ∷ 51 ∷ 70 ∷ 52 ∷ 67 ∷ 67 ∷ 67 ∷ 67 ∷ 68 ∷ 10
+    ∷ []
+unfolding among wholeOf pointOf fractionOf markOf-of-scan-numbers exponentOf-of-scan-numbers endOf placesOf noDigit noExponentDigit scanNumberOf stands pastOne pastAll pastMarkOf leading scan digitsAmong val capped exponentOf-of-digits-exponent falls riseOf fallOf valueOf numberOf zeroF oneF epsilonF largestF minOf maxOf clampOf clamp01Of rootDigits rootOf sqrtOf lerpOf originF addOf subOf scaleOf dotOf lengthOf distanceOf normalizeOf lerpPointOf firstNotBelow targetOf shareOf markOf-of-table-lookup placeOf-of-table-lookup rawAt rawOf before-of-table-spots pathTotal spotAt spotOf widthOf tablesOf hasTable segmentOf tableFor lengthFor kindsOf fieldsOfAll tableStored tablesOfAll runningOf lengthsOfAll before-of-stored-stored areKnown tablesAreSound isStored segmentIn tableIn lettersOf numbersOf readMoveOf readLineOf readHorizontalOf readVerticalOf readCubicOf readQuadOf readArcOf readGroupOf isLetterOf meaningOf readNumberOf flagAt readFlagOf readFlagsOf movedOf readPairOf isRelativeOf needsPointOf repeatedOf afterOf dueGroupOf dueLetterOf dueAgainOf nextDueOf readStepOf readFrom commandsOf isFallback mostDegrees inRange fallbackShape noTable fallenBack fitted outOfRange madeArcOf arcPositionOf arcTangentOf arcPlacedOf arcHeadingOf arcTurnedOf arcLengthOf lineLengthOf linePointOf linePositionOf lineTangentOf lineRotationDegOf madeLineOf buildFrom buildOf freshOf arcOf arcStrokeOf drawOf cursorOf rawIn rawFor tablePlace rawWithin placeOf-of-place-places sampleOf quadHeading cubicHeading headingOf flownWithin flownOf flightOf judged firstLineOf bitsFields argumentFields commandLine pointFields kindName segmentLine headerLine segmentField stationLine hexDigit hexDigits decimalFrom decimalOf bitsField numberField commandLines linesTo segmentLines progressOf foundOf stationOf stationLines sectionsOf readOf planOf stationsOf span climb size odd units round neg sum add sub mul div lt eq le ne ofInt ofFields ofBits toBits isNan fits whole
+example-listed = refl
