@@ -2,13 +2,13 @@
 // prints how many answers there were and how many differ. `oracle/record query` writes the records to this crate's stdin.
 ghost use Prim.Native.Nat.{_+_, _≤_, _<_};
 ghost use lib.ListN.{length};
-use bezier::Placed;
-use bezier::Turned;
 use path::Building;
 use path_batch::Batch;
 use path_query::Located;
 use records::float;
 use records::pattern;
+use records::same_answers;
+use records::two;
 use table::Progress;
 
 // A block is a path and six progresses. Its first line has the text's length as two digits, the text, which has at most 90 bytes,
@@ -238,24 +238,7 @@ fn agrees(
     let position = path_query::position(kinds, fields, tables, lengths, progress);
     let tangent = path_query::tangent(kinds, fields, tables, lengths, progress);
     let turned = path_query::rotation_deg(kinds, fields, tables, lengths, progress);
-    same_answers(place, position, tangent, turned, text, line)
-}
-
-// Whether the line at this place holds these answers.
-fn same_answers(
-    place: Located,
-    position: Placed,
-    tangent: Placed,
-    turned: Turned,
-    text: &[u8],
-    line: usize,
-) -> bool
-    requires { ⌜ line + 65 ≤ length (now text) ⌝ }
-{
-    same_spot(place, text, line + 8)
-        && same_place(position, text, line + 24)
-        && same_place(tangent, text, line + 40)
-        && same_turn(turned, text, line + 56)
+    same_spot(place, text, line + 8) & same_answers(position, tangent, turned, text, line + 24)
 }
 
 // Whether the line at this place holds these answers of a batch, the four numbers from `at` on among them.
@@ -291,43 +274,5 @@ fn same_spot(located: Located, text: &[u8], at: usize) -> bool
         }
         Located::NoSegment => segment == NOWHERE && bits == 0,
         Located::Refused(_) => false,
-    }
-}
-
-// Whether a place or a direction was given and has the two patterns at this place.
-fn same_place(placed: Placed, text: &[u8], at: usize) -> bool
-    requires { ⌜ at + 16 ≤ length (now text) ⌝ }
-{
-    match placed {
-        Placed::At(p) => {
-            floats::bits(p.x) == pattern(text, at) && floats::bits(p.y) == pattern(text, at + 8)
-        }
-        Placed::Refused(_) => false,
-    }
-}
-
-// Whether a heading was given and has the pattern at this place.
-fn same_turn(turned: Turned, text: &[u8], at: usize) -> bool {
-    match turned {
-        Turned::Degrees(degrees) => floats::bits(degrees) == pattern(text, at),
-        Turned::Refused(_) => false,
-    }
-}
-
-// The number that two digits stand for.
-fn two(text: &[u8], at: usize) -> usize
-    requires { ⌜ at + 2 ≤ length (now text) ⌝ }
-    ensures { λ r. ⌜ r < 100 ⌝ }
-{
-    digit(text[at]) * 10 + digit(text[at + 1])
-}
-
-// What a digit stands for, and 9 for any other byte.
-fn digit(byte: u8) -> usize
-    ensures { λ r. ⌜ r < 10 ⌝ }
-{
-    match byte {
-        b'0'..=b'9' => (byte - b'0') as usize,
-        _ => 9,
     }
 }

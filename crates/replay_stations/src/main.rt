@@ -2,6 +2,7 @@
 // writes the plans to this crate's stdin, and to its stdout the answers of the Rust, in the words of document 01.
 ghost use Prim.Native.Nat.{_+_, _≤_, _<_};
 ghost use lib.ListN.{length};
+use records::two;
 
 fn main() {
     let mut plans = io::large_buffer();
@@ -45,22 +46,4 @@ fn four(text: &[u8], at: usize) -> usize
     ensures { λ r. ⌜ r < 10000 ⌝ }
 {
     two(text, at) * 100 + two(text, at + 2)
-}
-
-// The number that two digits stand for.
-fn two(text: &[u8], at: usize) -> usize
-    requires { ⌜ at + 2 ≤ length (now text) ⌝ }
-    ensures { λ r. ⌜ r < 100 ⌝ }
-{
-    digit(text[at]) * 10 + digit(text[at + 1])
-}
-
-// What a digit stands for, and 9 for any other byte.
-fn digit(byte: u8) -> usize
-    ensures { λ r. ⌜ r < 10 ⌝ }
-{
-    match byte {
-        b'0'..=b'9' => (byte - b'0') as usize,
-        _ => 9,
-    }
 }
