@@ -9,7 +9,7 @@ use place::inner::moved;
 use place::inner::raw_within;
 use stored::check_path;
 use table::Progress;
-use table::inner::spot;
+use table::inner::spot_near;
 use table::number_of;
 ghost use mathlib.Core.Path.{_≡_};
 ghost use Prim.Native.Nat.{_+_, _≤_};
@@ -26,7 +26,8 @@ pub enum Batch {
     Refused(Refusal),
 }
 
-// Looks each progress up. The walk to its segment starts at the one before, so that progresses in order pass over the path once.
+// Looks each progress up. The search for its segment and the walk there start at the one before, so that progresses in order pass
+// over the path once.
 fn fill_places(
     kinds: &[u8],
     fields: &[f32],
@@ -43,7 +44,7 @@ fn fill_places(
     let mut i = 0usize;
     while i < progresses.len() {
         let progress = progresses[i];
-        let found = spot(lengths, Progress { value: progress });
+        let found = spot_near(lengths, Progress { value: progress }, at.segment);
         let along = found.progress;
         let here = moved(kinds, at, found.segment);
         let raw = raw_within(kinds, tables, here, along);
@@ -112,7 +113,7 @@ fn fill_positions(
     let mut k = 0usize;
     while k < progresses.len() {
         let progress = progresses[k];
-        let found = spot(lengths, Progress { value: progress });
+        let found = spot_near(lengths, Progress { value: progress }, cursor.segment);
         let along = found.progress;
         cursor = moved(kinds, cursor, found.segment);
         let here = flown_within(kinds, fields, tables, cursor, along);

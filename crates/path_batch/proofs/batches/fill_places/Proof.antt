@@ -40,29 +40,29 @@ mul-progress c = search needs
 shared-slice-read-progress : tie.Need-shared-slice-read-progress Inv-loop μ-loop
 shared-slice-read-progress c = search needs
 
-spot-requires : tie.Need-spot-requires Inv-loop μ-loop
-spot-requires c κs = some-path (some-place (c .before .before .before .before .before .before .before .before .before .before .before .pre .path))
+spot-near-requires : tie.Need-spot-near-requires Inv-loop μ-loop
+spot-near-requires c κs = some-path (some-place (c .before .before .before .before .before .before .before .before .before .before .before .pre .path))
 
 moved-requires : tie.Need-moved-requires Inv-loop μ-loop
 moved-requires c κs =
     let l = c .before .before .before .before .loop in
     let start = c .before .before .before .before .before .before .before .before .before .before .before .before .before in
     let a = start .args in
-    looking-moves (start .pre .path) (l .inv .0) _ (c .before .spot .ensures)
+    looking-moves (start .pre .path) (l .inv .0) _ (c .before .spot-near .ensures)
 
 raw-within-requires : tie.Need-raw-within-requires Inv-loop μ-loop
 raw-within-requires c κs =
     let l = c .before .before .before .before .before .loop in
     let start = c .before .before .before .before .before .before .before .before .before .before .before .before .before .before in
     let a = start .args in
-    standing (some-place (start .pre .path)) (c .moved .ensures) (among (start .pre .path) (l .inv .0) _ (c .before .before .spot .ensures))
+    standing (some-place (start .pre .path)) (c .moved .ensures) (among (start .pre .path) (l .inv .0) _ (c .before .before .spot-near .ensures))
 
 cast-segments : tie.Need-cast-segments Inv-loop μ-loop
 cast-segments c =
     let l = c .before .before .before .before .before .before .before .loop in
     let start = c .before .before .before .before .before .before .before .before .before .before .before .before .before .before .before .before in
     let a = start .args in
-    let h = among (start .pre .path) (l .inv .0) _ (c .before .before .before .before .spot .ensures) in
+    let h = among (start .pre .path) (l .inv .0) _ (c .before .before .before .before .spot-near .ensures) in
     let few = start .pre .path .path .few in
     omega arith
 
@@ -116,7 +116,7 @@ loop-again c =
     let l = c .before .before .before .before .before .before .before .before .before .loop in
     let start = c .before .before .before .before .before .before .before .before .before .before .before .before .before .before .before .before .before .before in
     let a = start .args in
-    let spot = c .before .before .before .before .before .before .spot in
+    let spot = c .before .before .before .before .before .before .spot-near in
     let moved = c .before .before .before .before .moved in
     let raw = c .before .before .before .raw-within in
     let p = getD (a .progresses .now) (l .i) nan in
@@ -162,7 +162,7 @@ fill-places-spec =
     loop-holds
     mul-progress
     shared-slice-read-progress
-    spot-requires
+    spot-near-requires
     moved-requires
     raw-within-requires
     cast-segments

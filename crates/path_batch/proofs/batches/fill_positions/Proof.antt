@@ -37,22 +37,22 @@ mul-progress c = search needs
 shared-slice-read-progress : tie.Need-shared-slice-read-progress Inv-loop μ-loop
 shared-slice-read-progress c = search needs
 
-spot-requires : tie.Need-spot-requires Inv-loop μ-loop
-spot-requires c κs = some-path (some-place (c .before .before .before .before .before .before .before .before .before .before .pre .path))
+spot-near-requires : tie.Need-spot-near-requires Inv-loop μ-loop
+spot-near-requires c κs = some-path (some-place (c .before .before .before .before .before .before .before .before .before .before .pre .path))
 
 moved-requires : tie.Need-moved-requires Inv-loop μ-loop
 moved-requires c κs =
     let l = c .before .before .before .before .loop in
     let start = c .before .before .before .before .before .before .before .before .before .before .before .before in
     let a = start .args in
-    looking-moves (start .pre .path) (l .inv .0) _ (c .before .spot .ensures)
+    looking-moves (start .pre .path) (l .inv .0) _ (c .before .spot-near .ensures)
 
 flown-within-requires : tie.Need-flown-within-requires Inv-loop μ-loop
 flown-within-requires c κs =
     let l = c .before .before .before .before .before .loop in
     let start = c .before .before .before .before .before .before .before .before .before .before .before .before .before in
     let a = start .args in
-    seated (start .pre .path) (c .moved .ensures) (among (start .pre .path) (l .inv .0) _ (c .before .before .spot .ensures))
+    seated (start .pre .path) (c .moved .ensures) (among (start .pre .path) (l .inv .0) _ (c .before .before .spot-near .ensures))
 
 mul-put-flown : tie.Need-mul-put-flown Inv-loop μ-loop
 mul-put-flown c =
@@ -83,7 +83,7 @@ loop-again c =
     let l = c .before .before .before .before .before .before .before .before .before .before .loop in
     let start = c .before .before .before .before .before .before .before .before .before .before .before .before .before .before .before .before .before .before in
     let a = start .args in
-    let spot = c .before .before .before .before .before .before .before .spot in
+    let spot = c .before .before .before .before .before .before .before .spot-near in
     let moved = c .before .before .before .before .before .moved in
     let p = getD (a .progresses .now) (l .k) nan in
     let flown = c .before .before .before .before .flown-within .ensures ∙ flight-is (a .kinds .now) (a .fields .now) (a .tables .now) (a .lengths .now) p (spot .result) (moved .result) (spot .ensures) (moved .ensures)
@@ -117,7 +117,7 @@ fill-positions-spec =
     loop-holds
     mul-progress
     shared-slice-read-progress
-    spot-requires
+    spot-near-requires
     moved-requires
     flown-within-requires
     mul-put-flown
