@@ -2,6 +2,8 @@
 // prints how many answers there were and how many differ. `oracle/record query` writes the records to this crate's stdin.
 ghost use Prim.Native.Nat.{_+_, _≤_, _<_};
 ghost use lib.ListN.{length};
+use bezier::Placed;
+use bezier::Turned;
 use path::Building;
 use path_batch::Batch;
 use path_query::Located;
@@ -238,7 +240,21 @@ fn agrees(
     let position = path_query::position(kinds, fields, tables, lengths, progress);
     let tangent = path_query::tangent(kinds, fields, tables, lengths, progress);
     let turned = path_query::rotation_deg(kinds, fields, tables, lengths, progress);
-    same_spot(place, text, line + 8) & same_answers(position, tangent, turned, text, line + 24)
+    holds(place, position, tangent, turned, text, line)
+}
+
+// Whether the line at this place holds these answers.
+fn holds(
+    place: Located,
+    position: Placed,
+    tangent: Placed,
+    turned: Turned,
+    text: &[u8],
+    line: usize,
+) -> bool
+    requires { ⌜ line + 65 ≤ length (now text) ⌝ }
+{
+    same_spot(place, text, line + 8) && same_answers(position, tangent, turned, text, line + 24)
 }
 
 // Whether the line at this place holds these answers of a batch, the four numbers from `at` on among them.
