@@ -1,4 +1,3 @@
 -- The laws of what is given through C.
 pub mod LookupsGiven
 pub mod NumberGiven
-pub mod ReadingGiven

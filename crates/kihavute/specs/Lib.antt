@@ -3,4 +3,3 @@ pub mod Pair
 pub mod Lookups
 pub mod Decimals
 pub mod StrictReading
-pub mod Reading

@@ -1,4 +1,4 @@
-// The C interface's second part: quads, cubics, lines, arcs and splines.
+// The C interface's third part: quads, cubics, lines, arcs and splines.
 mod arcs;
 mod curve_tables;
 mod curves;

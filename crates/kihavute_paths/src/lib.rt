@@ -1,4 +1,4 @@
-// The C interface's third part: paths, built, stored and asked, the station tool, and shapes.
+// The C interface's fourth part: paths, built, stored and asked, the station tool, and shapes.
 mod batches;
 mod listings;
 mod morphs;

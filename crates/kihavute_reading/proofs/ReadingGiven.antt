@@ -16,7 +16,7 @@ use Rattle.svg.specs.declared.reading.Reading.{Reading}
 use Rattle.svg.specs.declared.reading.Reading.the-variants as Reading
 use Rattle.giving.specs.Given.{Given}
 use Rattle.giving.proofs.Giving.{given-same}
-use Rattle.kihavute.specs.Reading.{PathRead}
+use Rattle.kihavute_reading.specs.Reading.{PathRead}
 
 pub reading-given : (reading : Reading) (places count : ℕ) → Reading.Read places count ≡ reading → accepted (places ∷ count ∷ []) ≡ answerOf reading
 reading-given reading places count is = ap answerOf is

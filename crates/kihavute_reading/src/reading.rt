@@ -2,7 +2,7 @@
 ghost use Rattle.svg.specs.Readings.{answerOf};
 ghost use Rattle.commands.specs.Checked.{checkCommandsOf};
 ghost use Rattle.giving.specs.Given.{Given};
-ghost use Rattle.kihavute.specs.Reading.{PathRead};
+ghost use Rattle.kihavute_reading.specs.Reading.{PathRead};
 use answers::Values;
 use commands::Checked;
 use svg::Reading;

@@ -1,8 +1,8 @@
 -- `kihavute_read` meets its contract: the answer's length is judged first, then the reader's own promise is reported. Assumes nothing.
 use borrow.Author.Needs.{needs}
-use Rattle.kihavute.proofs.ReadingGiven.{not-read, read-reported}
-use Rattle.kihavute.proofs.reading.kihavute_read.Statement.{statement}
-use Rattle.kihavute.proofs.reading.kihavute_read.Tie as tie
+use Rattle.kihavute_reading.proofs.ReadingGiven.{not-read, read-reported}
+use Rattle.kihavute_reading.proofs.reading.kihavute_read.Statement.{statement}
+use Rattle.kihavute_reading.proofs.reading.kihavute_read.Tie as tie
 
 returns : tie.Need-returns
 returns c = not-read _ _ _ _ (c .if1 .taken)

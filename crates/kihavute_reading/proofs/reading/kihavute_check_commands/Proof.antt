@@ -2,9 +2,9 @@
 use borrow.Author.Needs.{needs}
 use mathlib.Core.Path.{sym, _∙_}
 use Rattle.giving.proofs.Giving.{given-same}
-use Rattle.kihavute.proofs.ReadingGiven.{check-given, check-refused}
-use Rattle.kihavute.proofs.reading.kihavute_check_commands.Statement.{statement}
-use Rattle.kihavute.proofs.reading.kihavute_check_commands.Tie as tie
+use Rattle.kihavute_reading.proofs.ReadingGiven.{check-given, check-refused}
+use Rattle.kihavute_reading.proofs.reading.kihavute_check_commands.Statement.{statement}
+use Rattle.kihavute_reading.proofs.reading.kihavute_check_commands.Tie as tie
 
 check-commands-requires : tie.Need-check-commands-requires
 check-commands-requires c κs = search needs

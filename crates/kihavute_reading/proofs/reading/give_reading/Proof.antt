@@ -2,9 +2,9 @@
 use borrow.Author.Needs.{needs}
 use mathlib.Core.Path.{sym}
 use Rattle.giving.proofs.Giving.{given-same}
-use Rattle.kihavute.proofs.ReadingGiven.{reading-given, reading-refused}
-use Rattle.kihavute.proofs.reading.give_reading.Statement.{statement}
-use Rattle.kihavute.proofs.reading.give_reading.Tie as tie
+use Rattle.kihavute_reading.proofs.ReadingGiven.{reading-given, reading-refused}
+use Rattle.kihavute_reading.proofs.reading.give_reading.Statement.{statement}
+use Rattle.kihavute_reading.proofs.reading.give_reading.Tie as tie
 
 enum-known-reading : tie.Need-enum-known-reading
 enum-known-reading c = search needs

@@ -1,0 +1,2 @@
+-- The laws of what the reader gives to C.
+pub mod ReadingGiven

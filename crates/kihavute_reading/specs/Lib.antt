@@ -1,0 +1,2 @@
+-- What the reader gives to C.
+pub mod Reading
