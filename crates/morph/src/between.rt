@@ -9,14 +9,14 @@ ghost use Rattle.floats.specs.Floats.{clampOf, zeroF, oneF};
 ghost use Rattle.morph.specs.Shapes.{progressOf, sharedOf, betweenAt};
 
 // A morph's progress, from 0 to 1. A NaN stays.
-pub fn progress(t: f32) -> f32
+pub(crate) fn progress(t: f32) -> f32
     ensures { λ r. ⌜ r ≡ progressOf t ⌝ }
 {
     clamp(t, 0.0, 1.0)
 }
 
 // How many points both shapes have.
-pub fn shared(from: &[f32], to: &[f32]) -> usize
+pub(crate) fn shared(from: &[f32], to: &[f32]) -> usize
     ensures { λ r. ⌜ r ≡ sharedOf (now (from .entry)) (now (to .entry)) ⌝ }
 {
     let first = from.len() / 2;
@@ -25,7 +25,7 @@ pub fn shared(from: &[f32], to: &[f32]) -> usize
 }
 
 // The point number i of the shape between, at a progress that was clamped.
-pub fn between_at(from: &[f32], to: &[f32], along: f32, i: usize) -> Point
+pub(crate) fn between_at(from: &[f32], to: &[f32], along: f32, i: usize) -> Point
     requires { ⌜ i < sharedOf (now from) (now to) ⌝ }
     ensures { λ r. ⌜ r ≡ betweenAt (now (from .entry)) (now (to .entry)) along i ⌝ }
 {

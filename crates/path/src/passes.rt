@@ -88,7 +88,7 @@ fn judge(letters: &[u8], numbers: &[f32]) -> Size
 }
 
 // What a well-formed list builds: the places needed, or its first refusal.
-pub fn measure(letters: &[u8], numbers: &[f32]) -> Size
+pub(crate) fn measure(letters: &[u8], numbers: &[f32]) -> Size
     requires { ⌜ checkCommandsOf (now letters) (now numbers) ≡ accepted [] ⌝ }
     ensures { λ r. ⌜ r ≡ measureOf (builtBy (listed 0 (now (letters .entry)) (now (numbers .entry)))) ⌝ }
 {
@@ -111,7 +111,7 @@ pub fn measure(letters: &[u8], numbers: &[f32]) -> Size
 }
 
 // Stores the path of a well-formed list that builds, from the start of each buffer.
-pub fn fill(
+pub(crate) fn fill(
     letters: &[u8],
     numbers: &[f32],
     kinds: &mut [u8],

@@ -97,7 +97,7 @@ fn judge(text: &[u8]) -> Found
 }
 
 // What a text builds, up to the first refusal of either kind.
-pub fn measure(text: &[u8]) -> Found
+pub(crate) fn measure(text: &[u8]) -> Found
     requires { ⌜ length (now text) ≤ 65536 ⌝ }
     ensures { λ r. ⌜ Finds (now (text .entry)) r ⌝ }
 {
@@ -120,7 +120,7 @@ pub fn measure(text: &[u8]) -> Found
 }
 
 // Stores the path of a text that reads and builds, from the start of each buffer.
-pub fn fill(
+pub(crate) fn fill(
     text: &[u8],
     kinds: &mut [u8],
     fields: &mut [f32],
