@@ -6,15 +6,11 @@ use Rattle.math.specs.Math.{lengthOf}
 use Rattle.math.proofs.points.length.Statement.{statement}
 use Rattle.math.proofs.points.length.Tie as tie
 
-dot-requires : tie.Need-dot-requires
-dot-requires c κs = search needs
-
-sqrt-requires : tie.Need-sqrt-requires
-sqrt-requires c κs = search needs
-
 returns : tie.Need-returns
 unfolding lengthOf
 returns c = c .sqrt .ensures ∙ ap sqrtOf (c .before .dot .ensures)
 
 pub length-spec : {M : Type 1} → statement M
-length-spec = tie.close (tie.spec dot-requires sqrt-requires returns)
+length-spec =
+    tie.close
+    (tie.spec (λ c κs. search needs) (λ c κs. search needs) returns)
