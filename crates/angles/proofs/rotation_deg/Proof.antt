@@ -10,12 +10,6 @@ use Rattle.angles.proofs.rotation_deg.Tie as tie
 returns : tie.Need-returns
 returns c = sym (at-rest (c .before .before .args .tangent) (c .before .if1 .taken) (c .if2 .taken))
 
-atan2-requires : tie.Need-atan2-requires
-atan2-requires c κs = search needs
-
-rad-to-deg-requires : tie.Need-rad-to-deg-requires
-rad-to-deg-requires c κs = search needs
-
 returns-2 : tie.Need-returns-2
 returns-2 c =
     c .rad-to-deg .ensures
@@ -27,4 +21,6 @@ returns-2 c =
     (c .before .before .if1 .came))
 
 pub rotation-deg-spec : {M : Type 1} → statement M
-rotation-deg-spec = tie.close (tie.spec returns atan2-requires rad-to-deg-requires returns-2)
+rotation-deg-spec =
+    tie.close
+    (tie.spec returns (λ c κs. search needs) (λ c κs. search needs) returns-2)

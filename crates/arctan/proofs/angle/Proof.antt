@@ -14,16 +14,10 @@ taken u v left g h = sym (ap (λ (t : Bool). cond t g (fallbackOf u v left)) h)
 left-out : (u v left g : ℕ) → passes u v left g ≡ false → fallbackOf u v left ≡ angleBits u v left g
 left-out u v left g h = sym (ap (λ (t : Bool). cond t g (fallbackOf u v left)) h)
 
-passes-requires : tie.Need-passes-requires
-passes-requires c κs = search needs
-
 returns : tie.Need-returns
 returns c =
     let at = c .before .before .args in
     (taken (at .u) (at .v) (at .left) (at .first) (sym (c .before .passes .ensures) ∙ c .if1 .taken), omega arith)
-
-fallback-requires : tie.Need-fallback-requires
-fallback-requires c κs = search needs
 
 returns-2 : tie.Need-returns-2
 returns-2 c =
@@ -31,4 +25,6 @@ returns-2 c =
     (c .fallback .ensures .0 ∙ left-out (at .u) (at .v) (at .left) (at .first) (sym (c .before .before .passes .ensures) ∙ c .before .if1 .left), omega arith)
 
 pub angle-spec : {M : Type 1} → statement M
-angle-spec = tie.close (tie.spec passes-requires returns fallback-requires returns-2)
+angle-spec =
+    tie.close
+    (tie.spec (λ c κs. search needs) returns (λ c κs. search needs) returns-2)

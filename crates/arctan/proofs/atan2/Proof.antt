@@ -52,14 +52,8 @@ module _ (y x : Float) where
         ∙ sym (ap (λ (t : Bool). cond t (level y (plain x) (signBit y) (signBit x)) (slanted y x (plain y) (plain x) (signBit y) (signBit x))) (ne-eqb (plain y) 0 (λ (e : plain y ≡ 0). z (ap (λ (n : ℕ). n % 9223372036854775808) ec ∙ e))))
         ∙ both-finite h k
 
-is-finite-requires : tie.Need-is-finite-requires
-is-finite-requires c κs = search needs
-
 returns : tie.Need-returns
 returns c = none ∙ nan-first _ _ (sym (c .before .is-finite .ensures) ∙ not-true _ (c .if1 .taken))
-
-is-finite-requires-2 : tie.Need-is-finite-requires-2
-is-finite-requires-2 c κs = search needs
 
 returns-2 : tie.Need-returns-2
 returns-2 c = none ∙ nan-second _ _ (sym (c .before .is-finite2 .ensures) ∙ not-true _ (c .if2 .taken))
@@ -70,24 +64,12 @@ wide-requires c κs = sym (c .before .before .before .is-finite .ensures) ∙ no
 wide-requires-2 : tie.Need-wide-requires-2
 wide-requires-2 c κs = sym (c .before .before .is-finite2 .ensures) ∙ not-false _ (c .before .if2 .left)
 
-cast-sign : tie.Need-cast-sign
-cast-sign c = search needs
-
-cast-left : tie.Need-cast-left
-cast-left c = search needs
-
-axis-requires : tie.Need-axis-requires
-axis-requires c κs = search needs
-
 returns-3 : tie.Need-returns-3
 returns-3 c =
     let at = c .before .before .before .before .before .before .before .before .args in
     let fy = sym (c .before .before .before .before .before .before .before .is-finite .ensures) ∙ not-false _ (c .before .before .before .before .before .before .if1 .left) in
     let fx = sym (c .before .before .before .before .before .is-finite2 .ensures) ∙ not-false _ (c .before .before .before .before .if2 .left) in
     c .axis .ensures ∙ on-axis (at .y) (at .x) _ _ (c .before .before .before .wide .ensures .0) (c .before .before .wide2 .ensures .0) fy fx (c .before .if3 .taken)
-
-slant-requires : tie.Need-slant-requires
-slant-requires c κs = search needs
 
 returns-4 : tie.Need-returns-4
 returns-4 c =
@@ -99,16 +81,5 @@ returns-4 c =
 pub atan2-spec : {M : Type 1} → statement M
 atan2-spec =
     tie.close
-    (tie.spec
-    is-finite-requires
-    returns
-    is-finite-requires-2
-    returns-2
-    wide-requires
-    wide-requires-2
-    cast-sign
-    cast-left
-    axis-requires
-    returns-3
-    slant-requires
-    returns-4)
+    (tie.spec (λ c κs. search needs) returns (λ c κs. search needs) returns-2 wide-requires wide-requires-2
+    (λ c. search needs) (λ c. search needs) (λ c κs. search needs) returns-3 (λ c κs. search needs) returns-4)

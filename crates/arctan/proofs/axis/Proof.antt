@@ -12,12 +12,6 @@ returns c = simp (eq-eqb _ _ (c .if1 .taken))
 returns-2 : tie.Need-returns-2
 returns-2 c = simp (ne-eqb _ _ (c .before .if1 .left), eq-eqb _ _ (c .if2 .taken))
 
-mul-result : tie.Need-mul-result
-mul-result c = search needs
-
-add-result : tie.Need-add-result
-add-result c = search needs
-
 float-from-bits-result : tie.Need-float-from-bits-result
 float-from-bits-result c = no-nan-bits _ (omega arith)
 
@@ -26,4 +20,5 @@ returns-3 c = simp (ne-eqb _ _ (c .before .if1 .left), ne-eqb _ _ (c .if2 .left)
 
 pub axis-spec : {M : Type 1} → statement M
 axis-spec =
-    tie.close (tie.spec returns returns-2 mul-result add-result float-from-bits-result returns-3)
+    tie.close
+    (tie.spec returns returns-2 (λ c. search needs) (λ c. search needs) float-from-bits-result returns-3)

@@ -28,40 +28,10 @@ module _ (y x : Float) (a b s t top u v : ℕ) (et : top ≡ topOf a b) (eu : u 
       ap (λ (n : ℕ). ofBits binary32 (s * 2147483648 + n)) e
       ∙ sym (ap (λ (c : Bool). cond c (div binary32 y x) (ofBits binary32 (s * 2147483648 + angleBits u v t (guessOf a b (ltb v u) t)))) (lt-leb (u * 8192 + t * 1073741824) v h)) ∙ given
 
-larger-requires : tie.Need-larger-requires
-larger-requires c κs = search needs
-
-part-requires : tie.Need-part-requires
-part-requires c κs = search needs
-
-part-requires-2 : tie.Need-part-requires-2
-part-requires-2 c κs = search needs
-
-mul-if1 : tie.Need-mul-if1
-mul-if1 c = search needs
-
-mul-if1-2 : tie.Need-mul-if1-2
-mul-if1-2 c = search needs
-
-add-if1 : tie.Need-add-if1
-add-if1 c = search needs
-
 returns : tie.Need-returns
 returns c =
     let at = c .before .before .before .before .args in
     near (at .y) (at .x) (at .a) (at .b) (at .sign) (at .left) (c .before .before .before .larger .result) (c .before .before .part .result) (c .before .part2 .result) (c .before .before .before .larger .ensures .0) (c .before .before .part .ensures .0) (c .before .part2 .ensures .0) (c .if1 .taken)
-
-mul-result : tie.Need-mul-result
-mul-result c = search needs
-
-guess-requires : tie.Need-guess-requires
-guess-requires c κs = search needs
-
-angle-requires : tie.Need-angle-requires
-angle-requires c κs = search needs
-
-add-result : tie.Need-add-result
-add-result c = search needs
 
 float-from-bits-result : tie.Need-float-from-bits-result
 float-from-bits-result c = no-nan-bits _ (omega arith)
@@ -75,17 +45,6 @@ returns-2 c =
 pub slant-spec : {M : Type 1} → statement M
 slant-spec =
     tie.close
-    (tie.spec
-    larger-requires
-    part-requires
-    part-requires-2
-    mul-if1
-    mul-if1-2
-    add-if1
-    returns
-    mul-result
-    guess-requires
-    angle-requires
-    add-result
-    float-from-bits-result
-    returns-2)
+    (tie.spec (λ c κs. search needs) (λ c κs. search needs) (λ c κs. search needs) (λ c. search needs)
+    (λ c. search needs) (λ c. search needs) returns (λ c. search needs) (λ c κs. search needs) (λ c κs. search needs)
+    (λ c. search needs) float-from-bits-result returns-2)

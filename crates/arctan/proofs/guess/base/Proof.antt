@@ -55,18 +55,6 @@ based u v l h k m = go (decLe u v)
 bit-product : (f l : ℕ) → f ≤ 1 → l ≤ 1 → f * l ≤ 1
 bit-product f l h k = mul-le-mul h k
 
-add-flat : tie.Need-add-flat
-add-flat c = search needs
-
-sub-flat : tie.Need-sub-flat
-sub-flat c = search needs
-
-sub-result : tie.Need-sub-result
-sub-result c = search needs
-
-mul-result : tie.Need-mul-result
-mul-result c = search needs
-
 mul-result-2 : tie.Need-mul-result-2
 mul-result-2 c = record { fits = omega (arith, bit-product _ (c .args .l) (flat-le (c .args .u) (c .args .v) (c .pre .0) (c .pre .1)) (c .pre .2)) }
 
@@ -82,4 +70,5 @@ returns c = let b = based (c .args .u) (c .args .v) (c .args .l) (c .pre .0) (c 
 pub base-spec : {M : Type 1} → statement M
 base-spec =
     tie.close
-    (tie.spec add-flat sub-flat sub-result mul-result mul-result-2 mul-result-3 add-result returns)
+    (tie.spec (λ c. search needs) (λ c. search needs) (λ c. search needs) (λ c. search needs) mul-result-2
+    mul-result-3 add-result returns)

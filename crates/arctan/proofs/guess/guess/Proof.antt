@@ -22,17 +22,8 @@ picked-le false a b p m e h k = omega arith
 signed : (s p : ℕ) → s ≤ 1 → p ≤ 9218868437227405311 → (s * 9223372036854775808 + p) % 9223372036854775808 < 9218868437227405312
 signed s p h k = omega arith
 
-sub-pick : tie.Need-sub-pick
-sub-pick c = search needs
-
-pick-requires : tie.Need-pick-requires
-pick-requires c κs = search needs
-
 mul-n : tie.Need-mul-n
 mul-n c = let s = picked-le (ltb (c .before .args .v) (c .before .args .u)) (1 - c .before .args .left) (c .before .args .left) (c .pick .result) 1 (c .pick .ensures) (omega arith) (omega arith) in record { fits = omega arith }
-
-pick-requires-2 : tie.Need-pick-requires-2
-pick-requires-2 c κs = search needs
 
 add-n : tie.Need-add-n
 add-n c =
@@ -49,26 +40,14 @@ float-from-bits-n c =
     (picked-le (ltb (at .args .v) (at .args .u)) (1 - at .args .left) (at .args .left) (c .before .pick .result) 1 (c .before .pick .ensures) (omega arith) (omega arith))
     (picked-le (ltb (at .args .v) (at .args .u)) (at .args .b) (at .args .a) (c .pick2 .result) 9218868437227405311 (c .pick2 .ensures) (omega arith) (omega arith)))
 
-pick-requires-3 : tie.Need-pick-requires-3
-pick-requires-3 c κs = search needs
-
 float-from-bits-d : tie.Need-float-from-bits-d
 float-from-bits-d c =
     let at = c .before .before .before in
     let p = picked-le (ltb (at .args .v) (at .args .u)) (at .args .a) (at .args .b) (c .pick3 .result) 9218868437227405311 (c .pick3 .ensures) (omega arith) (omega arith) in
     no-nan _ (omega arith)
 
-base-requires : tie.Need-base-requires
-base-requires c κs = search needs
-
 float-from-bits-start : tie.Need-float-from-bits-start
 float-from-bits-start c = no-nan _ (omega arith)
-
-bend-requires : tie.Need-bend-requires
-bend-requires c κs = search needs
-
-near-bits-requires : tie.Need-near-bits-requires
-near-bits-requires c κs = search needs
 
 returns : tie.Need-returns
 unfolding guessOf
@@ -77,17 +56,6 @@ returns c = (cc, c .near-bits .ensures .1, c .near-bits .ensures .2)
 pub guess-spec : {M : Type 1} → statement M
 guess-spec =
     tie.close
-    (tie.spec
-    sub-pick
-    pick-requires
-    mul-n
-    pick-requires-2
-    add-n
-    float-from-bits-n
-    pick-requires-3
-    float-from-bits-d
-    base-requires
-    float-from-bits-start
-    bend-requires
-    near-bits-requires
-    returns)
+    (tie.spec (λ c. search needs) (λ c κs. search needs) mul-n (λ c κs. search needs) add-n float-from-bits-n
+    (λ c κs. search needs) float-from-bits-d (λ c κs. search needs) float-from-bits-start (λ c κs. search needs)
+    (λ c κs. search needs) returns)

@@ -36,27 +36,11 @@ returns-2 c = (simp (lt-ltb _ _ (c .if2 .taken)) at (at-number _ (is-number _ (c
 returns-3 : tie.Need-returns-3
 returns-3 c = (simp (le-ltb _ _ (c .before .if2 .left), lt-ltb _ _ (c .if3 .taken)) at (at-number _ (is-number _ (c .before .before .if1 .left))), omega arith, omega arith)
 
-sub-result : tie.Need-sub-result
-sub-result c = search needs
-
-add-result : tie.Need-add-result
-add-result c = search needs
-
-cast-result : tie.Need-cast-result
-cast-result c = search needs
-
 returns-4 : tie.Need-returns-4
 returns-4 c = (simp (le-ltb _ _ (c .before .if2 .left), le-ltb _ _ (c .if3 .left)) at (at-number _ (is-number _ (c .before .before .if1 .left))), omega arith, omega arith)
 
 pub near-bits-spec : {M : Type 1} → statement M
 near-bits-spec =
     tie.close
-    (tie.spec
-    returns
-    float-to-bits-b
-    returns-2
-    returns-3
-    sub-result
-    add-result
-    cast-result
+    (tie.spec returns float-to-bits-b returns-2 returns-3 (λ c. search needs) (λ c. search needs) (λ c. search needs)
     returns-4)

@@ -11,15 +11,6 @@ use Rattle.arctan.proofs.scale.part.Tie as tie
 few : (b d : ℕ) → (b % 4503599627370496 + 4503599627370496) / 8388608 / 2 ^ d < 1073741824
 few b d = lt-of-le-of-lt (shr-le ((b % 4503599627370496 + 4503599627370496) / 8388608) d) (omega arith)
 
-sub-d : tie.Need-sub-d
-sub-d c = search needs
-
-add-result : tie.Need-add-result
-add-result c = search needs
-
-shr-result : tie.Need-shr-result
-shr-result c = search needs
-
 returns : tie.Need-returns
 returns c = (simp (lt-ltb _ _ (c .if1 .taken)), few (c .before .args .b) _)
 
@@ -27,4 +18,6 @@ returns-2 : tie.Need-returns-2
 returns-2 c = (simp (le-ltb _ _ (c .if1 .left)), omega arith)
 
 pub part-spec : {M : Type 1} → statement M
-part-spec = tie.close (tie.spec sub-d add-result shr-result returns returns-2)
+part-spec =
+    tie.close
+    (tie.spec (λ c. search needs) (λ c. search needs) (λ c. search needs) returns returns-2)

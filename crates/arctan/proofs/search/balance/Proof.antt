@@ -9,23 +9,8 @@ use Rattle.arctan.proofs.Weighed.{ahead-is, behind-is}
 use Rattle.arctan.proofs.search.balance.Statement.{statement}
 use Rattle.arctan.proofs.search.balance.Tie as tie
 
-placed-requires : tie.Need-placed-requires
-placed-requires c κs = search needs
-
 sides-requires : tie.Need-sides-requires
 sides-requires c κs = le-trans (le-of-eq (c .placed .ensures .0)) (under-half (c .before .args .b) (c .before .pre .2) (c .before .pre .3))
-
-side-requires : tie.Need-side-requires
-side-requires c κs = search needs
-
-both-requires : tie.Need-both-requires
-both-requires c κs = search needs
-
-side-requires-2 : tie.Need-side-requires-2
-side-requires-2 c κs = search needs
-
-both-requires-2 : tie.Need-both-requires-2
-both-requires-2 c κs = search needs
 
 returns : tie.Need-returns
 returns c =
@@ -40,11 +25,5 @@ returns c =
 pub balance-spec : {M : Type 1} → statement M
 balance-spec =
     tie.close
-    (tie.spec
-    placed-requires
-    sides-requires
-    side-requires
-    both-requires
-    side-requires-2
-    both-requires-2
-    returns)
+    (tie.spec (λ c κs. search needs) sides-requires (λ c κs. search needs) (λ c κs. search needs)
+    (λ c κs. search needs) (λ c κs. search needs) returns)

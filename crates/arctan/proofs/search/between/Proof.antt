@@ -26,27 +26,15 @@ module _ (u v left from to : ℕ) where
       sym (ap (λ (t : Bool). cond t (cond (aheadAt u v left to) to (nearer u v left (climb (aheadAt u v left) to 27 from))) from) h
       ∙ ap (λ (t : Bool). cond t to (nearer u v left (climb (aheadAt u v left) to 27 from))) k)
 
-ahead-at-requires : tie.Need-ahead-at-requires
-ahead-at-requires c κs = search needs
-
 returns : tie.Need-returns
 returns c =
     let at = c .before .before .args in
     (at-first (at .u) (at .v) (at .left) (at .from) (at .to) (sym (c .before .ahead-at .ensures) ∙ not-true _ (c .if1 .taken)), omega arith)
 
-ahead-at-requires-2 : tie.Need-ahead-at-requires-2
-ahead-at-requires-2 c κs = search needs
-
 returns-2 : tie.Need-returns-2
 returns-2 c =
     let at = c .before .before .before .before .args in
     (at-last (at .u) (at .v) (at .left) (at .from) (at .to) (sym (c .before .before .before .ahead-at .ensures) ∙ not-false _ (c .before .before .if1 .left)) (sym (c .before .ahead-at2 .ensures) ∙ c .if2 .taken), omega arith)
-
-climb-requires : tie.Need-climb-requires
-climb-requires c κs = search needs
-
-nearer-requires : tie.Need-nearer-requires
-nearer-requires c κs = search needs
 
 returns-3 : tie.Need-returns-3
 returns-3 c =
@@ -59,11 +47,5 @@ returns-3 c =
 pub between-spec : {M : Type 1} → statement M
 between-spec =
     tie.close
-    (tie.spec
-    ahead-at-requires
-    returns
-    ahead-at-requires-2
-    returns-2
-    climb-requires
-    nearer-requires
-    returns-3)
+    (tie.spec (λ c κs. search needs) returns (λ c κs. search needs) returns-2 (λ c κs. search needs)
+    (λ c κs. search needs) returns-3)

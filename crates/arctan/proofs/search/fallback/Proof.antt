@@ -5,18 +5,9 @@ use Rattle.bearing.specs.Steps.{fallbackOf}
 use Rattle.arctan.proofs.search.fallback.Statement.{statement}
 use Rattle.arctan.proofs.search.fallback.Tie as tie
 
-between-requires : tie.Need-between-requires
-between-requires c κs = search needs
-
 returns : tie.Need-returns
 unfolding fallbackOf
 returns c = (simp (lt-ltb _ _ (c .before .if1 .taken)) (c .between .ensures .0), c .between .ensures .1)
-
-between-requires-2 : tie.Need-between-requires-2
-between-requires-2 c κs = search needs
-
-between-requires-3 : tie.Need-between-requires-3
-between-requires-3 c κs = search needs
 
 returns-2 : tie.Need-returns-2
 unfolding fallbackOf
@@ -29,4 +20,4 @@ returns-3 c = (simp (le-ltb _ _ (c .before .before .if1 .left), ne-eqb _ _ (c .b
 pub fallback-spec : {M : Type 1} → statement M
 fallback-spec =
     tie.close
-    (tie.spec between-requires returns between-requires-2 between-requires-3 returns-2 returns-3)
+    (tie.spec (λ c κs. search needs) returns (λ c κs. search needs) (λ c κs. search needs) returns-2 returns-3)

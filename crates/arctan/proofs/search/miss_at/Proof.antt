@@ -14,12 +14,6 @@ apart-up a b h = sym (ap (λ (t : Bool). cond t (b - a) (a - b)) (le-leb a b h))
 apart-down : (a b : ℕ) → b < a → a - b ≡ apart a b
 apart-down a b h = sym (ap (λ (t : Bool). cond t (b - a) (a - b)) (lt-leb a b h))
 
-balance-requires : tie.Need-balance-requires
-balance-requires c κs = search needs
-
-sub-result : tie.Need-sub-result
-sub-result c = search needs
-
 returns : tie.Need-returns
 unfolding missAt
 returns c =
@@ -33,4 +27,6 @@ returns-2 c =
     apart-down (s .result .behind) (s .result .ahead) (c .before .if1 .left) ∙ ap (λ (n : ℕ). apart n (s .result .ahead)) (s .ensures .1) ∙ ap (apart _) (s .ensures .0)
 
 pub miss-at-spec : {M : Type 1} → statement M
-miss-at-spec = tie.close (tie.spec balance-requires sub-result returns returns-2)
+miss-at-spec =
+    tie.close
+    (tie.spec (λ c κs. search needs) (λ c. search needs) returns returns-2)

@@ -15,18 +15,6 @@ first u v left t m n e f h = sym (ap (λ (b : Bool). cond b t (t + 1)) (le-leb (
 second : (u v left t m n : ℕ) → m ≡ missAt u v left t → n ≡ missAt u v left (t + 1) → n < m → t + 1 ≡ nearer u v left t
 second u v left t m n e f h = sym (ap (λ (b : Bool). cond b t (t + 1)) (lt-leb (missAt u v left t) (missAt u v left (t + 1)) (subst (λ (k : ℕ). missAt u v left (t + 1) < k) e (subst (λ (k : ℕ). k < m) f h))))
 
-miss-at-requires : tie.Need-miss-at-requires
-miss-at-requires c κs = search needs
-
-add-miss-at : tie.Need-add-miss-at
-add-miss-at c = search needs
-
-miss-at-requires-2 : tie.Need-miss-at-requires-2
-miss-at-requires-2 c κs = search needs
-
-add-result : tie.Need-add-result
-add-result c = search needs
-
 returns : tie.Need-returns
 returns c =
     let at = c .before .before .before .args in
@@ -40,4 +28,4 @@ returns-2 c =
 pub nearer-spec : {M : Type 1} → statement M
 nearer-spec =
     tie.close
-    (tie.spec miss-at-requires add-miss-at miss-at-requires-2 add-result returns returns-2)
+    (tie.spec (λ c κs. search needs) (λ c. search needs) (λ c κs. search needs) (λ c. search needs) returns returns-2)

@@ -24,9 +24,6 @@ shifted k h = ap (λ (n : ℕ). n % 4294967296) (one-mul (2 ^ k)) ∙ mod-eq-of-
     suc-le : {a : ℕ} → a ≤ 2 ^ 26 → a < 67108865
     suc-le l = omega arith
 
-shl-m : tie.Need-shl-m
-shl-m c = search needs
-
 add-m : tie.Need-add-m
 add-m c = record { fits = omega (arith, shifted (c .args .k) (c .pre .5), few (c .args .k) (c .pre .5)) }
 
@@ -66,4 +63,6 @@ returns-3 c =
     (kept (at .t) (at .t + 2 ^ at .k) (at .to) _ (sym (ap (λ (n : ℕ). aheadAt (at .u) (at .v) (at .left) (at .t + n)) s) ∙ sym (c .before .ahead-at .ensures) ∙ c .if2 .left), omega arith, omega arith)
 
 pub stride-spec : {M : Type 1} → statement M
-stride-spec = tie.close (tie.spec shl-m add-m returns ahead-at-requires returns-2 returns-3)
+stride-spec =
+    tie.close
+    (tie.spec (λ c. search needs) add-m returns ahead-at-requires returns-2 returns-3)

@@ -36,48 +36,6 @@ module _ (u v left flip cu cd su sd A B F G : ℕ) (ea : A ≡ u * cu + v * cond
       (leb (v * cond (eqb left 0) cd cu + u * cond (eqb flip 0) sd su + 900 * (u + v)) (v * cond (eqb left 0) cu cd + u * cond (eqb flip 0) su sd)) h
       ∙ rw (ea, eb)
 
-add-limit : tie.Need-add-limit
-add-limit c = search needs
-
-mul-limit : tie.Need-mul-limit
-mul-limit c = search needs
-
-side-requires : tie.Need-side-requires
-side-requires c κs = search needs
-
-both-requires : tie.Need-both-requires
-both-requires c κs = search needs
-
-side-requires-2 : tie.Need-side-requires-2
-side-requires-2 c κs = search needs
-
-both-requires-2 : tie.Need-both-requires-2
-both-requires-2 c κs = search needs
-
-near-requires : tie.Need-near-requires
-near-requires c κs = search needs
-
-side-requires-3 : tie.Need-side-requires-3
-side-requires-3 c κs = search needs
-
-side-requires-4 : tie.Need-side-requires-4
-side-requires-4 c κs = search needs
-
-both-requires-3 : tie.Need-both-requires-3
-both-requires-3 c κs = search needs
-
-side-requires-5 : tie.Need-side-requires-5
-side-requires-5 c κs = search needs
-
-side-requires-6 : tie.Need-side-requires-6
-side-requires-6 c κs = search needs
-
-both-requires-4 : tie.Need-both-requires-4
-both-requires-4 c κs = search needs
-
-add-result : tie.Need-add-result
-add-result c = search needs
-
 returns : tie.Need-returns
 returns c =
     let at = c .before .before .before .before .before .before .before .before .before .before .before .before .args in
@@ -105,20 +63,7 @@ returns-2 c =
 pub judged-spec : {M : Type 1} → statement M
 judged-spec =
     tie.close
-    (tie.spec
-    add-limit
-    mul-limit
-    side-requires
-    both-requires
-    side-requires-2
-    both-requires-2
-    near-requires
-    side-requires-3
-    side-requires-4
-    both-requires-3
-    side-requires-5
-    side-requires-6
-    both-requires-4
-    add-result
-    returns
-    returns-2)
+    (tie.spec (λ c. search needs) (λ c. search needs) (λ c κs. search needs) (λ c κs. search needs)
+    (λ c κs. search needs) (λ c κs. search needs) (λ c κs. search needs) (λ c κs. search needs) (λ c κs. search needs)
+    (λ c κs. search needs) (λ c κs. search needs) (λ c κs. search needs) (λ c κs. search needs) (λ c. search needs)
+    returns returns-2)

@@ -4,12 +4,6 @@ use borrow.Author.Tests.{le-leb, lt-leb}
 use Rattle.arctan.proofs.test.near.Statement.{statement}
 use Rattle.arctan.proofs.test.near.Tie as tie
 
-add-if1 : tie.Need-add-if1
-add-if1 c = search needs
-
-add-result : tie.Need-add-result
-add-result c = search needs
-
 returns : tie.Need-returns
 returns c = simp (le-leb _ _ (c .if1 .taken))
 
@@ -17,4 +11,6 @@ returns-2 : tie.Need-returns-2
 returns-2 c = simp (lt-leb _ _ (c .if1 .left))
 
 pub near-spec : {M : Type 1} → statement M
-near-spec = tie.close (tie.spec add-if1 add-result returns returns-2)
+near-spec =
+    tie.close
+    (tie.spec (λ c. search needs) (λ c. search needs) returns returns-2)

@@ -33,17 +33,8 @@ only-pi b l h k = elim (eq-or-lt-of-le h) [
     before : b < 1078530011 → b ≤ 1078530010
     before g = omega arith
 
-placed-requires : tie.Need-placed-requires
-placed-requires c κs = search needs
-
-sides-requires : tie.Need-sides-requires
-sides-requires c κs = search needs
-
 judged-requires : tie.Need-judged-requires
 judged-requires c κs = (c .before .before .before .pre .0, c .before .before .before .pre .1, c .sides .ensures .bounded)
-
-past-pi-requires : tie.Need-past-pi-requires
-past-pi-requires c κs = search needs
 
 judged-requires-2 : tie.Need-judged-requires-2
 judged-requires-2 c κs = (c .before .before .before .pre .0, c .before .before .before .pre .1, c .past-pi .ensures .bounded)
@@ -66,11 +57,5 @@ returns-2 c =
 pub passes-spec : {M : Type 1} → statement M
 passes-spec =
     tie.close
-    (tie.spec
-    placed-requires
-    sides-requires
-    judged-requires
-    past-pi-requires
-    judged-requires-2
-    returns
-    returns-2)
+    (tie.spec (λ c κs. search needs) (λ c κs. search needs) judged-requires (λ c κs. search needs) judged-requires-2
+    returns returns-2)

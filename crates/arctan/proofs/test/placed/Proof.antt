@@ -11,25 +11,13 @@ use Rattle.arctan.proofs.test.placed.Tie as tie
 placed-le : (b : ℕ) → 947912704 ≤ b → b ≤ 1078530011 → fixedOf b ≤ fixedOf 1078530011
 placed-le b l h = fixed-mono b 1078530011 (le-trans (lit≤ tt) l) h
 
-add-m : tie.Need-add-m
-add-m c = search needs
-
-cast-m : tie.Need-cast-m
-cast-m c = search needs
-
-sub-result : tie.Need-sub-result
-sub-result c = search needs
-
-cast-result : tie.Need-cast-result
-cast-result c = search needs
-
-shl-result : tie.Need-shl-result
-shl-result c = search needs
-
 returns : tie.Need-returns
 returns c =
     let h = placed-le (c .args .b) (c .pre .0) (c .pre .1) in
     (mod-eq-of-lt (lt-of-le-of-lt h (lit< tt)), lt-of-le-of-lt (mod-le _ _) (lt-of-le-of-lt h (lit< tt)))
 
 pub placed-spec : {M : Type 1} → statement M
-placed-spec = tie.close (tie.spec add-m cast-m sub-result cast-result shl-result returns)
+placed-spec =
+    tie.close
+    (tie.spec (λ c. search needs) (λ c. search needs) (λ c. search needs) (λ c. search needs) (λ c. search needs)
+    returns)

@@ -40,18 +40,6 @@ sums-at r cp cm sp sm h ecp ecm esp esm =
       };
     }
 
-cosine-sides-requires : tie.Need-cosine-sides-requires
-cosine-sides-requires c κs = search needs
-
-sine-sides-requires : tie.Need-sine-sides-requires
-sine-sides-requires c κs = search needs
-
-mul-t5 : tie.Need-mul-t5
-mul-t5 c = search needs
-
-mul-t6 : tie.Need-mul-t6
-mul-t6 c = search needs
-
 mul-t7 : tie.Need-mul-t7
 mul-t7 c = record { fits = omega (arith, cut-product (c .before .before .before .before .before .args .r) (c .before .before .before .sine-sides .result .plus) (c .before .before .before .before .before .pre) (c .before .before .before .sine-sides .ensures .2)) }
 
@@ -68,4 +56,5 @@ returns c =
 pub sides-spec : {M : Type 1} → statement M
 sides-spec =
     tie.close
-    (tie.spec cosine-sides-requires sine-sides-requires mul-t5 mul-t6 mul-t7 mul-t9 returns)
+    (tie.spec (λ c κs. search needs) (λ c κs. search needs) (λ c. search needs) (λ c. search needs) mul-t7 mul-t9
+    returns)
