@@ -8,15 +8,6 @@ use Rattle.arguments.proofs.Starts.{radius-starts}
 use Rattle.arguments.proofs.groups.arc.Statement.{statement}
 use Rattle.arguments.proofs.groups.arc.Tie as tie
 
-read-number-requires : tie.Need-read-number-requires
-read-number-requires c κs = search needs
-
-past-separator-requires : tie.Need-past-separator-requires
-past-separator-requires c κs = search needs
-
-arc-from-radius-requires : tie.Need-arc-from-radius-requires
-arc-from-radius-requires c κs = search needs
-
 returns : tie.Need-returns
 unfolding elliptical-arc-argument arc-from-radius arc-from-rotation arc-from-large-flag arc-from-sweep-flag
 returns c =
@@ -24,4 +15,6 @@ returns c =
     step text (omega arith) (number text) (arc-from-radius text) (radius-starts text) _ _ _ _ (c .before .before .read-number .ensures) (c .before .past-separator .ensures) (c .arc-from-radius .ensures)
 
 pub arc-spec : {M : Type 1} → statement M
-arc-spec = tie.close (tie.spec read-number-requires past-separator-requires arc-from-radius-requires returns)
+arc-spec =
+    tie.close
+    (tie.spec (λ c κs. search needs) (λ c κs. search needs) (λ c κs. search needs) returns)

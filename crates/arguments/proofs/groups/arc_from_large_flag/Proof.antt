@@ -8,15 +8,6 @@ use Rattle.arguments.proofs.Starts.{sweep-flag-starts}
 use Rattle.arguments.proofs.groups.arc_from_large_flag.Statement.{statement}
 use Rattle.arguments.proofs.groups.arc_from_large_flag.Tie as tie
 
-read-flag-requires : tie.Need-read-flag-requires
-read-flag-requires c κs = search needs
-
-past-separator-requires : tie.Need-past-separator-requires
-past-separator-requires c κs = search needs
-
-arc-from-sweep-flag-requires : tie.Need-arc-from-sweep-flag-requires
-arc-from-sweep-flag-requires c κs = search needs
-
 returns : tie.Need-returns
 unfolding arc-from-large-flag
 returns c =
@@ -24,4 +15,6 @@ returns c =
     step text (omega arith) (flag text) (arc-from-sweep-flag text) (sweep-flag-starts text) _ _ _ _ (c .before .before .read-flag .ensures) (c .before .past-separator .ensures) (c .arc-from-sweep-flag .ensures)
 
 pub arc-from-large-flag-spec : {M : Type 1} → statement M
-arc-from-large-flag-spec = tie.close (tie.spec read-flag-requires past-separator-requires arc-from-sweep-flag-requires returns)
+arc-from-large-flag-spec =
+    tie.close
+    (tie.spec (λ c κs. search needs) (λ c κs. search needs) (λ c κs. search needs) returns)

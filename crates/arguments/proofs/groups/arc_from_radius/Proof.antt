@@ -8,15 +8,6 @@ use Rattle.arguments.proofs.Starts.{rotation-starts}
 use Rattle.arguments.proofs.groups.arc_from_radius.Statement.{statement}
 use Rattle.arguments.proofs.groups.arc_from_radius.Tie as tie
 
-read-number-requires : tie.Need-read-number-requires
-read-number-requires c κs = search needs
-
-past-separator-requires : tie.Need-past-separator-requires
-past-separator-requires c κs = search needs
-
-arc-from-rotation-requires : tie.Need-arc-from-rotation-requires
-arc-from-rotation-requires c κs = search needs
-
 returns : tie.Need-returns
 unfolding arc-from-radius
 returns c =
@@ -24,4 +15,6 @@ returns c =
     step text (omega arith) (number text) (arc-from-rotation text) (rotation-starts text) _ _ _ _ (c .before .before .read-number .ensures) (c .before .past-separator .ensures) (c .arc-from-rotation .ensures)
 
 pub arc-from-radius-spec : {M : Type 1} → statement M
-arc-from-radius-spec = tie.close (tie.spec read-number-requires past-separator-requires arc-from-rotation-requires returns)
+arc-from-radius-spec =
+    tie.close
+    (tie.spec (λ c κs. search needs) (λ c κs. search needs) (λ c κs. search needs) returns)

@@ -8,15 +8,6 @@ use Rattle.arguments.proofs.Starts.{large-flag-starts}
 use Rattle.arguments.proofs.groups.arc_from_rotation.Statement.{statement}
 use Rattle.arguments.proofs.groups.arc_from_rotation.Tie as tie
 
-read-number-requires : tie.Need-read-number-requires
-read-number-requires c κs = search needs
-
-past-separator-requires : tie.Need-past-separator-requires
-past-separator-requires c κs = search needs
-
-arc-from-large-flag-requires : tie.Need-arc-from-large-flag-requires
-arc-from-large-flag-requires c κs = search needs
-
 returns : tie.Need-returns
 unfolding arc-from-rotation
 returns c =
@@ -24,4 +15,6 @@ returns c =
     step text (omega arith) (number text) (arc-from-large-flag text) (large-flag-starts text) _ _ _ _ (c .before .before .read-number .ensures) (c .before .past-separator .ensures) (c .arc-from-large-flag .ensures)
 
 pub arc-from-rotation-spec : {M : Type 1} → statement M
-arc-from-rotation-spec = tie.close (tie.spec read-number-requires past-separator-requires arc-from-large-flag-requires returns)
+arc-from-rotation-spec =
+    tie.close
+    (tie.spec (λ c κs. search needs) (λ c κs. search needs) (λ c κs. search needs) returns)

@@ -8,15 +8,6 @@ use Rattle.arguments.proofs.Starts.{pair-starts}
 use Rattle.arguments.proofs.groups.arc_from_sweep_flag.Statement.{statement}
 use Rattle.arguments.proofs.groups.arc_from_sweep_flag.Tie as tie
 
-read-flag-requires : tie.Need-read-flag-requires
-read-flag-requires c κs = search needs
-
-past-separator-requires : tie.Need-past-separator-requires
-past-separator-requires c κs = search needs
-
-pair-requires : tie.Need-pair-requires
-pair-requires c κs = search needs
-
 returns : tie.Need-returns
 unfolding arc-from-sweep-flag
 returns c =
@@ -24,4 +15,6 @@ returns c =
     step text (omega arith) (flag text) (coordinate-pair text) (pair-starts text) _ _ _ _ (c .before .before .read-flag .ensures) (c .before .past-separator .ensures) (c .pair .ensures)
 
 pub arc-from-sweep-flag-spec : {M : Type 1} → statement M
-arc-from-sweep-flag-spec = tie.close (tie.spec read-flag-requires past-separator-requires pair-requires returns)
+arc-from-sweep-flag-spec =
+    tie.close
+    (tie.spec (λ c κs. search needs) (λ c κs. search needs) (λ c κs. search needs) returns)

@@ -7,19 +7,12 @@ use Rattle.arguments.proofs.Starts.{two-pairs-starts}
 use Rattle.arguments.proofs.groups.three_pairs.Statement.{statement}
 use Rattle.arguments.proofs.groups.three_pairs.Tie as tie
 
-pair-requires : tie.Need-pair-requires
-pair-requires c κs = search needs
-
-past-separator-requires : tie.Need-past-separator-requires
-past-separator-requires c κs = search needs
-
-two-pairs-requires : tie.Need-two-pairs-requires
-two-pairs-requires c κs = search needs
-
 returns : tie.Need-returns
 returns c =
     let text = c .before .before .before .before .args .text .now in
     step text (omega arith) (coordinate-pair text) (smooth-curveto-argument text) (two-pairs-starts text) _ _ _ _ (c .before .before .pair .ensures) (c .before .past-separator .ensures) (c .two-pairs .ensures)
 
 pub three-pairs-spec : {M : Type 1} → statement M
-three-pairs-spec = tie.close (tie.spec pair-requires past-separator-requires two-pairs-requires returns)
+three-pairs-spec =
+    tie.close
+    (tie.spec (λ c κs. search needs) (λ c κs. search needs) (λ c κs. search needs) returns)

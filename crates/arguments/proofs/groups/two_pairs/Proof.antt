@@ -7,19 +7,12 @@ use Rattle.arguments.proofs.Starts.{pair-starts}
 use Rattle.arguments.proofs.groups.two_pairs.Statement.{statement}
 use Rattle.arguments.proofs.groups.two_pairs.Tie as tie
 
-pair-requires : tie.Need-pair-requires
-pair-requires c κs = search needs
-
-past-separator-requires : tie.Need-past-separator-requires
-past-separator-requires c κs = search needs
-
-pair-requires-2 : tie.Need-pair-requires-2
-pair-requires-2 c κs = search needs
-
 returns : tie.Need-returns
 returns c =
     let text = c .before .before .before .before .args .text .now in
     step text (omega arith) (coordinate-pair text) (coordinate-pair text) (pair-starts text) _ _ _ _ (c .before .before .pair .ensures) (c .before .past-separator .ensures) (c .pair2 .ensures)
 
 pub two-pairs-spec : {M : Type 1} → statement M
-two-pairs-spec = tie.close (tie.spec pair-requires past-separator-requires pair-requires-2 returns)
+two-pairs-spec =
+    tie.close
+    (tie.spec (λ c κs. search needs) (λ c κs. search needs) (λ c κs. search needs) returns)

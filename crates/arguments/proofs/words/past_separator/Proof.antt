@@ -6,15 +6,6 @@ use Rattle.grammar.specs.Words.{pastSeparatorOf}
 use Rattle.arguments.proofs.words.past_separator.Statement.{statement}
 use Rattle.arguments.proofs.words.past_separator.Tie as tie
 
-past-white-requires : tie.Need-past-white-requires
-past-white-requires c κs = search needs
-
-past-comma-requires : tie.Need-past-comma-requires
-past-comma-requires c κs = search needs
-
-past-white-requires-2 : tie.Need-past-white-requires-2
-past-white-requires-2 c κs = search needs
-
 returns : tie.Need-returns
 unfolding pastSeparatorOf
 returns c =
@@ -23,4 +14,6 @@ returns c =
     ∙ ap (pastWhiteOf text) (c .before .past-comma .ensures ∙ ap (pastCommaOf text) (c .before .before .past-white .ensures))
 
 pub past-separator-spec : {M : Type 1} → statement M
-past-separator-spec = tie.close (tie.spec past-white-requires past-comma-requires past-white-requires-2 returns)
+past-separator-spec =
+    tie.close
+    (tie.spec (λ c κs. search needs) (λ c κs. search needs) (λ c κs. search needs) returns)

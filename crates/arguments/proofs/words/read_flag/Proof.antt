@@ -8,15 +8,6 @@ use Rattle.arguments.proofs.Steps.{flag-taken, flag-left}
 use Rattle.arguments.proofs.words.read_flag.Statement.{statement}
 use Rattle.arguments.proofs.words.read_flag.Tie as tie
 
-shared-slice-read-is-flag : tie.Need-shared-slice-read-is-flag
-shared-slice-read-is-flag c = search needs
-
-is-flag-requires : tie.Need-is-flag-requires
-is-flag-requires c κs = search needs
-
-add-result : tie.Need-add-result
-add-result c = search needs
-
 returns : tie.Need-returns
 returns c = flag-taken (c .before .before .before .before .before .args .text .now) (omega arith) _ (stands-inside flags _ _ (search needs) ∙ (sym (c .before .is-flag .ensures) ∙ c .if2 .taken))
 
@@ -27,4 +18,6 @@ returns-3 : tie.Need-returns-3
 returns-3 c = flag-left (c .before .before .args .text .now) (omega arith) _ (stands-past flags _ _ (search needs))
 
 pub read-flag-spec : {M : Type 1} → statement M
-read-flag-spec = tie.close (tie.spec shared-slice-read-is-flag is-flag-requires add-result returns returns-2 returns-3)
+read-flag-spec =
+    tie.close
+    (tie.spec (λ c. search needs) (λ c κs. search needs) (λ c. search needs) returns returns-2 returns-3)

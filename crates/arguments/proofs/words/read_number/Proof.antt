@@ -6,18 +6,6 @@ use Rattle.arguments.proofs.Steps.{scanned-reads, bare-reads, none-read
 use Rattle.arguments.proofs.words.read_number.Statement.{statement}
 use Rattle.arguments.proofs.words.read_number.Tie as tie
 
-scan-number-requires : tie.Need-scan-number-requires
-scan-number-requires c κs = search needs
-
-enum-known-places : tie.Need-enum-known-places
-enum-known-places c = search needs
-
-enum-known-mark : tie.Need-enum-known-mark
-enum-known-mark c = search needs
-
-enum-told : tie.Need-enum-told
-enum-told c = search needs
-
 returns : tie.Need-returns
 returns c = scanned-reads (c .before .before .before .before .before .args .text .now) (omega arith) _ _ (sym (c .before .before .before .scan-number .ensures) ∙ c .before .places .given .1)
 
@@ -29,4 +17,6 @@ returns-3 c = none-reads (c .before .before .before .before .args .text .now) (o
 
 pub read-number-spec : {M : Type 1} → statement M
 read-number-spec =
-    tie.close (tie.spec scan-number-requires enum-known-places enum-known-mark enum-told returns returns-2 returns-3)
+    tie.close
+    (tie.spec (λ c κs. search needs) (λ c. search needs) (λ c. search needs) (λ c. search needs) returns returns-2
+    returns-3)

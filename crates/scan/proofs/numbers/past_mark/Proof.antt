@@ -5,18 +5,6 @@ use Rattle.scan.proofs.NumberLaws.{mark-taken, mark-left, mark-end}
 use Rattle.scan.proofs.numbers.past_mark.Statement.{statement}
 use Rattle.scan.proofs.numbers.past_mark.Tie as tie
 
-shared-slice-read-is-exponent-mark : tie.Need-shared-slice-read-is-exponent-mark
-shared-slice-read-is-exponent-mark c = search needs
-
-is-exponent-mark-requires : tie.Need-is-exponent-mark-requires
-is-exponent-mark-requires c κs = search needs
-
-add-past-sign : tie.Need-add-past-sign
-add-past-sign c = search needs
-
-past-sign-requires : tie.Need-past-sign-requires
-past-sign-requires c κs = search needs
-
 returns : tie.Need-returns
 returns c =
     c .past-sign .ensures ∙ mark-taken _ _ (search needs) (sym (c .before .before .is-exponent-mark .ensures) ∙ c .before .if2 .taken)
@@ -30,4 +18,5 @@ returns-3 c = mark-end _ _ (search needs)
 pub past-mark-spec : {M : Type 1} → statement M
 past-mark-spec =
     tie.close
-    (tie.spec shared-slice-read-is-exponent-mark is-exponent-mark-requires add-past-sign past-sign-requires returns returns-2 returns-3)
+    (tie.spec (λ c. search needs) (λ c κs. search needs) (λ c. search needs) (λ c κs. search needs) returns returns-2
+    returns-3)

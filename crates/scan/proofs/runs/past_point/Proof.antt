@@ -7,12 +7,6 @@ use Rattle.scan.proofs.RunLaws.{one-taken, one-left, one-end}
 use Rattle.scan.proofs.runs.past_point.Statement.{statement}
 use Rattle.scan.proofs.runs.past_point.Tie as tie
 
-shared-slice-read-if2 : tie.Need-shared-slice-read-if2
-shared-slice-read-if2 c = search needs
-
-add-result : tie.Need-add-result
-add-result c = search needs
-
 returns : tie.Need-returns
 returns c = one-taken points _ _ (search needs) (alone-is _ _ (c .if2 .taken))
 
@@ -23,4 +17,6 @@ returns-3 : tie.Need-returns-3
 returns-3 c = one-end points _ _ (search needs)
 
 pub past-point-spec : {M : Type 1} → statement M
-past-point-spec = tie.close (tie.spec shared-slice-read-if2 add-result returns returns-2 returns-3)
+past-point-spec =
+    tie.close
+    (tie.spec (λ c. search needs) (λ c. search needs) returns returns-2 returns-3)

@@ -17,15 +17,6 @@ Inv-loop text at i₀ i = pastSeparatorsOf text i ≡ pastSeparatorsOf text at
 abbrev μ-loop : tie.MeasureT-loop
 μ-loop text at i₀ i = length text - i
 
-loop-holds : tie.Need-loop-holds Inv-loop μ-loop
-loop-holds c = search needs
-
-shared-slice-read-is-separator : tie.Need-shared-slice-read-is-separator Inv-loop μ-loop
-shared-slice-read-is-separator c = search needs
-
-is-separator-requires : tie.Need-is-separator-requires Inv-loop μ-loop
-is-separator-requires c κs = search needs
-
 add-i : tie.Need-add-i Inv-loop μ-loop
 add-i c = omega arith
 
@@ -48,4 +39,5 @@ returns-2 c =
 pub past-separators-spec : {M : Type 1} → statement M
 past-separators-spec =
     tie.close
-    (tie.spec Inv-loop μ-loop loop-holds shared-slice-read-is-separator is-separator-requires add-i loop-less loop-again returns returns-2)
+    (tie.spec Inv-loop μ-loop (λ c. search needs) (λ c. search needs) (λ c κs. search needs) add-i loop-less
+    loop-again returns returns-2)

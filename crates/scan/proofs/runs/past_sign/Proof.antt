@@ -6,15 +6,6 @@ use Rattle.scan.proofs.RunLaws.{one-taken, one-left, one-end}
 use Rattle.scan.proofs.runs.past_sign.Statement.{statement}
 use Rattle.scan.proofs.runs.past_sign.Tie as tie
 
-shared-slice-read-is-sign : tie.Need-shared-slice-read-is-sign
-shared-slice-read-is-sign c = search needs
-
-is-sign-requires : tie.Need-is-sign-requires
-is-sign-requires c κs = search needs
-
-add-result : tie.Need-add-result
-add-result c = search needs
-
 returns : tie.Need-returns
 returns c = one-taken signs _ _ (search needs) (sym (c .before .is-sign .ensures) ∙ c .if2 .taken)
 
@@ -25,4 +16,6 @@ returns-3 : tie.Need-returns-3
 returns-3 c = one-end signs _ _ (search needs)
 
 pub past-sign-spec : {M : Type 1} → statement M
-past-sign-spec = tie.close (tie.spec shared-slice-read-is-sign is-sign-requires add-result returns returns-2 returns-3)
+past-sign-spec =
+    tie.close
+    (tie.spec (λ c. search needs) (λ c κs. search needs) (λ c. search needs) returns returns-2 returns-3)

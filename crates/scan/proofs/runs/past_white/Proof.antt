@@ -17,15 +17,6 @@ Inv-loop text at i₀ i = pastWhiteOf text i ≡ pastWhiteOf text at
 abbrev μ-loop : tie.MeasureT-loop
 μ-loop text at i₀ i = length text - i
 
-loop-holds : tie.Need-loop-holds Inv-loop μ-loop
-loop-holds c = search needs
-
-shared-slice-read-is-white : tie.Need-shared-slice-read-is-white Inv-loop μ-loop
-shared-slice-read-is-white c = search needs
-
-is-white-requires : tie.Need-is-white-requires Inv-loop μ-loop
-is-white-requires c κs = search needs
-
 add-i : tie.Need-add-i Inv-loop μ-loop
 add-i c = omega arith
 
@@ -48,4 +39,5 @@ returns-2 c =
 pub past-white-spec : {M : Type 1} → statement M
 past-white-spec =
     tie.close
-    (tie.spec Inv-loop μ-loop loop-holds shared-slice-read-is-white is-white-requires add-i loop-less loop-again returns returns-2)
+    (tie.spec Inv-loop μ-loop (λ c. search needs) (λ c. search needs) (λ c κs. search needs) add-i loop-less
+    loop-again returns returns-2)

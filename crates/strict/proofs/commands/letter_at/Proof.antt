@@ -6,12 +6,6 @@ use Rattle.strict.proofs.Letters.{letter-stands}
 use Rattle.strict.proofs.commands.letter_at.Statement.{statement}
 use Rattle.strict.proofs.commands.letter_at.Tie as tie
 
-shared-slice-read-letter-of : tie.Need-shared-slice-read-letter-of
-shared-slice-read-letter-of c = search needs
-
-letter-of-requires : tie.Need-letter-of-requires
-letter-of-requires c κs = search needs
-
 returns : tie.Need-returns
 returns c = letter-stands _ _ (c .before .before .if1 .taken) (c .letter-of .result) (c .letter-of .ensures)
 
@@ -19,4 +13,6 @@ returns-2 : tie.Need-returns-2
 returns-2 c = stands-past commandLetters _ _ (c .if1 .left)
 
 pub letter-at-spec : {M : Type 1} → statement M
-letter-at-spec = tie.close (tie.spec shared-slice-read-letter-of letter-of-requires returns returns-2)
+letter-at-spec =
+    tie.close
+    (tie.spec (λ c. search needs) (λ c κs. search needs) returns returns-2)

@@ -17,12 +17,6 @@ abbrev μ-loop : tie.MeasureT-loop
 loop-holds : tie.Need-loop-holds Inv-loop μ-loop
 loop-holds c = set-out _ _ _
 
-past-separator-requires : tie.Need-past-separator-requires Inv-loop μ-loop
-past-separator-requires c κs = search needs
-
-read-argument-requires : tie.Need-read-argument-requires Inv-loop μ-loop
-read-argument-requires c κs = search needs
-
 returns : tie.Need-returns Inv-loop μ-loop
 returns c =
     let at-loop = c .before .before .before in
@@ -48,4 +42,5 @@ loop-again c =
 
 pub past-arguments-spec : {M : Type 1} → statement M
 past-arguments-spec =
-    tie.close (tie.spec Inv-loop μ-loop loop-holds past-separator-requires read-argument-requires returns loop-less loop-again)
+    tie.close
+    (tie.spec Inv-loop μ-loop loop-holds (λ c κs. search needs) (λ c κs. search needs) returns loop-less loop-again)

@@ -4,19 +4,10 @@ use Rattle.strict.proofs.CommandLaws.{arguments-missing, arguments-past
 use Rattle.strict.proofs.commands.read_arguments.Statement.{statement}
 use Rattle.strict.proofs.commands.read_arguments.Tie as tie
 
-past-white-requires : tie.Need-past-white-requires
-past-white-requires c κs = search needs
-
-read-argument-requires : tie.Need-read-argument-requires
-read-argument-requires c κs = search needs
-
 returns : tie.Need-returns
 returns c =
     let a = c .before .before .before .before .args in
     arguments-missing (a .text .now) (a .kind) (a .at) _ (c .before .before .past-white .ensures) _ (c .before .read-argument .ensures) (c .if1 .taken)
-
-past-arguments-requires : tie.Need-past-arguments-requires
-past-arguments-requires c κs = search needs
 
 returns-2 : tie.Need-returns-2
 returns-2 c =
@@ -25,4 +16,6 @@ returns-2 c =
     (c .before .if1 .left) (c .past-arguments .ensures)
 
 pub read-arguments-spec : {M : Type 1} → statement M
-read-arguments-spec = tie.close (tie.spec past-white-requires read-argument-requires returns past-arguments-requires returns-2)
+read-arguments-spec =
+    tie.close
+    (tie.spec (λ c κs. search needs) (λ c κs. search needs) returns (λ c κs. search needs) returns-2)

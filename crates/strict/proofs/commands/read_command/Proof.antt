@@ -8,23 +8,11 @@ use Rattle.strict.proofs.CommandLaws.{moves, closes, closes-not-begun, 
 use Rattle.strict.proofs.commands.read_command.Statement.{statement}
 use Rattle.strict.proofs.commands.read_command.Tie as tie
 
-letter-at-requires : tie.Need-letter-at-requires
-letter-at-requires c κs = search needs
-
-enum-told : tie.Need-enum-told
-enum-told c = search needs
-
 add-read-arguments : tie.Need-add-read-arguments
 add-read-arguments c =
     let found = c .before .before in
     let a = found .before .before .args in
     omega (arith, stands-within moveLetters (a .text .now) (a .at) (subst (LetterAt (a .text .now) (a .at)) (c .enum-told .given .1) (found .letter-at .ensures)))
-
-read-arguments-requires : tie.Need-read-arguments-requires
-read-arguments-requires c κs = search needs
-
-enum-told-2 : tie.Need-enum-told-2
-enum-told-2 c = search needs
 
 add-result : tie.Need-add-result
 add-result c =
@@ -38,17 +26,11 @@ returns c =
     let a = found .before .before .args in
     rw (c .if1 .taken) (closes (a .text .now) (a .at) (omega arith) (subst (LetterAt (a .text .now) (a .at)) (c .before .enum-told2 .given .1) (found .letter-at .ensures)))
 
-enum-known-kind : tie.Need-enum-known-kind
-enum-known-kind c = search needs
-
 add-read-arguments-2 : tie.Need-add-read-arguments-2
 add-read-arguments-2 c =
     let found = c .before .before .before .before in
     let a = found .before .before .args in
     omega (arith, stands-within (lettersOf (c .before .before .kind .given .0 .0)) (a .text .now) (a .at) (subst (LetterAt (a .text .now) (a .at)) (c .before .before .kind .given .1) (found .letter-at .ensures)))
-
-read-arguments-requires-2 : tie.Need-read-arguments-requires-2
-read-arguments-requires-2 c κs = search needs
 
 returns-2 : tie.Need-returns-2
 returns-2 c =
@@ -57,9 +39,6 @@ returns-2 c =
     rw (c .before .if2 .taken)
     (takes (a .text .now) (a .at) (c .before .before .before .kind .given .0 .0) (subst (LetterAt (a .text .now) (a .at)) (c .before .before .before .kind .given .1) (found .letter-at .ensures))
     (c .read-arguments2 .result) (c .read-arguments2 .ensures))
-
-enum-told-3 : tie.Need-enum-told-3
-enum-told-3 c = search needs
 
 returns-3 : tie.Need-returns-3
 returns-3 c =
@@ -88,20 +67,6 @@ returns-6 c =
 pub read-command-spec : {M : Type 1} → statement M
 read-command-spec =
     tie.close
-    (tie.spec
-    letter-at-requires
-    enum-told
-    add-read-arguments
-    read-arguments-requires
-    enum-told-2
-    add-result
-    returns
-    enum-known-kind
-    add-read-arguments-2
-    read-arguments-requires-2
-    returns-2
-    enum-told-3
-    returns-3
-    returns-4
-    returns-5
-    returns-6)
+    (tie.spec (λ c κs. search needs) (λ c. search needs) add-read-arguments (λ c κs. search needs) (λ c. search needs)
+    add-result returns (λ c. search needs) add-read-arguments-2 (λ c κs. search needs) returns-2 (λ c. search needs)
+    returns-3 returns-4 returns-5 returns-6)

@@ -31,14 +31,8 @@ Inv-loop text at₀ begun₀ at begun = (Matches text → Rest text begun at) ×
 abbrev μ-loop : tie.MeasureT-loop
 μ-loop text at₀ begun₀ at begun = length text - at
 
-past-white-requires : tie.Need-past-white-requires Inv-loop μ-loop
-past-white-requires c κs = search needs
-
 loop-holds : tie.Need-loop-holds Inv-loop μ-loop
 loop-holds c = starts _ _ (c .past-white .ensures)
-
-read-command-requires : tie.Need-read-command-requires Inv-loop μ-loop
-read-command-requires c κs = search needs
 
 returns : tie.Need-returns Inv-loop μ-loop
 returns c =
@@ -46,9 +40,6 @@ returns c =
     let text = at-loop .before .before .before .args .text .now in
     let none-due = missing-lacks (Command text (at-loop .loop .begun)) (Goes text) _ _ (c .before .read-command .ensures) (c .if1 .taken) in
     (λ z. absurd (clash z refl), λ m. absurd (no-more text _ _ (c .before .before .loop-test .taken) none-due (at-loop .loop .inv .0 m)))
-
-past-white-requires-2 : tie.Need-past-white-requires-2 Inv-loop μ-loop
-past-white-requires-2 c κs = search needs
 
 loop-less : tie.Need-loop-less Inv-loop μ-loop
 loop-less c =
@@ -77,14 +68,5 @@ returns-2 c =
 pub matches-spec : {M : Type 1} → statement M
 matches-spec =
     tie.close
-    (tie.spec
-    Inv-loop
-    μ-loop
-    past-white-requires
-    loop-holds
-    read-command-requires
-    returns
-    past-white-requires-2
-    loop-less
-    loop-again
-    returns-2)
+    (tie.spec Inv-loop μ-loop (λ c κs. search needs) loop-holds (λ c κs. search needs) returns (λ c κs. search needs)
+    loop-less loop-again returns-2)

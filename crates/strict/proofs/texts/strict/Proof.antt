@@ -9,9 +9,6 @@ use Rattle.strict.proofs.texts.strict.Tie as tie
 returns : tie.Need-returns
 returns c = tooLong (c .if1 .taken) refl
 
-matches-requires : tie.Need-matches-requires
-matches-requires c κs = search needs
-
 returns-2 : tie.Need-returns-2
 returns-2 c = yes (c .before .before .if1 .left) (c .before .matches .ensures .0 (c .if2 .taken)) refl
 
@@ -19,4 +16,6 @@ returns-3 : tie.Need-returns-3
 returns-3 c = no (c .before .before .if1 .left) (λ m. clash (c .before .matches .ensures .1 m) (c .if2 .left)) refl
 
 pub strict-spec : {M : Type 1} → statement M
-strict-spec = tie.close (tie.spec returns matches-requires returns-2 returns-3)
+strict-spec =
+    tie.close
+    (tie.spec returns (λ c κs. search needs) returns-2 returns-3)
