@@ -50,15 +50,6 @@ returns c =
       bits = λ up down e f one. none-nearest _ (a .dropped) up (a .places + down) (subst (λ (w : ℕ). Leads (digitsAmong (a .part .now)) w (a .dropped)) (c .if1 .taken) (c .before .before .pre .leads));
     }
 
-add-sum : tie.Need-add-sum
-add-sum c = search needs
-
-sum-requires : tie.Need-sum-requires
-sum-requires c κs = search needs
-
-sum-requires-2 : tie.Need-sum-requires-2
-sum-requires-2 c κs = search needs
-
 returns-2 : tie.Need-returns-2
 returns-2 c =
     let start = c .before .before .before .before .before in
@@ -87,12 +78,6 @@ returns-3 c =
 
 nearest-requires : tie.Need-nearest-requires
 nearest-requires c κs = (omega (arith, c .before .before .before .before .if1 .left), omega (arith, c .if3 .left))
-
-enum-known-bits : tie.Need-enum-known-bits
-enum-known-bits c = search needs
-
-enum-known-m : tie.Need-enum-known-m
-enum-known-m c = search needs
 
 between-requires : tie.Need-between-requires
 between-requires c κs =
@@ -131,16 +116,5 @@ returns-5 c =
 pub magnitude-spec : {M : Type 1} → statement M
 magnitude-spec =
     tie.close
-    (tie.spec
-    returns
-    add-sum
-    sum-requires
-    sum-requires-2
-    returns-2
-    returns-3
-    nearest-requires
-    enum-known-bits
-    enum-known-m
-    between-requires
-    returns-4
-    returns-5)
+    (tie.spec returns (λ c. search needs) (λ c κs. search needs) (λ c κs. search needs) returns-2 returns-3
+    nearest-requires (λ c. search needs) (λ c. search needs) between-requires returns-4 returns-5)

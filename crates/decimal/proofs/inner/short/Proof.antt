@@ -8,18 +8,14 @@ use Rattle.decimal.proofs.Quotients.{div-at, whole}
 use Rattle.decimal.proofs.inner.short.Statement.{statement}
 use Rattle.decimal.proofs.inner.short.Tie as tie
 
-cast-result : tie.Need-cast-result
-cast-result c = search needs
-
 int-to-float-result : tie.Need-int-to-float-result
 unfolding inFloat
 int-to-float-result c = le→leb _ _ (c .before .pre .0)
-
-ten-requires : tie.Need-ten-requires
-ten-requires c κs = search needs
 
 returns : tie.Need-returns
 returns c = div-at binary32 _ _ _ _ (ten-pos _) (whole _ (c .before .before .pre .0)) (c .ten .ensures)
 
 pub short-spec : {M : Type 1} → statement M
-short-spec = tie.close (tie.spec cast-result int-to-float-result ten-requires returns)
+short-spec =
+    tie.close
+    (tie.spec (λ c. search needs) int-to-float-result (λ c κs. search needs) returns)

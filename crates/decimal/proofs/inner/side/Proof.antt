@@ -7,15 +7,6 @@ use borrow.Author.Needs.{needs}
 use Rattle.decimal.proofs.inner.side.Statement.{statement}
 use Rattle.decimal.proofs.inner.side.Tie as tie
 
-add-whole : tie.Need-add-whole
-add-whole c = search needs
-
-mul-weigh : tie.Need-mul-weigh
-mul-weigh c = search needs
-
-add-weigh : tie.Need-add-weigh
-add-weigh c = search needs
-
 weigh-requires : tie.Need-weigh-requires
 weigh-requires c κs = (omega arith, c .before .before .pre .1, inr refl)
 
@@ -23,15 +14,6 @@ returns : tie.Need-returns
 returns c =
     let a = c .before .before .before .args in
     record { order = λ places e. c .weigh .ensures ∙ weighed-is _ (a .count) places (a .rise) (a .fall) _ _ _ e (omega (arith, c .before .if1 .taken)) }
-
-sub-weigh : tie.Need-sub-weigh
-sub-weigh c = search needs
-
-mul-weigh-2 : tie.Need-mul-weigh-2
-mul-weigh-2 c = search needs
-
-add-weigh-2 : tie.Need-add-weigh-2
-add-weigh-2 c = search needs
 
 weigh-requires-2 : tie.Need-weigh-requires-2
 weigh-requires-2 c κs = (omega arith, c .before .before .pre .1, inl refl)
@@ -44,14 +26,5 @@ returns-2 c =
 pub side-spec : {M : Type 1} → statement M
 side-spec =
     tie.close
-    (tie.spec
-    add-whole
-    mul-weigh
-    add-weigh
-    weigh-requires
-    returns
-    sub-weigh
-    mul-weigh-2
-    add-weigh-2
-    weigh-requires-2
-    returns-2)
+    (tie.spec (λ c. search needs) (λ c. search needs) (λ c. search needs) weigh-requires returns (λ c. search needs)
+    (λ c. search needs) (λ c. search needs) weigh-requires-2 returns-2)

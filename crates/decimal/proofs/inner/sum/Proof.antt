@@ -4,17 +4,13 @@ use Rattle.decimal.proofs.Capped.{sum-capped, sum-exact}
 use Rattle.decimal.proofs.inner.sum.Statement.{statement}
 use Rattle.decimal.proofs.inner.sum.Tie as tie
 
-sub-if1 : tie.Need-sub-if1
-sub-if1 c = search needs
-
 returns : tie.Need-returns
 returns c = λ n e. sum-capped (c .before .args .a) (c .before .args .b) n e (c .before .pre) (c .if1 .taken)
-
-add-result : tie.Need-add-result
-add-result c = search needs
 
 returns-2 : tie.Need-returns-2
 returns-2 c = λ n e. sum-exact (c .before .args .a) (c .before .args .b) n e (c .before .pre) (c .if1 .left)
 
 pub sum-spec : {M : Type 1} → statement M
-sum-spec = tie.close (tie.spec sub-if1 returns add-result returns-2)
+sum-spec =
+    tie.close
+    (tie.spec (λ c. search needs) returns (λ c. search needs) returns-2)

@@ -18,26 +18,11 @@ use Rattle.decimal.proofs.numbers.find.Tie as tie
 is-mark : (c : tie.Else2) → among (getD (c .before .before .before .before .before .before .before .before .before .args .text .now) (c .before .before .before .before .gather2 .result .at) 0) exponentMarks ≡ true
 is-mark c = ap (λ (x : ℕ). among x exponentMarks) (sym (c .before .before .byte-at .ensures)) ∙ sym (c .before .is-exponent-mark .ensures) ∙ not-false _ (c .if2 .left)
 
-past-sign-requires : tie.Need-past-sign-requires
-past-sign-requires c κs = search needs
-
-gather-requires : tie.Need-gather-requires
-gather-requires c κs = search needs
-
-past-point-requires : tie.Need-past-point-requires
-past-point-requires c κs = search needs
-
 gather-requires-2 : tie.Need-gather-requires-2
 gather-requires-2 c κs = omega (arith, c .before .gather .ensures .few, c .past-point .ensures, one-onward points (c .before .before .before .before .args .text .now) (c .before .gather .result .at))
 
 returns : tie.Need-returns
 returns c = record { said = number-no-digit _ _ _ _ _ _ (c .before .before .before .before .past-sign .ensures) (c .before .before .before .gather .ensures) (c .before .before .past-point .ensures) (c .before .gather2 .ensures) (c .if1 .taken) }
-
-byte-at-requires : tie.Need-byte-at-requires
-byte-at-requires c κs = search needs
-
-is-exponent-mark-requires : tie.Need-is-exponent-mark-requires
-is-exponent-mark-requires c κs = search needs
 
 returns-2 : tie.Need-returns-2
 returns-2 c =
@@ -49,12 +34,6 @@ returns-2 c =
 add-past-sign : tie.Need-add-past-sign
 add-past-sign c = omega (arith, mark-inside (c .before .before .before .before .before .before .before .before .before .args .text .now) (c .before .before .before .before .gather2 .result .at) (is-mark (c)), c .before .before .before .before .before .before .before .before .before .good)
 
-past-sign-requires-2 : tie.Need-past-sign-requires-2
-past-sign-requires-2 c κs = search needs
-
-exponent-requires : tie.Need-exponent-requires
-exponent-requires c κs = search needs
-
 returns-3 : tie.Need-returns-3
 returns-3 c =
     let end = marked-at _ _ _ _ (is-mark (c .before .before .before)) (c .before .before .past-sign2 .ensures) (c .before .exponent .ensures) in
@@ -62,9 +41,6 @@ returns-3 c =
 
 add-byte-at : tie.Need-add-byte-at
 add-byte-at c = omega (arith, mark-inside (c .before .before .before .before .before .before .before .before .before .before .before .before .args .text .now) (c .before .before .before .before .before .before .before .gather2 .result .at) (is-mark (c .before .before .before)), c .before .before .before .before .before .before .before .before .before .before .before .before .good)
-
-byte-at-requires-2 : tie.Need-byte-at-requires-2
-byte-at-requires-2 c κs = search needs
 
 returns-4 : tie.Need-returns-4
 returns-4 c =
@@ -89,20 +65,6 @@ returns-5 c =
 pub find-spec : {M : Type 1} → statement M
 find-spec =
     tie.close
-    (tie.spec
-    past-sign-requires
-    gather-requires
-    past-point-requires
-    gather-requires-2
-    returns
-    byte-at-requires
-    is-exponent-mark-requires
-    returns-2
-    add-past-sign
-    past-sign-requires-2
-    exponent-requires
-    returns-3
-    add-byte-at
-    byte-at-requires-2
-    returns-4
-    returns-5)
+    (tie.spec (λ c κs. search needs) (λ c κs. search needs) (λ c κs. search needs) gather-requires-2 returns
+    (λ c κs. search needs) (λ c κs. search needs) returns-2 add-past-sign (λ c κs. search needs)
+    (λ c κs. search needs) returns-3 add-byte-at (λ c κs. search needs) returns-4 returns-5)

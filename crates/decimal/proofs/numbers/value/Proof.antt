@@ -15,12 +15,6 @@ use borrow.Author.Needs.{needs}
 use Rattle.decimal.proofs.numbers.value.Statement.{statement}
 use Rattle.decimal.proofs.numbers.value.Tie as tie
 
-byte-at-requires : tie.Need-byte-at-requires
-byte-at-requires c κs = search needs
-
-sub-places : tie.Need-sub-places
-sub-places c = search needs
-
 short-requires : tie.Need-short-requires
 short-requires c κs =
     let t = all-four _ _ _ _ (c .if1 .taken) in
@@ -39,18 +33,6 @@ returns-2 c =
     let t = all-four _ _ _ _ (c .before .before .if1 .taken) in
     let size = c .before .short .ensures ∙ short-is _ _ _ _ _ _ (start .pre) (leb-true _ _ (t .0)) (eqb-true _ _ (t .1)) (eqb-true _ _ (t .2)) false in
     value-plain _ _ _ _ _ _ (start .pre) _ (ap (λ (n : ℕ). eqb n minus) (sym (c .before .before .before .before .byte-at .ensures)) ∙ c .if2 .left) size
-
-sub-magnitude : tie.Need-sub-magnitude
-sub-magnitude c = search needs
-
-part-magnitude-start : tie.Need-part-magnitude-start
-part-magnitude-start c = search needs
-
-part-magnitude-end : tie.Need-part-magnitude-end
-part-magnitude-end c = search needs
-
-sub-magnitude-2 : tie.Need-sub-magnitude-2
-sub-magnitude-2 c = search needs
 
 magnitude-requires : tie.Need-magnitude-requires
 magnitude-requires c κs = gathered _ _ _ _ _ _ (c .before .before .before .before .before .before .before .pre) (omega (arith, c .before .before .before .before .before .before .before .good))
@@ -89,21 +71,6 @@ returns-4 c =
 pub value-spec : {M : Type 1} → statement M
 value-spec =
     tie.close
-    (tie.spec
-    byte-at-requires
-    sub-places
-    short-requires
-    returns
-    returns-2
-    sub-magnitude
-    part-magnitude-start
-    part-magnitude-end
-    sub-magnitude-2
-    magnitude-requires
-    add-result
-    cast-result
-    float-from-bits-result
-    cast-result-2
-    float-from-bits-result-2
-    returns-3
-    returns-4)
+    (tie.spec (λ c κs. search needs) (λ c. search needs) short-requires returns returns-2 (λ c. search needs)
+    (λ c. search needs) (λ c. search needs) (λ c. search needs) magnitude-requires add-result cast-result
+    float-from-bits-result cast-result-2 float-from-bits-result-2 returns-3 returns-4)

@@ -26,26 +26,11 @@ abbrev μ-loop : tie.MeasureT-loop
 loop-holds : tie.Need-loop-holds Inv-loop μ-loop
 loop-holds c = (search needs, refl, size-start (c .before .args .text .now) (c .before .args .from))
 
-shared-slice-read-is-digit : tie.Need-shared-slice-read-is-digit Inv-loop μ-loop
-shared-slice-read-is-digit c = search needs
-
-is-digit-requires : tie.Need-is-digit-requires Inv-loop μ-loop
-is-digit-requires c κs = search needs
-
-shared-slice-read-digit : tie.Need-shared-slice-read-digit Inv-loop μ-loop
-shared-slice-read-digit c = search needs
-
 digit-requires : tie.Need-digit-requires Inv-loop μ-loop
 digit-requires c κs = digit-range _ (sym (c .before .before .is-digit .ensures) ∙ not-false _ (c .before .if1 .left))
 
 longer-requires : tie.Need-longer-requires Inv-loop μ-loop
 longer-requires c κs = subst (λ (d : ℕ). d < 10) (sym (c .digit .ensures)) (digit-lt _ (sym (c .before .before .before .is-digit .ensures) ∙ not-false _ (c .before .before .if1 .left)))
-
-add-at : tie.Need-add-at Inv-loop μ-loop
-add-at c = search needs
-
-loop-less : tie.Need-loop-less Inv-loop μ-loop
-loop-less c = search needs
 
 loop-again : tie.Need-loop-again Inv-loop μ-loop
 loop-again c =
@@ -74,17 +59,5 @@ returns-2 c =
 pub exponent-spec : {M : Type 1} → statement M
 exponent-spec =
     tie.close
-    (tie.spec
-    Inv-loop
-    μ-loop
-    loop-holds
-    shared-slice-read-is-digit
-    is-digit-requires
-    shared-slice-read-digit
-    digit-requires
-    longer-requires
-    add-at
-    loop-less
-    loop-again
-    returns
-    returns-2)
+    (tie.spec Inv-loop μ-loop loop-holds (λ c. search needs) (λ c κs. search needs) (λ c. search needs) digit-requires
+    longer-requires (λ c. search needs) (λ c. search needs) loop-again returns returns-2)

@@ -30,15 +30,6 @@ abbrev μ-loop : tie.MeasureT-loop
 loop-holds : tie.Need-loop-holds Inv-loop μ-loop
 loop-holds c = (search needs, refl, λ start h k. k)
 
-shared-slice-read-is-digit : tie.Need-shared-slice-read-is-digit Inv-loop μ-loop
-shared-slice-read-is-digit c = search needs
-
-is-digit-requires : tie.Need-is-digit-requires Inv-loop μ-loop
-is-digit-requires c κs = search needs
-
-past-digits-requires : tie.Need-past-digits-requires Inv-loop μ-loop
-past-digits-requires c κs = search needs
-
 -- the rest of the run, where it is dropped
 record Rest (text : List ℕ) (at end : ℕ) : Type 0 where
   onward : at ≤ end
@@ -70,23 +61,11 @@ returns c =
       few = omega (arith, r .onward, inv .0, at-loop .before .before .pre);
     }
 
-mul-held : tie.Need-mul-held Inv-loop μ-loop
-mul-held c = search needs
-
-shared-slice-read-digit : tie.Need-shared-slice-read-digit Inv-loop μ-loop
-shared-slice-read-digit c = search needs
-
 digit-requires : tie.Need-digit-requires Inv-loop μ-loop
 digit-requires c κs = digit-range _ (sym (c .before .before .before .is-digit .ensures) ∙ not-false _ (c .before .before .if1 .left))
 
 add-held : tie.Need-add-held Inv-loop μ-loop
 add-held c = record { fits = omega (arith, c .digit .ensures, digit-lt _ (sym (c .before .before .before .before .is-digit .ensures) ∙ not-false _ (c .before .before .before .if1 .left))) }
-
-add-at : tie.Need-add-at Inv-loop μ-loop
-add-at c = search needs
-
-loop-less : tie.Need-loop-less Inv-loop μ-loop
-loop-less c = search needs
 
 loop-again : tie.Need-loop-again Inv-loop μ-loop
 loop-again c =
@@ -125,22 +104,6 @@ returns-3 c =
 pub gather-spec : {M : Type 1} → statement M
 gather-spec =
     tie.close
-    (tie.spec
-    Inv-loop
-    μ-loop
-    loop-holds
-    shared-slice-read-is-digit
-    is-digit-requires
-    past-digits-requires
-    sub-t13
-    add-t14
-    returns
-    mul-held
-    shared-slice-read-digit
-    digit-requires
-    add-held
-    add-at
-    loop-less
-    loop-again
-    returns-2
-    returns-3)
+    (tie.spec Inv-loop μ-loop loop-holds (λ c. search needs) (λ c κs. search needs) (λ c κs. search needs) sub-t13
+    add-t14 returns (λ c. search needs) (λ c. search needs) digit-requires add-held (λ c. search needs)
+    (λ c. search needs) loop-again returns-2 returns-3)

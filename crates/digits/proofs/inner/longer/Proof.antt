@@ -5,12 +5,6 @@ use Rattle.digits.proofs.Capping.{longer-exact, longer-capped}
 use Rattle.digits.proofs.inner.longer.Statement.{statement}
 use Rattle.digits.proofs.inner.longer.Tie as tie
 
-mul-result : tie.Need-mul-result
-mul-result c = search needs
-
-add-result : tie.Need-add-result
-add-result c = search needs
-
 returns : tie.Need-returns
 returns c = λ n e. longer-exact (c .before .args .size) (c .before .args .digit) n (c .before .pre) e (c .if1 .taken)
 
@@ -18,4 +12,6 @@ returns-2 : tie.Need-returns-2
 returns-2 c = λ n e. longer-capped (c .before .args .size) (c .before .args .digit) n e (c .if1 .left)
 
 pub longer-spec : {M : Type 1} → statement M
-longer-spec = tie.close (tie.spec mul-result add-result returns returns-2)
+longer-spec =
+    tie.close
+    (tie.spec (λ c. search needs) (λ c. search needs) returns returns-2)

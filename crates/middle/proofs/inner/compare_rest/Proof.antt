@@ -27,18 +27,6 @@ abbrev μ-loop : tie.MeasureT-loop
 loop-holds : tie.Need-loop-holds Inv-loop μ-loop
 loop-holds c = (c .before .pre, refl)
 
-shared-slice-read-is-digit : tie.Need-shared-slice-read-is-digit Inv-loop μ-loop
-shared-slice-read-is-digit c = search needs
-
-is-digit-requires : tie.Need-is-digit-requires Inv-loop μ-loop
-is-digit-requires c κs = search needs
-
-add-i : tie.Need-add-i Inv-loop μ-loop
-add-i c = search needs
-
-loop-less : tie.Need-loop-less Inv-loop μ-loop
-loop-less c = search needs
-
 loop-again : tie.Need-loop-again Inv-loop μ-loop
 loop-again c =
     let at-loop = c .before .before .before .before in
@@ -46,9 +34,6 @@ loop-again c =
       at-loop .loop .inv .0,
       ap (λ (ds : List ℕ). against ds (wideOf (at-loop .loop .w))) (sym (other-first _ _ (c .before .before .before .loop-test .taken) is-none)) ∙ at-loop .loop .inv .1,
     )
-
-shared-slice-read-digit : tie.Need-shared-slice-read-digit Inv-loop μ-loop
-shared-slice-read-digit c = search needs
 
 digit-requires : tie.Need-digit-requires Inv-loop μ-loop
 digit-requires c κs = digit-range _ (sym (c .before .before .is-digit .ensures) ∙ not-false _ (c .before .if1 .left))
@@ -76,12 +61,6 @@ returns c = sym (against-lt _ _ _ _ (c .before .before .times-ten .ensures) (val
 returns-2 : tie.Need-returns-2 Inv-loop μ-loop
 returns-2 c = sym (against-gt _ _ _ _ (c .before .before .before .before .times-ten .ensures) (val-lt _) (c .if3 .taken)) ∙ read-first (c .before .before .before .before .before)
 
-add-i-2 : tie.Need-add-i-2 Inv-loop μ-loop
-add-i-2 c = search needs
-
-loop-less-2 : tie.Need-loop-less-2 Inv-loop μ-loop
-loop-less-2 c = search needs
-
 loop-again-2 : tie.Need-loop-again-2 Inv-loop μ-loop
 loop-again-2 c =
     let tens = c .before .before .before .before .before .times-ten .ensures in
@@ -100,22 +79,6 @@ returns-3 c =
 pub compare-rest-spec : {M : Type 1} → statement M
 compare-rest-spec =
     tie.close
-    (tie.spec
-    Inv-loop
-    μ-loop
-    loop-holds
-    shared-slice-read-is-digit
-    is-digit-requires
-    add-i
-    loop-less
-    loop-again
-    shared-slice-read-digit
-    digit-requires
-    times-ten-requires
-    returns
-    returns-2
-    add-i-2
-    loop-less-2
-    loop-again-2
-    compare-wide-requires
-    returns-3)
+    (tie.spec Inv-loop μ-loop loop-holds (λ c. search needs) (λ c κs. search needs) (λ c. search needs)
+    (λ c. search needs) loop-again (λ c. search needs) digit-requires times-ten-requires returns returns-2
+    (λ c. search needs) (λ c. search needs) loop-again-2 compare-wide-requires returns-3)

@@ -10,23 +10,8 @@ use Rattle.middle.proofs.inner.in_six_words.Tie as tie
 known : (c : tie.Start) → TwoWords (c .args .odd) (c .args .k)
 known c = two-words (c .args .odd) (c .args .k) (c .pre .0)
 
-sub-high : tie.Need-sub-high
-sub-high c = search needs
-
-shr-high : tie.Need-shr-high
-shr-high c = search needs
-
-sub-low : tie.Need-sub-low
-sub-low c = search needs
-
-shl-low : tie.Need-shl-low
-shl-low c = search needs
-
 sub-low-2 : tie.Need-sub-low-2
 sub-low-2 c = let k = known c in omega (arith, k .back, k .under)
-
-shl-low-2 : tie.Need-shl-low-2
-shl-low-2 c = search needs
 
 returns : tie.Need-returns
 returns c = let k = known (c .before) in rw (k .back, k .kept) (six-0 (c .before .args .odd) (c .before .args .k) k (c .match .keys1))
@@ -57,4 +42,5 @@ returns-6 c =
 pub in-six-words-spec : {M : Type 1} → statement M
 in-six-words-spec =
     tie.close
-    (tie.spec sub-high shr-high sub-low shl-low sub-low-2 shl-low-2 returns returns-2 returns-3 returns-4 returns-5 returns-6)
+    (tie.spec (λ c. search needs) (λ c. search needs) (λ c. search needs) (λ c. search needs) sub-low-2
+    (λ c. search needs) returns returns-2 returns-3 returns-4 returns-5 returns-6)

@@ -32,12 +32,6 @@ returns c =
       said = λ v l h. at-loop .loop .inv .1 v l h ∙ lower-beyond v l h _ _ _ _ (sym (add-zero _) ∙ tens-wide _ 0 _ tens) (c .if1 .taken) (c .before .before .before .loop-test .taken);
     }
 
-sub-more : tie.Need-sub-more Inv-loop μ-loop
-sub-more c = search needs
-
-loop-less : tie.Need-loop-less Inv-loop μ-loop
-loop-less c = search needs
-
 loop-again : tie.Need-loop-again Inv-loop μ-loop
 loop-again c =
     let at-loop = c .before .before .before .before .before in
@@ -56,4 +50,5 @@ returns-2 c =
 pub lower-spec : {M : Type 1} → statement M
 lower-spec =
     tie.close
-    (tie.spec Inv-loop μ-loop loop-holds times-ten-requires returns sub-more loop-less loop-again returns-2)
+    (tie.spec Inv-loop μ-loop loop-holds times-ten-requires returns (λ c. search needs) (λ c. search needs) loop-again
+    returns-2)

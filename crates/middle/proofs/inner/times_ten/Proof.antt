@@ -8,21 +8,6 @@ use Rattle.middle.proofs.inner.times_ten.Tie as tie
 carry : (word digit : ℕ) → word < 1125899906842624 → digit < 10 → (word * 10 + digit) / 1125899906842624 < 10
 carry word digit h k = omega arith
 
-mul-x : tie.Need-mul-x
-mul-x c = search needs
-
-add-x : tie.Need-add-x
-add-x c = search needs
-
-mul-y : tie.Need-mul-y
-mul-y c = search needs
-
-add-y : tie.Need-add-y
-add-y c = search needs
-
-mul-z : tie.Need-mul-z
-mul-z c = search needs
-
 add-z : tie.Need-add-z
 add-z c =
     let w = c .before .before .before .args .w in
@@ -52,4 +37,7 @@ returns c =
     }
 
 pub times-ten-spec : {M : Type 1} → statement M
-times-ten-spec = tie.close (tie.spec mul-x add-x mul-y add-y mul-z add-z returns)
+times-ten-spec =
+    tie.close
+    (tie.spec (λ c. search needs) (λ c. search needs) (λ c. search needs) (λ c. search needs) (λ c. search needs)
+    add-z returns)

@@ -9,12 +9,6 @@ use borrow.Author.Needs.{needs}
 use Rattle.middle.proofs.inner.weigh.Statement.{statement}
 use Rattle.middle.proofs.inner.weigh.Tie as tie
 
-in-six-words-requires : tie.Need-in-six-words-requires
-in-six-words-requires c κs = search needs
-
-weigh-small-requires : tie.Need-weigh-small-requires
-weigh-small-requires c κs = search needs
-
 returns : tie.Need-returns
 returns c =
     let start = c .before .before .before .before in
@@ -22,9 +16,6 @@ returns c =
     c .weigh-small .ensures
     ∙ ap (λ (s : ℕ). weighOf (digitsAmong (start .args .part .now)) 0 (start .args .zeros) s) (sym (words .is))
     ∙ ⊎-elim (λ (e : start .args .count ≡ 0). ap (λ (n : ℕ). weighOf (digitsAmong (start .args .part .now)) n (start .args .zeros) (start .args .odd * 2 ^ start .args .k)) (sym e)) (λ (e : start .args .zeros ≡ 0). absurd (omega (arith, c .before .if1 .taken))) (start .pre .2)
-
-weigh-large-requires : tie.Need-weigh-large-requires
-weigh-large-requires c κs = search needs
 
 returns-2 : tie.Need-returns-2
 returns-2 c =
@@ -38,4 +29,4 @@ returns-2 c =
 pub weigh-spec : {M : Type 1} → statement M
 weigh-spec =
     tie.close
-    (tie.spec in-six-words-requires weigh-small-requires returns weigh-large-requires returns-2)
+    (tie.spec (λ c κs. search needs) (λ c κs. search needs) returns (λ c κs. search needs) returns-2)

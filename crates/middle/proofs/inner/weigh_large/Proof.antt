@@ -15,28 +15,10 @@ use Rattle.middle.proofs.inner.weigh_large.Tie as tie
 limit : (c : tie.Start) → wideOf (c .args .above) * 2 ^ 150 + wideOf (c .args .fraction) < 2 ^ 300
 limit c = six-lt _ _ (wide-lt _ (c .pre .0)) (wide-lt _ (c .pre .1))
 
-whole-digits-requires : tie.Need-whole-digits-requires
-whole-digits-requires c κs = search needs
-
-enum-told : tie.Need-enum-told
-enum-told c = search needs
-
-enum-known-w : tie.Need-enum-known-w
-enum-known-w c = search needs
-
 compare-wide-requires : tie.Need-compare-wide-requires
 compare-wide-requires c κs =
     let start = c .before .before .before .before .before in
     (whole-is (c .before .before .before .whole-digits .ensures) _ (limit (c .before .before .before .before .before)) (c .before .w .given .1) .0, start .pre .0)
-
-enum-told-2 : tie.Need-enum-told-2
-enum-told-2 c = search needs
-
-enum-told-3 : tie.Need-enum-told-3
-enum-told-3 c = search needs
-
-enum-told-4 : tie.Need-enum-told-4
-enum-told-4 c = search needs
 
 compare-rest-requires : tie.Need-compare-rest-requires
 compare-rest-requires c κs = c .before .before .before .before .before .before .before .before .pre .1
@@ -73,16 +55,5 @@ returns-4 c =
 pub weigh-large-spec : {M : Type 1} → statement M
 weigh-large-spec =
     tie.close
-    (tie.spec
-    whole-digits-requires
-    enum-told
-    enum-known-w
-    compare-wide-requires
-    enum-told-2
-    enum-told-3
-    enum-told-4
-    compare-rest-requires
-    returns
-    returns-2
-    returns-3
-    returns-4)
+    (tie.spec (λ c κs. search needs) (λ c. search needs) (λ c. search needs) compare-wide-requires (λ c. search needs)
+    (λ c. search needs) (λ c. search needs) compare-rest-requires returns returns-2 returns-3 returns-4)

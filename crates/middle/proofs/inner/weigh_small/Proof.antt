@@ -14,23 +14,8 @@ use Rattle.middle.proofs.inner.weigh_small.Tie as tie
 compare-wide-requires : tie.Need-compare-wide-requires
 compare-wide-requires c κs = (none-small, c .before .pre .0)
 
-enum-told : tie.Need-enum-told
-enum-told c = search needs
-
-enum-told-2 : tie.Need-enum-told-2
-enum-told-2 c = search needs
-
-enum-told-3 : tie.Need-enum-told-3
-enum-told-3 c = search needs
-
 lower-requires : tie.Need-lower-requires
 lower-requires c κs = c .before .before .before .before .pre .1
-
-enum-told-4 : tie.Need-enum-told-4
-enum-told-4 c = search needs
-
-enum-known-w : tie.Need-enum-known-w
-enum-known-w c = search needs
 
 compare-rest-requires : tie.Need-compare-rest-requires
 compare-rest-requires c κs =
@@ -65,16 +50,5 @@ returns-4 c =
 pub weigh-small-spec : {M : Type 1} → statement M
 weigh-small-spec =
     tie.close
-    (tie.spec
-    compare-wide-requires
-    enum-told
-    enum-told-2
-    enum-told-3
-    lower-requires
-    enum-told-4
-    enum-known-w
-    compare-rest-requires
-    returns
-    returns-2
-    returns-3
-    returns-4)
+    (tie.spec compare-wide-requires (λ c. search needs) (λ c. search needs) (λ c. search needs) lower-requires
+    (λ c. search needs) (λ c. search needs) compare-rest-requires returns returns-2 returns-3 returns-4)

@@ -24,9 +24,6 @@ abbrev μ-loop : tie.MeasureT-loop
 loop-holds : tie.Need-loop-holds Inv-loop μ-loop
 loop-holds c = (none-small, λ s. refl)
 
-take-requires : tie.Need-take-requires Inv-loop μ-loop
-take-requires c κs = search needs
-
 times-ten-requires : tie.Need-times-ten-requires Inv-loop μ-loop
 times-ten-requires c κs = (c .before .before .loop .inv .0, c .take .ensures .small)
 
@@ -50,12 +47,6 @@ returns c =
       said = λ s h. onward (c .before .before .before) s ∙ partly-beyond _ _ _ s (tens-past _ _ _ tens (c .if1 .taken)) h;
     }
 
-sub-more : tie.Need-sub-more Inv-loop μ-loop
-sub-more c = search needs
-
-loop-less : tie.Need-loop-less Inv-loop μ-loop
-loop-less c = search needs
-
 loop-again : tie.Need-loop-again Inv-loop μ-loop
 loop-again c =
     let tens = c .before .before .before .times-ten .ensures in
@@ -74,4 +65,5 @@ returns-2 c =
 pub whole-digits-spec : {M : Type 1} → statement M
 whole-digits-spec =
     tie.close
-    (tie.spec Inv-loop μ-loop loop-holds take-requires times-ten-requires returns sub-more loop-less loop-again returns-2)
+    (tie.spec Inv-loop μ-loop loop-holds (λ c κs. search needs) times-ten-requires returns (λ c. search needs)
+    (λ c. search needs) loop-again returns-2)

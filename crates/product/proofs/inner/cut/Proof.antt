@@ -10,26 +10,11 @@ use Rattle.product.proofs.inner.cut.Tie as tie
 known : (c : tie.Start) → Parts (c .args .product) (c .args .dropped)
 known c = parts (c .args .product) (c .args .dropped) (c .fits .product .fits) (c .pre .0) (c .pre .1) (c .pre .3)
 
-shr-m : tie.Need-shr-m
-shr-m c = search needs
-
-shl-rest : tie.Need-shl-rest
-shl-rest c = search needs
-
 sub-rest : tie.Need-sub-rest
 sub-rest c = let p = known c in omega (arith, p .back, p .under)
 
-sub-half : tie.Need-sub-half
-sub-half c = search needs
-
-shl-half : tie.Need-shl-half
-shl-half c = search needs
-
 add-if1 : tie.Need-add-if1
 add-if1 c = let p = known c in record { fits = omega (arith, p .back, p .rest-lt, p .twice, p .narrow) }
-
-mul-t9 : tie.Need-mul-t9
-mul-t9 c = search needs
 
 add-t10 : tie.Need-add-t10
 add-t10 c = record { fits = omega (arith, known (c .before) .few) }
@@ -42,9 +27,6 @@ returns c =
           cut-down (c .before .args .product) (c .before .args .dropped) (c .before .args .k) p (c .before .pre .2) (c .before .pre .4) s num den u g D G e B
           (omega (arith, c .if1 .taken, p .back, p .half));
     }
-
-mul-t11 : tie.Need-mul-t11
-mul-t11 c = search needs
 
 add-t12 : tie.Need-add-t12
 add-t12 c = record { fits = omega (arith, known (c .before .before) .few) }
@@ -73,18 +55,5 @@ returns-3 c =
 pub cut-spec : {M : Type 1} → statement M
 cut-spec =
     tie.close
-    (tie.spec
-    shr-m
-    shl-rest
-    sub-rest
-    sub-half
-    shl-half
-    add-if1
-    mul-t9
-    add-t10
-    returns
-    mul-t11
-    add-t12
-    add-t13
-    returns-2
-    returns-3)
+    (tie.spec (λ c. search needs) (λ c. search needs) sub-rest (λ c. search needs) (λ c. search needs) add-if1
+    (λ c. search needs) add-t10 returns (λ c. search needs) add-t12 add-t13 returns-2 returns-3)

@@ -26,9 +26,6 @@ cast-high c = record { fits = omega (arith, lifted c .few) }
 shl-high : tie.Need-shl-high
 shl-high c = lifted c .few
 
-tens-requires : tie.Need-tens-requires
-tens-requires c κs = search needs
-
 high-requires : tie.Need-high-requires
 high-requires c κs = power c .small
 
@@ -52,4 +49,4 @@ returns c =
 pub nearest-spec : {M : Type 1} → statement M
 nearest-spec =
     tie.close
-    (tie.spec cast-high shl-high tens-requires high-requires cast-settle settle-requires returns)
+    (tie.spec cast-high shl-high (λ c κs. search needs) high-requires cast-settle settle-requires returns)

@@ -11,27 +11,6 @@ use Rattle.product.proofs.Settling.{units-agree, too-large, too-small}
 use Rattle.product.proofs.inner.settle.Statement.{statement}
 use Rattle.product.proofs.inner.settle.Tie as tie
 
-mul-height : tie.Need-mul-height
-mul-height c = search needs
-
-add-height : tie.Need-add-height
-add-height c = search needs
-
-add-depth : tie.Need-add-depth
-add-depth c = search needs
-
-past-24-requires : tie.Need-past-24-requires
-past-24-requires c κs = search needs
-
-add-if1 : tie.Need-add-if1
-add-if1 c = search needs
-
-add-k : tie.Need-add-k
-add-k c = search needs
-
-sub-k : tie.Need-sub-k
-sub-k c = search needs
-
 returns : tie.Need-returns
 returns c =
     let a = c .before .before .before .args in
@@ -49,9 +28,6 @@ returns-2 c =
     record {
       said = λ s num den D B. c .cut .ensures .said s num den _ _ D (pow-pos _) (units-agree den _ _ _ _ (omega arith)) B;
     }
-
-sub-dropped : tie.Need-sub-dropped
-sub-dropped c = search needs
 
 returns-3 : tie.Need-returns-3
 returns-3 c =
@@ -75,18 +51,6 @@ returns-4 c =
 pub settle-spec : {M : Type 1} → statement M
 settle-spec =
     tie.close
-    (tie.spec
-    mul-height
-    add-height
-    add-depth
-    past-24-requires
-    add-if1
-    add-k
-    sub-k
-    returns
-    cut-requires
-    returns-2
-    sub-dropped
-    returns-3
-    cut-requires-2
-    returns-4)
+    (tie.spec (λ c. search needs) (λ c. search needs) (λ c. search needs) (λ c κs. search needs) (λ c. search needs)
+    (λ c. search needs) (λ c. search needs) returns cut-requires returns-2 (λ c. search needs) returns-3
+    cut-requires-2 returns-4)
