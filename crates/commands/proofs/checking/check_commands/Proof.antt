@@ -26,15 +26,6 @@ loop-holds : tie.Need-loop-holds Inv-loop μ-loop
 unfolding listedFrom
 loop-holds c = (omega arith, omega arith, refl)
 
-shared-slice-read-decode : tie.Need-shared-slice-read-decode Inv-loop μ-loop
-shared-slice-read-decode c = search needs
-
-decode-requires : tie.Need-decode-requires Inv-loop μ-loop
-decode-requires c κs = search needs
-
-enum-told : tie.Need-enum-told Inv-loop μ-loop
-enum-told c = search needs
-
 returns-2 : tie.Need-returns-2 Inv-loop μ-loop
 returns-2 c =
     let a = c .before .before .before .before .before .before .before .before .before .args in
@@ -42,12 +33,6 @@ returns-2 c =
     ap judged (sym (from-bad (a .letters .now) (a .numbers .now) (l .place) (l .at) (c .before .before .before .before .loop-test .taken) (sym (c .before .before .decode .ensures) ∙ c .enum-told .given .1)))
     ∙ l .inv .2
     ∙ sym (check-few (a .letters .now) (a .numbers .now) (omega arith))
-
-enum-known-command : tie.Need-enum-known-command Inv-loop μ-loop
-enum-known-command c = search needs
-
-width-requires : tie.Need-width-requires Inv-loop μ-loop
-width-requires c κs = search needs
 
 -- the numbers of the command are there
 fits : (c : tie.After-width Inv-loop μ-loop) → c .before .before .before .before .before .before .before .loop .at + c .width .result ≤ length (c .before .before .before .before .before .before .before .before .before .before .before .args .numbers .now)
@@ -59,9 +44,6 @@ fits c =
 
 add-at : tie.Need-add-at Inv-loop μ-loop
 add-at c = omega (arith, fits c)
-
-add-place : tie.Need-add-place Inv-loop μ-loop
-add-place c = search needs
 
 loop-less : tie.Need-loop-less Inv-loop μ-loop
 loop-less c = omega (arith, c .before .before .before .before .before .before .loop-test .taken)
@@ -97,20 +79,6 @@ returns-4 c =
 pub check-commands-spec : {M : Type 1} → statement M
 check-commands-spec =
     tie.close
-    (tie.spec
-    Inv-loop
-    μ-loop
-    returns
-    loop-holds
-    shared-slice-read-decode
-    decode-requires
-    enum-told
-    returns-2
-    enum-known-command
-    width-requires
-    add-at
-    add-place
-    loop-less
-    loop-again
-    returns-3
+    (tie.spec Inv-loop μ-loop returns loop-holds (λ c. search needs) (λ c κs. search needs) (λ c. search needs)
+    returns-2 (λ c. search needs) (λ c κs. search needs) add-at (λ c. search needs) loop-less loop-again returns-3
     returns-4)

@@ -9,60 +9,6 @@ use Rattle.commands.proofs.Decoding.{number-from, point-from, arc-flagg
 use Rattle.commands.proofs.inner.arc_at.Statement.{statement}
 use Rattle.commands.proofs.inner.arc_at.Tie as tie
 
-add-bits : tie.Need-add-bits
-add-bits c = search needs
-
-mul-bits : tie.Need-mul-bits
-mul-bits c = search needs
-
-shared-slice-read-bits : tie.Need-shared-slice-read-bits
-shared-slice-read-bits c = search needs
-
-bits-requires : tie.Need-bits-requires
-bits-requires c κs = search needs
-
-add-bits-2 : tie.Need-add-bits-2
-add-bits-2 c = search needs
-
-mul-bits-2 : tie.Need-mul-bits-2
-mul-bits-2 c = search needs
-
-shared-slice-read-bits-2 : tie.Need-shared-slice-read-bits-2
-shared-slice-read-bits-2 c = search needs
-
-bits-requires-2 : tie.Need-bits-requires-2
-bits-requires-2 c κs = search needs
-
-is-flag-requires : tie.Need-is-flag-requires
-is-flag-requires c κs = search needs
-
-is-flag-requires-2 : tie.Need-is-flag-requires-2
-is-flag-requires-2 c κs = search needs
-
-point-at-requires : tie.Need-point-at-requires
-point-at-requires c κs = search needs
-
-add-t13 : tie.Need-add-t13
-add-t13 c = search needs
-
-mul-t14 : tie.Need-mul-t14
-mul-t14 c = search needs
-
-shared-slice-read-t16 : tie.Need-shared-slice-read-t16
-shared-slice-read-t16 c = search needs
-
-is-set-requires : tie.Need-is-set-requires
-is-set-requires c κs = search needs
-
-is-set-requires-2 : tie.Need-is-set-requires-2
-is-set-requires-2 c κs = search needs
-
-add-point-at : tie.Need-add-point-at
-add-point-at c = search needs
-
-point-at-requires-2 : tie.Need-point-at-requires-2
-point-at-requires-2 c κs = search needs
-
 returns : tie.Need-returns
 returns c =
     let a = c .before .before .before .before .before .before .before .before .before .before .before .before .before .before .args in
@@ -85,25 +31,7 @@ returns-3 c =
 pub arc-at-spec : {M : Type 1} → statement M
 arc-at-spec =
     tie.close
-    (tie.spec
-    add-bits
-    mul-bits
-    shared-slice-read-bits
-    bits-requires
-    add-bits-2
-    mul-bits-2
-    shared-slice-read-bits-2
-    bits-requires-2
-    is-flag-requires
-    is-flag-requires-2
-    point-at-requires
-    add-t13
-    mul-t14
-    shared-slice-read-t16
-    is-set-requires
-    is-set-requires-2
-    add-point-at
-    point-at-requires-2
-    returns
-    returns-2
-    returns-3)
+    (tie.spec (λ c. search needs) (λ c. search needs) (λ c. search needs) (λ c κs. search needs) (λ c. search needs)
+    (λ c. search needs) (λ c. search needs) (λ c κs. search needs) (λ c κs. search needs) (λ c κs. search needs)
+    (λ c κs. search needs) (λ c. search needs) (λ c. search needs) (λ c. search needs) (λ c κs. search needs)
+    (λ c κs. search needs) (λ c. search needs) (λ c κs. search needs) returns returns-2 returns-3)

@@ -13,56 +13,20 @@ use Rattle.commands.proofs.Decoding.{point-from, is-move, is-line, is-q
 use Rattle.commands.proofs.inner.decode.Statement.{statement}
 use Rattle.commands.proofs.inner.decode.Tie as tie
 
-sub-left : tie.Need-sub-left
-sub-left c = search needs
-
 returns : tie.Need-returns
 returns c = let a = c .before .before .before .args in short-move (a .letter) (drop (a .at) (a .numbers .now)) (c .before .match .keys1) (simp length-drop (omega arith))
-
-point-at-requires : tie.Need-point-at-requires
-point-at-requires c κs = search needs
 
 returns-2 : tie.Need-returns-2
 returns-2 c = let a = c .before .before .before .args in short-line (a .letter) (drop (a .at) (a .numbers .now)) (c .before .match .keys2) (simp length-drop (omega arith))
 
-point-at-requires-2 : tie.Need-point-at-requires-2
-point-at-requires-2 c κs = search needs
-
 returns-3 : tie.Need-returns-3
 returns-3 c = let a = c .before .before .before .args in short-quad (a .letter) (drop (a .at) (a .numbers .now)) (c .before .match .keys3) (simp length-drop (omega arith))
-
-point-at-requires-3 : tie.Need-point-at-requires-3
-point-at-requires-3 c κs = search needs
-
-add-point-at : tie.Need-add-point-at
-add-point-at c = search needs
-
-point-at-requires-4 : tie.Need-point-at-requires-4
-point-at-requires-4 c κs = search needs
 
 returns-4 : tie.Need-returns-4
 returns-4 c = let a = c .before .before .before .args in short-cubic (a .letter) (drop (a .at) (a .numbers .now)) (c .before .match .keys4) (simp length-drop (omega arith))
 
-point-at-requires-5 : tie.Need-point-at-requires-5
-point-at-requires-5 c κs = search needs
-
-add-point-at-2 : tie.Need-add-point-at-2
-add-point-at-2 c = search needs
-
-point-at-requires-6 : tie.Need-point-at-requires-6
-point-at-requires-6 c κs = search needs
-
-add-point-at-3 : tie.Need-add-point-at-3
-add-point-at-3 c = search needs
-
-point-at-requires-7 : tie.Need-point-at-requires-7
-point-at-requires-7 c κs = search needs
-
 returns-5 : tie.Need-returns-5
 returns-5 c = let a = c .before .before .before .args in short-arc (a .letter) (drop (a .at) (a .numbers .now)) (c .before .match .keys5) (simp length-drop (omega arith))
-
-arc-at-requires : tie.Need-arc-at-requires
-arc-at-requires c κs = search needs
 
 returns-6 : tie.Need-returns-6
 returns-6 c =
@@ -109,28 +73,7 @@ returns-12 c = let r = c .match .rest in unknown _ _ (r .0 .0 .0 .0 .0 .1) (r .0
 pub decode-spec : {M : Type 1} → statement M
 decode-spec =
     tie.close
-    (tie.spec
-    sub-left
-    returns
-    point-at-requires
-    returns-2
-    point-at-requires-2
-    returns-3
-    point-at-requires-3
-    add-point-at
-    point-at-requires-4
-    returns-4
-    point-at-requires-5
-    add-point-at-2
-    point-at-requires-6
-    add-point-at-3
-    point-at-requires-7
-    returns-5
-    arc-at-requires
-    returns-6
-    returns-7
-    returns-8
-    returns-9
-    returns-10
-    returns-11
-    returns-12)
+    (tie.spec (λ c. search needs) returns (λ c κs. search needs) returns-2 (λ c κs. search needs) returns-3
+    (λ c κs. search needs) (λ c. search needs) (λ c κs. search needs) returns-4 (λ c κs. search needs)
+    (λ c. search needs) (λ c κs. search needs) (λ c. search needs) (λ c κs. search needs) returns-5
+    (λ c κs. search needs) returns-6 returns-7 returns-8 returns-9 returns-10 returns-11 returns-12)

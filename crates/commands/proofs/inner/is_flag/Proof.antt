@@ -3,8 +3,7 @@ use borrow.Author.Needs.{needs}
 use Rattle.commands.proofs.inner.is_flag.Statement.{statement}
 use Rattle.commands.proofs.inner.is_flag.Tie as tie
 
-returns : tie.Need-returns
-returns c = search needs
-
 pub is-flag-spec : {M : Type 1} → statement M
-is-flag-spec = tie.close (tie.spec returns)
+is-flag-spec =
+    tie.close
+    (tie.spec (λ c. search needs))

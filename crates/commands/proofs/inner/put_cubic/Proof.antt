@@ -4,24 +4,6 @@ use Rattle.commands.proofs.Storing.{six-put}
 use Rattle.commands.proofs.inner.put_cubic.Statement.{statement}
 use Rattle.commands.proofs.inner.put_cubic.Tie as tie
 
-put-two-requires : tie.Need-put-two-requires
-put-two-requires c κs = search needs
-
-add-put-two : tie.Need-add-put-two
-add-put-two c = search needs
-
-put-two-requires-2 : tie.Need-put-two-requires-2
-put-two-requires-2 c κs = search needs
-
-add-put-two-2 : tie.Need-add-put-two-2
-add-put-two-2 c = search needs
-
-put-two-requires-3 : tie.Need-put-two-requires-3
-put-two-requires-3 c κs = search needs
-
-same-length : tie.Need-same-length
-same-length c = search needs
-
 returns : tie.Need-returns
 returns c =
     let a = c .before .before .before .before .before .before .before .before .before .before .before .before .before .args in
@@ -32,11 +14,5 @@ returns c =
 pub put-cubic-spec : {M : Type 1} → statement M
 put-cubic-spec =
     tie.close
-    (tie.spec
-    put-two-requires
-    add-put-two
-    put-two-requires-2
-    add-put-two-2
-    put-two-requires-3
-    same-length
-    returns)
+    (tie.spec (λ c κs. search needs) (λ c. search needs) (λ c κs. search needs) (λ c. search needs)
+    (λ c κs. search needs) (λ c. search needs) returns)

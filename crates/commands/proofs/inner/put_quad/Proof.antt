@@ -4,18 +4,6 @@ use Rattle.commands.proofs.Storing.{four-put}
 use Rattle.commands.proofs.inner.put_quad.Statement.{statement}
 use Rattle.commands.proofs.inner.put_quad.Tie as tie
 
-put-two-requires : tie.Need-put-two-requires
-put-two-requires c κs = search needs
-
-add-put-two : tie.Need-add-put-two
-add-put-two c = search needs
-
-put-two-requires-2 : tie.Need-put-two-requires-2
-put-two-requires-2 c κs = search needs
-
-same-length : tie.Need-same-length
-same-length c = search needs
-
 returns : tie.Need-returns
 returns c =
     let a = c .before .before .before .before .before .before .before .before .before .args in
@@ -23,4 +11,5 @@ returns c =
 
 pub put-quad-spec : {M : Type 1} → statement M
 put-quad-spec =
-    tie.close (tie.spec put-two-requires add-put-two put-two-requires-2 same-length returns)
+    tie.close
+    (tie.spec (λ c κs. search needs) (λ c. search needs) (λ c κs. search needs) (λ c. search needs) returns)

@@ -5,42 +5,6 @@ use Rattle.groups.specs.Groups.{readArcOf}
 use Rattle.groups.proofs.groups.read_arc.Statement.{statement}
 use Rattle.groups.proofs.groups.read_arc.Tie as tie
 
-read-pair-requires : tie.Need-read-pair-requires
-read-pair-requires c κs = search needs
-
-enum-known-refusal : tie.Need-enum-known-refusal
-enum-known-refusal c = search needs
-
-enum-known-radii : tie.Need-enum-known-radii
-enum-known-radii c = search needs
-
-read-number-requires : tie.Need-read-number-requires
-read-number-requires c κs = search needs
-
-enum-known-refusal-2 : tie.Need-enum-known-refusal-2
-enum-known-refusal-2 c = search needs
-
-enum-known-rotation : tie.Need-enum-known-rotation
-enum-known-rotation c = search needs
-
-read-flags-requires : tie.Need-read-flags-requires
-read-flags-requires c κs = search needs
-
-enum-known-refusal-3 : tie.Need-enum-known-refusal-3
-enum-known-refusal-3 c = search needs
-
-enum-known-large : tie.Need-enum-known-large
-enum-known-large c = search needs
-
-read-pair-requires-2 : tie.Need-read-pair-requires-2
-read-pair-requires-2 c κs = search needs
-
-enum-known-refusal-4 : tie.Need-enum-known-refusal-4
-enum-known-refusal-4 c = search needs
-
-enum-known-end : tie.Need-enum-known-end
-enum-known-end c = search needs
-
 returns : tie.Need-returns
 unfolding readArcOf
 returns c = rw (sym (c .before .before .before .read-pair .ensures) ∙ c .before .refusal .given .1)
@@ -64,21 +28,6 @@ returns-5 c = rw (sym (c .before .before .before .before .before .before .before
 pub read-arc-spec : {M : Type 1} → statement M
 read-arc-spec =
     tie.close
-    (tie.spec
-    read-pair-requires
-    enum-known-refusal
-    enum-known-radii
-    read-number-requires
-    enum-known-refusal-2
-    enum-known-rotation
-    read-flags-requires
-    enum-known-refusal-3
-    enum-known-large
-    read-pair-requires-2
-    enum-known-refusal-4
-    enum-known-end
-    returns
-    returns-2
-    returns-3
-    returns-4
-    returns-5)
+    (tie.spec (λ c κs. search needs) (λ c. search needs) (λ c. search needs) (λ c κs. search needs)
+    (λ c. search needs) (λ c. search needs) (λ c κs. search needs) (λ c. search needs) (λ c. search needs)
+    (λ c κs. search needs) (λ c. search needs) (λ c. search needs) returns returns-2 returns-3 returns-4 returns-5)

@@ -5,15 +5,6 @@ use Rattle.groups.specs.Groups.{readLineOf}
 use Rattle.groups.proofs.groups.read_line.Statement.{statement}
 use Rattle.groups.proofs.groups.read_line.Tie as tie
 
-read-pair-requires : tie.Need-read-pair-requires
-read-pair-requires c κs = search needs
-
-enum-known-refusal : tie.Need-enum-known-refusal
-enum-known-refusal c = search needs
-
-enum-known-point : tie.Need-enum-known-point
-enum-known-point c = search needs
-
 returns : tie.Need-returns
 unfolding readLineOf
 returns c = rw (sym (c .before .before .before .read-pair .ensures) ∙ c .before .refusal .given .1)
@@ -24,4 +15,5 @@ returns-2 c = rw (sym (c .before .before .before .read-pair .ensures) ∙ c .bef
 
 pub read-line-spec : {M : Type 1} → statement M
 read-line-spec =
-    tie.close (tie.spec read-pair-requires enum-known-refusal enum-known-point returns returns-2)
+    tie.close
+    (tie.spec (λ c κs. search needs) (λ c. search needs) (λ c. search needs) returns returns-2)

@@ -5,15 +5,6 @@ use Rattle.groups.specs.Groups.{readVerticalOf}
 use Rattle.groups.proofs.groups.read_vertical.Statement.{statement}
 use Rattle.groups.proofs.groups.read_vertical.Tie as tie
 
-read-number-requires : tie.Need-read-number-requires
-read-number-requires c κs = search needs
-
-enum-known-refusal : tie.Need-enum-known-refusal
-enum-known-refusal c = search needs
-
-enum-known-value : tie.Need-enum-known-value
-enum-known-value c = search needs
-
 returns : tie.Need-returns
 unfolding readVerticalOf
 returns c = rw (sym (c .before .before .before .before .before .read-number .ensures) ∙ c .before .before .before .value .given .1, c .before .if1 .taken)
@@ -29,4 +20,4 @@ returns-3 c = rw (sym (c .before .before .before .before .read-number .ensures) 
 pub read-vertical-spec : {M : Type 1} → statement M
 read-vertical-spec =
     tie.close
-    (tie.spec read-number-requires enum-known-refusal enum-known-value returns returns-2 returns-3)
+    (tie.spec (λ c κs. search needs) (λ c. search needs) (λ c. search needs) returns returns-2 returns-3)

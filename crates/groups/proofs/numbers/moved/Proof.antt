@@ -4,9 +4,6 @@ use Rattle.groups.specs.Numbers.{movedOf}
 use Rattle.groups.proofs.numbers.moved.Statement.{statement}
 use Rattle.groups.proofs.numbers.moved.Tie as tie
 
-add-requires : tie.Need-add-requires
-add-requires c κs = search needs
-
 returns : tie.Need-returns
 unfolding movedOf
 returns c = rw (c .before .if1 .taken) (c .add .ensures)
@@ -16,4 +13,6 @@ unfolding movedOf
 returns-2 c = rw (c .if1 .left)
 
 pub moved-spec : {M : Type 1} → statement M
-moved-spec = tie.close (tie.spec add-requires returns returns-2)
+moved-spec =
+    tie.close
+    (tie.spec (λ c κs. search needs) returns returns-2)

@@ -6,25 +6,13 @@ use Rattle.groups.specs.Numbers.{flagAt, readFlagOf}
 use Rattle.groups.proofs.numbers.read_flag.Statement.{statement}
 use Rattle.groups.proofs.numbers.read_flag.Tie as tie
 
-past-separators-requires : tie.Need-past-separators-requires
-past-separators-requires c κs = search needs
-
 returns : tie.Need-returns
 unfolding readFlagOf
 returns c = simp (sym (c .before .past-separators .ensures), le-ltb _ _ (c .if1 .taken))
 
-shared-slice-read-byte : tie.Need-shared-slice-read-byte
-shared-slice-read-byte c = search needs
-
-add-t11 : tie.Need-add-t11
-add-t11 c = search needs
-
 returns-2 : tie.Need-returns-2
 unfolding readFlagOf flagAt
 returns-2 c = simp (sym (c .before .before .before .past-separators .ensures), lt-ltb _ _ (c .before .before .if1 .left), eq-eqb _ 48 (c .if2 .taken))
-
-add-t12 : tie.Need-add-t12
-add-t12 c = search needs
 
 returns-3 : tie.Need-returns-3
 unfolding readFlagOf flagAt
@@ -37,12 +25,5 @@ returns-4 c = simp (sym (c .before .before .before .before .past-separators .ens
 pub read-flag-spec : {M : Type 1} → statement M
 read-flag-spec =
     tie.close
-    (tie.spec
-    past-separators-requires
-    returns
-    shared-slice-read-byte
-    add-t11
-    returns-2
-    add-t12
-    returns-3
-    returns-4)
+    (tie.spec (λ c κs. search needs) returns (λ c. search needs) (λ c. search needs) returns-2 (λ c. search needs)
+    returns-3 returns-4)

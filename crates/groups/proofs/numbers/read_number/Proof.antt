@@ -6,21 +6,9 @@ use Rattle.groups.specs.Numbers.{readNumberOf}
 use Rattle.groups.proofs.numbers.read_number.Statement.{statement}
 use Rattle.groups.proofs.numbers.read_number.Tie as tie
 
-past-separators-requires : tie.Need-past-separators-requires
-past-separators-requires c κs = search needs
-
 returns : tie.Need-returns
 unfolding readNumberOf
 returns c = simp (sym (c .before .past-separators .ensures), le-ltb _ _ (c .if1 .taken))
-
-number-requires : tie.Need-number-requires
-number-requires c κs = search needs
-
-enum-known-value : tie.Need-enum-known-value
-enum-known-value c = search needs
-
-enum-known-refusal : tie.Need-enum-known-refusal
-enum-known-refusal c = search needs
 
 returns-2 : tie.Need-returns-2
 unfolding readNumberOf
@@ -33,11 +21,5 @@ returns-3 c = simp (sym (c .before .before .before .before .before .past-separat
 pub read-number-spec : {M : Type 1} → statement M
 read-number-spec =
     tie.close
-    (tie.spec
-    past-separators-requires
-    returns
-    number-requires
-    enum-known-value
-    enum-known-refusal
-    returns-2
+    (tie.spec (λ c κs. search needs) returns (λ c κs. search needs) (λ c. search needs) (λ c. search needs) returns-2
     returns-3)

@@ -5,27 +5,6 @@ use Rattle.groups.specs.Numbers.{readPairOf}
 use Rattle.groups.proofs.numbers.read_pair.Statement.{statement}
 use Rattle.groups.proofs.numbers.read_pair.Tie as tie
 
-read-number-requires : tie.Need-read-number-requires
-read-number-requires c κs = search needs
-
-enum-known-refusal : tie.Need-enum-known-refusal
-enum-known-refusal c = search needs
-
-enum-known-x : tie.Need-enum-known-x
-enum-known-x c = search needs
-
-read-number-requires-2 : tie.Need-read-number-requires-2
-read-number-requires-2 c κs = search needs
-
-enum-known-refusal-2 : tie.Need-enum-known-refusal-2
-enum-known-refusal-2 c = search needs
-
-enum-known-y : tie.Need-enum-known-y
-enum-known-y c = search needs
-
-moved-requires : tie.Need-moved-requires
-moved-requires c κs = search needs
-
 returns : tie.Need-returns
 unfolding readPairOf
 returns c = rw (sym (c .before .before .before .read-number .ensures) ∙ c .before .refusal .given .1)
@@ -41,14 +20,5 @@ returns-3 c = rw (sym (c .before .before .before .before .before .before .before
 pub read-pair-spec : {M : Type 1} → statement M
 read-pair-spec =
     tie.close
-    (tie.spec
-    read-number-requires
-    enum-known-refusal
-    enum-known-x
-    read-number-requires-2
-    enum-known-refusal-2
-    enum-known-y
-    moved-requires
-    returns
-    returns-2
-    returns-3)
+    (tie.spec (λ c κs. search needs) (λ c. search needs) (λ c. search needs) (λ c κs. search needs)
+    (λ c. search needs) (λ c. search needs) (λ c κs. search needs) returns returns-2 returns-3)

@@ -5,36 +5,6 @@ use Rattle.groups.specs.Passing.{passArcOf}
 use Rattle.groups.proofs.passing.pass_arc.Statement.{statement}
 use Rattle.groups.proofs.passing.pass_arc.Tie as tie
 
-pass-pair-requires : tie.Need-pass-pair-requires
-pass-pair-requires c κs = search needs
-
-enum-known-refusal : tie.Need-enum-known-refusal
-enum-known-refusal c = search needs
-
-enum-known-second : tie.Need-enum-known-second
-enum-known-second c = search needs
-
-pass-number-requires : tie.Need-pass-number-requires
-pass-number-requires c κs = search needs
-
-enum-known-refusal-2 : tie.Need-enum-known-refusal-2
-enum-known-refusal-2 c = search needs
-
-enum-known-third : tie.Need-enum-known-third
-enum-known-third c = search needs
-
-read-flags-requires : tie.Need-read-flags-requires
-read-flags-requires c κs = search needs
-
-enum-known-refusal-3 : tie.Need-enum-known-refusal-3
-enum-known-refusal-3 c = search needs
-
-enum-known-next : tie.Need-enum-known-next
-enum-known-next c = search needs
-
-pass-pair-requires-2 : tie.Need-pass-pair-requires-2
-pass-pair-requires-2 c κs = search needs
-
 returns : tie.Need-returns
 unfolding passArcOf
 returns c = rw (sym (c .before .before .before .pass-pair .ensures) ∙ c .before .refusal .given .1)
@@ -54,18 +24,6 @@ returns-4 c = rw (sym (c .before .before .before .before .before .before .before
 pub pass-arc-spec : {M : Type 1} → statement M
 pass-arc-spec =
     tie.close
-    (tie.spec
-    pass-pair-requires
-    enum-known-refusal
-    enum-known-second
-    pass-number-requires
-    enum-known-refusal-2
-    enum-known-third
-    read-flags-requires
-    enum-known-refusal-3
-    enum-known-next
-    pass-pair-requires-2
-    returns
-    returns-2
-    returns-3
-    returns-4)
+    (tie.spec (λ c κs. search needs) (λ c. search needs) (λ c. search needs) (λ c κs. search needs)
+    (λ c. search needs) (λ c. search needs) (λ c κs. search needs) (λ c. search needs) (λ c. search needs)
+    (λ c κs. search needs) returns returns-2 returns-3 returns-4)

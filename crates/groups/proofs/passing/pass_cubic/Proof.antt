@@ -5,18 +5,6 @@ use Rattle.groups.specs.Passing.{passCubicOf}
 use Rattle.groups.proofs.passing.pass_cubic.Statement.{statement}
 use Rattle.groups.proofs.passing.pass_cubic.Tie as tie
 
-pass-quad-requires : tie.Need-pass-quad-requires
-pass-quad-requires c κs = search needs
-
-enum-known-refusal : tie.Need-enum-known-refusal
-enum-known-refusal c = search needs
-
-enum-known-next : tie.Need-enum-known-next
-enum-known-next c = search needs
-
-pass-pair-requires : tie.Need-pass-pair-requires
-pass-pair-requires c κs = search needs
-
 returns : tie.Need-returns
 unfolding passCubicOf
 returns c = rw (sym (c .before .before .before .pass-quad .ensures) ∙ c .before .refusal .given .1)
@@ -28,10 +16,4 @@ returns-2 c = rw (sym (c .before .before .before .before .pass-quad .ensures) �
 pub pass-cubic-spec : {M : Type 1} → statement M
 pass-cubic-spec =
     tie.close
-    (tie.spec
-    pass-quad-requires
-    enum-known-refusal
-    enum-known-next
-    pass-pair-requires
-    returns
-    returns-2)
+    (tie.spec (λ c κs. search needs) (λ c. search needs) (λ c. search needs) (λ c κs. search needs) returns returns-2)

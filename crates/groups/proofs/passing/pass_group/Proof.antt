@@ -4,48 +4,6 @@ use Rattle.groups.specs.Passing.{passGroupOf}
 use Rattle.groups.proofs.passing.pass_group.Statement.{statement}
 use Rattle.groups.proofs.passing.pass_group.Tie as tie
 
-enum-told : tie.Need-enum-told
-enum-told c = search needs
-
-pass-pair-requires : tie.Need-pass-pair-requires
-pass-pair-requires c κs = search needs
-
-enum-told-2 : tie.Need-enum-told-2
-enum-told-2 c = search needs
-
-pass-pair-requires-2 : tie.Need-pass-pair-requires-2
-pass-pair-requires-2 c κs = search needs
-
-enum-told-3 : tie.Need-enum-told-3
-enum-told-3 c = search needs
-
-pass-number-requires : tie.Need-pass-number-requires
-pass-number-requires c κs = search needs
-
-enum-told-4 : tie.Need-enum-told-4
-enum-told-4 c = search needs
-
-pass-number-requires-2 : tie.Need-pass-number-requires-2
-pass-number-requires-2 c κs = search needs
-
-enum-told-5 : tie.Need-enum-told-5
-enum-told-5 c = search needs
-
-pass-cubic-requires : tie.Need-pass-cubic-requires
-pass-cubic-requires c κs = search needs
-
-enum-told-6 : tie.Need-enum-told-6
-enum-told-6 c = search needs
-
-pass-quad-requires : tie.Need-pass-quad-requires
-pass-quad-requires c κs = search needs
-
-enum-told-7 : tie.Need-enum-told-7
-enum-told-7 c = search needs
-
-pass-arc-requires : tie.Need-pass-arc-requires
-pass-arc-requires c κs = search needs
-
 returns : tie.Need-returns
 unfolding passGroupOf
 returns c = rw (c .before .enum-told .given .1) (c .pass-pair .ensures)
@@ -77,25 +35,7 @@ returns-7 c = rw (c .before .enum-told7 .given .1) (c .pass-arc .ensures)
 pub pass-group-spec : {M : Type 1} → statement M
 pass-group-spec =
     tie.close
-    (tie.spec
-    enum-told
-    pass-pair-requires
-    enum-told-2
-    pass-pair-requires-2
-    enum-told-3
-    pass-number-requires
-    enum-told-4
-    pass-number-requires-2
-    enum-told-5
-    pass-cubic-requires
-    enum-told-6
-    pass-quad-requires
-    enum-told-7
-    pass-arc-requires
-    returns
-    returns-2
-    returns-3
-    returns-4
-    returns-5
-    returns-6
-    returns-7)
+    (tie.spec (λ c. search needs) (λ c κs. search needs) (λ c. search needs) (λ c κs. search needs)
+    (λ c. search needs) (λ c κs. search needs) (λ c. search needs) (λ c κs. search needs) (λ c. search needs)
+    (λ c κs. search needs) (λ c. search needs) (λ c κs. search needs) (λ c. search needs) (λ c κs. search needs)
+    returns returns-2 returns-3 returns-4 returns-5 returns-6 returns-7)

@@ -9,40 +9,13 @@ use Rattle.groups.proofs.Ends.{plain-number}
 use Rattle.groups.proofs.passing.pass_number.Statement.{statement}
 use Rattle.groups.proofs.passing.pass_number.Tie as tie
 
-past-separators-requires : tie.Need-past-separators-requires
-past-separators-requires c κs = search needs
-
 returns : tie.Need-returns
 unfolding passNumberOf
 returns c = simp (sym (c .before .past-separators .ensures), le-ltb _ _ (c .if1 .taken))
 
-past-sign-requires : tie.Need-past-sign-requires
-past-sign-requires c κs = search needs
-
-past-digits-requires : tie.Need-past-digits-requires
-past-digits-requires c κs = search needs
-
-past-point-requires : tie.Need-past-point-requires
-past-point-requires c κs = search needs
-
-past-digits-requires-2 : tie.Need-past-digits-requires-2
-past-digits-requires-2 c κs = search needs
-
-pass-scanned-requires : tie.Need-pass-scanned-requires
-pass-scanned-requires c κs = search needs
-
 returns-2 : tie.Need-returns-2
 unfolding passNumberOf
 returns-2 c = simp (sym (c .before .before .before .before .before .before .before .past-separators .ensures), lt-ltb _ _ (c .before .before .before .before .before .before .if1 .left)) (c .pass-scanned .ensures)
-
-byte-at-requires : tie.Need-byte-at-requires
-byte-at-requires c κs = search needs
-
-is-exponent-mark-requires : tie.Need-is-exponent-mark-requires
-is-exponent-mark-requires c κs = search needs
-
-pass-scanned-requires-2 : tie.Need-pass-scanned-requires-2
-pass-scanned-requires-2 c κs = search needs
 
 returns-3 : tie.Need-returns-3
 unfolding passNumberOf
@@ -58,17 +31,6 @@ returns-4 c =
 pub pass-number-spec : {M : Type 1} → statement M
 pass-number-spec =
     tie.close
-    (tie.spec
-    past-separators-requires
-    returns
-    past-sign-requires
-    past-digits-requires
-    past-point-requires
-    past-digits-requires-2
-    pass-scanned-requires
-    returns-2
-    byte-at-requires
-    is-exponent-mark-requires
-    pass-scanned-requires-2
-    returns-3
-    returns-4)
+    (tie.spec (λ c κs. search needs) returns (λ c κs. search needs) (λ c κs. search needs) (λ c κs. search needs)
+    (λ c κs. search needs) (λ c κs. search needs) returns-2 (λ c κs. search needs) (λ c κs. search needs)
+    (λ c κs. search needs) returns-3 returns-4)

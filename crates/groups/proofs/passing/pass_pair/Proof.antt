@@ -5,18 +5,6 @@ use Rattle.groups.specs.Passing.{passPairOf}
 use Rattle.groups.proofs.passing.pass_pair.Statement.{statement}
 use Rattle.groups.proofs.passing.pass_pair.Tie as tie
 
-pass-number-requires : tie.Need-pass-number-requires
-pass-number-requires c κs = search needs
-
-enum-known-refusal : tie.Need-enum-known-refusal
-enum-known-refusal c = search needs
-
-enum-known-next : tie.Need-enum-known-next
-enum-known-next c = search needs
-
-pass-number-requires-2 : tie.Need-pass-number-requires-2
-pass-number-requires-2 c κs = search needs
-
 returns : tie.Need-returns
 unfolding passPairOf
 returns c = rw (sym (c .before .before .before .pass-number .ensures) ∙ c .before .refusal .given .1)
@@ -28,10 +16,4 @@ returns-2 c = rw (sym (c .before .before .before .before .pass-number .ensures) 
 pub pass-pair-spec : {M : Type 1} → statement M
 pass-pair-spec =
     tie.close
-    (tie.spec
-    pass-number-requires
-    enum-known-refusal
-    enum-known-next
-    pass-number-requires-2
-    returns
-    returns-2)
+    (tie.spec (λ c κs. search needs) (λ c. search needs) (λ c. search needs) (λ c κs. search needs) returns returns-2)

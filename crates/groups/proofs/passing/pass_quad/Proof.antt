@@ -5,18 +5,6 @@ use Rattle.groups.specs.Passing.{passQuadOf}
 use Rattle.groups.proofs.passing.pass_quad.Statement.{statement}
 use Rattle.groups.proofs.passing.pass_quad.Tie as tie
 
-pass-pair-requires : tie.Need-pass-pair-requires
-pass-pair-requires c κs = search needs
-
-enum-known-refusal : tie.Need-enum-known-refusal
-enum-known-refusal c = search needs
-
-enum-known-next : tie.Need-enum-known-next
-enum-known-next c = search needs
-
-pass-pair-requires-2 : tie.Need-pass-pair-requires-2
-pass-pair-requires-2 c κs = search needs
-
 returns : tie.Need-returns
 unfolding passQuadOf
 returns c = rw (sym (c .before .before .before .pass-pair .ensures) ∙ c .before .refusal .given .1)
@@ -28,10 +16,4 @@ returns-2 c = rw (sym (c .before .before .before .before .pass-pair .ensures) �
 pub pass-quad-spec : {M : Type 1} → statement M
 pass-quad-spec =
     tie.close
-    (tie.spec
-    pass-pair-requires
-    enum-known-refusal
-    enum-known-next
-    pass-pair-requires-2
-    returns
-    returns-2)
+    (tie.spec (λ c κs. search needs) (λ c. search needs) (λ c. search needs) (λ c κs. search needs) returns returns-2)

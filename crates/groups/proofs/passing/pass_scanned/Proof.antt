@@ -4,18 +4,6 @@ use mathlib.Core.Path.{sym, _∙_}
 use Rattle.groups.proofs.passing.pass_scanned.Statement.{statement}
 use Rattle.groups.proofs.passing.pass_scanned.Tie as tie
 
-scan-number-requires : tie.Need-scan-number-requires
-scan-number-requires c κs = search needs
-
-enum-known-places : tie.Need-enum-known-places
-enum-known-places c = search needs
-
-enum-known-place : tie.Need-enum-known-place
-enum-known-place c = search needs
-
-enum-known-place-2 : tie.Need-enum-known-place-2
-enum-known-place-2 c = search needs
-
 returns : tie.Need-returns
 returns c = rw (sym (c .before .before .before .scan-number .ensures) ∙ c .before .places .given .1)
 
@@ -28,11 +16,5 @@ returns-3 c = rw (sym (c .before .before .before .scan-number .ensures) ∙ c .b
 pub pass-scanned-spec : {M : Type 1} → statement M
 pass-scanned-spec =
     tie.close
-    (tie.spec
-    scan-number-requires
-    enum-known-places
-    enum-known-place
-    enum-known-place-2
-    returns
-    returns-2
+    (tie.spec (λ c κs. search needs) (λ c. search needs) (λ c. search needs) (λ c. search needs) returns returns-2
     returns-3)

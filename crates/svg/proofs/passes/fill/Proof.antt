@@ -20,12 +20,6 @@ abbrev μ-loop : tie.MeasureT-loop
 loop-holds : tie.Need-loop-holds Inv-loop μ-loop
 loop-holds c = c .before .before .before .pre
 
-read-step-requires : tie.Need-read-step-requires Inv-loop μ-loop
-read-step-requires c κs = search needs
-
-enum-told : tie.Need-enum-told Inv-loop μ-loop
-enum-told c = search needs
-
 same-length : tie.Need-same-length Inv-loop μ-loop
 same-length c = let l = c .before .before .before in held-letters _ _ (l .loop .letters) _ (l .loop .numbers) (l .loop .reader) (l .loop .place) (l .loop .at) (l .loop .inv)
 
@@ -35,9 +29,6 @@ same-length-2 c = let l = c .before .before .before in held-numbers _ _ (l .loop
 returns : tie.Need-returns Inv-loop μ-loop
 returns c = let l = c .before .before .before in held-whole _ _ (l .loop .letters) _ (l .loop .numbers) (l .loop .reader) (l .loop .place) (l .loop .at) (l .loop .inv) (sym (c .before .before .read-step .ensures) ∙ c .enum-told .given .1)
 
-enum-known-refusal : tie.Need-enum-known-refusal Inv-loop μ-loop
-enum-known-refusal c = search needs
-
 same-length-3 : tie.Need-same-length-3 Inv-loop μ-loop
 same-length-3 c = let l = c .before .before .before .before in held-letters _ _ (l .loop .letters) _ (l .loop .numbers) (l .loop .reader) (l .loop .place) (l .loop .at) (l .loop .inv)
 
@@ -46,12 +37,6 @@ same-length-4 c = let l = c .before .before .before .before in held-numbers _ _ 
 
 returns-2 : tie.Need-returns-2 Inv-loop μ-loop
 returns-2 c = let l = c .before .before .before .before in held-refused _ _ (l .loop .letters) _ (l .loop .numbers) (l .loop .reader) (l .loop .place) (l .loop .at) (l .loop .inv) _ (sym (c .before .before .before .read-step .ensures) ∙ c .before .refusal .given .1)
-
-enum-known-command : tie.Need-enum-known-command Inv-loop μ-loop
-enum-known-command c = search needs
-
-width-requires : tie.Need-width-requires Inv-loop μ-loop
-width-requires c κs = search needs
 
 same-length-5 : tie.Need-same-length-5 Inv-loop μ-loop
 same-length-5 c = let l = c .before .before .before .before .before .before in held-letters _ _ (l .loop .letters) _ (l .loop .numbers) (l .loop .reader) (l .loop .place) (l .loop .at) (l .loop .inv)
@@ -92,30 +77,7 @@ loop-again c = let l = c .before .before .before .before .before .before .before
 pub fill-spec : {M : Type 1} → statement M
 fill-spec =
     tie.close
-    (tie.spec
-    Inv-loop
-    μ-loop
-    loop-holds
-    read-step-requires
-    enum-told
-    same-length
-    same-length-2
-    returns
-    enum-known-refusal
-    same-length-3
-    same-length-4
-    returns-2
-    enum-known-command
-    width-requires
-    same-length-5
-    same-length-6
-    returns-3
-    sub-if2
-    same-length-7
-    same-length-8
-    returns-4
-    store-requires
-    add-at
-    add-place
-    loop-less
+    (tie.spec Inv-loop μ-loop loop-holds (λ c κs. search needs) (λ c. search needs) same-length same-length-2 returns
+    (λ c. search needs) same-length-3 same-length-4 returns-2 (λ c. search needs) (λ c κs. search needs) same-length-5
+    same-length-6 returns-3 sub-if2 same-length-7 same-length-8 returns-4 store-requires add-at add-place loop-less
     loop-again)

@@ -4,14 +4,10 @@ use Rattle.svg.proofs.PassLaws.{counting-none}
 use Rattle.svg.proofs.passes.measure.Statement.{statement}
 use Rattle.svg.proofs.passes.measure.Tie as tie
 
-fresh-requires : tie.Need-fresh-requires
-fresh-requires c κs = search needs
-
 measure-on-requires : tie.Need-measure-on-requires
 measure-on-requires c κs = (c .before .before .pre, rw (c .fresh .ensures) (counting-none _))
 
-returns : tie.Need-returns
-returns c = search needs
-
 pub measure-spec : {M : Type 1} → statement M
-measure-spec = tie.close (tie.spec fresh-requires measure-on-requires returns)
+measure-spec =
+    tie.close
+    (tie.spec (λ c κs. search needs) measure-on-requires (λ c. search needs))

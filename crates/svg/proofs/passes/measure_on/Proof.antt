@@ -18,23 +18,11 @@ abbrev μ-loop : tie.MeasureT-loop
 loop-holds : tie.Need-loop-holds Inv-loop μ-loop
 loop-holds c = passing-from _ _ _ _ (c .before .pre .1)
 
-pass-step-requires : tie.Need-pass-step-requires Inv-loop μ-loop
-pass-step-requires c κs = search needs
-
-enum-told : tie.Need-enum-told Inv-loop μ-loop
-enum-told c = search needs
-
 returns : tie.Need-returns Inv-loop μ-loop
 returns c = passed-done _ (c .before .before .before .loop .from) (c .before .before .before .loop .remembered) (c .before .before .before .loop .placed) (c .before .before .before .loop .place) (c .before .before .before .loop .at) (c .before .before .before .loop .inv) (sym (c .before .before .pass-step .ensures) ∙ c .enum-told .given .1)
 
-enum-known-refusal : tie.Need-enum-known-refusal Inv-loop μ-loop
-enum-known-refusal c = search needs
-
 returns-2 : tie.Need-returns-2 Inv-loop μ-loop
 returns-2 c = passed-refused _ (c .before .before .before .before .loop .from) (c .before .before .before .before .loop .remembered) (c .before .before .before .before .loop .placed) (c .before .before .before .before .loop .place) (c .before .before .before .before .loop .at) (c .before .before .before .before .loop .inv) _ (sym (c .before .before .before .pass-step .ensures) ∙ c .before .refusal .given .1)
-
-enum-known-more : tie.Need-enum-known-more Inv-loop μ-loop
-enum-known-more c = search needs
 
 add-at : tie.Need-add-at Inv-loop μ-loop
 add-at c = omega (arith, passing-within _ (c .before .before .before .before .loop .from) (c .before .before .before .before .loop .remembered) (c .before .before .before .before .loop .placed) (c .before .before .before .before .loop .place) (c .before .before .before .before .loop .at) (c .before .before .before .before .loop .inv) _ _ _ (sym (c .before .before .before .pass-step .ensures) ∙ c .before .more .given .1), c .before .before .before .before .before .before .pre .0)
@@ -51,17 +39,5 @@ loop-again c = passing-more _ (c .before .before .before .before .loop .from) (c
 pub measure-on-spec : {M : Type 1} → statement M
 measure-on-spec =
     tie.close
-    (tie.spec
-    Inv-loop
-    μ-loop
-    loop-holds
-    pass-step-requires
-    enum-told
-    returns
-    enum-known-refusal
-    returns-2
-    enum-known-more
-    add-at
-    add-place
-    loop-less
-    loop-again)
+    (tie.spec Inv-loop μ-loop loop-holds (λ c κs. search needs) (λ c. search needs) returns (λ c. search needs)
+    returns-2 (λ c. search needs) add-at add-place loop-less loop-again)

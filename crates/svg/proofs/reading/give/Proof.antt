@@ -10,29 +10,11 @@ returns c = give-no-letters _ _ _ _ (c .if1 .taken)
 returns-2 : tie.Need-returns-2
 returns-2 c = give-no-numbers _ _ _ _ (c .before .if1 .left) (c .if2 .taken)
 
-copy-letters-requires : tie.Need-copy-letters-requires
-copy-letters-requires c κs = search needs
-
-copy-numbers-requires : tie.Need-copy-numbers-requires
-copy-numbers-requires c κs = search needs
-
-same-length : tie.Need-same-length
-same-length c = search needs
-
-same-length-2 : tie.Need-same-length-2
-same-length-2 c = search needs
-
 returns-3 : tie.Need-returns-3
 returns-3 c = give-all _ _ _ _ _ _ (c .before .before .before .before .before .before .before .before .before .if1 .left) (c .before .before .before .before .before .before .before .before .if2 .left) (c .before .before .before .before .before .before .copy-letters .ensures) (c .before .before .copy-numbers .ensures)
 
 pub give-spec : {M : Type 1} → statement M
 give-spec =
     tie.close
-    (tie.spec
-    returns
-    returns-2
-    copy-letters-requires
-    copy-numbers-requires
-    same-length
-    same-length-2
+    (tie.spec returns returns-2 (λ c κs. search needs) (λ c κs. search needs) (λ c. search needs) (λ c. search needs)
     returns-3)

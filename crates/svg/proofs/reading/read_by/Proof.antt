@@ -7,26 +7,11 @@ use Rattle.svg.proofs.Holding.{holding-none, told-refused, whole-within
 use Rattle.svg.proofs.reading.read_by.Statement.{statement}
 use Rattle.svg.proofs.reading.read_by.Tie as tie
 
-fresh-requires : tie.Need-fresh-requires
-fresh-requires c κs = search needs
-
 fill-requires : tie.Need-fill-requires
 fill-requires c κs = rw (c .before .before .fresh .ensures) (holding-none _ _ _)
 
-enum-known-refusal : tie.Need-enum-known-refusal
-enum-known-refusal c = search needs
-
-same-length : tie.Need-same-length
-same-length c = search needs
-
-same-length-2 : tie.Need-same-length-2
-same-length-2 c = search needs
-
 returns : tie.Need-returns
 returns c = unread _ _ _ (c .before .before .before .before .before .before .before .before .before .before .before .before .before .before .before .before .pre) _ (told-refused _ _ _ _ _ _ (c .before .before .before .before .before .before .before .fill .ensures) _ (c .before .refusal .given .1))
-
-enum-known-places : tie.Need-enum-known-places
-enum-known-places c = search needs
 
 slice-reshare-prefix-give : tie.Need-slice-reshare-prefix-give
 slice-reshare-prefix-give c = whole-within _ _ _ _ _ _ (c .before .before .before .before .before .before .before .fill .ensures) _ _ (c .before .places .given .1) .0
@@ -40,26 +25,8 @@ slice-reshare-prefix-give-2 c = whole-within _ _ _ _ _ _ (c .before .before .bef
 slice-aggregate-give-2 : tie.Need-slice-aggregate-give-2
 slice-aggregate-give-2 c = sym (length-take-le _ _ (slice-reshare-prefix-give-2 (c .before)))
 
-give-requires : tie.Need-give-requires
-give-requires c κs = search needs
-
-same-length-3 : tie.Need-same-length-3
-same-length-3 c = search needs
-
-same-length-4 : tie.Need-same-length-4
-same-length-4 c = search needs
-
-same-length-5 : tie.Need-same-length-5
-same-length-5 c = search needs
-
-same-length-6 : tie.Need-same-length-6
-same-length-6 c = search needs
-
 returns-2 : tie.Need-returns-2
 returns-2 c = c .before .before .before .before .give .ensures .said _ (c .before .before .before .before .before .before .before .before .before .before .before .before .before .before .before .before .before .before .before .before .before .before .before .before .before .pre) (whole-held _ _ _ _ _ _ (c .before .before .before .before .before .before .before .before .before .before .before .before .before .before .before .before .fill .ensures) _ _ (c .before .before .before .before .before .before .before .before .before .before .places .given .1))
-
-enum-known-reader : tie.Need-enum-known-reader
-enum-known-reader c = search needs
 
 slice-reshare-prefix-read-on : tie.Need-slice-reshare-prefix-read-on
 slice-reshare-prefix-read-on c = full-within _ _ _ _ _ _ (c .before .before .before .before .before .before .before .fill .ensures) _ _ _ (c .before .reader .given .1) .0
@@ -76,50 +43,15 @@ slice-aggregate-read-on-2 c = sym (length-take-le _ _ (slice-reshare-prefix-read
 read-on-requires : tie.Need-read-on-requires
 read-on-requires c κs = (c .before .before .before .before .before .before .before .before .before .before .before .before .before .before .before .before .before .before .before .before .pre, full-begun _ _ _ _ _ _ (c .before .before .before .before .before .before .before .before .before .before .before .fill .ensures) _ _ _ (c .before .before .before .before .before .reader .given .1))
 
-same-length-7 : tie.Need-same-length-7
-same-length-7 c = search needs
-
-same-length-8 : tie.Need-same-length-8
-same-length-8 c = search needs
-
-same-length-9 : tie.Need-same-length-9
-same-length-9 c = search needs
-
-same-length-10 : tie.Need-same-length-10
-same-length-10 c = search needs
-
 returns-3 : tie.Need-returns-3
 returns-3 c = c .before .before .before .before .read-on .ensures
 
 pub read-by-spec : {M : Type 1} → statement M
 read-by-spec =
     tie.close
-    (tie.spec
-    fresh-requires
-    fill-requires
-    enum-known-refusal
-    same-length
-    same-length-2
-    returns
-    enum-known-places
-    slice-reshare-prefix-give
-    slice-aggregate-give
-    slice-reshare-prefix-give-2
-    slice-aggregate-give-2
-    give-requires
-    same-length-3
-    same-length-4
-    same-length-5
-    same-length-6
-    returns-2
-    enum-known-reader
-    slice-reshare-prefix-read-on
-    slice-aggregate-read-on
-    slice-reshare-prefix-read-on-2
-    slice-aggregate-read-on-2
-    read-on-requires
-    same-length-7
-    same-length-8
-    same-length-9
-    same-length-10
-    returns-3)
+    (tie.spec (λ c κs. search needs) fill-requires (λ c. search needs) (λ c. search needs) (λ c. search needs) returns
+    (λ c. search needs) slice-reshare-prefix-give slice-aggregate-give slice-reshare-prefix-give-2
+    slice-aggregate-give-2 (λ c κs. search needs) (λ c. search needs) (λ c. search needs) (λ c. search needs)
+    (λ c. search needs) returns-2 (λ c. search needs) slice-reshare-prefix-read-on slice-aggregate-read-on
+    slice-reshare-prefix-read-on-2 slice-aggregate-read-on-2 read-on-requires (λ c. search needs) (λ c. search needs)
+    (λ c. search needs) (λ c. search needs) returns-3)

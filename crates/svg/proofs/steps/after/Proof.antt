@@ -4,24 +4,6 @@ use Rattle.svg.specs.Steps.{afterOf}
 use Rattle.svg.proofs.steps.after.Statement.{statement}
 use Rattle.svg.proofs.steps.after.Tie as tie
 
-enum-known-command : tie.Need-enum-known-command
-enum-known-command c = search needs
-
-enum-known-command-2 : tie.Need-enum-known-command-2
-enum-known-command-2 c = search needs
-
-enum-known-command-3 : tie.Need-enum-known-command-3
-enum-known-command-3 c = search needs
-
-enum-known-command-4 : tie.Need-enum-known-command-4
-enum-known-command-4 c = search needs
-
-enum-known-command-5 : tie.Need-enum-known-command-5
-enum-known-command-5 c = search needs
-
-enum-told : tie.Need-enum-told
-enum-told c = search needs
-
 returns : tie.Need-returns
 unfolding afterOf
 returns c = rw (c .before .command .given .1)
@@ -49,16 +31,5 @@ returns-6 c = rw (c .enum-told .given .1)
 pub after-spec : {M : Type 1} → statement M
 after-spec =
     tie.close
-    (tie.spec
-    enum-known-command
-    enum-known-command-2
-    enum-known-command-3
-    enum-known-command-4
-    enum-known-command-5
-    enum-told
-    returns
-    returns-2
-    returns-3
-    returns-4
-    returns-5
-    returns-6)
+    (tie.spec (λ c. search needs) (λ c. search needs) (λ c. search needs) (λ c. search needs) (λ c. search needs)
+    (λ c. search needs) returns returns-2 returns-3 returns-4 returns-5 returns-6)

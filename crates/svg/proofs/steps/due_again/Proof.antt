@@ -5,24 +5,6 @@ use Rattle.svg.proofs.StepCases.{again-unknown, again-closes, again-dra
 use Rattle.svg.proofs.steps.due_again.Statement.{statement}
 use Rattle.svg.proofs.steps.due_again.Tie as tie
 
-meaning-requires : tie.Need-meaning-requires
-meaning-requires c κs = search needs
-
-enum-told : tie.Need-enum-told
-enum-told c = search needs
-
-enum-told-2 : tie.Need-enum-told-2
-enum-told-2 c = search needs
-
-enum-known-kind : tie.Need-enum-known-kind
-enum-known-kind c = search needs
-
-repeated-requires : tie.Need-repeated-requires
-repeated-requires c κs = search needs
-
-due-group-requires : tie.Need-due-group-requires
-due-group-requires c κs = search needs
-
 returns : tie.Need-returns
 returns c = again-unknown _ _ _ (sym (c .before .before .meaning .ensures) ∙ c .enum-told .given .1)
 
@@ -35,13 +17,5 @@ returns-3 c = again-draws _ _ _ _ _ _ (sym (c .before .before .before .before .b
 pub due-again-spec : {M : Type 1} → statement M
 due-again-spec =
     tie.close
-    (tie.spec
-    meaning-requires
-    enum-told
-    enum-told-2
-    enum-known-kind
-    repeated-requires
-    due-group-requires
-    returns
-    returns-2
-    returns-3)
+    (tie.spec (λ c κs. search needs) (λ c. search needs) (λ c. search needs) (λ c. search needs)
+    (λ c κs. search needs) (λ c κs. search needs) returns returns-2 returns-3)

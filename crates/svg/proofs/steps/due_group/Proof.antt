@@ -5,15 +5,6 @@ use Rattle.svg.proofs.StepCases.{group-none, group-due}
 use Rattle.svg.proofs.steps.due_group.Statement.{statement}
 use Rattle.svg.proofs.steps.due_group.Tie as tie
 
-past-separators-requires : tie.Need-past-separators-requires
-past-separators-requires c κs = search needs
-
-byte-at-requires : tie.Need-byte-at-requires
-byte-at-requires c κs = search needs
-
-starts-number-requires : tie.Need-starts-number-requires
-starts-number-requires c κs = search needs
-
 returns : tie.Need-returns
 returns c = group-due _ _ _ _ _ _ (c .before .before .before .past-separators .ensures) (c .before .before .byte-at .ensures) (sym (c .before .starts-number .ensures) ∙ c .if1 .taken)
 
@@ -23,4 +14,4 @@ returns-2 c = group-none _ _ _ _ _ _ (c .before .before .before .past-separators
 pub due-group-spec : {M : Type 1} → statement M
 due-group-spec =
     tie.close
-    (tie.spec past-separators-requires byte-at-requires starts-number-requires returns returns-2)
+    (tie.spec (λ c κs. search needs) (λ c κs. search needs) (λ c κs. search needs) returns returns-2)

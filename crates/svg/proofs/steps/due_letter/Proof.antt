@@ -5,44 +5,11 @@ use Rattle.svg.proofs.StepCases.{letter-unknown, letter-closes, letter-
 use Rattle.svg.proofs.steps.due_letter.Statement.{statement}
 use Rattle.svg.proofs.steps.due_letter.Tie as tie
 
-meaning-requires : tie.Need-meaning-requires
-meaning-requires c κs = search needs
-
-enum-told : tie.Need-enum-told
-enum-told c = search needs
-
-enum-told-2 : tie.Need-enum-told-2
-enum-told-2 c = search needs
-
-add-t9 : tie.Need-add-t9
-add-t9 c = search needs
-
-enum-known-kind : tie.Need-enum-known-kind
-enum-known-kind c = search needs
-
-needs-point-requires : tie.Need-needs-point-requires
-needs-point-requires c κs = search needs
-
-add-due-group : tie.Need-add-due-group
-add-due-group c = search needs
-
-due-group-requires : tie.Need-due-group-requires
-due-group-requires c κs = search needs
-
 returns : tie.Need-returns
 returns c = letter-placed _ _ _ _ _ (sym (c .before .before .before .before .before .before .before .meaning .ensures) ∙ c .before .before .before .before .before .kind .given .1) _ (sym (c .before .before .before .needs-point .ensures) ∙ c .before .before .if1 .taken) (c .before .if2 .taken) (c .due-group .ensures)
 
-add-t13 : tie.Need-add-t13
-add-t13 c = search needs
-
 returns-2 : tie.Need-returns-2
 returns-2 c = letter-missing _ _ _ _ _ (sym (c .before .before .before .before .before .before .meaning .ensures) ∙ c .before .before .before .before .kind .given .1) (sym (c .before .before .needs-point .ensures) ∙ c .before .if1 .taken) (c .if2 .left)
-
-add-due-group-2 : tie.Need-add-due-group-2
-add-due-group-2 c = search needs
-
-due-group-requires-2 : tie.Need-due-group-requires-2
-due-group-requires-2 c κs = search needs
 
 returns-3 : tie.Need-returns-3
 returns-3 c = letter-unknown _ _ _ _ (sym (c .before .before .meaning .ensures) ∙ c .enum-told .given .1)
@@ -56,20 +23,6 @@ returns-5 c = letter-moves _ _ _ _ _ (sym (c .before .before .before .before .be
 pub due-letter-spec : {M : Type 1} → statement M
 due-letter-spec =
     tie.close
-    (tie.spec
-    meaning-requires
-    enum-told
-    enum-told-2
-    add-t9
-    enum-known-kind
-    needs-point-requires
-    add-due-group
-    due-group-requires
-    returns
-    add-t13
-    returns-2
-    add-due-group-2
-    due-group-requires-2
-    returns-3
-    returns-4
-    returns-5)
+    (tie.spec (λ c κs. search needs) (λ c. search needs) (λ c. search needs) (λ c. search needs) (λ c. search needs)
+    (λ c κs. search needs) (λ c. search needs) (λ c κs. search needs) returns (λ c. search needs) returns-2
+    (λ c. search needs) (λ c κs. search needs) returns-3 returns-4 returns-5)

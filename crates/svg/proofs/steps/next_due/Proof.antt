@@ -5,26 +5,11 @@ use Rattle.svg.proofs.StepCases.{due-done, due-letter, due-other}
 use Rattle.svg.proofs.steps.next_due.Statement.{statement}
 use Rattle.svg.proofs.steps.next_due.Tie as tie
 
-past-separators-requires : tie.Need-past-separators-requires
-past-separators-requires c κs = search needs
-
 returns : tie.Need-returns
 returns c = due-done _ _ _ _ _ (c .before .past-separators .ensures) (c .if1 .taken)
 
-shared-slice-read-byte : tie.Need-shared-slice-read-byte
-shared-slice-read-byte c = search needs
-
-is-letter-requires : tie.Need-is-letter-requires
-is-letter-requires c κs = search needs
-
-due-letter-requires : tie.Need-due-letter-requires
-due-letter-requires c κs = search needs
-
 returns-2 : tie.Need-returns-2
 returns-2 c = due-letter _ _ _ _ _ (c .before .before .before .before .before .past-separators .ensures) (c .before .before .before .before .if1 .left) _ (sym (c .before .before .is-letter .ensures) ∙ c .before .if2 .taken) (c .due-letter .ensures)
-
-due-again-requires : tie.Need-due-again-requires
-due-again-requires c κs = search needs
 
 returns-3 : tie.Need-returns-3
 returns-3 c = due-other _ _ _ _ _ (c .before .before .before .before .before .past-separators .ensures) (c .before .before .before .before .if1 .left) _ (sym (c .before .before .is-letter .ensures) ∙ c .before .if2 .left) (c .due-again .ensures)
@@ -32,12 +17,5 @@ returns-3 c = due-other _ _ _ _ _ (c .before .before .before .before .before .pa
 pub next-due-spec : {M : Type 1} → statement M
 next-due-spec =
     tie.close
-    (tie.spec
-    past-separators-requires
-    returns
-    shared-slice-read-byte
-    is-letter-requires
-    due-letter-requires
-    returns-2
-    due-again-requires
-    returns-3)
+    (tie.spec (λ c κs. search needs) returns (λ c. search needs) (λ c κs. search needs) (λ c κs. search needs)
+    returns-2 (λ c κs. search needs) returns-3)

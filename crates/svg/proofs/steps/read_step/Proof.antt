@@ -5,39 +5,6 @@ use Rattle.svg.specs.Steps.{readStepOf}
 use Rattle.svg.proofs.steps.read_step.Statement.{statement}
 use Rattle.svg.proofs.steps.read_step.Tie as tie
 
-next-due-requires : tie.Need-next-due-requires
-next-due-requires c κs = search needs
-
-enum-told : tie.Need-enum-told
-enum-told c = search needs
-
-enum-known-refusal : tie.Need-enum-known-refusal
-enum-known-refusal c = search needs
-
-enum-known-next : tie.Need-enum-known-next
-enum-known-next c = search needs
-
-after-requires : tie.Need-after-requires
-after-requires c κs = search needs
-
-enum-known-kind : tie.Need-enum-known-kind
-enum-known-kind c = search needs
-
-is-relative-requires : tie.Need-is-relative-requires
-is-relative-requires c κs = search needs
-
-read-group-requires : tie.Need-read-group-requires
-read-group-requires c κs = search needs
-
-enum-known-refusal-2 : tie.Need-enum-known-refusal-2
-enum-known-refusal-2 c = search needs
-
-enum-known-command : tie.Need-enum-known-command
-enum-known-command c = search needs
-
-after-requires-2 : tie.Need-after-requires-2
-after-requires-2 c κs = search needs
-
 returns : tie.Need-returns
 unfolding readStepOf
 returns c = rw (sym (c .before .before .next-due .ensures) ∙ c .enum-told .given .1)
@@ -61,20 +28,6 @@ returns-5 c = rw (sym (c .before .before .before .before .before .before .before
 pub read-step-spec : {M : Type 1} → statement M
 read-step-spec =
     tie.close
-    (tie.spec
-    next-due-requires
-    enum-told
-    enum-known-refusal
-    enum-known-next
-    after-requires
-    enum-known-kind
-    is-relative-requires
-    read-group-requires
-    enum-known-refusal-2
-    enum-known-command
-    after-requires-2
-    returns
-    returns-2
-    returns-3
-    returns-4
-    returns-5)
+    (tie.spec (λ c κs. search needs) (λ c. search needs) (λ c. search needs) (λ c. search needs)
+    (λ c κs. search needs) (λ c. search needs) (λ c κs. search needs) (λ c κs. search needs) (λ c. search needs)
+    (λ c. search needs) (λ c κs. search needs) returns returns-2 returns-3 returns-4 returns-5)
