@@ -8,26 +8,14 @@ use Rattle.text_reader.proofs.Lines.{feed-inside, line-none, line-long,
 use Rattle.text_reader.proofs.line.line_at.Statement.{statement}
 use Rattle.text_reader.proofs.line.line_at.Tie as tie
 
-exponent-requires : tie.Need-exponent-requires
-exponent-requires c κs = search needs
-
 returns : tie.Need-returns
 returns c = line-none _ _ _ (c .before .exponent .ensures) (c .if1 .taken)
-
-sub-if2 : tie.Need-sub-if2
-sub-if2 c = search needs
 
 returns-2 : tie.Need-returns-2
 returns-2 c = line-long _ _ _ (c .before .before .exponent .ensures) (c .before .if1 .left) (c .if2 .taken)
 
-byte-at-requires : tie.Need-byte-at-requires
-byte-at-requires c κs = search needs
-
 add-judge : tie.Need-add-judge
 add-judge c = let h : c .before .before .before .before .exponent .result .at < length (c .before .before .before .before .before .before .args .text .now) = feed-inside (c .before .before .before .before .before .before .args .text .now) (c .before .before .before .before .exponent .result .at) (sym (c .before .byte-at .ensures) ∙ c .if3 .taken) in omega arith
-
-judge-requires : tie.Need-judge-requires
-judge-requires c κs = search needs
 
 returns-3 : tie.Need-returns-3
 returns-3 c = line-judged _ _ _ (c .before .before .before .before .before .exponent .ensures) (c .before .before .before .before .if1 .left) (c .before .before .before .if2 .left) _ (sym (c .before .before .byte-at .ensures) ∙ c .before .if3 .taken) (c .judge .ensures)
@@ -38,13 +26,5 @@ returns-4 c = line-other _ _ _ (c .before .before .before .before .exponent .ens
 pub line-at-spec : {M : Type 1} → statement M
 line-at-spec =
     tie.close
-    (tie.spec
-    exponent-requires
-    returns
-    sub-if2
-    returns-2
-    byte-at-requires
-    add-judge
-    judge-requires
-    returns-3
-    returns-4)
+    (tie.spec (λ c κs. search needs) returns (λ c. search needs) returns-2 (λ c κs. search needs) add-judge
+    (λ c κs. search needs) returns-3 returns-4)
