@@ -6,21 +6,13 @@ use Rattle.arc.proofs.Cases.{length-of-line, length-of-table}
 use Rattle.arc.proofs.arcs.arc_length.Statement.{statement}
 use Rattle.arc.proofs.arcs.arc_length.Tie as tie
 
-chord-line-requires : tie.Need-chord-line-requires
-chord-line-requires c κs = search needs
-
-line-length-requires : tie.Need-line-length-requires
-line-length-requires c κs = search needs
-
 returns : tie.Need-returns
 returns c = c .line-length .ensures ∙ ap lineLengthOf (c .before .chord-line .ensures) ∙ length-of-line _ (c .before .before .if1 .taken)
-
-tidy-requires : tie.Need-tidy-requires
-tidy-requires c κs = search needs
 
 returns-2 : tie.Need-returns-2
 returns-2 c = c .tidy .ensures ∙ length-of-table _ (c .before .if1 .left)
 
 pub arc-length-spec : {M : Type 1} → statement M
 arc-length-spec =
-    tie.close (tie.spec chord-line-requires line-length-requires returns tidy-requires returns-2)
+    tie.close
+    (tie.spec (λ c κs. search needs) (λ c κs. search needs) returns (λ c κs. search needs) returns-2)

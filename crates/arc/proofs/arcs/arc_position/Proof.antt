@@ -10,17 +10,8 @@ use Rattle.arc.proofs.Cases.{placed-on-line, placed-on-arc}
 use Rattle.arc.proofs.arcs.arc_position.Statement.{statement}
 use Rattle.arc.proofs.arcs.arc_position.Tie as tie
 
-chord-line-requires : tie.Need-chord-line-requires
-chord-line-requires c κs = search needs
-
-line-position-requires : tie.Need-line-position-requires
-line-position-requires c κs = search needs
-
 returns : tie.Need-returns
 returns c = ap Placed.At (c .line-position .ensures ∙ ap (λ (l : LineSegment). linePositionOf l (c .before .before .before .before .before .args .progress .value)) (c .before .chord-line .ensures)) ∙ placed-on-line _ _ (c .before .before .if1 .taken)
-
-table-is-sound-requires : tie.Need-table-is-sound-requires
-table-is-sound-requires c κs = search needs
 
 arc-position-requires : tie.Need-arc-position-requires
 arc-position-requires c κs = passes _ (sym (c .before .table-is-sound .ensures) ∙ c .if2 .taken)
@@ -34,11 +25,5 @@ returns-3 c = placed-refused _ _ _ (c .before .table-is-sound .ensures) (c .if2 
 pub arc-position-spec : {M : Type 1} → statement M
 arc-position-spec =
     tie.close
-    (tie.spec
-    chord-line-requires
-    line-position-requires
-    returns
-    table-is-sound-requires
-    arc-position-requires
-    returns-2
-    returns-3)
+    (tie.spec (λ c κs. search needs) (λ c κs. search needs) returns (λ c κs. search needs) arc-position-requires
+    returns-2 returns-3)

@@ -5,15 +5,11 @@ use Rattle.arc.specs.Arcs.{inDegrees, arcTurnedOf}
 use Rattle.arc.proofs.arcs.arc_rotation_deg.Statement.{statement}
 use Rattle.arc.proofs.arcs.arc_rotation_deg.Tie as tie
 
-arc-tangent-requires : tie.Need-arc-tangent-requires
-arc-tangent-requires c κs = search needs
-
-in-degrees-requires : tie.Need-in-degrees-requires
-in-degrees-requires c κs = search needs
-
 returns : tie.Need-returns
 unfolding arcTurnedOf
 returns c = c .in-degrees .ensures ∙ ap inDegrees (c .before .arc-tangent .ensures)
 
 pub arc-rotation-deg-spec : {M : Type 1} → statement M
-arc-rotation-deg-spec = tie.close (tie.spec arc-tangent-requires in-degrees-requires returns)
+arc-rotation-deg-spec =
+    tie.close
+    (tie.spec (λ c κs. search needs) (λ c κs. search needs) returns)

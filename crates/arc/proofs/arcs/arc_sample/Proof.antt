@@ -5,17 +5,10 @@ use Rattle.ellipse.specs.Shape.{pointOn}
 use Rattle.arc.proofs.arcs.arc_sample.Statement.{statement}
 use Rattle.arc.proofs.arcs.arc_sample.Tie as tie
 
-number-of-requires : tie.Need-number-of-requires
-number-of-requires c κs = search needs
-
-point-requires : tie.Need-point-requires
-point-requires c κs = search needs
-
-tidied-requires : tie.Need-tidied-requires
-tidied-requires c κs = search needs
-
 returns : tie.Need-returns
 returns c = c .tidied .ensures ∙ c .before .point .ensures ∙ ap (pointOn _) (c .before .before .number-of .ensures)
 
 pub arc-sample-spec : {M : Type 1} → statement M
-arc-sample-spec = tie.close (tie.spec number-of-requires point-requires tidied-requires returns)
+arc-sample-spec =
+    tie.close
+    (tie.spec (λ c κs. search needs) (λ c κs. search needs) (λ c κs. search needs) returns)

@@ -14,39 +14,9 @@ Inv-loop shape steps₀ previous₀ k₀ steps previous k = Stepping (pointOn sh
 abbrev μ-loop : tie.MeasureT-loop
 μ-loop shape steps₀ previous₀ k₀ steps previous k = 31 - k
 
-mark-requires : tie.Need-mark-requires Inv-loop μ-loop
-mark-requires c κs = search needs
-
-arc-sample-requires : tie.Need-arc-sample-requires Inv-loop μ-loop
-arc-sample-requires c κs = search needs
-
 loop-holds : tie.Need-loop-holds Inv-loop μ-loop
 unfolding sampleAt
 loop-holds c = stepping-start _ refl (c .arc-sample .ensures ∙ ap (pointOn _) (c .before .mark .ensures))
-
-add-mark : tie.Need-add-mark Inv-loop μ-loop
-add-mark c = search needs
-
-mark-requires-2 : tie.Need-mark-requires-2 Inv-loop μ-loop
-mark-requires-2 c κs = search needs
-
-arc-sample-requires-2 : tie.Need-arc-sample-requires-2 Inv-loop μ-loop
-arc-sample-requires-2 c κs = search needs
-
-distance-requires : tie.Need-distance-requires Inv-loop μ-loop
-distance-requires c κs = search needs
-
-mul-steps : tie.Need-mul-steps Inv-loop μ-loop
-mul-steps c = search needs
-
-array-write-steps : tie.Need-array-write-steps Inv-loop μ-loop
-array-write-steps c = search needs
-
-add-k : tie.Need-add-k Inv-loop μ-loop
-add-k c = search needs
-
-loop-less : tie.Need-loop-less Inv-loop μ-loop
-loop-less c = search needs
 
 loop-again : tie.Need-loop-again Inv-loop μ-loop
 unfolding sampleAt
@@ -60,19 +30,6 @@ returns c = stepping-done (c .before .loop .inv) (c .loop-test .left)
 pub arc-steps-spec : {M : Type 1} → statement M
 arc-steps-spec =
     tie.close
-    (tie.spec
-    Inv-loop
-    μ-loop
-    mark-requires
-    arc-sample-requires
-    loop-holds
-    add-mark
-    mark-requires-2
-    arc-sample-requires-2
-    distance-requires
-    mul-steps
-    array-write-steps
-    add-k
-    loop-less
-    loop-again
-    returns)
+    (tie.spec Inv-loop μ-loop (λ c κs. search needs) (λ c κs. search needs) loop-holds (λ c. search needs)
+    (λ c κs. search needs) (λ c κs. search needs) (λ c κs. search needs) (λ c. search needs) (λ c. search needs)
+    (λ c. search needs) (λ c. search needs) loop-again returns)

@@ -4,14 +4,10 @@ use Rattle.samples.proofs.Stepping.{table-is}
 use Rattle.arc.proofs.arcs.arc_table.Statement.{statement}
 use Rattle.arc.proofs.arcs.arc_table.Tie as tie
 
-arc-steps-requires : tie.Need-arc-steps-requires
-arc-steps-requires c κs = search needs
-
-table-of-requires : tie.Need-table-of-requires
-table-of-requires c κs = search needs
-
 returns : tie.Need-returns
 returns c = table-is _ _ _ (c .before .arc-steps .ensures) (c .table-of .ensures .0) (c .table-of .ensures .1)
 
 pub arc-table-spec : {M : Type 1} → statement M
-arc-table-spec = tie.close (tie.spec arc-steps-requires table-of-requires returns)
+arc-table-spec =
+    tie.close
+    (tie.spec (λ c κs. search needs) (λ c κs. search needs) returns)

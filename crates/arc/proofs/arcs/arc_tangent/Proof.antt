@@ -9,17 +9,8 @@ use Rattle.arc.proofs.Cases.{headed-on-line, headed-on-arc}
 use Rattle.arc.proofs.arcs.arc_tangent.Statement.{statement}
 use Rattle.arc.proofs.arcs.arc_tangent.Tie as tie
 
-chord-line-requires : tie.Need-chord-line-requires
-chord-line-requires c κs = search needs
-
-line-tangent-requires : tie.Need-line-tangent-requires
-line-tangent-requires c κs = search needs
-
 returns : tie.Need-returns
 returns c = ap Placed.At (c .line-tangent .ensures ∙ ap lineTangentOf (c .before .chord-line .ensures)) ∙ headed-on-line _ _ (c .before .before .if1 .taken)
-
-table-is-sound-requires : tie.Need-table-is-sound-requires
-table-is-sound-requires c κs = search needs
 
 arc-tangent-requires : tie.Need-arc-tangent-requires
 arc-tangent-requires c κs = passes _ (sym (c .before .table-is-sound .ensures) ∙ c .if2 .taken)
@@ -33,11 +24,5 @@ returns-3 c = placed-refused _ _ _ (c .before .table-is-sound .ensures) (c .if2 
 pub arc-tangent-spec : {M : Type 1} → statement M
 arc-tangent-spec =
     tie.close
-    (tie.spec
-    chord-line-requires
-    line-tangent-requires
-    returns
-    table-is-sound-requires
-    arc-tangent-requires
-    returns-2
-    returns-3)
+    (tie.spec (λ c κs. search needs) (λ c κs. search needs) returns (λ c κs. search needs) arc-tangent-requires
+    returns-2 returns-3)

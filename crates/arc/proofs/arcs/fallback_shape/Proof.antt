@@ -6,12 +6,11 @@ use Rattle.arc.specs.Arcs.{fallbackShape}
 use Rattle.arc.proofs.arcs.fallback_shape.Statement.{statement}
 use Rattle.arc.proofs.arcs.fallback_shape.Tie as tie
 
-tidy-requires : tie.Need-tidy-requires
-tidy-requires c κs = search needs
-
 returns : tie.Need-returns
 unfolding fallbackShape zeroF originF
 returns c = rw (c .tidy .ensures)
 
 pub fallback-shape-spec : {M : Type 1} → statement M
-fallback-shape-spec = tie.close (tie.spec tidy-requires returns)
+fallback-shape-spec =
+    tie.close
+    (tie.spec (λ c κs. search needs) returns)

@@ -4,20 +4,11 @@ use Rattle.arc.proofs.Cases.{near-ends, thin, flat}
 use Rattle.arc.proofs.arcs.is_fallback.Statement.{statement}
 use Rattle.arc.proofs.arcs.is_fallback.Tie as tie
 
-distance-requires : tie.Need-distance-requires
-distance-requires c κs = search needs
-
 returns : tie.Need-returns
 returns c = near-ends _ _ (c .before .distance .ensures) (c .if1 .taken)
 
-size-requires : tie.Need-size-requires
-size-requires c κs = search needs
-
 returns-2 : tie.Need-returns-2
 returns-2 c = thin _ _ (c .before .before .before .distance .ensures) (c .before .before .if1 .left) _ (c .before .size .ensures) (c .if2 .taken)
-
-size-requires-2 : tie.Need-size-requires-2
-size-requires-2 c κs = search needs
 
 returns-3 : tie.Need-returns-3
 returns-3 c =
@@ -26,4 +17,4 @@ returns-3 c =
 pub is-fallback-spec : {M : Type 1} → statement M
 is-fallback-spec =
     tie.close
-    (tie.spec distance-requires returns size-requires returns-2 size-requires-2 returns-3)
+    (tie.spec (λ c κs. search needs) returns (λ c κs. search needs) returns-2 (λ c κs. search needs) returns-3)

@@ -4,15 +4,11 @@ use Rattle.arc.specs.Arcs.{outOfRange}
 use Rattle.arc.proofs.arcs.out_of_range.Statement.{statement}
 use Rattle.arc.proofs.arcs.out_of_range.Tie as tie
 
-fallback-shape-requires : tie.Need-fallback-shape-requires
-fallback-shape-requires c κs = search needs
-
-no-table-requires : tie.Need-no-table-requires
-no-table-requires c κs = search needs
-
 returns : tie.Need-returns
 unfolding outOfRange
 returns c = cc
 
 pub out-of-range-spec : {M : Type 1} → statement M
-out-of-range-spec = tie.close (tie.spec fallback-shape-requires no-table-requires returns)
+out-of-range-spec =
+    tie.close
+    (tie.spec (λ c κs. search needs) (λ c κs. search needs) returns)

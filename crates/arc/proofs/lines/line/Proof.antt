@@ -4,15 +4,11 @@ use Rattle.arc.specs.Lines.{madeLineOf}
 use Rattle.arc.proofs.lines.line.Statement.{statement}
 use Rattle.arc.proofs.lines.line.Tie as tie
 
-line-length-requires : tie.Need-line-length-requires
-line-length-requires c κs = search needs
-
-verdict-of-requires : tie.Need-verdict-of-requires
-verdict-of-requires c κs = search needs
-
 returns : tie.Need-returns
 unfolding madeLineOf
 returns c = cc
 
 pub line-spec : {M : Type 1} → statement M
-line-spec = tie.close (tie.spec line-length-requires verdict-of-requires returns)
+line-spec =
+    tie.close
+    (tie.spec (λ c κs. search needs) (λ c κs. search needs) returns)

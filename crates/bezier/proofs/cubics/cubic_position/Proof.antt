@@ -8,14 +8,8 @@ use Rattle.bezier.proofs.Queries.{placed-at, placed-refused}
 use Rattle.bezier.proofs.cubics.cubic_position.Statement.{statement}
 use Rattle.bezier.proofs.cubics.cubic_position.Tie as tie
 
-table-is-sound-requires : tie.Need-table-is-sound-requires
-table-is-sound-requires c κs = search needs
-
 cubic-position-requires : tie.Need-cubic-position-requires
 cubic-position-requires c κs = passes _ (sym (c .before .table-is-sound .ensures) ∙ c .if1 .taken)
-
-tidied-requires : tie.Need-tidied-requires
-tidied-requires c κs = search needs
 
 returns : tie.Need-returns
 unfolding cubicPlacedOf
@@ -28,4 +22,4 @@ returns-2 c = placed-refused _ _ _ (c .before .table-is-sound .ensures) (c .if1 
 pub cubic-position-spec : {M : Type 1} → statement M
 cubic-position-spec =
     tie.close
-    (tie.spec table-is-sound-requires cubic-position-requires tidied-requires returns returns-2)
+    (tie.spec (λ c κs. search needs) cubic-position-requires (λ c κs. search needs) returns returns-2)

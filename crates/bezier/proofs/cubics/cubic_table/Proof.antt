@@ -4,14 +4,10 @@ use Rattle.samples.proofs.Stepping.{table-is}
 use Rattle.bezier.proofs.cubics.cubic_table.Statement.{statement}
 use Rattle.bezier.proofs.cubics.cubic_table.Tie as tie
 
-cubic-steps-requires : tie.Need-cubic-steps-requires
-cubic-steps-requires c κs = search needs
-
-table-of-requires : tie.Need-table-of-requires
-table-of-requires c κs = search needs
-
 returns : tie.Need-returns
 returns c = table-is _ _ _ (c .before .cubic-steps .ensures) (c .table-of .ensures .0) (c .table-of .ensures .1)
 
 pub cubic-table-spec : {M : Type 1} → statement M
-cubic-table-spec = tie.close (tie.spec cubic-steps-requires table-of-requires returns)
+cubic-table-spec =
+    tie.close
+    (tie.spec (λ c κs. search needs) (λ c κs. search needs) returns)

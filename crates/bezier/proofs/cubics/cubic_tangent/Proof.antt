@@ -8,14 +8,8 @@ use Rattle.bezier.proofs.Queries.{placed-at, placed-refused}
 use Rattle.bezier.proofs.cubics.cubic_tangent.Statement.{statement}
 use Rattle.bezier.proofs.cubics.cubic_tangent.Tie as tie
 
-table-is-sound-requires : tie.Need-table-is-sound-requires
-table-is-sound-requires c κs = search needs
-
 cubic-tangent-requires : tie.Need-cubic-tangent-requires
 cubic-tangent-requires c κs = passes _ (sym (c .before .table-is-sound .ensures) ∙ c .if1 .taken)
-
-tidied-requires : tie.Need-tidied-requires
-tidied-requires c κs = search needs
 
 returns : tie.Need-returns
 unfolding cubicHeadingOf
@@ -28,4 +22,4 @@ returns-2 c = placed-refused _ _ _ (c .before .table-is-sound .ensures) (c .if1 
 pub cubic-tangent-spec : {M : Type 1} → statement M
 cubic-tangent-spec =
     tie.close
-    (tie.spec table-is-sound-requires cubic-tangent-requires tidied-requires returns returns-2)
+    (tie.spec (λ c κs. search needs) cubic-tangent-requires (λ c κs. search needs) returns returns-2)

@@ -6,12 +6,11 @@ use Rattle.bezier.specs.Curves.{aheadOf}
 use Rattle.bezier.proofs.curves.ahead.Statement.{statement}
 use Rattle.bezier.proofs.curves.ahead.Tie as tie
 
-min-requires : tie.Need-min-requires
-min-requires c κs = search needs
-
 returns : tie.Need-returns
 unfolding aheadOf oneF thousandthF
 returns c = c .min .ensures
 
 pub ahead-spec : {M : Type 1} → statement M
-ahead-spec = tie.close (tie.spec min-requires returns)
+ahead-spec =
+    tie.close
+    (tie.spec (λ c κs. search needs) returns)

@@ -9,33 +9,6 @@ use Rattle.bezier.proofs.Queries.{tried-first, tried-second}
 use Rattle.bezier.proofs.inner.cubic_tangent.Statement.{statement}
 use Rattle.bezier.proofs.inner.cubic_tangent.Tie as tie
 
-raw-parameter-requires : tie.Need-raw-parameter-requires
-raw-parameter-requires c κs = search needs
-
-cubic-derivative-requires : tie.Need-cubic-derivative-requires
-cubic-derivative-requires c κs = search needs
-
-normalize-requires : tie.Need-normalize-requires
-normalize-requires c κs = search needs
-
-is-nothing-requires : tie.Need-is-nothing-requires
-is-nothing-requires c κs = search needs
-
-ahead-requires : tie.Need-ahead-requires
-ahead-requires c κs = search needs
-
-cubic-position-requires : tie.Need-cubic-position-requires
-cubic-position-requires c κs = search needs
-
-cubic-position-requires-2 : tie.Need-cubic-position-requires-2
-cubic-position-requires-2 c κs = search needs
-
-sub-requires : tie.Need-sub-requires
-sub-requires c κs = search needs
-
-normalize-requires-2 : tie.Need-normalize-requires-2
-normalize-requires-2 c κs = search needs
-
 -- the first direction, by its definition
 first : (c : tie.After-normalize)
     → let start = c .before .before .before .before in
@@ -59,15 +32,6 @@ returns-2 c =
 pub cubic-tangent-spec : {M : Type 1} → statement M
 cubic-tangent-spec =
     tie.close
-    (tie.spec
-    raw-parameter-requires
-    cubic-derivative-requires
-    normalize-requires
-    is-nothing-requires
-    ahead-requires
-    cubic-position-requires
-    cubic-position-requires-2
-    sub-requires
-    normalize-requires-2
-    returns
-    returns-2)
+    (tie.spec (λ c κs. search needs) (λ c κs. search needs) (λ c κs. search needs) (λ c κs. search needs)
+    (λ c κs. search needs) (λ c κs. search needs) (λ c κs. search needs) (λ c κs. search needs) (λ c κs. search needs)
+    returns returns-2)

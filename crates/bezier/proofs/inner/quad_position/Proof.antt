@@ -5,15 +5,11 @@ use Rattle.bezier.specs.Quads.{quadSampleOf, quadPositionOf}
 use Rattle.bezier.proofs.inner.quad_position.Statement.{statement}
 use Rattle.bezier.proofs.inner.quad_position.Tie as tie
 
-raw-parameter-requires : tie.Need-raw-parameter-requires
-raw-parameter-requires c κs = search needs
-
-quad-sample-requires : tie.Need-quad-sample-requires
-quad-sample-requires c κs = search needs
-
 returns : tie.Need-returns
 unfolding quadPositionOf
 returns c = c .quad-sample .ensures ∙ ap (quadSampleOf _ _ _) (c .before .raw-parameter .ensures)
 
 pub quad-position-spec : {M : Type 1} → statement M
-quad-position-spec = tie.close (tie.spec raw-parameter-requires quad-sample-requires returns)
+quad-position-spec =
+    tie.close
+    (tie.spec (λ c κs. search needs) (λ c κs. search needs) returns)

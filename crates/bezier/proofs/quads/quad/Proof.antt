@@ -4,15 +4,11 @@ use Rattle.bezier.specs.Quads.{quadOf, madeQuadOf}
 use Rattle.bezier.proofs.quads.quad.Statement.{statement}
 use Rattle.bezier.proofs.quads.quad.Tie as tie
 
-quad-table-requires : tie.Need-quad-table-requires
-quad-table-requires c κs = search needs
-
-verdict-of-requires : tie.Need-verdict-of-requires
-verdict-of-requires c κs = search needs
-
 returns : tie.Need-returns
 unfolding madeQuadOf quadOf
 returns c = cc
 
 pub quad-spec : {M : Type 1} → statement M
-quad-spec = tie.close (tie.spec quad-table-requires verdict-of-requires returns)
+quad-spec =
+    tie.close
+    (tie.spec (λ c κs. search needs) (λ c κs. search needs) returns)

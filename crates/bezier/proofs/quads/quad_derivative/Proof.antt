@@ -5,24 +5,6 @@ use Rattle.bezier.specs.Quads.{twoF, quadDerivativeOf}
 use Rattle.bezier.proofs.quads.quad_derivative.Statement.{statement}
 use Rattle.bezier.proofs.quads.quad_derivative.Tie as tie
 
-number-of-requires : tie.Need-number-of-requires
-number-of-requires c κs = search needs
-
-sub-requires : tie.Need-sub-requires
-sub-requires c κs = search needs
-
-scale-requires : tie.Need-scale-requires
-scale-requires c κs = search needs
-
-sub-requires-2 : tie.Need-sub-requires-2
-sub-requires-2 c κs = search needs
-
-scale-requires-2 : tie.Need-scale-requires-2
-scale-requires-2 c κs = search needs
-
-add-requires : tie.Need-add-requires
-add-requires c κs = search needs
-
 returns : tie.Need-returns
 unfolding quadDerivativeOf twoF oneF
 returns c = cc
@@ -30,11 +12,5 @@ returns c = cc
 pub quad-derivative-spec : {M : Type 1} → statement M
 quad-derivative-spec =
     tie.close
-    (tie.spec
-    number-of-requires
-    sub-requires
-    scale-requires
-    sub-requires-2
-    scale-requires-2
-    add-requires
-    returns)
+    (tie.spec (λ c κs. search needs) (λ c κs. search needs) (λ c κs. search needs) (λ c κs. search needs)
+    (λ c κs. search needs) (λ c κs. search needs) returns)

@@ -9,17 +9,8 @@ use Rattle.bezier.proofs.Queries.{turned-by, turned-refused}
 use Rattle.bezier.proofs.quads.quad_rotation_deg.Statement.{statement}
 use Rattle.bezier.proofs.quads.quad_rotation_deg.Tie as tie
 
-table-is-sound-requires : tie.Need-table-is-sound-requires
-table-is-sound-requires c κs = search needs
-
 quad-tangent-requires : tie.Need-quad-tangent-requires
 quad-tangent-requires c κs = passes _ (sym (c .before .table-is-sound .ensures) ∙ c .if1 .taken)
-
-rotation-deg-requires : tie.Need-rotation-deg-requires
-rotation-deg-requires c κs = search needs
-
-tidy-requires : tie.Need-tidy-requires
-tidy-requires c κs = search needs
 
 returns : tie.Need-returns
 unfolding quadTurnedOf
@@ -34,10 +25,5 @@ returns-2 c = turned-refused _ _ _ (c .before .table-is-sound .ensures) (c .if1 
 pub quad-rotation-deg-spec : {M : Type 1} → statement M
 quad-rotation-deg-spec =
     tie.close
-    (tie.spec
-    table-is-sound-requires
-    quad-tangent-requires
-    rotation-deg-requires
-    tidy-requires
-    returns
+    (tie.spec (λ c κs. search needs) quad-tangent-requires (λ c κs. search needs) (λ c κs. search needs) returns
     returns-2)

@@ -4,21 +4,6 @@ use Rattle.bezier.specs.Quads.{quadSampleOf}
 use Rattle.bezier.proofs.quads.quad_sample.Statement.{statement}
 use Rattle.bezier.proofs.quads.quad_sample.Tie as tie
 
-number-of-requires : tie.Need-number-of-requires
-number-of-requires c κs = search needs
-
-clamp01-requires : tie.Need-clamp01-requires
-clamp01-requires c κs = search needs
-
-lerp-point-requires : tie.Need-lerp-point-requires
-lerp-point-requires c κs = search needs
-
-lerp-point-requires-2 : tie.Need-lerp-point-requires-2
-lerp-point-requires-2 c κs = search needs
-
-lerp-point-requires-3 : tie.Need-lerp-point-requires-3
-lerp-point-requires-3 c κs = search needs
-
 returns : tie.Need-returns
 unfolding quadSampleOf
 returns c = cc
@@ -26,10 +11,5 @@ returns c = cc
 pub quad-sample-spec : {M : Type 1} → statement M
 quad-sample-spec =
     tie.close
-    (tie.spec
-    number-of-requires
-    clamp01-requires
-    lerp-point-requires
-    lerp-point-requires-2
-    lerp-point-requires-3
-    returns)
+    (tie.spec (λ c κs. search needs) (λ c κs. search needs) (λ c κs. search needs) (λ c κs. search needs)
+    (λ c κs. search needs) returns)

@@ -9,18 +9,11 @@ returns : tie.Need-returns
 unfolding coefOf denomOf epsilonF zeroF
 returns c = rw (c .if1 .taken)
 
-facing-requires : tie.Need-facing-requires
-facing-requires c κs = search needs
-
-max-requires : tie.Need-max-requires
-max-requires c κs = search needs
-
-sqrt-requires : tie.Need-sqrt-requires
-sqrt-requires c κs = search needs
-
 returns-2 : tie.Need-returns-2
 unfolding coefOf underRoot denomOf epsilonF zeroF
 returns-2 c = rw (c .before .before .before .if1 .left, c .sqrt .ensures, c .before .max .ensures, c .before .before .facing .ensures)
 
 pub coef-spec : {M : Type 1} → statement M
-coef-spec = tie.close (tie.spec returns facing-requires max-requires sqrt-requires returns-2)
+coef-spec =
+    tie.close
+    (tie.spec returns (λ c κs. search needs) (λ c κs. search needs) (λ c κs. search needs) returns-2)

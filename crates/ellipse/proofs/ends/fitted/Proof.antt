@@ -6,15 +6,6 @@ use Rattle.ellipse.proofs.Fitting.{grown, kept}
 use Rattle.ellipse.proofs.ends.fitted.Statement.{statement}
 use Rattle.ellipse.proofs.ends.fitted.Tie as tie
 
-lambda-requires : tie.Need-lambda-requires
-lambda-requires c κs = search needs
-
-sqrt-requires : tie.Need-sqrt-requires
-sqrt-requires c κs = search needs
-
-scale-requires : tie.Need-scale-requires
-scale-requires c κs = search needs
-
 returns : tie.Need-returns
 returns c =
     c .scale .ensures
@@ -25,4 +16,6 @@ returns-2 : tie.Need-returns-2
 returns-2 c = sym (kept _ _ _ (c .before .lambda .ensures) (c .if1 .left))
 
 pub fitted-spec : {M : Type 1} → statement M
-fitted-spec = tie.close (tie.spec lambda-requires sqrt-requires scale-requires returns returns-2)
+fitted-spec =
+    tie.close
+    (tie.spec (λ c κs. search needs) (λ c κs. search needs) (λ c κs. search needs) returns returns-2)

@@ -5,26 +5,14 @@ use Rattle.polyline.proofs.Judgements.{first-odd, second-odd, first-lon
 use Rattle.polyline.proofs.judging.judge_two.Statement.{statement}
 use Rattle.polyline.proofs.judging.judge_two.Tie as tie
 
-is-odd-requires : tie.Need-is-odd-requires
-is-odd-requires c κs = search needs
-
 returns : tie.Need-returns
 returns c = first-odd _ _ (sym (c .before .is-odd .ensures) ∙ c .if1 .taken)
-
-is-odd-requires-2 : tie.Need-is-odd-requires-2
-is-odd-requires-2 c κs = search needs
 
 returns-2 : tie.Need-returns-2
 returns-2 c = second-odd _ _ (sym (c .before .before .before .is-odd .ensures) ∙ c .before .before .if1 .left) (sym (c .before .is-odd2 .ensures) ∙ c .if2 .taken)
 
-is-long-requires : tie.Need-is-long-requires
-is-long-requires c κs = search needs
-
 returns-3 : tie.Need-returns-3
 returns-3 c = first-long _ _ (sym (c .before .before .before .before .before .is-odd .ensures) ∙ c .before .before .before .before .if1 .left) (sym (c .before .before .before .is-odd2 .ensures) ∙ c .before .before .if2 .left) (sym (c .before .is-long .ensures) ∙ c .if3 .taken)
-
-is-long-requires-2 : tie.Need-is-long-requires-2
-is-long-requires-2 c κs = search needs
 
 returns-4 : tie.Need-returns-4
 returns-4 c = second-long _ _ (sym (c .before .before .before .before .before .before .before .is-odd .ensures) ∙ c .before .before .before .before .before .before .if1 .left) (sym (c .before .before .before .before .before .is-odd2 .ensures) ∙ c .before .before .before .before .if2 .left) (sym (c .before .before .before .is-long .ensures) ∙ c .before .before .if3 .left) (sym (c .before .is-long2 .ensures) ∙ c .if4 .taken)
@@ -35,13 +23,5 @@ returns-5 c = both-fine _ _ (sym (c .before .before .before .before .before .bef
 pub judge-two-spec : {M : Type 1} → statement M
 judge-two-spec =
     tie.close
-    (tie.spec
-    is-odd-requires
-    returns
-    is-odd-requires-2
-    returns-2
-    is-long-requires
-    returns-3
-    is-long-requires-2
-    returns-4
-    returns-5)
+    (tie.spec (λ c κs. search needs) returns (λ c κs. search needs) returns-2 (λ c κs. search needs) returns-3
+    (λ c κs. search needs) returns-4 returns-5)

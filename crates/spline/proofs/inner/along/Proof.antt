@@ -12,24 +12,6 @@ int-to-float-t : tie.Need-int-to-float-t
 unfolding inFloat
 int-to-float-t c = le→leb (c .before .before .args .index) (2 ^ 24) (omega arith)
 
-before-span-requires : tie.Need-before-span-requires
-before-span-requires c κs = search needs
-
-point-at-requires : tie.Need-point-at-requires
-point-at-requires c κs = search needs
-
-add-point-at : tie.Need-add-point-at
-add-point-at c = search needs
-
-point-at-requires-2 : tie.Need-point-at-requires-2
-point-at-requires-2 c κs = search needs
-
-after-span-requires : tie.Need-after-span-requires
-after-span-requires c κs = search needs
-
-span-requires : tie.Need-span-requires
-span-requires c κs = search needs
-
 returns : tie.Need-returns
 unfolding alongOf
 returns c = cc
@@ -37,12 +19,5 @@ returns c = cc
 pub along-spec : {M : Type 1} → statement M
 along-spec =
     tie.close
-    (tie.spec
-    int-to-float-t
-    before-span-requires
-    point-at-requires
-    add-point-at
-    point-at-requires-2
-    after-span-requires
-    span-requires
-    returns)
+    (tie.spec int-to-float-t (λ c κs. search needs) (λ c κs. search needs) (λ c. search needs) (λ c κs. search needs)
+    (λ c κs. search needs) (λ c κs. search needs) returns)

@@ -5,21 +5,13 @@ use borrow.Author.Tests.{eq-eqb, ne-eqb}
 use Rattle.spline.proofs.inner.before_span.Statement.{statement}
 use Rattle.spline.proofs.inner.before_span.Tie as tie
 
-point-at-requires : tie.Need-point-at-requires
-point-at-requires c κs = search needs
-
 returns : tie.Need-returns
 returns c = c .point-at .ensures ∙ rw (eq-eqb _ _ (c .before .if1 .taken))
-
-sub-point-at : tie.Need-sub-point-at
-sub-point-at c = search needs
-
-point-at-requires-2 : tie.Need-point-at-requires-2
-point-at-requires-2 c κs = search needs
 
 returns-2 : tie.Need-returns-2
 returns-2 c = c .point-at2 .ensures ∙ rw (ne-eqb _ _ (c .before .if1 .left))
 
 pub before-span-spec : {M : Type 1} → statement M
 before-span-spec =
-    tie.close (tie.spec point-at-requires returns sub-point-at point-at-requires-2 returns-2)
+    tie.close
+    (tie.spec (λ c κs. search needs) returns (λ c. search needs) (λ c κs. search needs) returns-2)

@@ -13,15 +13,6 @@ use Rattle.spline.proofs.Spans.{scaled-is, in-spans, index-lt}
 use Rattle.spline.proofs.inner.curve.Statement.{statement}
 use Rattle.spline.proofs.inner.curve.Tie as tie
 
-sub-segments : tie.Need-sub-segments
-sub-segments c = search needs
-
-number-of-requires : tie.Need-number-of-requires
-number-of-requires c κs = search needs
-
-clamp01-requires : tie.Need-clamp01-requires
-clamp01-requires c κs = search needs
-
 int-to-float-scaled : tie.Need-int-to-float-scaled
 unfolding inFloat
 int-to-float-scaled c = let start = c .before .before .before .before in le→leb (countOf (now (start .args .points)) - 1) (2 ^ 24) (omega arith)
@@ -55,11 +46,5 @@ returns c =
 pub curve-spec : {M : Type 1} → statement M
 curve-spec =
     tie.close
-    (tie.spec
-    sub-segments
-    number-of-requires
-    clamp01-requires
-    int-to-float-scaled
-    span-index-requires
-    along-requires
-    returns)
+    (tie.spec (λ c. search needs) (λ c κs. search needs) (λ c κs. search needs) int-to-float-scaled
+    span-index-requires along-requires returns)

@@ -11,32 +11,11 @@ returns : tie.Need-returns
 unfolding originF
 returns c = sym (sample-none _ _ (c .if1 .taken))
 
-point-at-requires : tie.Need-point-at-requires
-point-at-requires c κs = search needs
-
 returns-2 : tie.Need-returns-2
 returns-2 c = c .point-at .ensures ∙ sym (sample-one _ _ (c .before .if2 .taken))
 
-number-of-requires : tie.Need-number-of-requires
-number-of-requires c κs = search needs
-
-clamp01-requires : tie.Need-clamp01-requires
-clamp01-requires c κs = search needs
-
-point-at-requires-2 : tie.Need-point-at-requires-2
-point-at-requires-2 c κs = search needs
-
-point-at-requires-3 : tie.Need-point-at-requires-3
-point-at-requires-3 c κs = search needs
-
-lerp-point-requires : tie.Need-lerp-point-requires
-lerp-point-requires c κs = search needs
-
 returns-3 : tie.Need-returns-3
 returns-3 c = cc (sample-two (c .before .before .before .before .before .before .before .before .before .args .points .now) (c .before .before .before .before .before .before .before .before .before .args .raw .value) (c .before .before .before .before .before .if3 .taken))
-
-curve-requires : tie.Need-curve-requires
-curve-requires c κs = search needs
 
 returns-4 : tie.Need-returns-4
 returns-4 c = c .curve .ensures ∙ sym (sample-more _ _ (omega arith))
@@ -44,15 +23,5 @@ returns-4 c = c .curve .ensures ∙ sym (sample-more _ _ (omega arith))
 pub sample-spec : {M : Type 1} → statement M
 sample-spec =
     tie.close
-    (tie.spec
-    returns
-    point-at-requires
-    returns-2
-    number-of-requires
-    clamp01-requires
-    point-at-requires-2
-    point-at-requires-3
-    lerp-point-requires
-    returns-3
-    curve-requires
-    returns-4)
+    (tie.spec returns (λ c κs. search needs) returns-2 (λ c κs. search needs) (λ c κs. search needs)
+    (λ c κs. search needs) (λ c κs. search needs) (λ c κs. search needs) returns-3 (λ c κs. search needs) returns-4)

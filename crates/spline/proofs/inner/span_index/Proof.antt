@@ -7,9 +7,6 @@ use Rattle.spline.proofs.inner.span_index.Tie as tie
 truncating-f32-to-u64-requires : tie.Need-truncating-f32-to-u64-requires
 truncating-f32-to-u64-requires c κs = (cast-from _ _ (c .pre), cast-upto _ _ (c .pre))
 
-sub-last : tie.Need-sub-last
-sub-last c = search needs
-
 returns : tie.Need-returns
 returns c = index-within _ _ _ (c .before .truncating-f32-to-u64 .ensures) (c .if1 .taken)
 
@@ -17,4 +14,6 @@ returns-2 : tie.Need-returns-2
 returns-2 c = index-last _ _ _ (c .before .truncating-f32-to-u64 .ensures) (c .if1 .left)
 
 pub span-index-spec : {M : Type 1} → statement M
-span-index-spec = tie.close (tie.spec truncating-f32-to-u64-requires sub-last returns returns-2)
+span-index-spec =
+    tie.close
+    (tie.spec truncating-f32-to-u64-requires (λ c. search needs) returns returns-2)

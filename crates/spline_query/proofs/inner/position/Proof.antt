@@ -6,15 +6,11 @@ use Rattle.spline_query.specs.Queries.{splinePositionOf}
 use Rattle.spline_query.proofs.inner.position.Statement.{statement}
 use Rattle.spline_query.proofs.inner.position.Tie as tie
 
-raw-requires : tie.Need-raw-requires
-raw-requires c κs = search needs
-
-sample-requires : tie.Need-sample-requires
-sample-requires c κs = search needs
-
 returns : tie.Need-returns
 unfolding splinePositionOf
 returns c = c .sample .ensures ∙ ap (splineSampleOf _) (c .before .raw .ensures)
 
 pub position-spec : {M : Type 1} → statement M
-position-spec = tie.close (tie.spec raw-requires sample-requires returns)
+position-spec =
+    tie.close
+    (tie.spec (λ c κs. search needs) (λ c κs. search needs) returns)

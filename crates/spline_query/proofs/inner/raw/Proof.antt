@@ -9,9 +9,6 @@ use Rattle.spline_query.proofs.Checking.{sound-table}
 use Rattle.spline_query.proofs.inner.raw.Statement.{statement}
 use Rattle.spline_query.proofs.inner.raw.Tie as tie
 
-total-requires : tie.Need-total-requires
-total-requires c κs = search needs
-
 raw-parameter-in-requires : tie.Need-raw-parameter-in-requires
 raw-parameter-in-requires c κs = let start = c .before .before .before in subst (λ (x : Float). SoundTable (now (start .args .table)) x) (sym (c .total .ensures)) (sound-table (start .pre))
 
@@ -19,4 +16,6 @@ returns : tie.Need-returns
 returns c = let start = c .before .before .before .before in c .raw-parameter-in .ensures ∙ ap (λ (x : Float). rawOf (now (start .args .table)) x (start .args .progress .value)) (c .before .total .ensures)
 
 pub raw-spec : {M : Type 1} → statement M
-raw-spec = tie.close (tie.spec total-requires raw-parameter-in-requires returns)
+raw-spec =
+    tie.close
+    (tie.spec (λ c κs. search needs) raw-parameter-in-requires returns)

@@ -6,15 +6,11 @@ use Rattle.spline_query.specs.Queries.{splineTangentOf}
 use Rattle.spline_query.proofs.inner.tangent.Statement.{statement}
 use Rattle.spline_query.proofs.inner.tangent.Tie as tie
 
-raw-requires : tie.Need-raw-requires
-raw-requires c κs = search needs
-
-direction-requires : tie.Need-direction-requires
-direction-requires c κs = search needs
-
 returns : tie.Need-returns
 unfolding splineTangentOf
 returns c = c .direction .ensures ∙ ap (splineDirectionOf _) (c .before .raw .ensures)
 
 pub tangent-spec : {M : Type 1} → statement M
-tangent-spec = tie.close (tie.spec raw-requires direction-requires returns)
+tangent-spec =
+    tie.close
+    (tie.spec (λ c κs. search needs) (λ c κs. search needs) returns)

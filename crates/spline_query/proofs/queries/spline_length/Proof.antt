@@ -7,14 +7,8 @@ use Rattle.spline_query.specs.Queries.{splineMeasuredOf}
 use Rattle.spline_query.proofs.queries.spline_length.Statement.{statement}
 use Rattle.spline_query.proofs.queries.spline_length.Tie as tie
 
-spline-is-sound-requires : tie.Need-spline-is-sound-requires
-spline-is-sound-requires c κs = search needs
-
 total-requires : tie.Need-total-requires
 total-requires c κs = tested-sound _ _ _ (c .before .spline-is-sound .ensures) (c .if1 .taken)
-
-tidy-requires : tie.Need-tidy-requires
-tidy-requires c κs = search needs
 
 returns : tie.Need-returns
 unfolding splineMeasuredOf
@@ -26,4 +20,5 @@ returns-2 c = refused _ _ _ (c .before .spline-is-sound .ensures) _ _ (c .if1 .l
 
 pub spline-length-spec : {M : Type 1} → statement M
 spline-length-spec =
-    tie.close (tie.spec spline-is-sound-requires total-requires tidy-requires returns returns-2)
+    tie.close
+    (tie.spec (λ c κs. search needs) total-requires (λ c κs. search needs) returns returns-2)

@@ -7,14 +7,8 @@ use Rattle.spline_query.specs.Queries.{splinePlacedOf}
 use Rattle.spline_query.proofs.queries.spline_position.Statement.{statement}
 use Rattle.spline_query.proofs.queries.spline_position.Tie as tie
 
-spline-is-sound-requires : tie.Need-spline-is-sound-requires
-spline-is-sound-requires c κs = search needs
-
 position-requires : tie.Need-position-requires
 position-requires c κs = tested-sound _ _ _ (c .before .spline-is-sound .ensures) (c .if1 .taken)
-
-tidied-requires : tie.Need-tidied-requires
-tidied-requires c κs = search needs
 
 returns : tie.Need-returns
 unfolding splinePlacedOf
@@ -27,4 +21,4 @@ returns-2 c = refused _ _ _ (c .before .spline-is-sound .ensures) _ _ (c .if1 .l
 pub spline-position-spec : {M : Type 1} → statement M
 spline-position-spec =
     tie.close
-    (tie.spec spline-is-sound-requires position-requires tidied-requires returns returns-2)
+    (tie.spec (λ c κs. search needs) position-requires (λ c κs. search needs) returns returns-2)

@@ -8,17 +8,8 @@ use Rattle.spline_query.specs.Queries.{splineTurnedOf}
 use Rattle.spline_query.proofs.queries.spline_rotation_deg.Statement.{statement}
 use Rattle.spline_query.proofs.queries.spline_rotation_deg.Tie as tie
 
-spline-is-sound-requires : tie.Need-spline-is-sound-requires
-spline-is-sound-requires c κs = search needs
-
 tangent-requires : tie.Need-tangent-requires
 tangent-requires c κs = tested-sound _ _ _ (c .before .spline-is-sound .ensures) (c .if1 .taken)
-
-rotation-deg-requires : tie.Need-rotation-deg-requires
-rotation-deg-requires c κs = search needs
-
-tidy-requires : tie.Need-tidy-requires
-tidy-requires c κs = search needs
 
 returns : tie.Need-returns
 unfolding splineTurnedOf
@@ -33,10 +24,4 @@ returns-2 c = refused _ _ _ (c .before .spline-is-sound .ensures) _ _ (c .if1 .l
 pub spline-rotation-deg-spec : {M : Type 1} → statement M
 spline-rotation-deg-spec =
     tie.close
-    (tie.spec
-    spline-is-sound-requires
-    tangent-requires
-    rotation-deg-requires
-    tidy-requires
-    returns
-    returns-2)
+    (tie.spec (λ c κs. search needs) tangent-requires (λ c κs. search needs) (λ c κs. search needs) returns returns-2)

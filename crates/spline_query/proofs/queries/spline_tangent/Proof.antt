@@ -7,14 +7,8 @@ use Rattle.spline_query.specs.Queries.{splineHeadingOf}
 use Rattle.spline_query.proofs.queries.spline_tangent.Statement.{statement}
 use Rattle.spline_query.proofs.queries.spline_tangent.Tie as tie
 
-spline-is-sound-requires : tie.Need-spline-is-sound-requires
-spline-is-sound-requires c κs = search needs
-
 tangent-requires : tie.Need-tangent-requires
 tangent-requires c κs = tested-sound _ _ _ (c .before .spline-is-sound .ensures) (c .if1 .taken)
-
-tidied-requires : tie.Need-tidied-requires
-tidied-requires c κs = search needs
 
 returns : tie.Need-returns
 unfolding splineHeadingOf
@@ -27,4 +21,4 @@ returns-2 c = refused _ _ _ (c .before .spline-is-sound .ensures) _ _ (c .if1 .l
 pub spline-tangent-spec : {M : Type 1} → statement M
 spline-tangent-spec =
     tie.close
-    (tie.spec spline-is-sound-requires tangent-requires tidied-requires returns returns-2)
+    (tie.spec (λ c κs. search needs) tangent-requires (λ c κs. search needs) returns returns-2)

@@ -5,9 +5,6 @@ use Rattle.spline_query.specs.Queries.{splineVerdictOf}
 use Rattle.spline_query.proofs.soundness.check_spline.Statement.{statement}
 use Rattle.spline_query.proofs.soundness.check_spline.Tie as tie
 
-spline-is-sound-requires : tie.Need-spline-is-sound-requires
-spline-is-sound-requires c κs = search needs
-
 returns : tie.Need-returns
 unfolding splineVerdictOf
 returns c = taken _ _ _ (c .before .spline-is-sound .ensures) _ _ (c .if1 .taken)
@@ -17,4 +14,6 @@ unfolding splineVerdictOf
 returns-2 c = refused _ _ _ (c .before .spline-is-sound .ensures) _ _ (c .if1 .left)
 
 pub check-spline-spec : {M : Type 1} → statement M
-check-spline-spec = tie.close (tie.spec spline-is-sound-requires returns returns-2)
+check-spline-spec =
+    tie.close
+    (tie.spec (λ c κs. search needs) returns returns-2)

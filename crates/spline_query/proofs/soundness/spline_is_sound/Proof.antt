@@ -10,21 +10,6 @@ returns c = check-odd _ _ (c .if1 .taken)
 returns-2 : tie.Need-returns-2
 returns-2 c = check-many _ _ (c .before .if1 .left) (c .if2 .taken)
 
-last-entry-requires : tie.Need-last-entry-requires
-last-entry-requires c κs = search needs
-
-add-if3 : tie.Need-add-if3
-add-if3 c = search needs
-
-mul-total : tie.Need-mul-total
-mul-total c = search needs
-
-shared-slice-read-total : tie.Need-shared-slice-read-total
-shared-slice-read-total c = search needs
-
-entries-are-sound-requires : tie.Need-entries-are-sound-requires
-entries-are-sound-requires c κs = search needs
-
 returns-3 : tie.Need-returns-3
 returns-3 c = check-entries _ _ (c .before .before .before .before .before .if1 .left) (c .before .before .before .before .if2 .left) _ (c .before .before .before .last-entry .ensures) (c .before .before .if3 .taken) _ (c .entries-are-sound .ensures)
 
@@ -34,13 +19,5 @@ returns-4 c = check-size _ _ (c .before .before .before .if1 .left) (c .before .
 pub spline-is-sound-spec : {M : Type 1} → statement M
 spline-is-sound-spec =
     tie.close
-    (tie.spec
-    returns
-    returns-2
-    last-entry-requires
-    add-if3
-    mul-total
-    shared-slice-read-total
-    entries-are-sound-requires
-    returns-3
-    returns-4)
+    (tie.spec returns returns-2 (λ c κs. search needs) (λ c. search needs) (λ c. search needs) (λ c. search needs)
+    (λ c κs. search needs) returns-3 returns-4)

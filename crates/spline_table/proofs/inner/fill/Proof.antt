@@ -18,39 +18,12 @@ Inv-loop points last table₀ previous₀ total₀ k₀ table previous total k =
 abbrev μ-loop : tie.MeasureT-loop
 μ-loop points last table₀ previous₀ total₀ k₀ table previous total k = last - k
 
-mark-requires : tie.Need-mark-requires Inv-loop μ-loop
-mark-requires c κs = search needs
-
-sample-requires : tie.Need-sample-requires Inv-loop μ-loop
-sample-requires c κs = search needs
-
 loop-holds : tie.Need-loop-holds Inv-loop μ-loop
 unfolding sampleAt zeroF
 loop-holds c = filling-start {formula = splineSampleOf (c .before .before .before .before .args .points .now)} (walking-start _ (c .sample .ensures ∙ ap (splineSampleOf _) (c .before .mark .ensures))) (c .before .before .before .before .pre .room)
 
-mul-table : tie.Need-mul-table Inv-loop μ-loop
-mul-table c = search needs
-
 slice-write-table : tie.Need-slice-write-table Inv-loop μ-loop
 slice-write-table c = let f = c .before .loop .inv in omega (arith, filling-length f, f .room)
-
-add-mark : tie.Need-add-mark Inv-loop μ-loop
-add-mark c = search needs
-
-mark-requires-2 : tie.Need-mark-requires-2 Inv-loop μ-loop
-mark-requires-2 c κs = search needs
-
-sample-requires-2 : tie.Need-sample-requires-2 Inv-loop μ-loop
-sample-requires-2 c κs = search needs
-
-distance-requires : tie.Need-distance-requires Inv-loop μ-loop
-distance-requires c κs = search needs
-
-add-k : tie.Need-add-k Inv-loop μ-loop
-add-k c = search needs
-
-loop-less : tie.Need-loop-less Inv-loop μ-loop
-loop-less c = search needs
 
 loop-again : tie.Need-loop-again Inv-loop μ-loop
 unfolding sampleAt
@@ -58,9 +31,6 @@ loop-again c =
     let at-loop = c .before .before .before .before in
     let w = walking-more (at-loop .loop .inv .walking) (c .before .before .before .loop-test .taken) _ _ (c .before .sample2 .ensures ∙ ap (splineSampleOf _) (c .before .before .mark2 .ensures)) (c .distance .ensures) in
     filling-more (at-loop .loop .inv) w
-
-mul-table-2 : tie.Need-mul-table-2 Inv-loop μ-loop
-mul-table-2 c = search needs
 
 slice-write-table-2 : tie.Need-slice-write-table-2 Inv-loop μ-loop
 slice-write-table-2 c = let f = c .before .loop .inv in omega (arith, filling-length f, f .room, f .walking .upto)
@@ -74,22 +44,6 @@ returns c = filling-done (c .before .loop .inv) (c .loop-test .left)
 pub fill-spec : {M : Type 1} → statement M
 fill-spec =
     tie.close
-    (tie.spec
-    Inv-loop
-    μ-loop
-    mark-requires
-    sample-requires
-    loop-holds
-    mul-table
-    slice-write-table
-    add-mark
-    mark-requires-2
-    sample-requires-2
-    distance-requires
-    add-k
-    loop-less
-    loop-again
-    mul-table-2
-    slice-write-table-2
-    same-length
-    returns)
+    (tie.spec Inv-loop μ-loop (λ c κs. search needs) (λ c κs. search needs) loop-holds (λ c. search needs)
+    slice-write-table (λ c. search needs) (λ c κs. search needs) (λ c κs. search needs) (λ c κs. search needs)
+    (λ c. search needs) (λ c. search needs) loop-again (λ c. search needs) slice-write-table-2 same-length returns)

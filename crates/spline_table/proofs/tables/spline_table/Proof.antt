@@ -10,29 +10,11 @@ returns c = odd-count _ _ (c .if1 .taken)
 returns-2 : tie.Need-returns-2
 returns-2 c = many-points _ _ (c .before .if1 .left) (c .if2 .taken)
 
-last-entry-requires : tie.Need-last-entry-requires
-last-entry-requires c κs = search needs
-
-first-not-finite-requires : tie.Need-first-not-finite-requires
-first-not-finite-requires c κs = search needs
-
 returns-3 : tie.Need-returns-3
 returns-3 c = not-finite _ _ (c .before .before .before .before .if1 .left) (c .before .before .before .if2 .left) _ (c .before .before .last-entry .ensures) _ (c .before .first-not-finite .ensures) (c .if3 .taken)
 
-add-t12 : tie.Need-add-t12
-add-t12 c = search needs
-
 returns-4 : tie.Need-returns-4
 returns-4 c = no-room _ _ (c .before .before .before .before .before .if1 .left) (c .before .before .before .before .if2 .left) _ (c .before .before .before .last-entry .ensures) _ (c .before .before .first-not-finite .ensures) (c .before .if3 .left) (c .if4 .taken)
-
-fill-requires : tie.Need-fill-requires
-fill-requires c κs = search needs
-
-add-t7 : tie.Need-add-t7
-add-t7 c = search needs
-
-same-length : tie.Need-same-length
-same-length c = search needs
 
 returns-5 : tie.Need-returns-5
 returns-5 c = stored _ _ (c .before .before .before .before .before .before .before .before .before .if1 .left) (c .before .before .before .before .before .before .before .before .if2 .left) _ (c .before .before .before .before .before .before .before .last-entry .ensures) _ (c .before .before .before .before .before .before .first-not-finite .ensures) (c .before .before .before .before .before .if3 .left) (c .before .before .before .before .if4 .left) _ (c .before .before .fill .ensures)
@@ -40,15 +22,5 @@ returns-5 c = stored _ _ (c .before .before .before .before .before .before .bef
 pub spline-table-spec : {M : Type 1} → statement M
 spline-table-spec =
     tie.close
-    (tie.spec
-    returns
-    returns-2
-    last-entry-requires
-    first-not-finite-requires
-    returns-3
-    add-t12
-    returns-4
-    fill-requires
-    add-t7
-    same-length
-    returns-5)
+    (tie.spec returns returns-2 (λ c κs. search needs) (λ c κs. search needs) returns-3 (λ c. search needs) returns-4
+    (λ c κs. search needs) (λ c. search needs) (λ c. search needs) returns-5)
