@@ -5,18 +5,9 @@ use borrow.Author.Needs.{needs}
 use Rattle.append.proofs.drawing.arc_segment.Statement.{statement}
 use Rattle.append.proofs.drawing.arc_segment.Tie as tie
 
-is-fallback-requires : tie.Need-is-fallback-requires
-is-fallback-requires c κs = search needs
-
-fallback-shape-requires : tie.Need-fallback-shape-requires
-fallback-shape-requires c κs = search needs
-
 returns : tie.Need-returns
 unfolding arcSegment
 returns c = let t = sym (c .before .before .is-fallback .ensures) ∙ c .before .if1 .taken in simp (t, c .fallback-shape .ensures)
-
-from-ends-requires : tie.Need-from-ends-requires
-from-ends-requires c κs = search needs
 
 returns-2 : tie.Need-returns-2
 unfolding arcSegment
@@ -25,4 +16,4 @@ returns-2 c = let t = sym (c .before .before .is-fallback .ensures) ∙ c .befor
 pub arc-segment-spec : {M : Type 1} → statement M
 arc-segment-spec =
     tie.close
-    (tie.spec is-fallback-requires fallback-shape-requires returns from-ends-requires returns-2)
+    (tie.spec (λ c κs. search needs) (λ c κs. search needs) returns (λ c κs. search needs) returns-2)

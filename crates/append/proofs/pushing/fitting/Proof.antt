@@ -11,32 +11,11 @@ use borrow.Author.Needs.{needs}
 use Rattle.append.proofs.pushing.fitting.Statement.{statement}
 use Rattle.append.proofs.pushing.fitting.Tie as tie
 
-kind-requires : tie.Need-kind-requires
-kind-requires c κs = search needs
-
-numbers-used-requires : tie.Need-numbers-used-requires
-numbers-used-requires c κs = search needs
-
-width-requires : tie.Need-width-requires
-width-requires c κs = search needs
-
 add-n : tie.Need-add-n
 add-n c = let a = c .before .before .before .before .before .before .before .args in omega (arith, numbers-bound (a .kinds .now) (a .count), width-most (c .before .before .kind .result), c .before .numbers-used .ensures, c .width .ensures, c .before .before .before .before .before .before .before .pre .0)
 
-tables-used-requires : tie.Need-tables-used-requires
-tables-used-requires c κs = search needs
-
-table-width-requires : tie.Need-table-width-requires
-table-width-requires c κs = search needs
-
 add-m : tie.Need-add-m
 add-m c = let a = c .before .before .before .before .before .before .before .before .before .args in omega (arith, tables-bound (a .kinds .now) (a .count), tables-most (c .before .before .before .before .kind .result), c .before .tables-used .ensures, c .table-width .ensures, c .before .before .before .before .before .before .before .before .before .pre .0)
-
-add-if1 : tie.Need-add-if1
-add-if1 c = search needs
-
-add-if2 : tie.Need-add-if2
-add-if2 c = search needs
 
 returns : tie.Need-returns
 returns c = let a = c .before .before .before .before .before .before .before .before .before .before .args in let k = a .kinds .now in let n = a .numbers .now in let t = a .tables .now in let l = a .lengths .now in no-kind k n t l (a .count) (a .segment) _ _ (ap (λ x. x + c .before .before .before .width .result) (c .before .before .before .before .numbers-used .ensures) ∙ ap (λ x. numbersUsed k (a .count) + x) (c .before .before .before .width .ensures ∙ ap widthOf (c .before .before .before .before .before .kind .ensures))) (ap (λ x. x + c .before .table-width .result) (c .before .before .tables-used .ensures) ∙ ap (λ x. tablesUsed k (a .count) + x) (c .before .table-width .ensures ∙ ap (λ z. 33 * tablesOf z) (c .before .before .before .before .before .kind .ensures))) (c .if1 .taken)
@@ -56,18 +35,6 @@ returns-5 c = let a = c .before .before .before .before .before .before .before 
 pub fitting-spec : {M : Type 1} → statement M
 fitting-spec =
     tie.close
-    (tie.spec
-    kind-requires
-    numbers-used-requires
-    width-requires
-    add-n
-    tables-used-requires
-    table-width-requires
-    add-m
-    add-if1
-    add-if2
-    returns
-    returns-2
-    returns-3
-    returns-4
+    (tie.spec (λ c κs. search needs) (λ c κs. search needs) (λ c κs. search needs) add-n (λ c κs. search needs)
+    (λ c κs. search needs) add-m (λ c. search needs) (λ c. search needs) returns returns-2 returns-3 returns-4
     returns-5)

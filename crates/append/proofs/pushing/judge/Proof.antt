@@ -12,9 +12,6 @@ use borrow.Author.Needs.{needs}
 use Rattle.append.proofs.pushing.judge.Statement.{statement}
 use Rattle.append.proofs.pushing.judge.Tie as tie
 
-is-in-use-requires : tie.Need-is-in-use-requires
-is-in-use-requires c κs = search needs
-
 add-t9 : tie.Need-add-t9
 add-t9 c = let a = c .before .before .before .before .before .before .before .args in let k = a .kinds .now in let n = a .numbers .now in let t = a .tables .now in let l = a .lengths .now in let w = used-whole k n t l (a .count) (passed (sym (c .before .before .is-in-use .ensures) ∙ c .before .if1 .taken)) in let f = w .few in omega arith
 
@@ -22,17 +19,8 @@ returns : tie.Need-returns
 unfolding appendedOf
 returns c = let a = c .before .before .before .before .before .before .before .args in let k = a .kinds .now in let n = a .numbers .now in let t = a .tables .now in let l = a .lengths .now in simp (sym (c .before .before .is-in-use .ensures) ∙ c .before .if1 .taken, le-ltb (a .count) mostSegments (c .if2 .taken))
 
-may-turn-requires : tie.Need-may-turn-requires
-may-turn-requires c κs = search needs
-
 length-before-requires : tie.Need-length-before-requires
 length-before-requires c κs = let a = c .before .before .before .before .before .before .before .before .before .args in let k = a .kinds .now in let n = a .numbers .now in let t = a .tables .now in let l = a .lengths .now in let w = used-whole k n t l (a .count) (passed (sym (c .before .before .before .before .is-in-use .ensures) ∙ c .before .before .before .if1 .taken)) in w .withLengths
-
-segment-length-requires : tie.Need-segment-length-requires
-segment-length-requires c κs = search needs
-
-is-finite-requires : tie.Need-is-finite-requires
-is-finite-requires c κs = search needs
 
 fitting-requires : tie.Need-fitting-requires
 fitting-requires c κs = let a = c .before .before .before .before .before .before .before .before .before .before .before .before .before .args in let k = a .kinds .now in let n = a .numbers .now in let t = a .tables .now in let l = a .lengths .now in let w = used-whole k n t l (a .count) (passed (sym (c .before .before .before .before .before .before .before .before .is-in-use .ensures) ∙ c .before .before .before .before .before .before .before .if1 .taken)) in (c .before .before .before .before .before .before .if2 .left, w .withKinds)
@@ -56,16 +44,5 @@ returns-5 c = let a = c .before .before .before .before .before .before .args in
 pub judge-spec : {M : Type 1} → statement M
 judge-spec =
     tie.close
-    (tie.spec
-    is-in-use-requires
-    add-t9
-    returns
-    may-turn-requires
-    length-before-requires
-    segment-length-requires
-    is-finite-requires
-    fitting-requires
-    returns-2
-    returns-3
-    returns-4
-    returns-5)
+    (tie.spec (λ c κs. search needs) add-t9 returns (λ c κs. search needs) length-before-requires
+    (λ c κs. search needs) (λ c κs. search needs) fitting-requires returns-2 returns-3 returns-4 returns-5)

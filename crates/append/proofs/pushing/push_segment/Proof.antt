@@ -6,29 +6,8 @@ use borrow.Author.Needs.{needs}
 use Rattle.append.proofs.pushing.push_segment.Statement.{statement}
 use Rattle.append.proofs.pushing.push_segment.Tie as tie
 
-judge-requires : tie.Need-judge-requires
-judge-requires c κs = search needs
-
-enum-told : tie.Need-enum-told
-enum-told c = search needs
-
 store-requires : tie.Need-store-requires
 store-requires c κs = let a = c .before .before .before .before .before .before .before .before .before .before .before .before .before .before .before .args in let k = a .kinds .now in let n = a .numbers .now in let t = a .tables .now in let l = a .lengths .now in passed-room k n t l (a .count) (a .segment) (added-passed k n t l (a .count) (a .segment) (ap isAdded (sym (c .before .before .before .before .before .before .judge .ensures)) ∙ ap isAdded (c .before .before .before .before .enum-told .given .1)))
-
-enum-told-2 : tie.Need-enum-told-2
-enum-told-2 c = search needs
-
-same-length : tie.Need-same-length
-same-length c = search needs
-
-same-length-2 : tie.Need-same-length-2
-same-length-2 c = search needs
-
-same-length-3 : tie.Need-same-length-3
-same-length-3 c = search needs
-
-same-length-4 : tie.Need-same-length-4
-same-length-4 c = search needs
 
 returns : tie.Need-returns
 returns c = let a = c .before .before .before .before .before .before .before .before .before .before .before .before .before .before .before .before .before .before .before .before .before .before .before .before .args in let k = a .kinds .now in let n = a .numbers .now in let t = a .tables .now in let l = a .lengths .now in
@@ -40,18 +19,6 @@ returns c = let a = c .before .before .before .before .before .before .before .b
       tablesAre = s .tablesAre ∙ ap (λ x. tablesAfter (isAdded x) (tablesUsed k (a .count)) (a .segment) t) (sym (c .before .before .before .before .before .before .before .before .before .before .before .before .before .enum-told .given .1));
       lengthsAre = s .lengthsAre ∙ ap (λ x. lengthsAfter (isAdded x) (a .count) (a .segment) l) (sym (c .before .before .before .before .before .before .before .before .before .before .before .before .before .enum-told .given .1));
     }
-
-same-length-5 : tie.Need-same-length-5
-same-length-5 c = search needs
-
-same-length-6 : tie.Need-same-length-6
-same-length-6 c = search needs
-
-same-length-7 : tie.Need-same-length-7
-same-length-7 c = search needs
-
-same-length-8 : tie.Need-same-length-8
-same-length-8 c = search needs
 
 returns-2 : tie.Need-returns-2
 returns-2 c = let a = c .before .before .before .before .before .before .before .before .before .before .before .args in let k = a .kinds .now in let n = a .numbers .now in let t = a .tables .now in let l = a .lengths .now in
@@ -66,18 +33,6 @@ returns-2 c = let a = c .before .before .before .before .before .before .before 
 pub push-segment-spec : {M : Type 1} → statement M
 push-segment-spec =
     tie.close
-    (tie.spec
-    judge-requires
-    enum-told
-    store-requires
-    enum-told-2
-    same-length
-    same-length-2
-    same-length-3
-    same-length-4
-    returns
-    same-length-5
-    same-length-6
-    same-length-7
-    same-length-8
-    returns-2)
+    (tie.spec (λ c κs. search needs) (λ c. search needs) store-requires (λ c. search needs) (λ c. search needs)
+    (λ c. search needs) (λ c. search needs) (λ c. search needs) returns (λ c. search needs) (λ c. search needs)
+    (λ c. search needs) (λ c. search needs) returns-2)

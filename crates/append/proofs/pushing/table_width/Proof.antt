@@ -5,9 +5,6 @@ use borrow.Author.Needs.{needs}
 use Rattle.append.proofs.pushing.table_width.Statement.{statement}
 use Rattle.append.proofs.pushing.table_width.Tie as tie
 
-has-table-requires : tie.Need-has-table-requires
-has-table-requires c κs = search needs
-
 returns : tie.Need-returns
 returns c = rw (one-table _ (sym (c .before .has-table .ensures) ∙ c .if1 .taken))
 
@@ -15,4 +12,6 @@ returns-2 : tie.Need-returns-2
 returns-2 c = rw (none-table _ (sym (c .before .has-table .ensures) ∙ c .if1 .left))
 
 pub table-width-spec : {M : Type 1} → statement M
-table-width-spec = tie.close (tie.spec has-table-requires returns returns-2)
+table-width-spec =
+    tie.close
+    (tie.spec (λ c κs. search needs) returns returns-2)

@@ -9,23 +9,8 @@ use borrow.Author.Needs.{needs}
 use Rattle.append.proofs.storing.store_table.Statement.{statement}
 use Rattle.append.proofs.storing.store_table.Tie as tie
 
-kind-requires : tie.Need-kind-requires
-kind-requires c κs = search needs
-
-has-table-requires : tie.Need-has-table-requires
-has-table-requires c κs = search needs
-
-segment-table-requires : tie.Need-segment-table-requires
-segment-table-requires c κs = search needs
-
 put-table-requires : tie.Need-put-table-requires
 put-table-requires c κs = omega (arith, one-table _ (ap hasTable (sym (c .before .before .before .before .kind .ensures)) ∙ sym (c .before .before .before .has-table .ensures) ∙ c .before .before .if1 .taken), c .before .before .before .before .before .before .pre)
-
-tidy-requires : tie.Need-tidy-requires
-tidy-requires c κs = search needs
-
-same-length : tie.Need-same-length
-same-length c = search needs
 
 returns : tie.Need-returns
 returns c =
@@ -36,9 +21,6 @@ returns c =
       tablesAre = c .before .before .before .put-table .ensures ∙ ap (λ t. sets (a .tables .now) (a .at) (tableNumbers t)) (c .before .before .before .before .before .segment-table .ensures) ∙ ap (sets (a .tables .now) (a .at)) (stored-is (a .segment) has);
     }
 
-segment-length-requires : tie.Need-segment-length-requires
-segment-length-requires c κs = search needs
-
 returns-2 : tie.Need-returns-2
 returns-2 c =
     let a = c .before .before .before .before .before .args in
@@ -47,13 +29,5 @@ returns-2 c =
 pub store-table-spec : {M : Type 1} → statement M
 store-table-spec =
     tie.close
-    (tie.spec
-    kind-requires
-    has-table-requires
-    segment-table-requires
-    put-table-requires
-    tidy-requires
-    same-length
-    returns
-    segment-length-requires
-    returns-2)
+    (tie.spec (λ c κs. search needs) (λ c κs. search needs) (λ c κs. search needs) put-table-requires
+    (λ c κs. search needs) (λ c. search needs) returns (λ c κs. search needs) returns-2)

@@ -17,14 +17,8 @@ returns-2 c = let a = c .before .before .before .before .before .before .args in
 returns-3 : tie.Need-returns-3
 returns-3 c = let a = c .before .before .before .before .before .before .before .args in let k = a .kinds .now in let n = a .numbers .now in let t = a .tables .now in let l = a .lengths .now in few-lengths k n t l (a .count) (c .before .before .if1 .left) (c .if3 .taken)
 
-numbers-used-requires : tie.Need-numbers-used-requires
-numbers-used-requires c κs = search needs
-
 returns-4 : tie.Need-returns-4
 returns-4 c = let a = c .before .before .before .before .before .before .before .before .before .args in let k = a .kinds .now in let n = a .numbers .now in let t = a .tables .now in let l = a .lengths .now in few-numbers k n t l (a .count) (c .before .before .before .before .if1 .left) (subst (λ x. length n < x) (c .before .numbers-used .ensures) (c .if4 .taken))
-
-tables-used-requires : tie.Need-tables-used-requires
-tables-used-requires c κs = search needs
 
 returns-5 : tie.Need-returns-5
 returns-5 c = let a = c .before .before .before .before .before .before .before .before .before .before .before .args in let k = a .kinds .now in let n = a .numbers .now in let t = a .tables .now in let l = a .lengths .now in few-tables k n t l (a .count) (c .before .before .before .before .before .before .if1 .left) (subst (λ x. length t < x) (c .before .tables-used .ensures) (c .if5 .taken))
@@ -41,26 +35,12 @@ slice-aggregate-check-path-3 c = sym (length-take-le _ _ (c .before .before .bef
 slice-aggregate-check-path-4 : tie.Need-slice-aggregate-check-path-4
 slice-aggregate-check-path-4 c = sym (length-take-le _ _ (c .before .before .before .before .before .before .before .before .if3 .left))
 
-check-path-requires : tie.Need-check-path-requires
-check-path-requires c κs = search needs
-
 returns-6 : tie.Need-returns-6
 returns-6 c = let a = c .before .before .before .before .before .before .before .before .before .before .before .before .before .before .before .before .args in let k = a .kinds .now in let n = a .numbers .now in let t = a .tables .now in let l = a .lengths .now in checked k n t l (a .count) _ _ _ (c .before .before .before .before .before .before .before .before .numbers-used .ensures) (c .before .before .before .before .before .before .tables-used .ensures) (c .before .before .before .before .before .before .before .before .before .before .before .if1 .left) (c .check-path .ensures)
 
 pub is-in-use-spec : {M : Type 1} → statement M
 is-in-use-spec =
     tie.close
-    (tie.spec
-    returns
-    returns-2
-    returns-3
-    numbers-used-requires
-    returns-4
-    tables-used-requires
-    returns-5
-    slice-aggregate-check-path
-    slice-aggregate-check-path-2
-    slice-aggregate-check-path-3
-    slice-aggregate-check-path-4
-    check-path-requires
-    returns-6)
+    (tie.spec returns returns-2 returns-3 (λ c κs. search needs) returns-4 (λ c κs. search needs) returns-5
+    slice-aggregate-check-path slice-aggregate-check-path-2 slice-aggregate-check-path-3 slice-aggregate-check-path-4
+    (λ c κs. search needs) returns-6)

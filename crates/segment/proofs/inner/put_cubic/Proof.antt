@@ -8,21 +8,10 @@ use borrow.Author.Needs.{needs}
 use Rattle.segment.proofs.inner.put_cubic.Statement.{statement}
 use Rattle.segment.proofs.inner.put_cubic.Tie as tie
 
-put-pair-requires : tie.Need-put-pair-requires
-put-pair-requires c κs = search needs
-
-add-put-pair : tie.Need-add-put-pair
-add-put-pair c = search needs
-
-put-pair-requires-2 : tie.Need-put-pair-requires-2
-put-pair-requires-2 c κs = search needs
-
-same-length : tie.Need-same-length
-same-length c = search needs
-
 returns : tie.Need-returns
 returns c = let a = c .before .before .before .before .before .before .before .before .before .args in then-put (a .numbers .now) (a .at) (xy (a .start) (xy (a .control1) [])) (xy (a .control2) (xy (a .end) [])) (c .before .before .before .before .before .before .put-pair .last .0) _ (a .at + 4) (c .before .before .before .before .before .before .put-pair .ensures) refl (c .before .before .put-pair2 .ensures)
 
 pub put-cubic-spec : {M : Type 1} → statement M
 put-cubic-spec =
-    tie.close (tie.spec put-pair-requires add-put-pair put-pair-requires-2 same-length returns)
+    tie.close
+    (tie.spec (λ c κs. search needs) (λ c. search needs) (λ c κs. search needs) (λ c. search needs) returns)

@@ -8,21 +8,10 @@ use borrow.Author.Needs.{needs}
 use Rattle.segment.proofs.inner.put_quad.Statement.{statement}
 use Rattle.segment.proofs.inner.put_quad.Tie as tie
 
-put-pair-requires : tie.Need-put-pair-requires
-put-pair-requires c κs = search needs
-
-add-put-two : tie.Need-add-put-two
-add-put-two c = search needs
-
-put-two-requires : tie.Need-put-two-requires
-put-two-requires c κs = search needs
-
-same-length : tie.Need-same-length
-same-length c = search needs
-
 returns : tie.Need-returns
 returns c = let a = c .before .before .before .before .before .before .before .before .before .args in then-put (a .numbers .now) (a .at) (xy (a .start) (xy (a .control) [])) (xy (a .end) []) (c .before .before .before .before .before .before .put-pair .last .0) _ (a .at + 4) (c .before .before .before .before .before .before .put-pair .ensures) refl (c .before .before .put-two .ensures)
 
 pub put-quad-spec : {M : Type 1} → statement M
 put-quad-spec =
-    tie.close (tie.spec put-pair-requires add-put-two put-two-requires same-length returns)
+    tie.close
+    (tie.spec (λ c κs. search needs) (λ c. search needs) (λ c κs. search needs) (λ c. search needs) returns)

@@ -10,27 +10,6 @@ use borrow.Author.Needs.{needs}
 use Rattle.segment.proofs.inner.put_shape.Statement.{statement}
 use Rattle.segment.proofs.inner.put_shape.Tie as tie
 
-put-cubic-requires : tie.Need-put-cubic-requires
-put-cubic-requires c κs = search needs
-
-add-put-two : tie.Need-add-put-two
-add-put-two c = search needs
-
-put-two-requires : tie.Need-put-two-requires
-put-two-requires c κs = search needs
-
-tidy-requires : tie.Need-tidy-requires
-tidy-requires c κs = search needs
-
-add-numbers : tie.Need-add-numbers
-add-numbers c = search needs
-
-mul-numbers : tie.Need-mul-numbers
-mul-numbers c = search needs
-
-slice-write-numbers : tie.Need-slice-write-numbers
-slice-write-numbers c = search needs
-
 same-length : tie.Need-same-length
 same-length c = simp length-set (c .before .before .before .put-two .kept .0 ∙ c .before .before .before .before .before .before .before .put-cubic .kept .0)
 
@@ -48,13 +27,5 @@ returns c =
 pub put-shape-spec : {M : Type 1} → statement M
 put-shape-spec =
     tie.close
-    (tie.spec
-    put-cubic-requires
-    add-put-two
-    put-two-requires
-    tidy-requires
-    add-numbers
-    mul-numbers
-    slice-write-numbers
-    same-length
-    returns)
+    (tie.spec (λ c κs. search needs) (λ c. search needs) (λ c κs. search needs) (λ c κs. search needs)
+    (λ c. search needs) (λ c. search needs) (λ c. search needs) same-length returns)

@@ -15,44 +15,11 @@ Inv-loop tables₀ at table entries k₀ tables k = (k ≤ 32) × (length entrie
 abbrev μ-loop : tie.MeasureT-loop
 μ-loop tables₀ at table entries k₀ tables k = 32 - k
 
-loop-holds : tie.Need-loop-holds Inv-loop μ-loop
-loop-holds c = search needs
-
-mul-tidy : tie.Need-mul-tidy Inv-loop μ-loop
-mul-tidy c = search needs
-
-array-read-tidy : tie.Need-array-read-tidy Inv-loop μ-loop
-array-read-tidy c = search needs
-
-tidy-requires : tie.Need-tidy-requires Inv-loop μ-loop
-tidy-requires c κs = search needs
-
-add-tables : tie.Need-add-tables Inv-loop μ-loop
-add-tables c = search needs
-
-mul-tables : tie.Need-mul-tables Inv-loop μ-loop
-mul-tables c = search needs
-
 slice-write-tables : tie.Need-slice-write-tables Inv-loop μ-loop
 slice-write-tables c = let l = c .before .before .loop in let a = c .before .before .before .before .before .args in let s : length (l .tables) ≡ length (a .tables .now) = rw (l .inv .2) (length-sets (a .tables .now) (a .at) (take (l .k) (a .table .entries))) in omega arith
 
-add-k : tie.Need-add-k Inv-loop μ-loop
-add-k c = search needs
-
-loop-less : tie.Need-loop-less Inv-loop μ-loop
-loop-less c = search needs
-
 loop-again : tie.Need-loop-again Inv-loop μ-loop
 loop-again c = let l = c .before .before .loop in let a = c .before .before .before .before .before .args in (omega arith, l .inv .1, put-next (a .table .entries) (a .tables .now) (a .at) (l .k) (l .tables) _ (omega arith) (l .inv .2) (c .tidy .ensures))
-
-tidy-requires-2 : tie.Need-tidy-requires-2 Inv-loop μ-loop
-tidy-requires-2 c κs = search needs
-
-add-tables-2 : tie.Need-add-tables-2 Inv-loop μ-loop
-add-tables-2 c = search needs
-
-mul-tables-2 : tie.Need-mul-tables-2 Inv-loop μ-loop
-mul-tables-2 c = search needs
 
 slice-write-tables-2 : tie.Need-slice-write-tables-2 Inv-loop μ-loop
 slice-write-tables-2 c = let l = c .before .before .loop in let a = c .before .before .before .before .before .args in let s : length (l .tables) ≡ length (a .tables .now) = rw (l .inv .2) (length-sets (a .tables .now) (a .at) (take (l .k) (a .table .entries))) in omega arith
@@ -66,22 +33,6 @@ returns c = let l = c .before .before .loop in let a = c .before .before .before
 pub put-table-spec : {M : Type 1} → statement M
 put-table-spec =
     tie.close
-    (tie.spec
-    Inv-loop
-    μ-loop
-    loop-holds
-    mul-tidy
-    array-read-tidy
-    tidy-requires
-    add-tables
-    mul-tables
-    slice-write-tables
-    add-k
-    loop-less
-    loop-again
-    tidy-requires-2
-    add-tables-2
-    mul-tables-2
-    slice-write-tables-2
-    same-length
-    returns)
+    (tie.spec Inv-loop μ-loop (λ c. search needs) (λ c. search needs) (λ c. search needs) (λ c κs. search needs)
+    (λ c. search needs) (λ c. search needs) slice-write-tables (λ c. search needs) (λ c. search needs) loop-again
+    (λ c κs. search needs) (λ c. search needs) (λ c. search needs) slice-write-tables-2 same-length returns)

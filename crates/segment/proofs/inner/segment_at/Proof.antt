@@ -16,9 +16,6 @@ point-at-requires : tie.Need-point-at-requires
 unfolding widthOf
 point-at-requires c κs = omega (arith, room _ 0 _ _ (c .match .keys1) (c .before .before .pre .1))
 
-add-point-at : tie.Need-add-point-at
-add-point-at c = search needs
-
 point-at-requires-2 : tie.Need-point-at-requires-2
 unfolding widthOf
 point-at-requires-2 c κs = omega (arith, room _ 0 _ _ (c .before .match .keys1) (c .before .before .before .pre .1))
@@ -27,15 +24,9 @@ point-at-requires-3 : tie.Need-point-at-requires-3
 unfolding widthOf
 point-at-requires-3 c κs = omega (arith, room _ 1 _ _ (c .match .keys2) (c .before .before .pre .1))
 
-add-point-at-2 : tie.Need-add-point-at-2
-add-point-at-2 c = search needs
-
 point-at-requires-4 : tie.Need-point-at-requires-4
 unfolding widthOf
 point-at-requires-4 c κs = omega (arith, room _ 1 _ _ (c .before .match .keys2) (c .before .before .before .pre .1))
-
-add-point-at-3 : tie.Need-add-point-at-3
-add-point-at-3 c = search needs
 
 point-at-requires-5 : tie.Need-point-at-requires-5
 unfolding widthOf
@@ -45,22 +36,13 @@ point-at-requires-6 : tie.Need-point-at-requires-6
 unfolding widthOf
 point-at-requires-6 c κs = omega (arith, room _ 2 _ _ (c .match .keys3) (c .before .before .pre .1))
 
-add-point-at-4 : tie.Need-add-point-at-4
-add-point-at-4 c = search needs
-
 point-at-requires-7 : tie.Need-point-at-requires-7
 unfolding widthOf
 point-at-requires-7 c κs = omega (arith, room _ 2 _ _ (c .before .match .keys3) (c .before .before .before .pre .1))
 
-add-point-at-5 : tie.Need-add-point-at-5
-add-point-at-5 c = search needs
-
 point-at-requires-8 : tie.Need-point-at-requires-8
 unfolding widthOf
 point-at-requires-8 c κs = omega (arith, room _ 2 _ _ (c .before .before .match .keys3) (c .before .before .before .before .pre .1))
-
-add-point-at-6 : tie.Need-add-point-at-6
-add-point-at-6 c = search needs
 
 point-at-requires-9 : tie.Need-point-at-requires-9
 unfolding widthOf
@@ -101,26 +83,7 @@ returns-5 c = let r = c .before .match .rest in is-fallback _ _ _ (c .shape-at2 
 pub segment-at-spec : {M : Type 1} → statement M
 segment-at-spec =
     tie.close
-    (tie.spec
-    point-at-requires
-    add-point-at
-    point-at-requires-2
-    point-at-requires-3
-    add-point-at-2
-    point-at-requires-4
-    add-point-at-3
-    point-at-requires-5
-    point-at-requires-6
-    add-point-at-4
-    point-at-requires-7
-    add-point-at-5
-    point-at-requires-8
-    add-point-at-6
-    point-at-requires-9
-    shape-at-requires
-    shape-at-requires-2
-    returns
-    returns-2
-    returns-3
-    returns-4
-    returns-5)
+    (tie.spec point-at-requires (λ c. search needs) point-at-requires-2 point-at-requires-3 (λ c. search needs)
+    point-at-requires-4 (λ c. search needs) point-at-requires-5 point-at-requires-6 (λ c. search needs)
+    point-at-requires-7 (λ c. search needs) point-at-requires-8 (λ c. search needs) point-at-requires-9
+    shape-at-requires shape-at-requires-2 returns returns-2 returns-3 returns-4 returns-5)

@@ -16,22 +16,13 @@ returns : tie.Need-returns
 unfolding isStored
 returns c = let k = c .before .before .before .before .before .args .kinds .now in simp (lt-leb (length k) mostSegments (c .if1 .taken))
 
-are-known-requires : tie.Need-are-known-requires
-are-known-requires c κs = search needs
-
 returns-2 : tie.Need-returns-2
 unfolding isStored
 returns-2 c = let a = c .before .before .before .before .before .before .before .args in let k = a .kinds .now in let few = le-leb (length k) mostSegments (c .before .before .if1 .left) in simp (few, sym (c .before .are-known .ensures) ∙ not-true _ (c .if2 .taken))
 
-numbers-before-requires : tie.Need-numbers-before-requires
-numbers-before-requires c κs = search needs
-
 returns-3 : tie.Need-returns-3
 unfolding isStored
 returns-3 c = let a = c .before .before .before .before .before .before .before .before .before .args in let k = a .kinds .now in let few = le-leb (length k) mostSegments (c .before .before .before .before .if1 .left) in simp (few, sym (c .before .before .before .are-known .ensures) ∙ not-false _ (c .before .before .if2 .left), differs _ _ _ (c .if3 .taken) (c .before .numbers-before .ensures))
-
-tables-before-requires : tie.Need-tables-before-requires
-tables-before-requires c κs = search needs
 
 mul-if4 : tie.Need-mul-if4
 mul-if4 c = omega (arith, tables-at-most (c .before .before .before .before .before .before .before .before .before .before .args .kinds .now) (length (c .before .before .before .before .before .before .before .before .before .before .args .kinds .now)), c .tables-before .ensures)
@@ -51,9 +42,6 @@ returns-6 : tie.Need-returns-6
 unfolding isStored
 returns-6 c = let a = c .before .before .before .before .before .before .before .before .before .before .before .before .before .before .args in let k = a .kinds .now in let few = le-leb (length k) mostSegments (c .before .before .before .before .before .before .before .before .before .if1 .left) in simp (few, sym (c .before .before .before .before .before .before .before .before .are-known .ensures) ∙ not-false _ (c .before .before .before .before .before .before .before .if2 .left), agrees _ _ _ (c .before .before .before .before .before .if3 .left) (c .before .before .before .before .before .before .numbers-before .ensures), agrees _ _ _ (c .before .before .before .if4 .left) (ap (λ m. 33 * m) (c .before .before .before .before .tables-before .ensures)), ap (tablesAreSound (a .tables .now)) (sym (c .before .before .before .before .tables-before .ensures)) ∙ sym (c .before .before .tables-are-sound .ensures) ∙ not-false _ (c .before .if5 .left), ne-eqb _ _ (c .if6 .taken))
 
-lengths-are-sound-requires : tie.Need-lengths-are-sound-requires
-lengths-are-sound-requires c κs = search needs
-
 returns-7 : tie.Need-returns-7
 unfolding isStored
 returns-7 c = let a = c .before .before .before .before .before .before .before .before .before .before .before .before .before .before .before .args in let k = a .kinds .now in let few = le-leb (length k) mostSegments (c .before .before .before .before .before .before .before .before .before .before .if1 .left) in simp (few, sym (c .before .before .before .before .before .before .before .before .before .are-known .ensures) ∙ not-false _ (c .before .before .before .before .before .before .before .before .if2 .left), agrees _ _ _ (c .before .before .before .before .before .before .if3 .left) (c .before .before .before .before .before .before .before .numbers-before .ensures), agrees _ _ _ (c .before .before .before .before .if4 .left) (ap (λ m. 33 * m) (c .before .before .before .before .before .tables-before .ensures)), ap (tablesAreSound (a .tables .now)) (sym (c .before .before .before .before .before .tables-before .ensures)) ∙ sym (c .before .before .before .tables-are-sound .ensures) ∙ not-false _ (c .before .before .if5 .left), eq-eqb _ _ (c .before .if6 .left)) (c .lengths-are-sound .ensures)
@@ -61,17 +49,5 @@ returns-7 c = let a = c .before .before .before .before .before .before .before 
 pub check-path-spec : {M : Type 1} → statement M
 check-path-spec =
     tie.close
-    (tie.spec
-    returns
-    are-known-requires
-    returns-2
-    numbers-before-requires
-    returns-3
-    tables-before-requires
-    mul-if4
-    returns-4
-    tables-are-sound-requires
-    returns-5
-    returns-6
-    lengths-are-sound-requires
-    returns-7)
+    (tie.spec returns (λ c κs. search needs) returns-2 (λ c κs. search needs) returns-3 (λ c κs. search needs) mul-if4
+    returns-4 tables-are-sound-requires returns-5 returns-6 (λ c κs. search needs) returns-7)

@@ -21,39 +21,6 @@ loop-holds : tie.Need-loop-holds Inv-loop μ-loop
 unfolding tablesAreSound
 loop-holds c = (omega arith, refl)
 
-mul-at : tie.Need-mul-at Inv-loop μ-loop
-mul-at c = search needs
-
-add-end : tie.Need-add-end Inv-loop μ-loop
-add-end c = search needs
-
-mul-entries-are-sound : tie.Need-mul-entries-are-sound Inv-loop μ-loop
-mul-entries-are-sound c = search needs
-
-sub-entries-are-sound : tie.Need-sub-entries-are-sound Inv-loop μ-loop
-sub-entries-are-sound c = search needs
-
-part-entries-are-sound-start : tie.Need-part-entries-are-sound-start Inv-loop μ-loop
-part-entries-are-sound-start c = search needs
-
-part-entries-are-sound-end : tie.Need-part-entries-are-sound-end Inv-loop μ-loop
-part-entries-are-sound-end c = search needs
-
-mul-entries-are-sound-2 : tie.Need-mul-entries-are-sound-2 Inv-loop μ-loop
-mul-entries-are-sound-2 c = search needs
-
-shared-slice-read-entries-are-sound : tie.Need-shared-slice-read-entries-are-sound Inv-loop μ-loop
-shared-slice-read-entries-are-sound c = search needs
-
-entries-are-sound-requires : tie.Need-entries-are-sound-requires Inv-loop μ-loop
-entries-are-sound-requires c κs = search needs
-
-add-j : tie.Need-add-j Inv-loop μ-loop
-add-j c = search needs
-
-loop-less : tie.Need-loop-less Inv-loop μ-loop
-loop-less c = search needs
-
 loop-again : tie.Need-loop-again Inv-loop μ-loop
 loop-again c =
     let l = c .before .before .before .before .before .loop in
@@ -72,21 +39,6 @@ returns-2 c = let l = c .before .loop in let e : l .j ≡ c .before .before .bef
 pub tables-are-sound-spec : {M : Type 1} → statement M
 tables-are-sound-spec =
     tie.close
-    (tie.spec
-    Inv-loop
-    μ-loop
-    loop-holds
-    mul-at
-    add-end
-    mul-entries-are-sound
-    sub-entries-are-sound
-    part-entries-are-sound-start
-    part-entries-are-sound-end
-    mul-entries-are-sound-2
-    shared-slice-read-entries-are-sound
-    entries-are-sound-requires
-    add-j
-    loop-less
-    loop-again
-    returns
-    returns-2)
+    (tie.spec Inv-loop μ-loop loop-holds (λ c. search needs) (λ c. search needs) (λ c. search needs)
+    (λ c. search needs) (λ c. search needs) (λ c. search needs) (λ c. search needs) (λ c. search needs)
+    (λ c κs. search needs) (λ c. search needs) (λ c. search needs) loop-again returns returns-2)

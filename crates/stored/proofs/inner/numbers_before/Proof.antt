@@ -20,20 +20,8 @@ abbrev μ-loop : tie.MeasureT-loop
 loop-holds : tie.Need-loop-holds Inv-loop μ-loop
 loop-holds c = (omega arith, sym (before-zero widthOf (c .before .args .kinds .now)), omega arith)
 
-shared-slice-read-width : tie.Need-shared-slice-read-width Inv-loop μ-loop
-shared-slice-read-width c = search needs
-
-width-requires : tie.Need-width-requires Inv-loop μ-loop
-width-requires c κs = search needs
-
 add-sum : tie.Need-add-sum Inv-loop μ-loop
 add-sum c = omega (arith, width-most (getD (c .before .before .before .before .before .args .kinds .now) (c .before .before .before .loop .j) 0), c .width .ensures)
-
-add-j : tie.Need-add-j Inv-loop μ-loop
-add-j c = search needs
-
-loop-less : tie.Need-loop-less Inv-loop μ-loop
-loop-less c = search needs
 
 loop-again : tie.Need-loop-again Inv-loop μ-loop
 loop-again c =
@@ -47,14 +35,5 @@ returns c = let l = c .before .loop in l .inv .1 ∙ ap (before widthOf (c .befo
 pub numbers-before-spec : {M : Type 1} → statement M
 numbers-before-spec =
     tie.close
-    (tie.spec
-    Inv-loop
-    μ-loop
-    loop-holds
-    shared-slice-read-width
-    width-requires
-    add-sum
-    add-j
-    loop-less
-    loop-again
-    returns)
+    (tie.spec Inv-loop μ-loop loop-holds (λ c. search needs) (λ c κs. search needs) add-sum (λ c. search needs)
+    (λ c. search needs) loop-again returns)

@@ -9,12 +9,6 @@ use borrow.Author.Needs.{needs}
 use Rattle.stored.proofs.inner.segment.Statement.{statement}
 use Rattle.stored.proofs.inner.segment.Tie as tie
 
-numbers-before-requires : tie.Need-numbers-before-requires
-numbers-before-requires c κs = search needs
-
-shared-slice-read-segment-at : tie.Need-shared-slice-read-segment-at
-shared-slice-read-segment-at c = search needs
-
 segment-at-requires : tie.Need-segment-at-requires
 segment-at-requires c κs =
     let a = c .before .before .before .before .args in
@@ -28,4 +22,4 @@ returns c = let a = c .before .before .before .before .before .args in c .segmen
 pub segment-spec : {M : Type 1} → statement M
 segment-spec =
     tie.close
-    (tie.spec numbers-before-requires shared-slice-read-segment-at segment-at-requires returns)
+    (tie.spec (λ c κs. search needs) (λ c. search needs) segment-at-requires returns)

@@ -10,15 +10,6 @@ use borrow.Author.Needs.{needs}
 use Rattle.stored.proofs.inner.segment_table.Statement.{statement}
 use Rattle.stored.proofs.inner.segment_table.Tie as tie
 
-shared-slice-read-has-table : tie.Need-shared-slice-read-has-table
-shared-slice-read-has-table c = search needs
-
-has-table-requires : tie.Need-has-table-requires
-has-table-requires c κs = search needs
-
-tables-before-requires : tie.Need-tables-before-requires
-tables-before-requires c κs = search needs
-
 mul-table-at : tie.Need-mul-table-at
 mul-table-at c = omega (arith, tables-at-most (c .before .before .before .before .before .before .args .kinds .now) (c .before .before .before .before .before .before .args .i), c .tables-before .ensures, c .before .before .before .before .before .before .pre .0 .few, c .before .before .before .before .before .before .pre .1)
 
@@ -32,9 +23,6 @@ returns c =
     let has = sym (c .before .before .before .has-table .ensures) ∙ c .before .before .if1 .taken in
     rw has (c .table-at .ensures ∙ ap (λ n. tableAt (a .tables .now) (33 * n)) (c .before .tables-before .ensures))
 
-no-table-requires : tie.Need-no-table-requires
-no-table-requires c κs = search needs
-
 returns-2 : tie.Need-returns-2
 unfolding tableIn
 returns-2 c = let has = sym (c .before .before .has-table .ensures) ∙ c .before .if1 .left in rw has (c .no-table .ensures)
@@ -42,12 +30,5 @@ returns-2 c = let has = sym (c .before .before .has-table .ensures) ∙ c .befor
 pub segment-table-spec : {M : Type 1} → statement M
 segment-table-spec =
     tie.close
-    (tie.spec
-    shared-slice-read-has-table
-    has-table-requires
-    tables-before-requires
-    mul-table-at
-    table-at-requires
-    returns
-    no-table-requires
-    returns-2)
+    (tie.spec (λ c. search needs) (λ c κs. search needs) (λ c κs. search needs) mul-table-at table-at-requires returns
+    (λ c κs. search needs) returns-2)

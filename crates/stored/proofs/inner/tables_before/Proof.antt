@@ -22,21 +22,6 @@ abbrev μ-loop : tie.MeasureT-loop
 loop-holds : tie.Need-loop-holds Inv-loop μ-loop
 loop-holds c = (omega arith, sym (before-zero tablesOf (c .before .args .kinds .now)), omega arith)
 
-shared-slice-read-has-table : tie.Need-shared-slice-read-has-table Inv-loop μ-loop
-shared-slice-read-has-table c = search needs
-
-has-table-requires : tie.Need-has-table-requires Inv-loop μ-loop
-has-table-requires c κs = search needs
-
-add-sum : tie.Need-add-sum Inv-loop μ-loop
-add-sum c = search needs
-
-add-j : tie.Need-add-j Inv-loop μ-loop
-add-j c = search needs
-
-loop-less : tie.Need-loop-less Inv-loop μ-loop
-loop-less c = search needs
-
 loop-again : tie.Need-loop-again Inv-loop μ-loop
 loop-again c =
     let l = c .before .before .before .before .loop in
@@ -53,14 +38,5 @@ returns c = let l = c .before .loop in l .inv .1 ∙ ap (before tablesOf (c .bef
 pub tables-before-spec : {M : Type 1} → statement M
 tables-before-spec =
     tie.close
-    (tie.spec
-    Inv-loop
-    μ-loop
-    loop-holds
-    shared-slice-read-has-table
-    has-table-requires
-    add-sum
-    add-j
-    loop-less
-    loop-again
-    returns)
+    (tie.spec Inv-loop μ-loop loop-holds (λ c. search needs) (λ c κs. search needs) (λ c. search needs)
+    (λ c. search needs) (λ c. search needs) loop-again returns)

@@ -5,15 +5,11 @@ use borrow.Author.Needs.{needs}
 use Rattle.stored.proofs.inner.total.Statement.{statement}
 use Rattle.stored.proofs.inner.total.Tie as tie
 
-length-before-requires : tie.Need-length-before-requires
-length-before-requires c κs = search needs
-
-tidy-requires : tie.Need-tidy-requires
-tidy-requires c κs = search needs
-
 returns : tie.Need-returns
 unfolding pathTotal
 returns c = c .tidy .ensures ∙ c .before .length-before .ensures
 
 pub total-spec : {M : Type 1} → statement M
-total-spec = tie.close (tie.spec length-before-requires tidy-requires returns)
+total-spec =
+    tie.close
+    (tie.spec (λ c κs. search needs) (λ c κs. search needs) returns)

@@ -5,12 +5,6 @@ use borrow.Author.Needs.{needs}
 use Rattle.stored.proofs.queries.arc_length.Statement.{statement}
 use Rattle.stored.proofs.queries.arc_length.Tie as tie
 
-check-path-requires : tie.Need-check-path-requires
-check-path-requires c κs = search needs
-
-total-requires : tie.Need-total-requires
-total-requires c κs = search needs
-
 returns : tie.Need-returns
 unfolding measuredOf
 returns c = let t = sym (c .before .before .check-path .ensures) ∙ c .before .if1 .taken in simp (t, c .total .ensures)
@@ -20,4 +14,6 @@ unfolding measuredOf
 returns-2 c = let t = sym (c .before .check-path .ensures) ∙ c .if1 .left in simp t
 
 pub arc-length-spec : {M : Type 1} → statement M
-arc-length-spec = tie.close (tie.spec check-path-requires total-requires returns returns-2)
+arc-length-spec =
+    tie.close
+    (tie.spec (λ c κs. search needs) (λ c κs. search needs) returns returns-2)

@@ -6,9 +6,6 @@ use borrow.Author.Needs.{needs}
 use Rattle.stored.proofs.queries.is_empty.Statement.{statement}
 use Rattle.stored.proofs.queries.is_empty.Tie as tie
 
-check-path-requires : tie.Need-check-path-requires
-check-path-requires c κs = search needs
-
 returns : tie.Need-returns
 unfolding emptinessOf
 returns c = let t = sym (c .before .before .check-path .ensures) ∙ c .before .if1 .taken in simp (t, eq-eqb _ _ (c .if2 .taken))
@@ -22,4 +19,6 @@ unfolding emptinessOf
 returns-3 c = let t = sym (c .before .check-path .ensures) ∙ c .if1 .left in simp t
 
 pub is-empty-spec : {M : Type 1} → statement M
-is-empty-spec = tie.close (tie.spec check-path-requires returns returns-2 returns-3)
+is-empty-spec =
+    tie.close
+    (tie.spec (λ c κs. search needs) returns returns-2 returns-3)

@@ -5,9 +5,6 @@ use borrow.Author.Needs.{needs}
 use Rattle.stored.proofs.queries.len.Statement.{statement}
 use Rattle.stored.proofs.queries.len.Tie as tie
 
-check-path-requires : tie.Need-check-path-requires
-check-path-requires c κs = search needs
-
 returns : tie.Need-returns
 unfolding countedOf
 returns c = let t = sym (c .before .check-path .ensures) ∙ c .if1 .taken in simp t
@@ -17,4 +14,6 @@ unfolding countedOf
 returns-2 c = let t = sym (c .before .check-path .ensures) ∙ c .if1 .left in simp t
 
 pub len-spec : {M : Type 1} → statement M
-len-spec = tie.close (tie.spec check-path-requires returns returns-2)
+len-spec =
+    tie.close
+    (tie.spec (λ c κs. search needs) returns returns-2)

@@ -4,12 +4,11 @@ use borrow.Author.Needs.{needs}
 use Rattle.stored.proofs.queries.nothing.Statement.{statement}
 use Rattle.stored.proofs.queries.nothing.Tie as tie
 
-no-table-requires : tie.Need-no-table-requires
-no-table-requires c κs = search needs
-
 returns : tie.Need-returns
 unfolding nothingOf
 returns c = let e = c .no-table .ensures in cc
 
 pub nothing-spec : {M : Type 1} → statement M
-nothing-spec = tie.close (tie.spec no-table-requires returns)
+nothing-spec =
+    tie.close
+    (tie.spec (λ c κs. search needs) returns)

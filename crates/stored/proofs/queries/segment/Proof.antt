@@ -8,9 +8,6 @@ use borrow.Author.Needs.{needs}
 use Rattle.stored.proofs.queries.segment.Statement.{statement}
 use Rattle.stored.proofs.queries.segment.Tie as tie
 
-check-path-requires : tie.Need-check-path-requires
-check-path-requires c κs = search needs
-
 segment-requires : tie.Need-segment-requires
 segment-requires c κs = (let a = c .before .before .before .before .before .before .before .args in stored-numbered (a .kinds .now) (a .numbers .now) (a .tables .now) (a .lengths .now) (passed (sym (c .before .before .check-path .ensures) ∙ c .before .if1 .taken)), c .if2 .taken)
 
@@ -21,15 +18,9 @@ returns : tie.Need-returns
 unfolding partOf
 returns c = let t = sym (c .before .before .before .before .check-path .ensures) ∙ c .before .before .before .if1 .taken in simp (t, lt-ltb _ _ (c .before .before .if2 .taken), c .before .segment .ensures, c .segment-table .ensures)
 
-nothing-requires : tie.Need-nothing-requires
-nothing-requires c κs = search needs
-
 returns-2 : tie.Need-returns-2
 unfolding partOf
 returns-2 c = let t = sym (c .before .before .before .check-path .ensures) ∙ c .before .before .if1 .taken in simp (t, le-ltb _ _ (c .before .if2 .left)) (c .nothing .ensures)
-
-nothing-requires-2 : tie.Need-nothing-requires-2
-nothing-requires-2 c κs = search needs
 
 returns-3 : tie.Need-returns-3
 unfolding partOf
@@ -38,12 +29,5 @@ returns-3 c = let t = sym (c .before .before .check-path .ensures) ∙ c .before
 pub segment-spec : {M : Type 1} → statement M
 segment-spec =
     tie.close
-    (tie.spec
-    check-path-requires
-    segment-requires
-    segment-table-requires
-    returns
-    nothing-requires
-    returns-2
-    nothing-requires-2
-    returns-3)
+    (tie.spec (λ c κs. search needs) segment-requires segment-table-requires returns (λ c κs. search needs) returns-2
+    (λ c κs. search needs) returns-3)
