@@ -11,33 +11,6 @@ use Rattle.heading.specs.Headings.{cubicHeading}
 use Rattle.heading.proofs.directions.cubic_heading.Statement.{statement}
 use Rattle.heading.proofs.directions.cubic_heading.Tie as tie
 
-cubic-derivative-requires : tie.Need-cubic-derivative-requires
-cubic-derivative-requires c κs = search needs
-
-normalize-requires : tie.Need-normalize-requires
-normalize-requires c κs = search needs
-
-is-nothing-requires : tie.Need-is-nothing-requires
-is-nothing-requires c κs = search needs
-
-ahead-requires : tie.Need-ahead-requires
-ahead-requires c κs = search needs
-
-raw-in-requires : tie.Need-raw-in-requires
-raw-in-requires c κs = search needs
-
-cubic-sample-requires : tie.Need-cubic-sample-requires
-cubic-sample-requires c κs = search needs
-
-cubic-sample-requires-2 : tie.Need-cubic-sample-requires-2
-cubic-sample-requires-2 c κs = search needs
-
-sub-requires : tie.Need-sub-requires
-sub-requires c κs = search needs
-
-normalize-requires-2 : tie.Need-normalize-requires-2
-normalize-requires-2 c κs = search needs
-
 -- the first direction, by its definition
 first : (c : tie.After-normalize) → let a = c .before .before .before .args in c .normalize .result ≡ normalizeOf (cubicDerivativeOf (a .start) (a .control1) (a .control2) (a .end) (a .raw .value))
 first c = c .normalize .ensures ∙ ap normalizeOf (c .before .cubic-derivative .ensures)
@@ -61,15 +34,6 @@ returns-2 c =
 pub cubic-heading-spec : {M : Type 1} → statement M
 cubic-heading-spec =
     tie.close
-    (tie.spec
-    cubic-derivative-requires
-    normalize-requires
-    is-nothing-requires
-    ahead-requires
-    raw-in-requires
-    cubic-sample-requires
-    cubic-sample-requires-2
-    sub-requires
-    normalize-requires-2
-    returns
-    returns-2)
+    (tie.spec (λ c κs. search needs) (λ c κs. search needs) (λ c κs. search needs) (λ c κs. search needs)
+    (λ c κs. search needs) (λ c κs. search needs) (λ c κs. search needs) (λ c κs. search needs) (λ c κs. search needs)
+    returns returns-2)

@@ -11,33 +11,6 @@ use Rattle.heading.specs.Headings.{quadHeading}
 use Rattle.heading.proofs.directions.quad_heading.Statement.{statement}
 use Rattle.heading.proofs.directions.quad_heading.Tie as tie
 
-quad-derivative-requires : tie.Need-quad-derivative-requires
-quad-derivative-requires c κs = search needs
-
-normalize-requires : tie.Need-normalize-requires
-normalize-requires c κs = search needs
-
-is-nothing-requires : tie.Need-is-nothing-requires
-is-nothing-requires c κs = search needs
-
-ahead-requires : tie.Need-ahead-requires
-ahead-requires c κs = search needs
-
-raw-in-requires : tie.Need-raw-in-requires
-raw-in-requires c κs = search needs
-
-quad-sample-requires : tie.Need-quad-sample-requires
-quad-sample-requires c κs = search needs
-
-quad-sample-requires-2 : tie.Need-quad-sample-requires-2
-quad-sample-requires-2 c κs = search needs
-
-sub-requires : tie.Need-sub-requires
-sub-requires c κs = search needs
-
-normalize-requires-2 : tie.Need-normalize-requires-2
-normalize-requires-2 c κs = search needs
-
 -- the first direction, by its definition
 first : (c : tie.After-normalize) → let a = c .before .before .before .args in c .normalize .result ≡ normalizeOf (quadDerivativeOf (a .start) (a .control) (a .end) (a .raw .value))
 first c = c .normalize .ensures ∙ ap normalizeOf (c .before .quad-derivative .ensures)
@@ -61,15 +34,6 @@ returns-2 c =
 pub quad-heading-spec : {M : Type 1} → statement M
 quad-heading-spec =
     tie.close
-    (tie.spec
-    quad-derivative-requires
-    normalize-requires
-    is-nothing-requires
-    ahead-requires
-    raw-in-requires
-    quad-sample-requires
-    quad-sample-requires-2
-    sub-requires
-    normalize-requires-2
-    returns
-    returns-2)
+    (tie.spec (λ c κs. search needs) (λ c κs. search needs) (λ c κs. search needs) (λ c κs. search needs)
+    (λ c κs. search needs) (λ c κs. search needs) (λ c κs. search needs) (λ c κs. search needs) (λ c κs. search needs)
+    returns returns-2)

@@ -9,40 +9,13 @@ use Rattle.heading.specs.Headings.{headingOf}
 use Rattle.heading.proofs.inner.heading.Statement.{statement}
 use Rattle.heading.proofs.inner.heading.Tie as tie
 
-enum-known-segment : tie.Need-enum-known-segment
-enum-known-segment c = search needs
-
-line-tangent-requires : tie.Need-line-tangent-requires
-line-tangent-requires c κs = search needs
-
-enum-known-segment-2 : tie.Need-enum-known-segment-2
-enum-known-segment-2 c = search needs
-
 quad-heading-requires : tie.Need-quad-heading-requires
 unfolding hasTable tablesOf
 quad-heading-requires c κs = c .before .before .before .before .pre (subst (λ (s : PathSegment). T (hasTable (kindOf s))) (sym (c .before .segment2 .given .1)) tt)
 
-enum-known-segment-3 : tie.Need-enum-known-segment-3
-enum-known-segment-3 c = search needs
-
 cubic-heading-requires : tie.Need-cubic-heading-requires
 unfolding hasTable tablesOf
 cubic-heading-requires c κs = c .before .before .before .before .pre (subst (λ (s : PathSegment). T (hasTable (kindOf s))) (sym (c .before .segment3 .given .1)) tt)
-
-enum-known-segment-4 : tie.Need-enum-known-segment-4
-enum-known-segment-4 c = search needs
-
-arc-heading-requires : tie.Need-arc-heading-requires
-arc-heading-requires c κs = search needs
-
-enum-known-segment-5 : tie.Need-enum-known-segment-5
-enum-known-segment-5 c = search needs
-
-chord-line-requires : tie.Need-chord-line-requires
-chord-line-requires c κs = search needs
-
-line-tangent-requires-2 : tie.Need-line-tangent-requires-2
-line-tangent-requires-2 c κs = search needs
 
 returns : tie.Need-returns
 unfolding headingOf
@@ -67,20 +40,6 @@ returns-5 c = rw (c .before .before .before .segment5 .given .1) (c .line-tangen
 pub heading-spec : {M : Type 1} → statement M
 heading-spec =
     tie.close
-    (tie.spec
-    enum-known-segment
-    line-tangent-requires
-    enum-known-segment-2
-    quad-heading-requires
-    enum-known-segment-3
-    cubic-heading-requires
-    enum-known-segment-4
-    arc-heading-requires
-    enum-known-segment-5
-    chord-line-requires
-    line-tangent-requires-2
-    returns
-    returns-2
-    returns-3
-    returns-4
-    returns-5)
+    (tie.spec (λ c. search needs) (λ c κs. search needs) (λ c. search needs) quad-heading-requires (λ c. search needs)
+    cubic-heading-requires (λ c. search needs) (λ c κs. search needs) (λ c. search needs) (λ c κs. search needs)
+    (λ c κs. search needs) returns returns-2 returns-3 returns-4 returns-5)

@@ -27,18 +27,9 @@ Inv-loop kinds fields tables lengths progresses segments₀ raws₀ at₀ i₀ s
 abbrev μ-loop : tie.MeasureT-loop
 μ-loop kinds fields tables lengths progresses segments₀ raws₀ at₀ i₀ segments raws at i = length progresses - i
 
-first-cursor-requires : tie.Need-first-cursor-requires Inv-loop μ-loop
-first-cursor-requires c κs = search needs
-
 loop-holds : tie.Need-loop-holds Inv-loop μ-loop
 unfolding each
 loop-holds c = (looking-first (c .first-cursor .ensures) (c .before .before .before .before .before .before .before .before .pre .path .some), refl, refl)
-
-mul-progress : tie.Need-mul-progress Inv-loop μ-loop
-mul-progress c = search needs
-
-shared-slice-read-progress : tie.Need-shared-slice-read-progress Inv-loop μ-loop
-shared-slice-read-progress c = search needs
 
 spot-near-requires : tie.Need-spot-near-requires Inv-loop μ-loop
 spot-near-requires c κs = some-path (some-place (c .before .before .before .before .before .before .before .before .before .before .before .pre .path))
@@ -81,12 +72,6 @@ slice-write-segments c =
     let room = start .pre .segmentsRoom in
     omega arith
 
-number-of-requires : tie.Need-number-of-requires Inv-loop μ-loop
-number-of-requires c κs = search needs
-
-tidy-requires : tie.Need-tidy-requires Inv-loop μ-loop
-tidy-requires c κs = search needs
-
 mul-raws : tie.Need-mul-raws Inv-loop μ-loop
 mul-raws c =
     let more = c .before .before .before .before .before .before .before .before .loop-test .taken in
@@ -107,9 +92,6 @@ add-i c =
     let more = c .before .before .before .before .before .before .before .before .loop-test .taken in
     let good = c .before .before .before .before .before .before .before .before .before .before .before .before .before .before .before .before .before .before .good in
     omega arith
-
-loop-less : tie.Need-loop-less Inv-loop μ-loop
-loop-less c = search needs
 
 loop-again : tie.Need-loop-again Inv-loop μ-loop
 loop-again c =
@@ -155,26 +137,7 @@ returns c =
 pub fill-places-spec : {M : Type 1} → statement M
 fill-places-spec =
     tie.close
-    (tie.spec
-    Inv-loop
-    μ-loop
-    first-cursor-requires
-    loop-holds
-    mul-progress
-    shared-slice-read-progress
-    spot-near-requires
-    moved-requires
-    raw-within-requires
-    cast-segments
-    mul-segments
-    slice-write-segments
-    number-of-requires
-    tidy-requires
-    mul-raws
-    slice-write-raws
-    add-i
-    loop-less
-    loop-again
-    same-length
-    same-length-2
-    returns)
+    (tie.spec Inv-loop μ-loop (λ c κs. search needs) loop-holds (λ c. search needs) (λ c. search needs)
+    spot-near-requires moved-requires raw-within-requires cast-segments mul-segments slice-write-segments
+    (λ c κs. search needs) (λ c κs. search needs) mul-raws slice-write-raws add-i (λ c. search needs) loop-again
+    same-length same-length-2 returns)

@@ -24,18 +24,9 @@ Inv-loop kinds fields tables lengths progresses out₀ cursor₀ k₀ out cursor
 abbrev μ-loop : tie.MeasureT-loop
 μ-loop kinds fields tables lengths progresses out₀ cursor₀ k₀ out cursor k = length progresses - k
 
-first-cursor-requires : tie.Need-first-cursor-requires Inv-loop μ-loop
-first-cursor-requires c κs = search needs
-
 loop-holds : tie.Need-loop-holds Inv-loop μ-loop
 unfolding numbersFor
 loop-holds c = (looking-first (c .first-cursor .ensures) (c .before .before .before .before .before .before .before .pre .path .some), refl)
-
-mul-progress : tie.Need-mul-progress Inv-loop μ-loop
-mul-progress c = search needs
-
-shared-slice-read-progress : tie.Need-shared-slice-read-progress Inv-loop μ-loop
-shared-slice-read-progress c = search needs
 
 spot-near-requires : tie.Need-spot-near-requires Inv-loop μ-loop
 spot-near-requires c κs = some-path (some-place (c .before .before .before .before .before .before .before .before .before .before .pre .path))
@@ -75,9 +66,6 @@ add-k c =
     let good = c .before .before .before .before .before .before .before .before .before .before .before .before .before .before .before .before .before .before .good in
     omega arith
 
-loop-less : tie.Need-loop-less Inv-loop μ-loop
-loop-less c = search needs
-
 loop-again : tie.Need-loop-again Inv-loop μ-loop
 loop-again c =
     let l = c .before .before .before .before .before .before .before .before .before .before .loop in
@@ -110,20 +98,6 @@ returns c =
 pub fill-positions-spec : {M : Type 1} → statement M
 fill-positions-spec =
     tie.close
-    (tie.spec
-    Inv-loop
-    μ-loop
-    first-cursor-requires
-    loop-holds
-    mul-progress
-    shared-slice-read-progress
-    spot-near-requires
-    moved-requires
-    flown-within-requires
-    mul-put-flown
-    put-flown-requires
-    add-k
-    loop-less
-    loop-again
-    same-length
-    returns)
+    (tie.spec Inv-loop μ-loop (λ c κs. search needs) loop-holds (λ c. search needs) (λ c. search needs)
+    spot-near-requires moved-requires flown-within-requires mul-put-flown put-flown-requires add-k (λ c. search needs)
+    loop-again same-length returns)

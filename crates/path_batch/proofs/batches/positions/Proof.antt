@@ -9,22 +9,10 @@ use Rattle.path_batch.proofs.Answering.{positions-bad, positions-short,
 use Rattle.path_batch.proofs.batches.positions.Statement.{statement}
 use Rattle.path_batch.proofs.batches.positions.Tie as tie
 
-check-path-requires : tie.Need-check-path-requires
-check-path-requires c κs = search needs
-
-mul-count : tie.Need-mul-count
-mul-count c = search needs
-
 returns : tie.Need-returns
 returns c =
     let a = c .before .before .before .before .before .before .before .before .before .args in
     positions-short (a .kinds .now) (a .fields .now) (a .tables .now) (a .lengths .now) (a .progresses .now) (a .out .now) (sym (c .before .before .check-path .ensures) ∙ c .before .if1 .taken) (c .if2 .taken)
-
-fill-zeros-requires : tie.Need-fill-zeros-requires
-fill-zeros-requires c κs = search needs
-
-same-length : tie.Need-same-length
-same-length c = search needs
 
 returns-2 : tie.Need-returns-2
 returns-2 c =
@@ -39,9 +27,6 @@ fill-positions-requires c κs =
       room = c .before .before .if2 .left;
     }
 
-same-length-2 : tie.Need-same-length-2
-same-length-2 c = search needs
-
 returns-3 : tie.Need-returns-3
 returns-3 c =
     let a = c .before .before .before .before .before .before .before .before .before .before .before .before .before .before .args in
@@ -55,14 +40,5 @@ returns-4 c =
 pub positions-spec : {M : Type 1} → statement M
 positions-spec =
     tie.close
-    (tie.spec
-    check-path-requires
-    mul-count
-    returns
-    fill-zeros-requires
-    same-length
-    returns-2
-    fill-positions-requires
-    same-length-2
-    returns-3
-    returns-4)
+    (tie.spec (λ c κs. search needs) (λ c. search needs) returns (λ c κs. search needs) (λ c. search needs) returns-2
+    fill-positions-requires (λ c. search needs) returns-3 returns-4)

@@ -4,15 +4,6 @@ use Rattle.path_query.proofs.Seats.{seated-table, flown-is}
 use Rattle.path_query.proofs.inner.flown_within.Statement.{statement}
 use Rattle.path_query.proofs.inner.flown_within.Tie as tie
 
-segment-here-requires : tie.Need-segment-here-requires
-segment-here-requires c κs = search needs
-
-raw-within-requires : tie.Need-raw-within-requires
-raw-within-requires c κs = search needs
-
-sample-requires : tie.Need-sample-requires
-sample-requires c κs = search needs
-
 heading-requires : tie.Need-heading-requires
 heading-requires c κs =
     let start = c .before .before .before .before .before .before in
@@ -28,4 +19,4 @@ returns c =
 pub flown-within-spec : {M : Type 1} → statement M
 flown-within-spec =
     tie.close
-    (tie.spec segment-here-requires raw-within-requires sample-requires heading-requires returns)
+    (tie.spec (λ c κs. search needs) (λ c κs. search needs) (λ c κs. search needs) heading-requires returns)

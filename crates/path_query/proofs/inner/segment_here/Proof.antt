@@ -10,9 +10,6 @@ use Rattle.path_query.proofs.Seats.{cursor-numbers}
 use Rattle.path_query.proofs.inner.segment_here.Statement.{statement}
 use Rattle.path_query.proofs.inner.segment_here.Tie as tie
 
-shared-slice-read-segment-at : tie.Need-shared-slice-read-segment-at
-shared-slice-read-segment-at c = search needs
-
 segment-at-requires : tie.Need-segment-at-requires
 segment-at-requires c κs =
     let start = c .before .before .before .before in
@@ -29,4 +26,6 @@ returns c =
     c .segment-at .ensures ∙ ap (λ (n : ℕ). segmentOf (getD (start .args .kinds .now) (start .args .at .segment) 0) (drop n (start .args .fields .now))) (cursor-numbers _ _ (start .pre .standing .is))
 
 pub segment-here-spec : {M : Type 1} → statement M
-segment-here-spec = tie.close (tie.spec shared-slice-read-segment-at segment-at-requires returns)
+segment-here-spec =
+    tie.close
+    (tie.spec (λ c. search needs) segment-at-requires returns)

@@ -11,9 +11,6 @@ use Rattle.path_query.proofs.Answering.{flew-some, flew-none, flew-bad}
 use Rattle.path_query.proofs.queries.flight.Statement.{statement}
 use Rattle.path_query.proofs.queries.flight.Tie as tie
 
-check-path-requires : tie.Need-check-path-requires
-check-path-requires c κs = search needs
-
 returns : tie.Need-returns
 unfolding originF zeroF
 returns c = flew-none _ _ _ _ _ _ (sym (c .before .before .check-path .ensures) ∙ c .before .if1 .taken) (c .if2 .taken) refl
@@ -31,4 +28,6 @@ returns-3 : tie.Need-returns-3
 returns-3 c = flew-bad _ _ _ _ _ (sym (c .before .check-path .ensures) ∙ c .if1 .left)
 
 pub flight-spec : {M : Type 1} → statement M
-flight-spec = tie.close (tie.spec check-path-requires returns flown-requires returns-2 returns-3)
+flight-spec =
+    tie.close
+    (tie.spec (λ c κs. search needs) returns flown-requires returns-2 returns-3)

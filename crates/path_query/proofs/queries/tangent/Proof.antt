@@ -6,18 +6,6 @@ use Rattle.path_query.specs.Answered.{headedOf}
 use Rattle.path_query.proofs.queries.tangent.Statement.{statement}
 use Rattle.path_query.proofs.queries.tangent.Tie as tie
 
-flight-requires : tie.Need-flight-requires
-flight-requires c κs = search needs
-
-enum-known-flown : tie.Need-enum-known-flown
-enum-known-flown c = search needs
-
-tidied-requires : tie.Need-tidied-requires
-tidied-requires c κs = search needs
-
-enum-known-refusal : tie.Need-enum-known-refusal
-enum-known-refusal c = search needs
-
 returns : tie.Need-returns
 unfolding headedOf
 returns c = rw (sym (c .before .before .before .before .before .flight .ensures) ∙ c .before .before .before .flown .given .1) (ap Placed.At (c .tidied .ensures))
@@ -29,10 +17,4 @@ returns-2 c = rw (sym (c .before .before .before .flight .ensures) ∙ c .before
 pub tangent-spec : {M : Type 1} → statement M
 tangent-spec =
     tie.close
-    (tie.spec
-    flight-requires
-    enum-known-flown
-    tidied-requires
-    enum-known-refusal
-    returns
-    returns-2)
+    (tie.spec (λ c κs. search needs) (λ c. search needs) (λ c κs. search needs) (λ c. search needs) returns returns-2)

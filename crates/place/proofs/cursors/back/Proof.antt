@@ -16,26 +16,11 @@ abbrev μ-loop : tie.MeasureT-loop
 loop-holds : tie.Need-loop-holds Inv-loop μ-loop
 loop-holds c = (c .before .pre .earlier, c .before .pre .inside, walked-from (c .before .pre .is))
 
-sub-at : tie.Need-sub-at Inv-loop μ-loop
-sub-at c = search needs
-
-shared-slice-read-kind : tie.Need-shared-slice-read-kind Inv-loop μ-loop
-shared-slice-read-kind c = search needs
-
-width-requires : tie.Need-width-requires Inv-loop μ-loop
-width-requires c κs = search needs
-
 sub-numbers : tie.Need-sub-numbers Inv-loop μ-loop
 sub-numbers c = let l = c .before .before .before .loop in omega (arith, width-passed (l .inv .2) (omega arith) (l .inv .1) _ (c .width .ensures))
 
-table-numbers-requires : tie.Need-table-numbers-requires Inv-loop μ-loop
-table-numbers-requires c κs = search needs
-
 sub-tables : tie.Need-sub-tables Inv-loop μ-loop
 sub-tables c = let l = c .before .before .before .before .loop in omega (arith, table-passed (l .inv .2) (omega arith) (l .inv .1) _ (c .table-numbers .ensures))
-
-loop-less : tie.Need-loop-less Inv-loop μ-loop
-loop-less c = search needs
 
 loop-again : tie.Need-loop-again Inv-loop μ-loop
 loop-again c = let l = c .before .before .before .before .loop in (omega arith, omega arith, walked-back (l .inv .2) (omega arith) (l .inv .1) _ _ (c .before .width .ensures) (c .table-numbers .ensures))
@@ -46,16 +31,5 @@ returns c = walked-is _ (c .before .loop .inv .2) (omega arith)
 pub back-spec : {M : Type 1} → statement M
 back-spec =
     tie.close
-    (tie.spec
-    Inv-loop
-    μ-loop
-    loop-holds
-    sub-at
-    shared-slice-read-kind
-    width-requires
-    sub-numbers
-    table-numbers-requires
-    sub-tables
-    loop-less
-    loop-again
-    returns)
+    (tie.spec Inv-loop μ-loop loop-holds (λ c. search needs) (λ c. search needs) (λ c κs. search needs) sub-numbers
+    (λ c κs. search needs) sub-tables (λ c. search needs) loop-again returns)

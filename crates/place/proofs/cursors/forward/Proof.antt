@@ -15,26 +15,11 @@ abbrev μ-loop : tie.MeasureT-loop
 loop-holds : tie.Need-loop-holds Inv-loop μ-loop
 loop-holds c = (c .before .pre .later, walked-from (c .before .pre .is))
 
-shared-slice-read-kind : tie.Need-shared-slice-read-kind Inv-loop μ-loop
-shared-slice-read-kind c = search needs
-
-width-requires : tie.Need-width-requires Inv-loop μ-loop
-width-requires c κs = search needs
-
 add-numbers : tie.Need-add-numbers Inv-loop μ-loop
 add-numbers c = omega (arith, walked-numbers (c .before .before .before .loop .inv .1) (let h = c .before .before .before .before .before .pre in omega arith), width-at-most _ _ (c .width .ensures))
 
-table-numbers-requires : tie.Need-table-numbers-requires Inv-loop μ-loop
-table-numbers-requires c κs = search needs
-
 add-tables : tie.Need-add-tables Inv-loop μ-loop
 add-tables c = omega (arith, walked-tables (c .before .before .before .before .loop .inv .1) (let h = c .before .before .before .before .before .before .pre in omega arith), table-at-most _ _ (c .table-numbers .ensures))
-
-add-at : tie.Need-add-at Inv-loop μ-loop
-add-at c = search needs
-
-loop-less : tie.Need-loop-less Inv-loop μ-loop
-loop-less c = search needs
 
 loop-again : tie.Need-loop-again Inv-loop μ-loop
 loop-again c = (omega arith, walked-next _ _ (c .before .before .before .before .loop .inv .1) (omega (arith, c .before .before .before .before .before .before .pre .inside)) (c .before .width .ensures) (c .table-numbers .ensures))
@@ -45,16 +30,5 @@ returns c = walked-is _ (c .before .loop .inv .1) (omega arith)
 pub forward-spec : {M : Type 1} → statement M
 forward-spec =
     tie.close
-    (tie.spec
-    Inv-loop
-    μ-loop
-    loop-holds
-    shared-slice-read-kind
-    width-requires
-    add-numbers
-    table-numbers-requires
-    add-tables
-    add-at
-    loop-less
-    loop-again
-    returns)
+    (tie.spec Inv-loop μ-loop loop-holds (λ c. search needs) (λ c κs. search needs) add-numbers (λ c κs. search needs)
+    add-tables (λ c. search needs) (λ c. search needs) loop-again returns)

@@ -6,9 +6,6 @@ use Rattle.segment.proofs.Widths.{one-table, none-table}
 use Rattle.place.proofs.cursors.table_numbers.Statement.{statement}
 use Rattle.place.proofs.cursors.table_numbers.Tie as tie
 
-has-table-requires : tie.Need-has-table-requires
-has-table-requires c κs = search needs
-
 returns : tie.Need-returns
 returns c = omega (arith, one-table _ (sym (c .before .has-table .ensures) ∙ c .if1 .taken))
 
@@ -16,4 +13,6 @@ returns-2 : tie.Need-returns-2
 returns-2 c = omega (arith, none-table _ (sym (c .before .has-table .ensures) ∙ c .if1 .left))
 
 pub table-numbers-spec : {M : Type 1} → statement M
-table-numbers-spec = tie.close (tie.spec has-table-requires returns returns-2)
+table-numbers-spec =
+    tie.close
+    (tie.spec (λ c κs. search needs) returns returns-2)

@@ -13,12 +13,6 @@ use Rattle.place.proofs.inner.place.Tie as tie
 inside : (start : tie.Start) {spot : Spot} → spot ≡ spotOf (start .args .lengths .now) (start .args .progress .value) → spot .segment < length (start .args .kinds .now)
 inside start {spot} e = rw e (spot-among (start .pre) (start .args .progress .value))
 
-spot-requires : tie.Need-spot-requires
-spot-requires c κs = search needs
-
-first-cursor-requires : tie.Need-first-cursor-requires
-first-cursor-requires c κs = search needs
-
 forward-requires : tie.Need-forward-requires
 forward-requires c κs =
     let start = c .before .before .before .before .before .before in
@@ -37,4 +31,4 @@ returns c =
 pub place-spec : {M : Type 1} → statement M
 place-spec =
     tie.close
-    (tie.spec spot-requires first-cursor-requires forward-requires raw-within-requires returns)
+    (tie.spec (λ c κs. search needs) (λ c κs. search needs) forward-requires raw-within-requires returns)

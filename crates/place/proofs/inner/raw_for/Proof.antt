@@ -6,9 +6,6 @@ use Rattle.place.specs.Places.{rawFor}
 use Rattle.place.proofs.inner.raw_for.Statement.{statement}
 use Rattle.place.proofs.inner.raw_for.Tie as tie
 
-has-table-requires : tie.Need-has-table-requires
-has-table-requires c κs = search needs
-
 raw-in-requires : tie.Need-raw-in-requires
 raw-in-requires c κs = c .before .before .before .pre (subst T (sym (sym (c .before .has-table .ensures) ∙ c .if1 .taken)) tt)
 
@@ -16,13 +13,11 @@ returns : tie.Need-returns
 unfolding rawFor
 returns c = rw (sym (c .before .before .has-table .ensures) ∙ c .before .if1 .taken) (c .raw-in .ensures)
 
-straight-requires : tie.Need-straight-requires
-straight-requires c κs = search needs
-
 returns-2 : tie.Need-returns-2
 unfolding rawFor
 returns-2 c = rw (sym (c .before .before .has-table .ensures) ∙ c .before .if1 .left) (c .straight .ensures)
 
 pub raw-for-spec : {M : Type 1} → statement M
 raw-for-spec =
-    tie.close (tie.spec has-table-requires raw-in-requires returns straight-requires returns-2)
+    tie.close
+    (tie.spec (λ c κs. search needs) raw-in-requires returns (λ c κs. search needs) returns-2)

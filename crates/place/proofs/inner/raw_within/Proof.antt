@@ -8,9 +8,6 @@ use Rattle.place.proofs.Standing.{cursor-tables}
 use Rattle.place.proofs.inner.raw_within.Statement.{statement}
 use Rattle.place.proofs.inner.raw_within.Tie as tie
 
-shared-slice-read-raw-for : tie.Need-shared-slice-read-raw-for
-shared-slice-read-raw-for c = search needs
-
 raw-for-requires : tie.Need-raw-for-requires
 raw-for-requires c κs = let start = c .before .before .before in λ has. subst (TableThere (start .args .tables .now)) (sym (cursor-tables _ _ (start .pre .is))) (start .pre .tabled has)
 
@@ -19,4 +16,6 @@ unfolding rawWithin
 returns c = let start = c .before .before .before .before in let a = start .args in c .raw-for .ensures ∙ ap (λ (place : ℕ). rawFor (getD (a .kinds .now) (a .at .segment) 0) (a .tables .now) place (a .along .value)) (cursor-tables _ _ (start .pre .is))
 
 pub raw-within-spec : {M : Type 1} → statement M
-raw-within-spec = tie.close (tie.spec shared-slice-read-raw-for raw-for-requires returns)
+raw-within-spec =
+    tie.close
+    (tie.spec (λ c. search needs) raw-for-requires returns)
