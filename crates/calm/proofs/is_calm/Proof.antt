@@ -4,15 +4,11 @@ use Rattle.calm.specs.Calm.{isCalm}
 use Rattle.calm.proofs.is_calm.Statement.{statement}
 use Rattle.calm.proofs.is_calm.Tie as tie
 
-is-near-requires : tie.Need-is-near-requires
-is-near-requires c κs = search needs
-
-is-near-requires-2 : tie.Need-is-near-requires-2
-is-near-requires-2 c κs = search needs
-
 returns : tie.Need-returns
 unfolding isCalm
 returns c = rw (c .before .is-near .ensures, c .is-near2 .ensures)
 
 pub is-calm-spec : {M : Type 1} → statement M
-is-calm-spec = tie.close (tie.spec is-near-requires is-near-requires-2 returns)
+is-calm-spec =
+    tie.close
+    (tie.spec (λ c κs. search needs) (λ c κs. search needs) returns)

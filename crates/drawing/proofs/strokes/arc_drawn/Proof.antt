@@ -5,21 +5,9 @@ use Rattle.drawing.specs.Drawing.{arcOf}
 use Rattle.drawing.proofs.strokes.arc_drawn.Statement.{statement}
 use Rattle.drawing.proofs.strokes.arc_drawn.Tie as tie
 
-is-fallback-requires : tie.Need-is-fallback-requires
-is-fallback-requires c κs = search needs
-
-fallback-shape-requires : tie.Need-fallback-shape-requires
-fallback-shape-requires c κs = search needs
-
 returns : tie.Need-returns
 unfolding arcOf
 returns c = rw (sym (c .before .before .is-fallback .ensures) ∙ c .before .if1 .taken, c .fallback-shape .ensures)
-
-rotation-in-range-requires : tie.Need-rotation-in-range-requires
-rotation-in-range-requires c κs = search needs
-
-from-ends-requires : tie.Need-from-ends-requires
-from-ends-requires c κs = search needs
 
 returns-2 : tie.Need-returns-2
 unfolding arcOf
@@ -32,11 +20,5 @@ returns-3 c = rw (sym (c .before .before .before .is-fallback .ensures) ∙ c .b
 pub arc-drawn-spec : {M : Type 1} → statement M
 arc-drawn-spec =
     tie.close
-    (tie.spec
-    is-fallback-requires
-    fallback-shape-requires
-    returns
-    rotation-in-range-requires
-    from-ends-requires
-    returns-2
-    returns-3)
+    (tie.spec (λ c κs. search needs) (λ c κs. search needs) returns (λ c κs. search needs) (λ c κs. search needs)
+    returns-2 returns-3)

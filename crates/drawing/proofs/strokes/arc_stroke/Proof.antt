@@ -4,9 +4,6 @@ use Rattle.drawing.specs.Drawing.{arcStrokeOf}
 use Rattle.drawing.proofs.strokes.arc_stroke.Statement.{statement}
 use Rattle.drawing.proofs.strokes.arc_stroke.Tie as tie
 
-arc-drawn-requires : tie.Need-arc-drawn-requires
-arc-drawn-requires c κs = search needs
-
 returns : tie.Need-returns
 unfolding arcStrokeOf
 returns c = rw (c .before .if1 .taken, c .arc-drawn .ensures)
@@ -16,4 +13,6 @@ unfolding arcStrokeOf
 returns-2 c = rw (c .if1 .left)
 
 pub arc-stroke-spec : {M : Type 1} → statement M
-arc-stroke-spec = tie.close (tie.spec arc-drawn-requires returns returns-2)
+arc-stroke-spec =
+    tie.close
+    (tie.spec (λ c κs. search needs) returns returns-2)

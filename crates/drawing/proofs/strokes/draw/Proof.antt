@@ -4,54 +4,6 @@ use Rattle.drawing.specs.Drawing.{drawOf}
 use Rattle.drawing.proofs.strokes.draw.Statement.{statement}
 use Rattle.drawing.proofs.strokes.draw.Tie as tie
 
-enum-known-command : tie.Need-enum-known-command
-enum-known-command c = search needs
-
-moved-requires : tie.Need-moved-requires
-moved-requires c κs = search needs
-
-enum-known-command-2 : tie.Need-enum-known-command-2
-enum-known-command-2 c = search needs
-
-drawn-requires : tie.Need-drawn-requires
-drawn-requires c κs = search needs
-
-stroke-requires : tie.Need-stroke-requires
-stroke-requires c κs = search needs
-
-enum-known-command-3 : tie.Need-enum-known-command-3
-enum-known-command-3 c = search needs
-
-drawn-requires-2 : tie.Need-drawn-requires-2
-drawn-requires-2 c κs = search needs
-
-stroke-requires-2 : tie.Need-stroke-requires-2
-stroke-requires-2 c κs = search needs
-
-enum-known-command-4 : tie.Need-enum-known-command-4
-enum-known-command-4 c = search needs
-
-drawn-requires-3 : tie.Need-drawn-requires-3
-drawn-requires-3 c κs = search needs
-
-stroke-requires-3 : tie.Need-stroke-requires-3
-stroke-requires-3 c κs = search needs
-
-enum-known-command-5 : tie.Need-enum-known-command-5
-enum-known-command-5 c = search needs
-
-drawn-requires-4 : tie.Need-drawn-requires-4
-drawn-requires-4 c κs = search needs
-
-arc-stroke-requires : tie.Need-arc-stroke-requires
-arc-stroke-requires c κs = search needs
-
-enum-told : tie.Need-enum-told
-enum-told c = search needs
-
-drawn-requires-5 : tie.Need-drawn-requires-5
-drawn-requires-5 c κs = search needs
-
 returns : tie.Need-returns
 unfolding drawOf
 returns c = rw (c .before .before .enum-told .given .1, c .before .if1 .taken, c .drawn5 .ensures)
@@ -83,27 +35,7 @@ returns-7 c = rw (c .before .enum-told .given .1, c .if1 .left)
 pub draw-spec : {M : Type 1} → statement M
 draw-spec =
     tie.close
-    (tie.spec
-    enum-known-command
-    moved-requires
-    enum-known-command-2
-    drawn-requires
-    stroke-requires
-    enum-known-command-3
-    drawn-requires-2
-    stroke-requires-2
-    enum-known-command-4
-    drawn-requires-3
-    stroke-requires-3
-    enum-known-command-5
-    drawn-requires-4
-    arc-stroke-requires
-    enum-told
-    drawn-requires-5
-    returns
-    returns-2
-    returns-3
-    returns-4
-    returns-5
-    returns-6
-    returns-7)
+    (tie.spec (λ c. search needs) (λ c κs. search needs) (λ c. search needs) (λ c κs. search needs)
+    (λ c κs. search needs) (λ c. search needs) (λ c κs. search needs) (λ c κs. search needs) (λ c. search needs)
+    (λ c κs. search needs) (λ c κs. search needs) (λ c. search needs) (λ c κs. search needs) (λ c κs. search needs)
+    (λ c. search needs) (λ c κs. search needs) returns returns-2 returns-3 returns-4 returns-5 returns-6 returns-7)

@@ -9,15 +9,6 @@ use Rattle.laying.specs.Sites.{afterOf}
 use Rattle.laying.proofs.inner.after.Statement.{statement}
 use Rattle.laying.proofs.inner.after.Tie as tie
 
-kind-requires : tie.Need-kind-requires
-kind-requires c κs = search needs
-
-width-requires : tie.Need-width-requires
-width-requires c κs = search needs
-
-table-width-requires : tie.Need-table-width-requires
-table-width-requires c κs = search needs
-
 add-t8 : tie.Need-add-t8
 add-t8 c = omega (arith, c .before .before .before .before .pre .0 .segments)
 
@@ -34,4 +25,4 @@ returns c = rw (c .before .before .before .table-width .ensures, c .before .befo
 pub after-spec : {M : Type 1} → statement M
 after-spec =
     tie.close
-    (tie.spec kind-requires width-requires table-width-requires add-t8 add-t9 add-t10 returns)
+    (tie.spec (λ c κs. search needs) (λ c κs. search needs) (λ c κs. search needs) add-t8 add-t9 add-t10 returns)

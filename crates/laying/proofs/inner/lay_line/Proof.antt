@@ -14,41 +14,11 @@ slice-write-kinds c = kind-fits _ _ _ _ _ _ _ (c .before .before .before .before
 put-two-requires : tie.Need-put-two-requires
 put-two-requires c κs = omega (arith, line-fits _ _ _ _ _ _ _ (c .before .before .before .before .before .before .before .pre .1))
 
-add-put-two : tie.Need-add-put-two
-add-put-two c = search needs
-
 put-two-requires-2 : tie.Need-put-two-requires-2
 put-two-requires-2 c κs = omega (arith, line-fits _ _ _ _ _ _ _ (c .before .before .before .before .before .before .before .before .before .before .before .pre .1))
 
-line-length-requires : tie.Need-line-length-requires
-line-length-requires c κs = search needs
-
-tidy-requires : tie.Need-tidy-requires
-tidy-requires c κs = search needs
-
-mul-lengths : tie.Need-mul-lengths
-mul-lengths c = search needs
-
 slice-write-lengths : tie.Need-slice-write-lengths
 slice-write-lengths c = length-fits _ _ _ _ _ _ _ (c .before .before .before .before .before .before .before .before .before .before .before .before .before .before .before .before .before .pre .1)
-
-drawn-requires : tie.Need-drawn-requires
-drawn-requires c κs = search needs
-
-add-t18 : tie.Need-add-t18
-add-t18 c = search needs
-
-add-t24 : tie.Need-add-t24
-add-t24 c = search needs
-
-same-length : tie.Need-same-length
-same-length c = search needs
-
-same-length-2 : tie.Need-same-length-2
-same-length-2 c = search needs
-
-same-length-3 : tie.Need-same-length-3
-same-length-3 c = search needs
 
 returns : tie.Need-returns
 returns c = let a = c .before .before .before .before .before .before .before .before .before .before .before .before .before .before .before .before .before .before .args in line-laid _ _ _ _ _ _ _ _ _ _ (four-put (a .fields .now) (a .site .fields) (a .site .pen .current .x) (a .site .pen .current .y) (a .end .x) (a .end .y) (c .before .before .before .before .before .before .before .before .before .before .put-two .last .0) _ (c .before .before .before .before .before .before .before .before .before .before .put-two .ensures) (c .before .before .before .before .before .before .put-two2 .ensures)) (c .before .tidy .ensures ∙ ap (add binary32 _) (c .before .before .before .line-length .ensures)) (c .drawn .ensures)
@@ -56,19 +26,6 @@ returns c = let a = c .before .before .before .before .before .before .before .b
 pub lay-line-spec : {M : Type 1} → statement M
 lay-line-spec =
     tie.close
-    (tie.spec
-    slice-write-kinds
-    put-two-requires
-    add-put-two
-    put-two-requires-2
-    line-length-requires
-    tidy-requires
-    mul-lengths
-    slice-write-lengths
-    drawn-requires
-    add-t18
-    add-t24
-    same-length
-    same-length-2
-    same-length-3
-    returns)
+    (tie.spec slice-write-kinds put-two-requires (λ c. search needs) put-two-requires-2 (λ c κs. search needs)
+    (λ c κs. search needs) (λ c. search needs) slice-write-lengths (λ c κs. search needs) (λ c. search needs)
+    (λ c. search needs) (λ c. search needs) (λ c. search needs) (λ c. search needs) returns)

@@ -6,9 +6,6 @@ use Rattle.laying.proofs.Judged.{kind-fits, fields-fit, table-fits, len
 use Rattle.laying.proofs.inner.lay_segment.Statement.{statement}
 use Rattle.laying.proofs.inner.lay_segment.Tie as tie
 
-kind-requires : tie.Need-kind-requires
-kind-requires c κs = search needs
-
 slice-write-kinds : tie.Need-slice-write-kinds
 slice-write-kinds c = kind-fits _ _ _ _ _ _ _ (c .before .before .before .before .before .pre .1)
 
@@ -18,29 +15,11 @@ put-segment-requires c κs = fields-fit _ _ _ _ _ _ _ (c .before .before .before
 lay-table-requires : tie.Need-lay-table-requires
 lay-table-requires c κs = table-fits _ _ _ _ _ _ _ (c .before .before .before .before .before .before .before .before .before .before .pre .1)
 
-tidy-requires : tie.Need-tidy-requires
-tidy-requires c κs = search needs
-
-mul-lengths : tie.Need-mul-lengths
-mul-lengths c = search needs
-
 slice-write-lengths : tie.Need-slice-write-lengths
 slice-write-lengths c = length-fits _ _ _ _ _ _ _ (c .before .before .before .before .before .before .before .before .before .before .before .before .before .before .before .pre .1)
 
 after-requires : tie.Need-after-requires
 after-requires c κs = (c .before .before .before .before .before .before .before .before .before .before .before .before .before .before .before .pre .0, c .tidy .ensures ∙ ap (add binary32 _) (c .before .before .before .before .lay-table .ensures .lengthTold))
-
-same-length : tie.Need-same-length
-same-length c = search needs
-
-same-length-2 : tie.Need-same-length-2
-same-length-2 c = search needs
-
-same-length-3 : tie.Need-same-length-3
-same-length-3 c = search needs
-
-same-length-4 : tie.Need-same-length-4
-same-length-4 c = search needs
 
 returns : tie.Need-returns
 returns c = segment-laid _ _ _ _ _ _ _ _ _ _ _ _ (c .before .before .before .before .before .before .before .before .before .before .before .kind .ensures) (c .before .before .before .before .before .before .before .before .before .put-segment .ensures) (c .before .before .before .before .before .lay-table .ensures .tablesAfter) (c .before .tidy .ensures ∙ ap (add binary32 _) (c .before .before .before .before .before .lay-table .ensures .lengthTold)) (c .after .ensures)
@@ -48,17 +27,6 @@ returns c = segment-laid _ _ _ _ _ _ _ _ _ _ _ _ (c .before .before .before .bef
 pub lay-segment-spec : {M : Type 1} → statement M
 lay-segment-spec =
     tie.close
-    (tie.spec
-    kind-requires
-    slice-write-kinds
-    put-segment-requires
-    lay-table-requires
-    tidy-requires
-    mul-lengths
-    slice-write-lengths
-    after-requires
-    same-length
-    same-length-2
-    same-length-3
-    same-length-4
-    returns)
+    (tie.spec (λ c κs. search needs) slice-write-kinds put-segment-requires lay-table-requires (λ c κs. search needs)
+    (λ c. search needs) slice-write-lengths after-requires (λ c. search needs) (λ c. search needs) (λ c. search needs)
+    (λ c. search needs) returns)

@@ -7,12 +7,6 @@ use Rattle.laying.proofs.Counts.{table-some, table-none}
 use Rattle.laying.proofs.inner.table_width.Statement.{statement}
 use Rattle.laying.proofs.inner.table_width.Tie as tie
 
-kind-requires : tie.Need-kind-requires
-kind-requires c κs = search needs
-
-has-table-requires : tie.Need-has-table-requires
-has-table-requires c κs = search needs
-
 returns : tie.Need-returns
 returns c = sym (table-some _ (sym (ap hasTable (c .before .before .kind .ensures)) ∙ sym (c .before .has-table .ensures) ∙ c .if1 .taken))
 
@@ -20,4 +14,6 @@ returns-2 : tie.Need-returns-2
 returns-2 c = sym (ap length (table-none _ (sym (ap hasTable (c .before .before .kind .ensures)) ∙ sym (c .before .has-table .ensures) ∙ c .if1 .left)))
 
 pub table-width-spec : {M : Type 1} → statement M
-table-width-spec = tie.close (tie.spec kind-requires has-table-requires returns returns-2)
+table-width-spec =
+    tie.close
+    (tie.spec (λ c κs. search needs) (λ c κs. search needs) returns returns-2)

@@ -5,12 +5,11 @@ use Rattle.laying.specs.Sites.{startOf}
 use Rattle.laying.proofs.sites.start.Statement.{statement}
 use Rattle.laying.proofs.sites.start.Tie as tie
 
-fresh-requires : tie.Need-fresh-requires
-fresh-requires c κs = search needs
-
 returns : tie.Need-returns
 unfolding startOf zeroF
 returns c = rw (c .fresh .ensures)
 
 pub start-spec : {M : Type 1} → statement M
-start-spec = tie.close (tie.spec fresh-requires returns)
+start-spec =
+    tie.close
+    (tie.spec (λ c κs. search needs) returns)

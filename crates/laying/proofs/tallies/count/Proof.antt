@@ -7,76 +7,13 @@ use borrow.Author.Needs.{needs}
 use Rattle.laying.proofs.tallies.count.Statement.{statement}
 use Rattle.laying.proofs.tallies.count.Tie as tie
 
-enum-known-command : tie.Need-enum-known-command
-enum-known-command c = search needs
-
-is-calm-requires : tie.Need-is-calm-requires
-is-calm-requires c κs = search needs
-
-moved-requires : tie.Need-moved-requires
-moved-requires c κs = search needs
-
-stayed-requires : tie.Need-stayed-requires
-stayed-requires c κs = search needs
-
 returns : tie.Need-returns
 unfolding talliedOf countedOf drawOf
 returns c = rw (c .before .before .before .before .before .command .given .1, sym (c .before .before .before .is-calm .ensures) ∙ c .before .before .if1 .taken, c .stayed .ensures, c .before .moved .ensures)
 
-enum-known-command-2 : tie.Need-enum-known-command-2
-enum-known-command-2 c = search needs
-
-is-calm-requires-2 : tie.Need-is-calm-requires-2
-is-calm-requires-2 c κs = search needs
-
-stroked-requires : tie.Need-stroked-requires
-stroked-requires c κs = search needs
-
-enum-known-command-3 : tie.Need-enum-known-command-3
-enum-known-command-3 c = search needs
-
-is-calm-requires-3 : tie.Need-is-calm-requires-3
-is-calm-requires-3 c κs = search needs
-
-is-calm-requires-4 : tie.Need-is-calm-requires-4
-is-calm-requires-4 c κs = search needs
-
-stroked-requires-2 : tie.Need-stroked-requires-2
-stroked-requires-2 c κs = search needs
-
-enum-known-command-4 : tie.Need-enum-known-command-4
-enum-known-command-4 c = search needs
-
-is-calm-requires-5 : tie.Need-is-calm-requires-5
-is-calm-requires-5 c κs = search needs
-
-is-calm-requires-6 : tie.Need-is-calm-requires-6
-is-calm-requires-6 c κs = search needs
-
-is-calm-requires-7 : tie.Need-is-calm-requires-7
-is-calm-requires-7 c κs = search needs
-
-stroked-requires-3 : tie.Need-stroked-requires-3
-stroked-requires-3 c κs = search needs
-
-enum-known-command-5 : tie.Need-enum-known-command-5
-enum-known-command-5 c = search needs
-
-is-calm-requires-8 : tie.Need-is-calm-requires-8
-is-calm-requires-8 c κs = search needs
-
-count-any-requires : tie.Need-count-any-requires
-count-any-requires c κs = search needs
-
 returns-2 : tie.Need-returns-2
 unfolding talliedOf
 returns-2 c = rw (c .count-any .ensures, c .before .before .before .before .command5 .given .1, sym (c .before .before .is-calm8 .ensures) ∙ c .before .if2 .taken)
-
-enum-told : tie.Need-enum-told
-enum-told c = search needs
-
-count-any-requires-2 : tie.Need-count-any-requires-2
-count-any-requires-2 c κs = search needs
 
 returns-3 : tie.Need-returns-3
 unfolding talliedOf
@@ -102,33 +39,8 @@ returns-8 c = rw (c .count-any2 .ensures, c .before .enum-told .given .1)
 pub count-spec : {M : Type 1} → statement M
 count-spec =
     tie.close
-    (tie.spec
-    enum-known-command
-    is-calm-requires
-    moved-requires
-    stayed-requires
-    returns
-    enum-known-command-2
-    is-calm-requires-2
-    stroked-requires
-    enum-known-command-3
-    is-calm-requires-3
-    is-calm-requires-4
-    stroked-requires-2
-    enum-known-command-4
-    is-calm-requires-5
-    is-calm-requires-6
-    is-calm-requires-7
-    stroked-requires-3
-    enum-known-command-5
-    is-calm-requires-8
-    count-any-requires
-    returns-2
-    enum-told
-    count-any-requires-2
-    returns-3
-    returns-4
-    returns-5
-    returns-6
-    returns-7
-    returns-8)
+    (tie.spec (λ c. search needs) (λ c κs. search needs) (λ c κs. search needs) (λ c κs. search needs) returns
+    (λ c. search needs) (λ c κs. search needs) (λ c κs. search needs) (λ c. search needs) (λ c κs. search needs)
+    (λ c κs. search needs) (λ c κs. search needs) (λ c. search needs) (λ c κs. search needs) (λ c κs. search needs)
+    (λ c κs. search needs) (λ c κs. search needs) (λ c. search needs) (λ c κs. search needs) (λ c κs. search needs)
+    returns-2 (λ c. search needs) (λ c κs. search needs) returns-3 returns-4 returns-5 returns-6 returns-7 returns-8)

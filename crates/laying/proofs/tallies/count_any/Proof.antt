@@ -9,39 +9,12 @@ use borrow.Author.Needs.{needs}
 use Rattle.laying.proofs.tallies.count_any.Statement.{statement}
 use Rattle.laying.proofs.tallies.count_any.Tie as tie
 
-draw-requires : tie.Need-draw-requires
-draw-requires c κs = search needs
-
-enum-known-next : tie.Need-enum-known-next
-enum-known-next c = search needs
-
-stayed-requires : tie.Need-stayed-requires
-stayed-requires c κs = search needs
-
-enum-known-segment : tie.Need-enum-known-segment
-enum-known-segment c = search needs
-
-is-bounded-requires : tie.Need-is-bounded-requires
-is-bounded-requires c κs = search needs
-
-kind-requires : tie.Need-kind-requires
-kind-requires c κs = search needs
-
-width-requires : tie.Need-width-requires
-width-requires c κs = search needs
-
-table-width-requires : tie.Need-table-width-requires
-table-width-requires c κs = search needs
-
 grown-requires : tie.Need-grown-requires
 grown-requires c κs = (c .before .before .before .before .before .before .before .before .before .before .pre, omega (arith, c .before .width .ensures ∙ ap widthOf (c .before .before .kind .ensures) ∙ sym (fields-width (c .before .before .before .before .before .before .segment .given .0 .0)), fields-most (c .before .before .before .before .before .before .segment .given .0 .0)), omega (arith, c .table-width .ensures, table-most (c .before .before .before .before .before .before .segment .given .0 .0)))
 
 returns : tie.Need-returns
 unfolding countedOf
 returns c = rw (sym (c .before .before .before .before .before .before .before .before .before .draw .ensures) ∙ c .before .before .before .before .before .before .before .segment .given .1, sym (c .before .before .before .before .before .is-bounded .ensures) ∙ c .before .before .before .before .if1 .taken, c .grown .ensures, c .before .table-width .ensures, c .before .before .width .ensures ∙ ap widthOf (c .before .before .before .kind .ensures) ∙ sym (fields-width (c .before .before .before .before .before .before .before .segment .given .0 .0)))
-
-enum-told : tie.Need-enum-told
-enum-told c = search needs
 
 returns-2 : tie.Need-returns-2
 unfolding countedOf
@@ -58,18 +31,6 @@ returns-4 c = rw (sym (c .before .before .draw .ensures) ∙ c .enum-told .given
 pub count-any-spec : {M : Type 1} → statement M
 count-any-spec =
     tie.close
-    (tie.spec
-    draw-requires
-    enum-known-next
-    stayed-requires
-    enum-known-segment
-    is-bounded-requires
-    kind-requires
-    width-requires
-    table-width-requires
-    grown-requires
-    returns
-    enum-told
-    returns-2
-    returns-3
-    returns-4)
+    (tie.spec (λ c κs. search needs) (λ c. search needs) (λ c κs. search needs) (λ c. search needs)
+    (λ c κs. search needs) (λ c κs. search needs) (λ c κs. search needs) (λ c κs. search needs) grown-requires returns
+    (λ c. search needs) returns-2 returns-3 returns-4)

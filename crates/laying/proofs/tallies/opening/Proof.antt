@@ -5,12 +5,11 @@ use borrow.Author.Needs.{needs}
 use Rattle.laying.proofs.tallies.opening.Statement.{statement}
 use Rattle.laying.proofs.tallies.opening.Tie as tie
 
-fresh-requires : tie.Need-fresh-requires
-fresh-requires c κs = search needs
-
 returns : tie.Need-returns
 unfolding tallyOf startOf
 returns c = rw (c .fresh .ensures)
 
 pub opening-spec : {M : Type 1} → statement M
-opening-spec = tie.close (tie.spec fresh-requires returns)
+opening-spec =
+    tie.close
+    (tie.spec (λ c κs. search needs) returns)

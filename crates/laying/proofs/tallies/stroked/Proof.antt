@@ -4,18 +4,9 @@ use borrow.Author.Needs.{needs}
 use Rattle.laying.proofs.tallies.stroked.Statement.{statement}
 use Rattle.laying.proofs.tallies.stroked.Tie as tie
 
-drawn-requires : tie.Need-drawn-requires
-drawn-requires c κs = search needs
-
-grown-requires : tie.Need-grown-requires
-grown-requires c κs = search needs
-
 returns : tie.Need-returns
 unfolding strokedOf
 returns c = rw (c .before .before .before .before .if1 .taken, c .before .if2 .taken, c .grown .ensures, c .before .before .drawn .ensures)
-
-stayed-requires : tie.Need-stayed-requires
-stayed-requires c κs = search needs
 
 returns-2 : tie.Need-returns-2
 unfolding strokedOf
@@ -27,4 +18,5 @@ returns-3 c = rw (c .if1 .left)
 
 pub stroked-spec : {M : Type 1} → statement M
 stroked-spec =
-    tie.close (tie.spec drawn-requires grown-requires returns stayed-requires returns-2 returns-3)
+    tie.close
+    (tie.spec (λ c κs. search needs) (λ c κs. search needs) returns (λ c κs. search needs) returns-2 returns-3)

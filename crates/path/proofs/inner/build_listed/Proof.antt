@@ -6,20 +6,8 @@ use Rattle.path.proofs.Entering.{entered}
 use Rattle.path.proofs.inner.build_listed.Statement.{statement}
 use Rattle.path.proofs.inner.build_listed.Tie as tie
 
-measure-requires : tie.Need-measure-requires
-measure-requires c κs = search needs
-
-enum-known-refusal : tie.Need-enum-known-refusal
-enum-known-refusal c = search needs
-
 returns : tie.Need-returns
 returns c = answers-at _ _ _ _ _ _ _ _ _ _ _ (entered _ _ _ (c .before .before .before .before .before .before .before .before .before .before .pre)) (unbuilt _ _ _ _ _ _ (sym (c .before .refusal .given .1) ∙ c .before .before .before .measure .ensures))
-
-enum-known-segments : tie.Need-enum-known-segments
-enum-known-segments c = search needs
-
-is-short-requires : tie.Need-is-short-requires
-is-short-requires c κs = search needs
 
 returns-2 : tie.Need-returns-2
 returns-2 c = answers-at _ _ _ _ _ _ _ _ _ _ _ (entered _ _ _ (c .before .before .before .before .before .before .before .before .before .before .before .before .pre)) (too-short _ _ _ _ _ _ _ _ (sym (c .before .before .before .segments .given .1) ∙ c .before .before .before .before .before .measure .ensures) (sym (c .before .is-short .ensures) ∙ c .if1 .taken))
@@ -27,34 +15,11 @@ returns-2 c = answers-at _ _ _ _ _ _ _ _ _ _ _ (entered _ _ _ (c .before .before
 fill-requires : tie.Need-fill-requires
 fill-requires c κs = let a = c .before .before .before .before .before .before .before .before .before .before .before .before .before .before .before .before .args in (c .before .before .before .before .before .before .before .before .before .before .before .before .before .before .before .before .pre, has-room (a .kinds .now) (a .fields .now) (a .tables .now) (a .lengths .now) _ _ _ _ (sym (c .before .before .before .before .before .before .before .segments .given .1) ∙ c .before .before .before .before .before .before .before .before .before .measure .ensures) (sym (c .before .before .before .before .before .is-short .ensures) ∙ c .before .before .before .before .if1 .left))
 
-same-length : tie.Need-same-length
-same-length c = search needs
-
-same-length-2 : tie.Need-same-length-2
-same-length-2 c = search needs
-
-same-length-3 : tie.Need-same-length-3
-same-length-3 c = search needs
-
-same-length-4 : tie.Need-same-length-4
-same-length-4 c = search needs
-
 returns-3 : tie.Need-returns-3
 returns-3 c = answers-at _ _ _ _ _ _ _ _ _ _ _ (entered _ _ _ (c .before .before .before .before .before .before .before .before .before .before .before .before .before .before .before .before .before .before .before .before .before .before .before .before .before .pre)) (built-whole _ _ _ _ _ _ _ _ (sym (c .before .before .before .before .before .before .before .before .before .before .before .before .before .before .before .before .segments .given .1) ∙ c .before .before .before .before .before .before .before .before .before .before .before .before .before .before .before .before .before .before .measure .ensures) _ _ _ _ (sym (c .before .before .before .before .before .before .before .before .before .before .before .before .before .before .is-short .ensures) ∙ c .before .before .before .before .before .before .before .before .before .before .before .before .before .if1 .left) (c .before .before .before .before .before .before .before .before .fill .ensures))
 
 pub build-listed-spec : {M : Type 1} → statement M
 build-listed-spec =
     tie.close
-    (tie.spec
-    measure-requires
-    enum-known-refusal
-    returns
-    enum-known-segments
-    is-short-requires
-    returns-2
-    fill-requires
-    same-length
-    same-length-2
-    same-length-3
-    same-length-4
-    returns-3)
+    (tie.spec (λ c κs. search needs) (λ c. search needs) returns (λ c. search needs) (λ c κs. search needs) returns-2
+    fill-requires (λ c. search needs) (λ c. search needs) (λ c. search needs) (λ c. search needs) returns-3)

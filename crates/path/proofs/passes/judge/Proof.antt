@@ -15,47 +15,23 @@ Inv-loop letters numbers count site₀ place₀ at₀ site place at = Measuring 
 abbrev μ-loop : tie.MeasureT-loop
 μ-loop letters numbers count site₀ place₀ at₀ site place at = length letters - place
 
-start-requires : tie.Need-start-requires Inv-loop μ-loop
-start-requires c κs = search needs
-
 loop-holds : tie.Need-loop-holds Inv-loop μ-loop
 loop-holds c = rw (c .start .ensures) (measuring-none _ _ (c .before .before .before .pre))
-
-shared-slice-read-decode : tie.Need-shared-slice-read-decode Inv-loop μ-loop
-shared-slice-read-decode c = search needs
 
 decode-requires : tie.Need-decode-requires Inv-loop μ-loop
 decode-requires c κs = measuring-inside _ _ (c .before .before .loop .site) (c .before .before .loop .place) (c .before .before .loop .at) (c .before .before .loop .inv)
 
-enum-told : tie.Need-enum-told Inv-loop μ-loop
-enum-told c = search needs
-
 returns : tie.Need-returns Inv-loop μ-loop
 returns c = absurd (measuring-bad _ _ (c .before .before .before .before .before .loop .site) (c .before .before .before .before .before .loop .place) (c .before .before .before .before .before .loop .at) (c .before .before .before .before .before .loop .inv) (c .before .before .before .before .loop-test .taken) (sym (c .before .before .decode .ensures) ∙ c .enum-told .given .1))
-
-enum-known-command : tie.Need-enum-known-command Inv-loop μ-loop
-enum-known-command c = search needs
 
 advance-requires : tie.Need-advance-requires Inv-loop μ-loop
 advance-requires c κs = measuring-few _ _ (c .before .before .before .before .before .before .loop .site) (c .before .before .before .before .before .before .loop .place) (c .before .before .before .before .before .before .loop .at) (c .before .before .before .before .before .before .loop .inv) (c .before .before .before .before .before .loop-test .taken) (c .before .before .before .before .before .before .before .before .before .before .pre)
 
-enum-known-refusal : tie.Need-enum-known-refusal Inv-loop μ-loop
-enum-known-refusal c = search needs
-
 returns-2 : tie.Need-returns-2 Inv-loop μ-loop
 returns-2 c = measured-refused _ _ (c .before .before .before .before .before .before .before .before .before .before .loop .site) (c .before .before .before .before .before .before .before .before .before .before .loop .place) (c .before .before .before .before .before .before .before .before .before .before .loop .at) (c .before .before .before .before .before .before .before .before .before .before .loop .inv) (c .before .before .before .before .before .before .before .before .before .loop-test .taken) _ (sym (c .before .before .before .before .before .before .before .decode .ensures) ∙ c .before .before .before .before .before .command .given .1) _ (sym (c .before .before .before .advance .ensures) ∙ c .before .refusal .given .1)
 
-enum-known-next : tie.Need-enum-known-next Inv-loop μ-loop
-enum-known-next c = search needs
-
-width-requires : tie.Need-width-requires Inv-loop μ-loop
-width-requires c κs = search needs
-
 add-at : tie.Need-add-at Inv-loop μ-loop
 add-at c = let a = c .before .before .before .before .before .before .before .before .before .before .before .before .before .before .before .args in omega (arith, measuring-fits (a .letters .now) (a .numbers .now) (c .before .before .before .before .before .before .before .before .before .before .before .loop .site) (c .before .before .before .before .before .before .before .before .before .before .before .loop .place) (c .before .before .before .before .before .before .before .before .before .before .before .loop .at) (c .before .before .before .before .before .before .before .before .before .before .before .loop .inv) (c .before .before .before .before .before .before .before .before .before .before .loop-test .taken) (c .before .before .before .before .before .before .command .given .0 .0) (sym (c .before .before .before .before .before .before .before .before .decode .ensures) ∙ c .before .before .before .before .before .before .command .given .1), c .width .ensures, c .before .before .before .before .before .before .before .before .before .before .before .before .before .before .before)
-
-add-place : tie.Need-add-place Inv-loop μ-loop
-add-place c = search needs
 
 loop-less : tie.Need-loop-less Inv-loop μ-loop
 loop-less c = omega (arith, c .before .before .before .before .before .before .before .before .before .before .loop-test .taken)
@@ -69,23 +45,6 @@ returns-3 c = measured-all _ _ (c .before .loop .site) (c .before .loop .place) 
 pub judge-spec : {M : Type 1} → statement M
 judge-spec =
     tie.close
-    (tie.spec
-    Inv-loop
-    μ-loop
-    start-requires
-    loop-holds
-    shared-slice-read-decode
-    decode-requires
-    enum-told
-    returns
-    enum-known-command
-    advance-requires
-    enum-known-refusal
-    returns-2
-    enum-known-next
-    width-requires
-    add-at
-    add-place
-    loop-less
-    loop-again
-    returns-3)
+    (tie.spec Inv-loop μ-loop (λ c κs. search needs) loop-holds (λ c. search needs) decode-requires
+    (λ c. search needs) returns (λ c. search needs) advance-requires (λ c. search needs) returns-2 (λ c. search needs)
+    (λ c κs. search needs) add-at (λ c. search needs) loop-less loop-again returns-3)

@@ -5,23 +5,13 @@ use Rattle.path.specs.Answers.{Foretells}
 use Rattle.path.proofs.passes.measure.Statement.{statement}
 use Rattle.path.proofs.passes.measure.Tie as tie
 
-survey-requires : tie.Need-survey-requires
-survey-requires c κs = search needs
-
-enum-known-segments : tie.Need-enum-known-segments
-enum-known-segments c = search needs
-
 returns : tie.Need-returns
 returns c = subst (Foretells _) (c .before .segments .given .1) (c .before .before .before .survey .ensures)
-
-enum-told : tie.Need-enum-told
-enum-told c = search needs
-
-judge-requires : tie.Need-judge-requires
-judge-requires c κs = search needs
 
 returns-2 : tie.Need-returns-2
 returns-2 c = c .judge .ensures
 
 pub measure-spec : {M : Type 1} → statement M
-measure-spec = tie.close (tie.spec survey-requires enum-known-segments returns enum-told judge-requires returns-2)
+measure-spec =
+    tie.close
+    (tie.spec (λ c κs. search needs) (λ c. search needs) returns (λ c. search needs) (λ c κs. search needs) returns-2)

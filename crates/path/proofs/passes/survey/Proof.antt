@@ -15,41 +15,20 @@ Inv-loop letters numbers size tally₀ place₀ at₀ tally place at = Surveying
 abbrev μ-loop : tie.MeasureT-loop
 μ-loop letters numbers size tally₀ place₀ at₀ tally place at = length letters - place
 
-opening-requires : tie.Need-opening-requires Inv-loop μ-loop
-opening-requires c κs = search needs
-
 loop-holds : tie.Need-loop-holds Inv-loop μ-loop
 loop-holds c = rw (c .opening .ensures) (surveying-none _ _ (c .before .before .before .pre))
-
-shared-slice-read-decode : tie.Need-shared-slice-read-decode Inv-loop μ-loop
-shared-slice-read-decode c = search needs
 
 decode-requires : tie.Need-decode-requires Inv-loop μ-loop
 decode-requires c κs = surveying-inside _ _ (c .before .before .loop .tally) (c .before .before .loop .place) (c .before .before .loop .at) (c .before .before .loop .inv)
 
-enum-told : tie.Need-enum-told Inv-loop μ-loop
-enum-told c = search needs
-
 returns : tie.Need-returns Inv-loop μ-loop
 returns c = tt
-
-enum-known-command : tie.Need-enum-known-command Inv-loop μ-loop
-enum-known-command c = search needs
 
 count-requires : tie.Need-count-requires Inv-loop μ-loop
 count-requires c κs = surveying-scant _ _ (c .before .before .before .before .before .before .loop .tally) (c .before .before .before .before .before .before .loop .place) (c .before .before .before .before .before .before .loop .at) (c .before .before .before .before .before .before .loop .inv) (c .before .before .before .before .before .loop-test .taken) (c .before .before .before .before .before .before .before .before .before .before .pre)
 
-enum-told-2 : tie.Need-enum-told-2 Inv-loop μ-loop
-enum-told-2 c = search needs
-
 returns-2 : tie.Need-returns-2 Inv-loop μ-loop
 returns-2 c = tt
-
-enum-known-next : tie.Need-enum-known-next Inv-loop μ-loop
-enum-known-next c = search needs
-
-width-requires : tie.Need-width-requires Inv-loop μ-loop
-width-requires c κs = search needs
 
 add-at : tie.Need-add-at Inv-loop μ-loop
 add-at c = let a = c .before .before .before .before .before .before .before .before .before .before .before .before .before .before .before .args in omega (arith, surveying-fits (a .letters .now) (a .numbers .now) (c .before .before .before .before .before .before .before .before .before .before .before .loop .tally) (c .before .before .before .before .before .before .before .before .before .before .before .loop .place) (c .before .before .before .before .before .before .before .before .before .before .before .loop .at) (c .before .before .before .before .before .before .before .before .before .before .before .loop .inv) (c .before .before .before .before .before .before .before .before .before .before .loop-test .taken) (c .before .before .before .before .before .before .before .before .before .before .before .before .before .before .before .pre) (c .before .before .before .before .before .before .command .given .0 .0) (sym (c .before .before .before .before .before .before .before .before .decode .ensures) ∙ c .before .before .before .before .before .before .command .given .1), c .width .ensures, c .before .before .before .before .before .before .before .before .before .before .before .before .before .before .before)
@@ -69,23 +48,6 @@ returns-3 c = surveyed-all _ _ (c .before .loop .tally) (c .before .loop .place)
 pub survey-spec : {M : Type 1} → statement M
 survey-spec =
     tie.close
-    (tie.spec
-    Inv-loop
-    μ-loop
-    opening-requires
-    loop-holds
-    shared-slice-read-decode
-    decode-requires
-    enum-told
-    returns
-    enum-known-command
-    count-requires
-    enum-told-2
-    returns-2
-    enum-known-next
-    width-requires
-    add-at
-    add-place
-    loop-less
-    loop-again
-    returns-3)
+    (tie.spec Inv-loop μ-loop (λ c κs. search needs) loop-holds (λ c. search needs) decode-requires
+    (λ c. search needs) returns (λ c. search needs) count-requires (λ c. search needs) returns-2 (λ c. search needs)
+    (λ c κs. search needs) add-at add-place loop-less loop-again returns-3)

@@ -9,20 +9,8 @@ use Rattle.path_text.proofs.entry.build_from_text.Tie as tie
 returns : tie.Need-returns
 returns c = too-long _ _ _ _ _ (c .if1 .taken)
 
-size-of-requires : tie.Need-size-of-requires
-size-of-requires c κs = search needs
-
-enum-known-refusal : tie.Need-enum-known-refusal
-enum-known-refusal c = search needs
-
 returns-2 : tie.Need-returns-2
 returns-2 c = answers-at _ _ _ _ _ _ _ _ _ _ _ (short _ _ (c .before .before .before .before .if1 .left)) (unbuilt _ _ _ _ _ _ (sym (c .before .refusal .given .1) ∙ c .before .before .before .size-of .ensures))
-
-enum-known-segments : tie.Need-enum-known-segments
-enum-known-segments c = search needs
-
-is-short-requires : tie.Need-is-short-requires
-is-short-requires c κs = search needs
 
 returns-3 : tie.Need-returns-3
 returns-3 c = answers-at _ _ _ _ _ _ _ _ _ _ _ (short _ _ (c .before .before .before .before .before .before .if1 .left)) (too-short _ _ _ _ _ _ _ _ (sym (c .before .before .before .segments .given .1) ∙ c .before .before .before .before .before .size-of .ensures) (sym (c .before .is-short .ensures) ∙ c .if2 .taken))
@@ -30,35 +18,11 @@ returns-3 c = answers-at _ _ _ _ _ _ _ _ _ _ _ (short _ _ (c .before .before .be
 fill-requires : tie.Need-fill-requires
 fill-requires c κs = let a = c .before .before .before .before .before .before .before .before .before .before .before .before .before .before .before .before .args in (c .before .before .before .before .before .before .before .before .before .before .if1 .left, has-room (a .kinds .now) (a .fields .now) (a .tables .now) (a .lengths .now) _ _ _ _ (sym (c .before .before .before .before .before .before .before .segments .given .1) ∙ c .before .before .before .before .before .before .before .before .before .size-of .ensures) (sym (c .before .before .before .before .before .is-short .ensures) ∙ c .before .before .before .before .if2 .left))
 
-same-length : tie.Need-same-length
-same-length c = search needs
-
-same-length-2 : tie.Need-same-length-2
-same-length-2 c = search needs
-
-same-length-3 : tie.Need-same-length-3
-same-length-3 c = search needs
-
-same-length-4 : tie.Need-same-length-4
-same-length-4 c = search needs
-
 returns-4 : tie.Need-returns-4
 returns-4 c = answers-at _ _ _ _ _ _ _ _ _ _ _ (short _ _ (c .before .before .before .before .before .before .before .before .before .before .before .before .before .before .before .before .before .before .before .if1 .left)) (built-whole _ _ _ _ _ _ _ _ (sym (c .before .before .before .before .before .before .before .before .before .before .before .before .before .before .before .before .segments .given .1) ∙ c .before .before .before .before .before .before .before .before .before .before .before .before .before .before .before .before .before .before .size-of .ensures) _ _ _ _ (sym (c .before .before .before .before .before .before .before .before .before .before .before .before .before .before .is-short .ensures) ∙ c .before .before .before .before .before .before .before .before .before .before .before .before .before .if2 .left) (c .before .before .before .before .before .before .before .before .fill .ensures))
 
 pub build-from-text-spec : {M : Type 1} → statement M
 build-from-text-spec =
     tie.close
-    (tie.spec
-    returns
-    size-of-requires
-    enum-known-refusal
-    returns-2
-    enum-known-segments
-    is-short-requires
-    returns-3
-    fill-requires
-    same-length
-    same-length-2
-    same-length-3
-    same-length-4
-    returns-4)
+    (tie.spec returns (λ c κs. search needs) (λ c. search needs) returns-2 (λ c. search needs) (λ c κs. search needs)
+    returns-3 fill-requires (λ c. search needs) (λ c. search needs) (λ c. search needs) (λ c. search needs) returns-4)

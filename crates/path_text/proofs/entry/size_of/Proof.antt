@@ -6,35 +6,14 @@ use Rattle.path_text.proofs.Entering.{unread-size, unread-later, unbuil
 use Rattle.path_text.proofs.entry.size_of.Statement.{statement}
 use Rattle.path_text.proofs.entry.size_of.Tie as tie
 
-measure-requires : tie.Need-measure-requires
-measure-requires c κs = search needs
-
-enum-known-segments : tie.Need-enum-known-segments
-enum-known-segments c = search needs
-
 returns : tie.Need-returns
 returns c = subst (Finds _) (c .before .segments .given .1) (c .before .before .before .measure .ensures)
-
-enum-known-refusal : tie.Need-enum-known-refusal
-enum-known-refusal c = search needs
 
 returns-2 : tie.Need-returns-2
 returns-2 c = unread-size _ _ (subst (Finds _) (c .before .refusal .given .1) (c .before .before .before .measure .ensures))
 
-enum-known-refusal-2 : tie.Need-enum-known-refusal-2
-enum-known-refusal-2 c = search needs
-
-measure-requires-2 : tie.Need-measure-requires-2
-measure-requires-2 c κs = search needs
-
-enum-known-first : tie.Need-enum-known-first
-enum-known-first c = search needs
-
 returns-3 : tie.Need-returns-3
 returns-3 c = unread-later _ _ (sym (c .before .first .given .1) ∙ c .before .before .before .measure2 .ensures)
-
-enum-told : tie.Need-enum-told
-enum-told c = search needs
 
 returns-4 : tie.Need-returns-4
 returns-4 c = unbuilt-size _ _ _ _ (subst (Finds _) (c .before .before .before .before .refusal2 .given .1) (c .before .before .before .before .before .before .measure .ensures)) (sym (c .enum-told .given .1) ∙ c .before .before .measure2 .ensures)
@@ -42,15 +21,5 @@ returns-4 c = unbuilt-size _ _ _ _ (subst (Finds _) (c .before .before .before .
 pub size-of-spec : {M : Type 1} → statement M
 size-of-spec =
     tie.close
-    (tie.spec
-    measure-requires
-    enum-known-segments
-    returns
-    enum-known-refusal
-    returns-2
-    enum-known-refusal-2
-    measure-requires-2
-    enum-known-first
-    returns-3
-    enum-told
-    returns-4)
+    (tie.spec (λ c κs. search needs) (λ c. search needs) returns (λ c. search needs) returns-2 (λ c. search needs)
+    (λ c κs. search needs) (λ c. search needs) returns-3 (λ c. search needs) returns-4)

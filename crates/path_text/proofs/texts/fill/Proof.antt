@@ -16,20 +16,8 @@ Inv-loop text kinds₀ fields₀ tables₀ lengths₀ reader₀ site₀ kinds fi
 abbrev μ-loop : tie.MeasureT-loop
 μ-loop text kinds₀ fields₀ tables₀ lengths₀ reader₀ site₀ kinds fields tables lengths reader site = length text - reader .at
 
-fresh-requires : tie.Need-fresh-requires Inv-loop μ-loop
-fresh-requires c κs = search needs
-
-start-requires : tie.Need-start-requires Inv-loop μ-loop
-start-requires c κs = search needs
-
 loop-holds : tie.Need-loop-holds Inv-loop μ-loop
 loop-holds c = rw (c .before .fresh .ensures, c .start .ensures) (storing-none _ _ _ _ _)
-
-read-step-requires : tie.Need-read-step-requires Inv-loop μ-loop
-read-step-requires c κs = search needs
-
-enum-told : tie.Need-enum-told Inv-loop μ-loop
-enum-told c = search needs
 
 same-length : tie.Need-same-length Inv-loop μ-loop
 same-length c = stored-kinds _ (c .before .before .before .loop .reader) (c .before .before .before .loop .site) _ (c .before .before .before .loop .kinds) _ (c .before .before .before .loop .fields) _ (c .before .before .before .loop .tables) _ (c .before .before .before .loop .lengths) (c .before .before .before .loop .inv) (c .before .before .before .before .before .before .before .before .before .before .before .pre .1)
@@ -46,9 +34,6 @@ same-length-4 c = stored-lengths _ (c .before .before .before .loop .reader) (c 
 returns : tie.Need-returns Inv-loop μ-loop
 returns c = stored-all _ (c .before .before .before .loop .reader) (c .before .before .before .loop .site) _ (c .before .before .before .loop .kinds) _ (c .before .before .before .loop .fields) _ (c .before .before .before .loop .tables) _ (c .before .before .before .loop .lengths) (c .before .before .before .loop .inv) (c .before .before .before .before .before .before .before .before .before .before .before .pre .1) (sym (c .before .before .read-step .ensures) ∙ c .enum-told .given .1)
 
-enum-told-2 : tie.Need-enum-told-2 Inv-loop μ-loop
-enum-told-2 c = search needs
-
 same-length-5 : tie.Need-same-length-5 Inv-loop μ-loop
 same-length-5 c = stored-kinds _ (c .before .before .before .loop .reader) (c .before .before .before .loop .site) _ (c .before .before .before .loop .kinds) _ (c .before .before .before .loop .fields) _ (c .before .before .before .loop .tables) _ (c .before .before .before .loop .lengths) (c .before .before .before .loop .inv) (c .before .before .before .before .before .before .before .before .before .before .before .pre .1)
 
@@ -64,9 +49,6 @@ same-length-8 c = stored-lengths _ (c .before .before .before .loop .reader) (c 
 returns-2 : tie.Need-returns-2 Inv-loop μ-loop
 returns-2 c = absurd (storing-unread _ (c .before .before .before .loop .reader) (c .before .before .before .loop .site) _ (c .before .before .before .loop .kinds) _ (c .before .before .before .loop .fields) _ (c .before .before .before .loop .tables) _ (c .before .before .before .loop .lengths) (c .before .before .before .loop .inv) (c .before .before .before .before .before .before .before .before .before .before .before .pre .1) _ (sym (c .before .before .read-step .ensures) ∙ c .enum-told2 .given .1))
 
-enum-known-command : tie.Need-enum-known-command Inv-loop μ-loop
-enum-known-command c = search needs
-
 lay-requires : tie.Need-lay-requires Inv-loop μ-loop
 lay-requires c κs = storing-room _ (c .before .before .before .before .before .before .before .before .loop .reader) (c .before .before .before .before .before .before .before .before .loop .site) _ (c .before .before .before .before .before .before .before .before .loop .kinds) _ (c .before .before .before .before .before .before .before .before .loop .fields) _ (c .before .before .before .before .before .before .before .before .loop .tables) _ (c .before .before .before .before .before .before .before .before .loop .lengths) (c .before .before .before .before .before .before .before .before .loop .inv) (c .before .before .before .before .before .before .before .before .before .before .before .before .before .before .before .before .pre .1) _ _ (sym (c .before .before .before .before .before .before .before .read-step .ensures) ∙ c .before .before .before .before .before .command .given .1) (c .before .before .before .before .before .before .before .before .before .before .before .before .before .before .before .before .pre .0)
 
@@ -79,26 +61,7 @@ loop-again c = storing-more _ (c .before .before .before .before .before .before
 pub fill-spec : {M : Type 1} → statement M
 fill-spec =
     tie.close
-    (tie.spec
-    Inv-loop
-    μ-loop
-    fresh-requires
-    start-requires
-    loop-holds
-    read-step-requires
-    enum-told
-    same-length
-    same-length-2
-    same-length-3
-    same-length-4
-    returns
-    enum-told-2
-    same-length-5
-    same-length-6
-    same-length-7
-    same-length-8
-    returns-2
-    enum-known-command
-    lay-requires
-    loop-less
+    (tie.spec Inv-loop μ-loop (λ c κs. search needs) (λ c κs. search needs) loop-holds (λ c κs. search needs)
+    (λ c. search needs) same-length same-length-2 same-length-3 same-length-4 returns (λ c. search needs)
+    same-length-5 same-length-6 same-length-7 same-length-8 returns-2 (λ c. search needs) lay-requires loop-less
     loop-again)

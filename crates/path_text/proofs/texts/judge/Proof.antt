@@ -16,44 +16,20 @@ Inv-loop text reader₀ site₀ reader site = Measuring text reader site
 abbrev μ-loop : tie.MeasureT-loop
 μ-loop text reader₀ site₀ reader site = length text - reader .at
 
-fresh-requires : tie.Need-fresh-requires Inv-loop μ-loop
-fresh-requires c κs = search needs
-
-start-requires : tie.Need-start-requires Inv-loop μ-loop
-start-requires c κs = search needs
-
 loop-holds : tie.Need-loop-holds Inv-loop μ-loop
 loop-holds c = rw (c .before .fresh .ensures, c .start .ensures) (measuring-none _)
-
-read-step-requires : tie.Need-read-step-requires Inv-loop μ-loop
-read-step-requires c κs = search needs
-
-enum-told : tie.Need-enum-told Inv-loop μ-loop
-enum-told c = search needs
 
 returns : tie.Need-returns Inv-loop μ-loop
 returns c = measured-all _ (c .before .before .before .loop .reader) (c .before .before .before .loop .site) (c .before .before .before .loop .inv) (sym (c .before .before .read-step .ensures) ∙ c .enum-told .given .1)
 
-enum-known-refusal : tie.Need-enum-known-refusal Inv-loop μ-loop
-enum-known-refusal c = search needs
-
 returns-2 : tie.Need-returns-2 Inv-loop μ-loop
 returns-2 c = measured-unread _ (c .before .before .before .before .loop .reader) (c .before .before .before .before .loop .site) (c .before .before .before .before .loop .inv) _ (sym (c .before .before .before .read-step .ensures) ∙ c .before .refusal .given .1)
-
-enum-known-command : tie.Need-enum-known-command Inv-loop μ-loop
-enum-known-command c = search needs
 
 advance-requires : tie.Need-advance-requires Inv-loop μ-loop
 advance-requires c κs = measuring-few _ (c .before .before .before .before .loop .reader) (c .before .before .before .before .loop .site) (c .before .before .before .before .loop .inv) _ _ (sym (c .before .before .before .read-step .ensures) ∙ c .before .command .given .1) (c .before .before .before .before .before .before .before .before .pre)
 
-enum-known-refusal-2 : tie.Need-enum-known-refusal-2 Inv-loop μ-loop
-enum-known-refusal-2 c = search needs
-
 returns-3 : tie.Need-returns-3 Inv-loop μ-loop
 returns-3 c = measured-unbuilt _ (c .before .before .before .before .before .before .before .before .loop .reader) (c .before .before .before .before .before .before .before .before .loop .site) (c .before .before .before .before .before .before .before .before .loop .inv) _ _ (sym (c .before .before .before .before .before .before .before .read-step .ensures) ∙ c .before .before .before .before .before .command .given .1) _ (sym (c .before .before .before .advance .ensures) ∙ c .before .refusal2 .given .1)
-
-enum-known-further : tie.Need-enum-known-further Inv-loop μ-loop
-enum-known-further c = search needs
 
 loop-less : tie.Need-loop-less Inv-loop μ-loop
 loop-less c = omega (arith, step-ahead _ _ _ _ (sym (c .before .before .before .before .before .before .before .read-step .ensures) ∙ c .before .before .before .before .before .command .given .1))
@@ -64,21 +40,6 @@ loop-again c = measuring-more _ (c .before .before .before .before .before .befo
 pub judge-spec : {M : Type 1} → statement M
 judge-spec =
     tie.close
-    (tie.spec
-    Inv-loop
-    μ-loop
-    fresh-requires
-    start-requires
-    loop-holds
-    read-step-requires
-    enum-told
-    returns
-    enum-known-refusal
-    returns-2
-    enum-known-command
-    advance-requires
-    enum-known-refusal-2
-    returns-3
-    enum-known-further
-    loop-less
-    loop-again)
+    (tie.spec Inv-loop μ-loop (λ c κs. search needs) (λ c κs. search needs) loop-holds (λ c κs. search needs)
+    (λ c. search needs) returns (λ c. search needs) returns-2 (λ c. search needs) advance-requires (λ c. search needs)
+    returns-3 (λ c. search needs) loop-less loop-again)
