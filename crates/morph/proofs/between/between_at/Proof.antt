@@ -12,13 +12,11 @@ point-at-requires c κs = in-first (c .before .before .args .from .now) (c .befo
 point-at-requires-2 : tie.Need-point-at-requires-2
 point-at-requires-2 c κs = in-second (c .before .before .before .args .from .now) (c .before .before .before .args .to .now) _ (c .before .before .before .pre)
 
-lerp-point-requires : tie.Need-lerp-point-requires
-lerp-point-requires c κs = search needs
-
 returns : tie.Need-returns
 unfolding betweenAt
 returns c = rw (c .lerp-point .ensures, c .before .point-at2 .ensures, c .before .before .point-at .ensures) refl
 
 pub between-at-spec : {M : Type 1} → statement M
 between-at-spec =
-    tie.close (tie.spec point-at-requires point-at-requires-2 lerp-point-requires returns)
+    tie.close
+    (tie.spec point-at-requires point-at-requires-2 (λ c κs. search needs) returns)

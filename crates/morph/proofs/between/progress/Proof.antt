@@ -5,12 +5,11 @@ use Rattle.morph.specs.Shapes.{progressOf}
 use Rattle.morph.proofs.between.progress.Statement.{statement}
 use Rattle.morph.proofs.between.progress.Tie as tie
 
-clamp-requires : tie.Need-clamp-requires
-clamp-requires c κs = search needs
-
 returns : tie.Need-returns
 unfolding progressOf zeroF oneF
 returns c = c .clamp .ensures
 
 pub progress-spec : {M : Type 1} → statement M
-progress-spec = tie.close (tie.spec clamp-requires returns)
+progress-spec =
+    tie.close
+    (tie.spec (λ c κs. search needs) returns)

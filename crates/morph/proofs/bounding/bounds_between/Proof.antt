@@ -13,29 +13,14 @@ Inv-loop from to along count bounds₀ i₀ bounds i = Widening from to along co
 abbrev μ-loop : tie.MeasureT-loop
 μ-loop from to along count bounds₀ i₀ bounds i = count - i
 
-shared-requires : tie.Need-shared-requires Inv-loop μ-loop
-shared-requires c κs = search needs
-
 between-at-requires : tie.Need-between-at-requires Inv-loop μ-loop
 between-at-requires c κs = c .before .before .before .pre
-
-around-requires : tie.Need-around-requires Inv-loop μ-loop
-around-requires c κs = search needs
 
 loop-holds : tie.Need-loop-holds Inv-loop μ-loop
 loop-holds c = widening-start _ _ _ _ _ _ (c .before .before .shared .ensures) (c .before .before .before .before .before .pre) (c .before .between-at .ensures) (c .around .ensures)
 
 between-at-requires-2 : tie.Need-between-at-requires-2 Inv-loop μ-loop
 between-at-requires-2 c κs = widening-inside _ _ _ _ _ _ (c .before .loop .inv) (c .loop-test .taken)
-
-widen-requires : tie.Need-widen-requires Inv-loop μ-loop
-widen-requires c κs = search needs
-
-add-i : tie.Need-add-i Inv-loop μ-loop
-add-i c = search needs
-
-loop-less : tie.Need-loop-less Inv-loop μ-loop
-loop-less c = search needs
 
 loop-again : tie.Need-loop-again Inv-loop μ-loop
 loop-again c = widening-more _ _ _ _ _ _ (c .before .before .before .loop .inv) _ _ (c .before .before .loop-test .taken) (c .before .between-at2 .ensures) (c .widen .ensures)
@@ -46,16 +31,5 @@ returns c = widening-done _ _ _ _ _ _ (c .before .loop .inv) (c .loop-test .left
 pub bounds-between-spec : {M : Type 1} → statement M
 bounds-between-spec =
     tie.close
-    (tie.spec
-    Inv-loop
-    μ-loop
-    shared-requires
-    between-at-requires
-    around-requires
-    loop-holds
-    between-at-requires-2
-    widen-requires
-    add-i
-    loop-less
-    loop-again
-    returns)
+    (tie.spec Inv-loop μ-loop (λ c κs. search needs) between-at-requires (λ c κs. search needs) loop-holds
+    between-at-requires-2 (λ c κs. search needs) (λ c. search needs) (λ c. search needs) loop-again returns)

@@ -7,20 +7,8 @@ use Rattle.morph.proofs.Answers.{evaluate-refused, evaluate-no-room, ev
 use Rattle.morph.proofs.evaluating.evaluate.Statement.{statement}
 use Rattle.morph.proofs.evaluating.evaluate.Tie as tie
 
-judge-two-requires : tie.Need-judge-two-requires
-judge-two-requires c κs = search needs
-
-enum-known-refusal : tie.Need-enum-known-refusal
-enum-known-refusal c = search needs
-
 returns : tie.Need-returns
 returns c = evaluate-refused _ _ _ _ _ (sym (c .before .before .before .judge-two .ensures) ∙ c .before .refusal .given .1)
-
-enum-told : tie.Need-enum-told
-enum-told c = search needs
-
-shared-requires : tie.Need-shared-requires
-shared-requires c κs = search needs
 
 mul-need : tie.Need-mul-need
 mul-need c = omega (arith, c .shared .ensures, shared-upto (c .before .before .before .before .before .before .before .args .from .now) (c .before .before .before .before .before .before .before .args .to .now))
@@ -28,30 +16,11 @@ mul-need c = omega (arith, c .shared .ensures, shared-upto (c .before .before .b
 returns-2 : tie.Need-returns-2
 returns-2 c = evaluate-no-room _ _ _ _ (sym (c .before .before .before .before .judge-two .ensures) ∙ c .before .before .enum-told .given .1) _ (c .before .shared .ensures) (c .if1 .taken)
 
-progress-requires : tie.Need-progress-requires
-progress-requires c κs = search needs
-
-fill-between-requires : tie.Need-fill-between-requires
-fill-between-requires c κs = search needs
-
-same-length : tie.Need-same-length
-same-length c = search needs
-
 returns-3 : tie.Need-returns-3
 returns-3 c = evaluated _ _ _ (c .before .before .before .before .before .before .before .before .before .before .before .before .before .args .out .now) (sym (c .before .before .before .before .before .before .before .before .before .judge-two .ensures) ∙ c .before .before .before .before .before .before .before .enum-told .given .1) _ (c .before .before .before .before .before .before .shared .ensures) _ _ (c .before .before .before .before .progress .ensures) (c .before .before .before .before .before .if1 .left) (c .before .before .fill-between .ensures)
 
 pub evaluate-spec : {M : Type 1} → statement M
 evaluate-spec =
     tie.close
-    (tie.spec
-    judge-two-requires
-    enum-known-refusal
-    returns
-    enum-told
-    shared-requires
-    mul-need
-    returns-2
-    progress-requires
-    fill-between-requires
-    same-length
-    returns-3)
+    (tie.spec (λ c κs. search needs) (λ c. search needs) returns (λ c. search needs) (λ c κs. search needs) mul-need
+    returns-2 (λ c κs. search needs) (λ c κs. search needs) (λ c. search needs) returns-3)

@@ -13,9 +13,6 @@ Inv-loop from to along out₀ count i₀ out i = Filling from to along out₀ co
 abbrev μ-loop : tie.MeasureT-loop
 μ-loop from to along out₀ count i₀ out i = count - i
 
-shared-requires : tie.Need-shared-requires Inv-loop μ-loop
-shared-requires c κs = search needs
-
 loop-holds : tie.Need-loop-holds Inv-loop μ-loop
 loop-holds c = filling-start _ _ _ _ _ (c .shared .ensures) (c .before .before .before .before .pre)
 
@@ -24,12 +21,6 @@ between-at-requires c κs = filling-inside _ _ _ _ _ (c .before .before .loop .o
 
 put-point-requires : tie.Need-put-point-requires Inv-loop μ-loop
 put-point-requires c κs = filling-room _ _ _ _ _ (c .before .before .before .loop .out) (c .before .before .before .loop .i) (c .before .before .before .loop .inv) (c .before .before .loop-test .taken)
-
-add-i : tie.Need-add-i Inv-loop μ-loop
-add-i c = search needs
-
-loop-less : tie.Need-loop-less Inv-loop μ-loop
-loop-less c = search needs
 
 loop-again : tie.Need-loop-again Inv-loop μ-loop
 loop-again c = filling-more _ _ _ _ _ (c .before .before .before .before .before .before .loop .out) (c .before .before .before .before .before .before .loop .i) (c .before .before .before .before .before .before .loop .inv) _ _ (c .before .before .before .before .before .loop-test .taken) (c .before .before .before .between-at .ensures) (c .before .before .put-point .ensures)
@@ -43,15 +34,5 @@ returns c = filling-done _ _ _ _ _ (c .before .loop .out) (c .before .loop .i) (
 pub fill-between-spec : {M : Type 1} → statement M
 fill-between-spec =
     tie.close
-    (tie.spec
-    Inv-loop
-    μ-loop
-    shared-requires
-    loop-holds
-    between-at-requires
-    put-point-requires
-    add-i
-    loop-less
-    loop-again
-    same-length
-    returns)
+    (tie.spec Inv-loop μ-loop (λ c κs. search needs) loop-holds between-at-requires put-point-requires
+    (λ c. search needs) (λ c. search needs) loop-again same-length returns)

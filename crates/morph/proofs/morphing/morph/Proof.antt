@@ -5,41 +5,14 @@ use Rattle.morph.proofs.Answers.{at-count, shapes-refused, count-long, 
 use Rattle.morph.proofs.morphing.morph.Statement.{statement}
 use Rattle.morph.proofs.morphing.morph.Tie as tie
 
-judge-two-requires : tie.Need-judge-two-requires
-judge-two-requires c κs = search needs
-
-enum-known-refusal : tie.Need-enum-known-refusal
-enum-known-refusal c = search needs
-
 returns : tie.Need-returns
 returns c = shapes-refused _ _ _ _ _ _ (sym (c .before .before .before .judge-two .ensures) ∙ c .before .refusal .given .1)
-
-enum-told : tie.Need-enum-told
-enum-told c = search needs
-
-at-least-two-requires : tie.Need-at-least-two-requires
-at-least-two-requires c κs = search needs
 
 returns-2 : tie.Need-returns-2
 returns-2 c = at-count _ _ _ _ _ _ _ _ _ (c .before .at-least-two .ensures) (count-long _ _ _ _ _ (sym (c .before .before .before .before .judge-two .ensures) ∙ c .before .before .enum-told .given .1) (c .if1 .taken))
 
-plan-both-requires : tie.Need-plan-both-requires
-plan-both-requires c κs = search needs
-
-enum-known-refusal-2 : tie.Need-enum-known-refusal-2
-enum-known-refusal-2 c = search needs
-
 returns-3 : tie.Need-returns-3
 returns-3 c = at-count _ _ _ _ _ _ _ _ _ (c .before .before .before .before .before .at-least-two .ensures) (plans-refused _ _ _ _ _ (sym (c .before .before .before .before .before .before .before .before .judge-two .ensures) ∙ c .before .before .before .before .before .before .enum-told .given .1) (c .before .before .before .before .if1 .left) _ (sym (c .before .before .before .plan-both .ensures) ∙ c .before .refusal2 .given .1))
-
-enum-known-first : tie.Need-enum-known-first
-enum-known-first c = search needs
-
-needed-requires : tie.Need-needed-requires
-needed-requires c κs = search needs
-
-needed-requires-2 : tie.Need-needed-requires-2
-needed-requires-2 c κs = search needs
 
 returns-4 : tie.Need-returns-4
 returns-4 c = at-count _ _ _ _ _ _ _ _ _ (c .before .before .before .before .before .before .before .before .at-least-two .ensures) (no-first _ _ _ _ _ (sym (c .before .before .before .before .before .before .before .before .before .before .before .judge-two .ensures) ∙ c .before .before .before .before .before .before .before .before .before .enum-told .given .1) (c .before .before .before .before .before .before .before .if1 .left) _ _ (sym (c .before .before .before .before .before .before .plan-both .ensures) ∙ c .before .before .before .before .first .given .1) _ _ (c .before .before .needed .ensures) (c .before .needed2 .ensures) (c .if2 .taken))
@@ -53,35 +26,13 @@ fill-requires c κs = room-first (c .before .before .before .before .before .bef
 fill-requires-2 : tie.Need-fill-requires-2
 fill-requires-2 c κs = room-second (c .before .before .before .before .before .before .before .before .before .before .before .before .before .before .before .before .before .before .before .before .before .before .args .from .now) (c .before .before .before .before .before .before .before .before .before .before .before .before .before .before .before .before .before .before .before .before .before .before .args .to .now) _ (c .before .before .before .before .before .before .before .before .before .before .before .before .before .before .before .before .before .before .before .before .before .before .args .out-from .now) (c .before .before .before .before .before .before .before .before .before .before .before .before .before .before .before .before .before .before .before .before .before .before .args .out-to .now) (sym (c .before .before .before .before .before .before .before .before .before .before .before .before .before .before .before .before .before .judge-two .ensures) ∙ c .before .before .before .before .before .before .before .before .before .before .before .before .before .before .before .enum-told .given .1) (c .before .before .before .before .before .before .before .before .before .before .before .before .before .if1 .left) _ _ (sym (c .before .before .before .before .before .before .before .before .before .before .before .before .plan-both .ensures) ∙ c .before .before .before .before .before .before .before .before .before .before .first .given .1) _ _ (c .before .before .before .before .before .before .before .before .needed .ensures) (c .before .before .before .before .before .before .before .needed2 .ensures) (c .before .before .before .before .before .if3 .left)
 
-same-length : tie.Need-same-length
-same-length c = search needs
-
-same-length-2 : tie.Need-same-length-2
-same-length-2 c = search needs
-
 returns-6 : tie.Need-returns-6
 returns-6 c = at-count _ _ _ _ _ _ _ _ _ (c .before .before .before .before .before .before .before .before .before .before .before .before .before .before .before .before .before .at-least-two .ensures) (both-filled (c .before .before .before .before .before .before .before .before .before .before .before .before .before .before .before .before .before .before .before .before .before .before .before .before .before .args .from .now) (c .before .before .before .before .before .before .before .before .before .before .before .before .before .before .before .before .before .before .before .before .before .before .before .before .before .args .to .now) _ (c .before .before .before .before .before .before .before .before .before .before .before .before .before .before .before .before .before .before .before .before .before .before .before .before .before .args .out-from .now) (c .before .before .before .before .before .before .before .before .before .before .before .before .before .before .before .before .before .before .before .before .before .before .before .before .before .args .out-to .now) (sym (c .before .before .before .before .before .before .before .before .before .before .before .before .before .before .before .before .before .before .before .before .judge-two .ensures) ∙ c .before .before .before .before .before .before .before .before .before .before .before .before .before .before .before .before .before .before .enum-told .given .1) (c .before .before .before .before .before .before .before .before .before .before .before .before .before .before .before .before .if1 .left) _ _ (sym (c .before .before .before .before .before .before .before .before .before .before .before .before .before .before .before .plan-both .ensures) ∙ c .before .before .before .before .before .before .before .before .before .before .before .before .before .first .given .1) _ _ (c .before .before .before .before .before .before .before .before .before .before .before .needed .ensures) (c .before .before .before .before .before .before .before .before .before .before .needed2 .ensures) _ _ (c .before .before .before .before .before .before .before .before .before .if2 .left) (c .before .before .before .before .before .before .before .before .if3 .left) (c .before .before .before .before .before .before .fill .ensures) (c .before .before .fill2 .ensures))
 
 pub morph-spec : {M : Type 1} → statement M
 morph-spec =
     tie.close
-    (tie.spec
-    judge-two-requires
-    enum-known-refusal
-    returns
-    enum-told
-    at-least-two-requires
-    returns-2
-    plan-both-requires
-    enum-known-refusal-2
-    returns-3
-    enum-known-first
-    needed-requires
-    needed-requires-2
-    returns-4
-    returns-5
-    fill-requires
-    fill-requires-2
-    same-length
-    same-length-2
+    (tie.spec (λ c κs. search needs) (λ c. search needs) returns (λ c. search needs) (λ c κs. search needs) returns-2
+    (λ c κs. search needs) (λ c. search needs) returns-3 (λ c. search needs) (λ c κs. search needs)
+    (λ c κs. search needs) returns-4 returns-5 fill-requires fill-requires-2 (λ c. search needs) (λ c. search needs)
     returns-6)

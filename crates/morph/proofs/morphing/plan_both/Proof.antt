@@ -5,24 +5,6 @@ use Rattle.morph.proofs.Plans.{first-broken, second-broken, both-go}
 use Rattle.morph.proofs.morphing.plan_both.Statement.{statement}
 use Rattle.morph.proofs.morphing.plan_both.Tie as tie
 
-plan-for-requires : tie.Need-plan-for-requires
-plan-for-requires c κs = search needs
-
-enum-known-refusal : tie.Need-enum-known-refusal
-enum-known-refusal c = search needs
-
-enum-known-first : tie.Need-enum-known-first
-enum-known-first c = search needs
-
-plan-for-requires-2 : tie.Need-plan-for-requires-2
-plan-for-requires-2 c κs = search needs
-
-enum-known-refusal-2 : tie.Need-enum-known-refusal-2
-enum-known-refusal-2 c = search needs
-
-enum-known-second : tie.Need-enum-known-second
-enum-known-second c = search needs
-
 returns : tie.Need-returns
 returns c = first-broken _ _ _ _ (sym (c .before .before .before .plan-for .ensures) ∙ c .before .refusal .given .1)
 
@@ -35,13 +17,5 @@ returns-3 c = both-go _ _ _ _ _ (sym (c .before .before .before .before .before 
 pub plan-both-spec : {M : Type 1} → statement M
 plan-both-spec =
     tie.close
-    (tie.spec
-    plan-for-requires
-    enum-known-refusal
-    enum-known-first
-    plan-for-requires-2
-    enum-known-refusal-2
-    enum-known-second
-    returns
-    returns-2
-    returns-3)
+    (tie.spec (λ c κs. search needs) (λ c. search needs) (λ c. search needs) (λ c κs. search needs)
+    (λ c. search needs) (λ c. search needs) returns returns-2 returns-3)

@@ -15,20 +15,11 @@ Inv-loop points count out₀ first i₀ out i = (i ≤ count) × (out ≡ writte
 abbrev μ-loop : tie.MeasureT-loop
 μ-loop points count out₀ first i₀ out i = count - i
 
-point-at-requires : tie.Need-point-at-requires Inv-loop μ-loop
-point-at-requires c κs = search needs
-
 loop-holds : tie.Need-loop-holds Inv-loop μ-loop
 loop-holds c = (omega arith, rows-none _ _)
 
 put-point-requires : tie.Need-put-point-requires Inv-loop μ-loop
 put-point-requires c κs = omega (arith, rows-size _ _ _ _ (let u : 2 * (c .before .before .loop .i) ≤ _ = omega arith in u) (c .before .before .loop .inv .1))
-
-add-i : tie.Need-add-i Inv-loop μ-loop
-add-i c = search needs
-
-loop-less : tie.Need-loop-less Inv-loop μ-loop
-loop-less c = search needs
 
 loop-again : tie.Need-loop-again Inv-loop μ-loop
 loop-again c = (omega arith, rows-more _ _ _ _ _ _ (omega arith) (c .before .before .before .before .before .loop .inv .1) (c .before .before .before .before .before .before .point-at .ensures) (c .before .before .put-point .ensures))
@@ -42,14 +33,5 @@ returns c = rows-all _ _ _ _ _ (c .before .loop .inv .0) (c .loop-test .left) (c
 pub copy-spec : {M : Type 1} → statement M
 copy-spec =
     tie.close
-    (tie.spec
-    Inv-loop
-    μ-loop
-    point-at-requires
-    loop-holds
-    put-point-requires
-    add-i
-    loop-less
-    loop-again
-    same-length
-    returns)
+    (tie.spec Inv-loop μ-loop (λ c κs. search needs) loop-holds put-point-requires (λ c. search needs)
+    (λ c. search needs) loop-again same-length returns)

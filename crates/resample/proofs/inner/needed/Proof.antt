@@ -3,21 +3,6 @@ use borrow.Author.Needs.{needs}
 use Rattle.resample.proofs.inner.needed.Statement.{statement}
 use Rattle.resample.proofs.inner.needed.Tie as tie
 
-enum-told : tie.Need-enum-told
-enum-told c = search needs
-
-enum-told-2 : tie.Need-enum-told-2
-enum-told-2 c = search needs
-
-mul-result : tie.Need-mul-result
-mul-result c = search needs
-
-enum-told-3 : tie.Need-enum-told-3
-enum-told-3 c = search needs
-
-mul-result-2 : tie.Need-mul-result-2
-mul-result-2 c = search needs
-
 returns : tie.Need-returns
 returns c = rw (c .enum-told .given .1)
 
@@ -30,12 +15,5 @@ returns-3 c = rw (c .enum-told3 .given .1)
 pub needed-spec : {M : Type 1} → statement M
 needed-spec =
     tie.close
-    (tie.spec
-    enum-told
-    enum-told-2
-    mul-result
-    enum-told-3
-    mul-result-2
-    returns
-    returns-2
-    returns-3)
+    (tie.spec (λ c. search needs) (λ c. search needs) (λ c. search needs) (λ c. search needs) (λ c. search needs)
+    returns returns-2 returns-3)

@@ -18,17 +18,8 @@ returns-3 c = plan-one-point _ _ (c .before .before .if1 .left) (c .before .if2 
 returns-4 : tie.Need-returns-4
 returns-4 c = plan-one-count _ _ (c .before .before .before .if1 .left) (c .before .before .if2 .left) (c .before .if3 .left) (c .if4 .taken)
 
-measure-requires : tie.Need-measure-requires
-measure-requires c κs = search needs
-
-enum-known-place : tie.Need-enum-known-place
-enum-known-place c = search needs
-
 returns-5 : tie.Need-returns-5
 returns-5 c = plan-broken _ _ (c .before .before .before .before .before .before .before .if1 .left) (c .before .before .before .before .before .before .if2 .left) (c .before .before .before .before .before .if3 .left) (c .before .before .before .before .if4 .left) _ (sym (c .before .before .before .measure .ensures) ∙ c .before .place .given .1)
-
-enum-known-total : tie.Need-enum-known-total
-enum-known-total c = search needs
 
 returns-6 : tie.Need-returns-6
 unfolding epsilonF
@@ -41,14 +32,5 @@ returns-7 c = plan-spread _ _ (c .before .before .before .before .before .before
 pub plan-for-spec : {M : Type 1} → statement M
 plan-for-spec =
     tie.close
-    (tie.spec
-    returns
-    returns-2
-    returns-3
-    returns-4
-    measure-requires
-    enum-known-place
-    returns-5
-    enum-known-total
-    returns-6
-    returns-7)
+    (tie.spec returns returns-2 returns-3 returns-4 (λ c κs. search needs) (λ c. search needs) returns-5
+    (λ c. search needs) returns-6 returns-7)

@@ -40,12 +40,6 @@ between-requires c κs = pick-point _ _ _ (omega (arith, c .before .before .befo
 put-point-requires-2 : tie.Need-put-point-requires-2 Inv-loop μ-loop
 put-point-requires-2 c κs = spreading-room _ _ _ _ (c .before .before .before .before .before .loop .out) (c .before .before .before .before .before .loop .place) (c .before .before .before .before .before .loop .i) (c .before .before .before .before .before .loop .inv) _ (omega (arith, c .before .before .before .before .before .loop .inv .asked .more))
 
-add-i : tie.Need-add-i Inv-loop μ-loop
-add-i c = search needs
-
-loop-less : tie.Need-loop-less Inv-loop μ-loop
-loop-less c = search needs
-
 loop-again : tie.Need-loop-again Inv-loop μ-loop
 loop-again c = spreading-more _ _ _ _ (c .before .before .before .before .before .before .before .before .loop .out) (c .before .before .before .before .before .before .before .before .loop .place) (c .before .before .before .before .before .before .before .before .loop .i) (c .before .before .before .before .before .before .before .before .loop .inv) _ _ _ _ (c .before .before .before .before .before .before .before .loop-test .taken) (c .before .before .before .before .before .before .target-at .ensures) (c .before .before .before .before .before .advance .ensures) (c .before .before .before .between .ensures) (c .before .before .put-point2 .ensures)
 
@@ -67,22 +61,6 @@ returns c = spreading-done _ _ _ _ (c .before .before .before .before .before .b
 pub spread-spec : {M : Type 1} → statement M
 spread-spec =
     tie.close
-    (tie.spec
-    Inv-loop
-    μ-loop
-    point-at-requires
-    put-point-requires
-    sub-last
-    loop-holds
-    target-at-requires
-    advance-requires
-    between-requires
-    put-point-requires-2
-    add-i
-    loop-less
-    loop-again
-    sub-point-at
-    point-at-requires-2
-    put-point-requires-3
-    same-length
-    returns)
+    (tie.spec Inv-loop μ-loop point-at-requires put-point-requires sub-last loop-holds target-at-requires
+    advance-requires between-requires put-point-requires-2 (λ c. search needs) (λ c. search needs) loop-again
+    sub-point-at point-at-requires-2 put-point-requires-3 same-length returns)

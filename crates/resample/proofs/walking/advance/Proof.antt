@@ -20,15 +20,6 @@ sub-last c = omega (arith, c .before .pre .some)
 loop-holds : tie.Need-loop-holds Inv-loop μ-loop
 loop-holds c = walk-start _ _ _ (c .before .pre)
 
-leg-requires : tie.Need-leg-requires Inv-loop μ-loop
-leg-requires c κs = search needs
-
-add-upper : tie.Need-add-upper Inv-loop μ-loop
-add-upper c = search needs
-
-loop-less : tie.Need-loop-less Inv-loop μ-loop
-loop-less c = search needs
-
 loop-again : tie.Need-loop-again Inv-loop μ-loop
 loop-again c = walk-more _ _ _ _ _ (c .before .before .before .loop .inv) (c .before .before .loop-test .taken) (c .before .if1 .taken) _ (c .leg .ensures)
 
@@ -41,14 +32,5 @@ returns-2 c = walk-done _ _ _ _ _ (c .before .loop .inv) (c .loop-test .left)
 pub advance-spec : {M : Type 1} → statement M
 advance-spec =
     tie.close
-    (tie.spec
-    Inv-loop
-    μ-loop
-    sub-last
-    loop-holds
-    leg-requires
-    add-upper
-    loop-less
-    loop-again
-    returns
-    returns-2)
+    (tie.spec Inv-loop μ-loop sub-last loop-holds (λ c κs. search needs) (λ c. search needs) (λ c. search needs)
+    loop-again returns returns-2)

@@ -7,27 +7,9 @@ use Rattle.resample.specs.Spacing.{betweenOf}
 use Rattle.resample.proofs.walking.between.Statement.{statement}
 use Rattle.resample.proofs.walking.between.Tie as tie
 
-point-at-requires : tie.Need-point-at-requires
-point-at-requires c κs = search needs
-
 returns : tie.Need-returns
 unfolding betweenOf
 returns c = rw (c .point-at .ensures, eq-eqb _ 0 (c .before .if1 .taken)) refl
-
-share-requires : tie.Need-share-requires
-share-requires c κs = search needs
-
-sub-point-at : tie.Need-sub-point-at
-sub-point-at c = search needs
-
-point-at-requires-2 : tie.Need-point-at-requires-2
-point-at-requires-2 c κs = search needs
-
-point-at-requires-3 : tie.Need-point-at-requires-3
-point-at-requires-3 c κs = search needs
-
-lerp-point-requires : tie.Need-lerp-point-requires
-lerp-point-requires c κs = search needs
 
 returns-2 : tie.Need-returns-2
 unfolding betweenOf
@@ -36,12 +18,5 @@ returns-2 c = rw (c .lerp-point .ensures, c .before .point-at3 .ensures, c .befo
 pub between-spec : {M : Type 1} → statement M
 between-spec =
     tie.close
-    (tie.spec
-    point-at-requires
-    returns
-    share-requires
-    sub-point-at
-    point-at-requires-2
-    point-at-requires-3
-    lerp-point-requires
-    returns-2)
+    (tie.spec (λ c κs. search needs) returns (λ c κs. search needs) (λ c. search needs) (λ c κs. search needs)
+    (λ c κs. search needs) (λ c κs. search needs) returns-2)
