@@ -10,20 +10,11 @@ use Rattle.filling.proofs.FilledCases.{last-put}
 use Rattle.filling.proofs.listed.table_numbers.Statement.{statement}
 use Rattle.filling.proofs.listed.table_numbers.Tie as tie
 
-slice-aggregate-copy : tie.Need-slice-aggregate-copy
-slice-aggregate-copy c = search needs
-
-slice-aggregate-copy-2 : tie.Need-slice-aggregate-copy-2
-slice-aggregate-copy-2 c = search needs
-
 copy-requires : tie.Need-copy-requires
 copy-requires c κs =
     let start = c .before .before .before in
     let size : 32 ≡ length (start .args .table .entries) = sym (start .good .0 .1 .1 .0 .1 .0 .1) ∙ mapped-length (start .args .table .entries) in
     omega arith
-
-array-write-numbers : tie.Need-array-write-numbers
-array-write-numbers c = search needs
 
 returns : tie.Need-returns
 returns c =
@@ -34,9 +25,4 @@ returns c =
 pub table-numbers-spec : {M : Type 1} → statement M
 table-numbers-spec =
     tie.close
-    (tie.spec
-    slice-aggregate-copy
-    slice-aggregate-copy-2
-    copy-requires
-    array-write-numbers
-    returns)
+    (tie.spec (λ c. search needs) (λ c. search needs) copy-requires (λ c. search needs) returns)

@@ -16,34 +16,10 @@ abbrev μ-loop : tie.MeasureT-loop
 loop-holds : tie.Need-loop-holds Inv-loop μ-loop
 loop-holds c = copied-start (search needs)
 
-mul-tidy : tie.Need-mul-tidy Inv-loop μ-loop
-mul-tidy c = search needs
-
-shared-slice-read-tidy : tie.Need-shared-slice-read-tidy Inv-loop μ-loop
-shared-slice-read-tidy c = search needs
-
-tidy-requires : tie.Need-tidy-requires Inv-loop μ-loop
-tidy-requires c κs = search needs
-
-mul-out : tie.Need-mul-out Inv-loop μ-loop
-mul-out c = search needs
-
-slice-write-out : tie.Need-slice-write-out Inv-loop μ-loop
-slice-write-out c = search needs
-
-add-k : tie.Need-add-k Inv-loop μ-loop
-add-k c = search needs
-
-loop-less : tie.Need-loop-less Inv-loop μ-loop
-loop-less c = search needs
-
 loop-again : tie.Need-loop-again Inv-loop μ-loop
 loop-again c =
     let in-loop = c .before .before in
     copied-more nan _ (in-loop .before .loop .inv) (in-loop .loop-test .taken) (c .tidy .ensures)
-
-same-length : tie.Need-same-length Inv-loop μ-loop
-same-length c = search needs
 
 returns : tie.Need-returns Inv-loop μ-loop
 returns c = copied-done (c .before .loop .inv) (c .loop-test .left)
@@ -51,17 +27,6 @@ returns c = copied-done (c .before .loop .inv) (c .loop-test .left)
 pub copy-spec : {M : Type 1} → statement M
 copy-spec =
     tie.close
-    (tie.spec
-    Inv-loop
-    μ-loop
-    loop-holds
-    mul-tidy
-    shared-slice-read-tidy
-    tidy-requires
-    mul-out
-    slice-write-out
-    add-k
-    loop-less
-    loop-again
-    same-length
+    (tie.spec Inv-loop μ-loop loop-holds (λ c. search needs) (λ c. search needs) (λ c κs. search needs)
+    (λ c. search needs) (λ c. search needs) (λ c. search needs) (λ c. search needs) loop-again (λ c. search needs)
     returns)
