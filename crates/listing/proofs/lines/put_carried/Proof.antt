@@ -10,33 +10,9 @@ use Rattle.listing.proofs.Fields.{carried-other}
 use Rattle.listing.proofs.lines.put_carried.Statement.{statement}
 use Rattle.listing.proofs.lines.put_carried.Tie as tie
 
-enum-known-refusal : tie.Need-enum-known-refusal
-enum-known-refusal c = search needs
-
-put-byte-requires : tie.Need-put-byte-requires
-put-byte-requires c κs = search needs
-
-put-byte-requires-2 : tie.Need-put-byte-requires-2
-put-byte-requires-2 c κs = search needs
-
-put-number-requires : tie.Need-put-number-requires
-put-number-requires c κs = search needs
-
-same-length : tie.Need-same-length
-same-length c = search needs
-
 returns : tie.Need-returns
 unfolding carriedFields
 returns c = rw (c .before .before .before .before .before .before .before .before .before .before .before .before .before .refusal .given .1) (within-as 84 _ (within-then (one-byte (c .before .before .before .before .before .before .before .before .before .before .put-byte .ensures)) (within-then (one-byte (c .before .before .before .before .before .before .put-byte2 .ensures)) (c .before .before .put-number .ensures)) .put) refl (omega arith))
-
-carried-requires : tie.Need-carried-requires
-carried-requires c κs = search needs
-
-put-values-requires : tie.Need-put-values-requires
-put-values-requires c κs = search needs
-
-same-length-2 : tie.Need-same-length-2
-same-length-2 c = search needs
 
 returns-2 : tie.Need-returns-2
 returns-2 c = within-as 84 _ (put-same (c .before .before .put-values .ensures .put) _ (ap (λ (v : Values). valueFields (listed v)) (c .before .before .before .carried .ensures))) (carried-other _ (c .before .before .before .before .before .match .keys2)) (omega arith)
@@ -44,14 +20,5 @@ returns-2 c = within-as 84 _ (put-same (c .before .before .put-values .ensures .
 pub put-carried-spec : {M : Type 1} → statement M
 put-carried-spec =
     tie.close
-    (tie.spec
-    enum-known-refusal
-    put-byte-requires
-    put-byte-requires-2
-    put-number-requires
-    same-length
-    returns
-    carried-requires
-    put-values-requires
-    same-length-2
-    returns-2)
+    (tie.spec (λ c. search needs) (λ c κs. search needs) (λ c κs. search needs) (λ c κs. search needs)
+    (λ c. search needs) returns (λ c κs. search needs) (λ c κs. search needs) (λ c. search needs) returns-2)

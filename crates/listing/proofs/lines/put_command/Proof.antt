@@ -9,21 +9,6 @@ use Rattle.listing.specs.Lines.{commandLine}
 use Rattle.listing.proofs.lines.put_command.Statement.{statement}
 use Rattle.listing.proofs.lines.put_command.Tie as tie
 
-letter-requires : tie.Need-letter-requires
-letter-requires c κs = search needs
-
-put-byte-requires : tie.Need-put-byte-requires
-put-byte-requires c κs = search needs
-
-put-arguments-requires : tie.Need-put-arguments-requires
-put-arguments-requires c κs = search needs
-
-put-byte-requires-2 : tie.Need-put-byte-requires-2
-put-byte-requires-2 c κs = search needs
-
-same-length : tie.Need-same-length
-same-length c = search needs
-
 returns : tie.Need-returns
 unfolding commandLine
 returns c =
@@ -35,10 +20,5 @@ returns c =
 pub put-command-spec : {M : Type 1} → statement M
 put-command-spec =
     tie.close
-    (tie.spec
-    letter-requires
-    put-byte-requires
-    put-arguments-requires
-    put-byte-requires-2
-    same-length
-    returns)
+    (tie.spec (λ c κs. search needs) (λ c κs. search needs) (λ c κs. search needs) (λ c κs. search needs)
+    (λ c. search needs) returns)

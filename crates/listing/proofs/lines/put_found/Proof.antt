@@ -7,30 +7,12 @@ use Rattle.listing.specs.Lines.{segmentField}
 use Rattle.listing.proofs.lines.put_found.Statement.{statement}
 use Rattle.listing.proofs.lines.put_found.Tie as tie
 
-put-byte-requires : tie.Need-put-byte-requires
-put-byte-requires c κs = search needs
-
-enum-known-found : tie.Need-enum-known-found
-enum-known-found c = search needs
-
 put-small-requires : tie.Need-put-small-requires
 put-small-requires c κs = (rw (c .before .before .found .given .1) at (c .before .before .before .before .before .before .before .before .before .pre .0), omega arith)
-
-same-length : tie.Need-same-length
-same-length c = search needs
 
 returns : tie.Need-returns
 unfolding segmentField
 returns c = rw (c .before .before .before .before .before .found .given .1) (within-as 4 _ (within-then (one-byte (c .before .before .before .before .before .before .before .before .before .put-byte .ensures)) (c .before .before .put-small .ensures) .put) refl (omega arith))
-
-enum-told : tie.Need-enum-told
-enum-told c = search needs
-
-put-byte-requires-2 : tie.Need-put-byte-requires-2
-put-byte-requires-2 c κs = search needs
-
-same-length-2 : tie.Need-same-length-2
-same-length-2 c = search needs
 
 returns-2 : tie.Need-returns-2
 unfolding segmentField
@@ -39,13 +21,5 @@ returns-2 c = rw (c .before .before .before .before .enum-told .given .1) (withi
 pub put-found-spec : {M : Type 1} → statement M
 put-found-spec =
     tie.close
-    (tie.spec
-    put-byte-requires
-    enum-known-found
-    put-small-requires
-    same-length
-    returns
-    enum-told
-    put-byte-requires-2
-    same-length-2
-    returns-2)
+    (tie.spec (λ c κs. search needs) (λ c. search needs) put-small-requires (λ c. search needs) returns
+    (λ c. search needs) (λ c κs. search needs) (λ c. search needs) returns-2)

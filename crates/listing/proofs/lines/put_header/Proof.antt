@@ -7,18 +7,6 @@ use Rattle.listing.specs.Lines.{headerLine}
 use Rattle.listing.proofs.lines.put_header.Statement.{statement}
 use Rattle.listing.proofs.lines.put_header.Tie as tie
 
-put-word-requires : tie.Need-put-word-requires
-put-word-requires c κs = search needs
-
-put-number-requires : tie.Need-put-number-requires
-put-number-requires c κs = search needs
-
-put-byte-requires : tie.Need-put-byte-requires
-put-byte-requires c κs = search needs
-
-same-length : tie.Need-same-length
-same-length c = search needs
-
 returns : tie.Need-returns
 unfolding headerLine
 returns c = within-as _ _ (put-then (c .before .before .before .before .before .before .before .before .before .before .put-word .ensures) (within-then (c .before .before .before .before .before .before .put-number .ensures) (one-byte (c .before .before .put-byte .ensures)) .put)) refl (omega (arith, c .before .before .before .before .before .before .before .before .before .before .put-word .ensures .past))
@@ -26,4 +14,4 @@ returns c = within-as _ _ (put-then (c .before .before .before .before .before .
 pub put-header-spec : {M : Type 1} → statement M
 put-header-spec =
     tie.close
-    (tie.spec put-word-requires put-number-requires put-byte-requires same-length returns)
+    (tie.spec (λ c κs. search needs) (λ c κs. search needs) (λ c κs. search needs) (λ c. search needs) returns)

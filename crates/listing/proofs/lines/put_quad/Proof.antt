@@ -6,17 +6,10 @@ use Rattle.listing.proofs.Fields.{quad-fields}
 use Rattle.listing.proofs.lines.put_quad.Statement.{statement}
 use Rattle.listing.proofs.lines.put_quad.Tie as tie
 
-put-point-requires : tie.Need-put-point-requires
-put-point-requires c κs = search needs
-
-put-point-requires-2 : tie.Need-put-point-requires-2
-put-point-requires-2 c κs = search needs
-
-same-length : tie.Need-same-length
-same-length c = search needs
-
 returns : tie.Need-returns
 returns c = within-as 36 _ (within-then (c .before .before .before .before .before .before .put-point .ensures) (c .before .before .put-point2 .ensures) .put) (quad-fields _ _) (omega arith)
 
 pub put-quad-spec : {M : Type 1} → statement M
-put-quad-spec = tie.close (tie.spec put-point-requires put-point-requires-2 same-length returns)
+put-quad-spec =
+    tie.close
+    (tie.spec (λ c κs. search needs) (λ c κs. search needs) (λ c. search needs) returns)

@@ -7,22 +7,11 @@ use Rattle.listing.specs.Lines.{segmentLine}
 use Rattle.listing.proofs.lines.put_segment.Statement.{statement}
 use Rattle.listing.proofs.lines.put_segment.Tie as tie
 
-put-kind-requires : tie.Need-put-kind-requires
-put-kind-requires c κs = search needs
-
-put-bits-requires : tie.Need-put-bits-requires
-put-bits-requires c κs = search needs
-
-put-byte-requires : tie.Need-put-byte-requires
-put-byte-requires c κs = search needs
-
-same-length : tie.Need-same-length
-same-length c = search needs
-
 returns : tie.Need-returns
 unfolding segmentLine
 returns c = within-as 18 _ (within-then (c .before .before .before .before .before .before .before .before .before .before .put-kind .ensures) (within-then (c .before .before .before .before .before .before .put-bits .ensures) (one-byte (c .before .before .put-byte .ensures))) .put) refl (omega arith)
 
 pub put-segment-spec : {M : Type 1} → statement M
 put-segment-spec =
-    tie.close (tie.spec put-kind-requires put-bits-requires put-byte-requires same-length returns)
+    tie.close
+    (tie.spec (λ c κs. search needs) (λ c κs. search needs) (λ c κs. search needs) (λ c. search needs) returns)

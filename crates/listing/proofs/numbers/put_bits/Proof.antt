@@ -10,18 +10,6 @@ use Rattle.listing.proofs.Digits.{hex-length}
 use Rattle.listing.proofs.numbers.put_bits.Statement.{statement}
 use Rattle.listing.proofs.numbers.put_bits.Tie as tie
 
-put-byte-requires : tie.Need-put-byte-requires
-put-byte-requires c κs = search needs
-
-bits-requires : tie.Need-bits-requires
-bits-requires c κs = search needs
-
-put-hex-requires : tie.Need-put-hex-requires
-put-hex-requires c κs = search needs
-
-same-length : tie.Need-same-length
-same-length c = search needs
-
 returns : tie.Need-returns
 unfolding bitsField
 returns c =
@@ -30,4 +18,5 @@ returns c =
 
 pub put-bits-spec : {M : Type 1} → statement M
 put-bits-spec =
-    tie.close (tie.spec put-byte-requires bits-requires put-hex-requires same-length returns)
+    tie.close
+    (tie.spec (λ c κs. search needs) (λ c κs. search needs) (λ c κs. search needs) (λ c. search needs) returns)

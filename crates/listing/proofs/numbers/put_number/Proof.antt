@@ -7,14 +7,8 @@ use Rattle.listing.proofs.Digits.{decimal-short}
 use Rattle.listing.proofs.numbers.put_number.Statement.{statement}
 use Rattle.listing.proofs.numbers.put_number.Tie as tie
 
-put-byte-requires : tie.Need-put-byte-requires
-put-byte-requires c κs = search needs
-
 put-decimal-requires : tie.Need-put-decimal-requires
 put-decimal-requires c κs = omega (arith, decimal-short 19 (c .before .before .before .before .before .before .args .value) (omega arith))
-
-same-length : tie.Need-same-length
-same-length c = search needs
 
 returns : tie.Need-returns
 unfolding numberField
@@ -23,4 +17,6 @@ returns c =
     record { put = p; within = omega (arith, p .past, decimal-short 19 (c .before .before .before .before .before .before .before .before .before .args .value) (omega arith)) }
 
 pub put-number-spec : {M : Type 1} → statement M
-put-number-spec = tie.close (tie.spec put-byte-requires put-decimal-requires same-length returns)
+put-number-spec =
+    tie.close
+    (tie.spec (λ c κs. search needs) put-decimal-requires (λ c. search needs) returns)

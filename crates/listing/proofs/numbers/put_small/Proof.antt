@@ -8,11 +8,10 @@ use Rattle.listing.proofs.numbers.put_small.Tie as tie
 put-decimal-requires : tie.Need-put-decimal-requires
 put-decimal-requires c κs = omega (arith, decimal-short 2 (c .before .before .args .value) (omega arith))
 
-same-length : tie.Need-same-length
-same-length c = search needs
-
 returns : tie.Need-returns
 returns c = record { put = c .before .before .put-decimal .ensures; within = omega (arith, c .before .before .put-decimal .ensures .past, decimal-short 2 (c .before .before .before .before .before .args .value) (omega arith)) }
 
 pub put-small-spec : {M : Type 1} → statement M
-put-small-spec = tie.close (tie.spec put-decimal-requires same-length returns)
+put-small-spec =
+    tie.close
+    (tie.spec put-decimal-requires (λ c. search needs) returns)

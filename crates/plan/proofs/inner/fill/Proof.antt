@@ -16,17 +16,8 @@ Inv-loop input start letters₀ numbers₀ reader₀ place₀ at₀ letters numb
 abbrev μ-loop : tie.MeasureT-loop
 μ-loop input start letters₀ numbers₀ reader₀ place₀ at₀ letters numbers reader place at = length (drop start input) - reader .at
 
-fresh-requires : tie.Need-fresh-requires Inv-loop μ-loop
-fresh-requires c κs = search needs
-
 loop-holds : tie.Need-loop-holds Inv-loop μ-loop
 loop-holds c = rw (c .fresh .ensures) (filling-none _ _ _ (c .before .before .before .before .pre))
-
-path-step-requires : tie.Need-path-step-requires Inv-loop μ-loop
-path-step-requires c κs = search needs
-
-enum-told : tie.Need-enum-told Inv-loop μ-loop
-enum-told c = search needs
 
 same-length : tie.Need-same-length Inv-loop μ-loop
 same-length c = same-letters _ _ (c .before .before .before .loop .letters) _ (c .before .before .before .loop .numbers) (c .before .before .before .loop .reader) (c .before .before .before .loop .place) (c .before .before .before .loop .at) (c .before .before .before .loop .inv)
@@ -37,9 +28,6 @@ same-length-2 c = same-numbers _ _ (c .before .before .before .loop .letters) _ 
 returns : tie.Need-returns Inv-loop μ-loop
 returns c = filled _ _ (c .before .before .before .loop .letters) _ (c .before .before .before .loop .numbers) (c .before .before .before .loop .reader) (c .before .before .before .loop .place) (c .before .before .before .loop .at) (c .before .before .before .loop .inv) (step-as _ _ _ _ _ (c .before .before .path-step .ensures) (c .enum-told .given .1))
 
-enum-told-2 : tie.Need-enum-told-2 Inv-loop μ-loop
-enum-told-2 c = search needs
-
 same-length-3 : tie.Need-same-length-3 Inv-loop μ-loop
 same-length-3 c = same-letters _ _ (c .before .before .before .loop .letters) _ (c .before .before .before .loop .numbers) (c .before .before .before .loop .reader) (c .before .before .before .loop .place) (c .before .before .before .loop .at) (c .before .before .before .loop .inv)
 
@@ -49,14 +37,8 @@ same-length-4 c = same-numbers _ _ (c .before .before .before .loop .letters) _ 
 returns-2 : tie.Need-returns-2 Inv-loop μ-loop
 returns-2 c = absurd (never-refused _ _ (c .before .before .before .loop .letters) _ (c .before .before .before .loop .numbers) (c .before .before .before .loop .reader) (c .before .before .before .loop .place) (c .before .before .before .loop .at) (c .before .before .before .loop .inv) _ (step-as _ _ _ _ _ (c .before .before .path-step .ensures) (c .enum-told2 .given .1)))
 
-enum-known-command : tie.Need-enum-known-command Inv-loop μ-loop
-enum-known-command c = search needs
-
 store-requires : tie.Need-store-requires Inv-loop μ-loop
 store-requires c κs = fits _ _ (c .before .before .before .before .before .before .loop .letters) _ (c .before .before .before .before .before .before .loop .numbers) (c .before .before .before .before .before .before .loop .reader) (c .before .before .before .before .before .before .loop .place) (c .before .before .before .before .before .before .loop .at) (c .before .before .before .before .before .before .loop .inv) _ _ (step-as _ _ _ _ _ (c .before .before .before .before .before .path-step .ensures) (c .before .before .before .command .given .1))
-
-width-requires : tie.Need-width-requires Inv-loop μ-loop
-width-requires c κs = search needs
 
 add-at : tie.Need-add-at Inv-loop μ-loop
 add-at c = omega (arith, fits _ _ (c .before .before .before .before .before .before .before .before .before .before .before .before .loop .letters) _ (c .before .before .before .before .before .before .before .before .before .before .before .before .loop .numbers) (c .before .before .before .before .before .before .before .before .before .before .before .before .loop .reader) (c .before .before .before .before .before .before .before .before .before .before .before .before .loop .place) (c .before .before .before .before .before .before .before .before .before .before .before .before .loop .at) (c .before .before .before .before .before .before .before .before .before .before .before .before .loop .inv) _ _ (step-as _ _ _ _ _ (c .before .before .before .before .before .before .before .before .before .before .before .path-step .ensures) (c .before .before .before .before .before .before .before .before .before .command .given .1)), same-numbers _ _ (c .before .before .before .before .before .before .before .before .before .before .before .before .loop .letters) _ (c .before .before .before .before .before .before .before .before .before .before .before .before .loop .numbers) (c .before .before .before .before .before .before .before .before .before .before .before .before .loop .reader) (c .before .before .before .before .before .before .before .before .before .before .before .before .loop .place) (c .before .before .before .before .before .before .before .before .before .before .before .before .loop .at) (c .before .before .before .before .before .before .before .before .before .before .before .before .loop .inv), c .width .ensures, c .before .before .before .before .before .before .before .before .before .before .before .before .before .before .before .before .before)
@@ -73,24 +55,6 @@ loop-again c = filling-more _ _ (c .before .before .before .before .before .befo
 pub fill-spec : {M : Type 1} → statement M
 fill-spec =
     tie.close
-    (tie.spec
-    Inv-loop
-    μ-loop
-    fresh-requires
-    loop-holds
-    path-step-requires
-    enum-told
-    same-length
-    same-length-2
-    returns
-    enum-told-2
-    same-length-3
-    same-length-4
-    returns-2
-    enum-known-command
-    store-requires
-    width-requires
-    add-at
-    add-place
-    loop-less
-    loop-again)
+    (tie.spec Inv-loop μ-loop (λ c κs. search needs) loop-holds (λ c κs. search needs) (λ c. search needs) same-length
+    same-length-2 returns (λ c. search needs) same-length-3 same-length-4 returns-2 (λ c. search needs) store-requires
+    (λ c κs. search needs) add-at add-place loop-less loop-again)

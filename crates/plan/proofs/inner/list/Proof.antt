@@ -14,17 +14,8 @@ Inv-loop input start out₀ from reader₀ at₀ out reader at = Listing (drop s
 abbrev μ-loop : tie.MeasureT-loop
 μ-loop input start out₀ from reader₀ at₀ out reader at = length (drop start input) - reader .at
 
-fresh-requires : tie.Need-fresh-requires Inv-loop μ-loop
-fresh-requires c κs = search needs
-
 loop-holds : tie.Need-loop-holds Inv-loop μ-loop
 loop-holds c = rw (c .fresh .ensures) (listing-none _ _ _ (c .before .before .before .pre .0))
-
-path-step-requires : tie.Need-path-step-requires Inv-loop μ-loop
-path-step-requires c κs = search needs
-
-enum-told : tie.Need-enum-told Inv-loop μ-loop
-enum-told c = search needs
 
 same-length : tie.Need-same-length Inv-loop μ-loop
 same-length c = same-out _ _ (c .before .before .before .loop .out) _ (c .before .before .before .loop .reader) (c .before .before .before .loop .at) (c .before .before .before .loop .inv)
@@ -32,17 +23,11 @@ same-length c = same-out _ _ (c .before .before .before .loop .out) _ (c .before
 returns : tie.Need-returns Inv-loop μ-loop
 returns c = listed _ _ (c .before .before .before .loop .out) _ (c .before .before .before .loop .reader) (c .before .before .before .loop .at) (c .before .before .before .loop .inv) (step-as _ _ _ _ _ (c .before .before .path-step .ensures) (c .enum-told .given .1))
 
-enum-told-2 : tie.Need-enum-told-2 Inv-loop μ-loop
-enum-told-2 c = search needs
-
 same-length-2 : tie.Need-same-length-2 Inv-loop μ-loop
 same-length-2 c = same-out _ _ (c .before .before .before .loop .out) _ (c .before .before .before .loop .reader) (c .before .before .before .loop .at) (c .before .before .before .loop .inv)
 
 returns-2 : tie.Need-returns-2 Inv-loop μ-loop
 returns-2 c = absurd (never-refused _ _ (c .before .before .before .loop .out) _ (c .before .before .before .loop .reader) (c .before .before .before .loop .at) (c .before .before .before .loop .inv) _ (step-as _ _ _ _ _ (c .before .before .path-step .ensures) (c .enum-told2 .given .1)))
-
-enum-known-command : tie.Need-enum-known-command Inv-loop μ-loop
-enum-known-command c = search needs
 
 put-command-requires : tie.Need-put-command-requires Inv-loop μ-loop
 put-command-requires c κs = line-room _ _ (c .before .before .before .before .before .loop .out) _ (c .before .before .before .before .before .loop .reader) (c .before .before .before .before .before .loop .at) (c .before .before .before .before .before .loop .inv) _ _ (step-as _ _ _ _ _ (c .before .before .before .before .path-step .ensures) (c .before .before .command .given .1)) (c .before .before .before .before .before .before .before .before .before .pre .1)
@@ -56,19 +41,5 @@ loop-again c = listing-more _ _ (c .before .before .before .before .before .befo
 pub list-spec : {M : Type 1} → statement M
 list-spec =
     tie.close
-    (tie.spec
-    Inv-loop
-    μ-loop
-    fresh-requires
-    loop-holds
-    path-step-requires
-    enum-told
-    same-length
-    returns
-    enum-told-2
-    same-length-2
-    returns-2
-    enum-known-command
-    put-command-requires
-    loop-less
-    loop-again)
+    (tie.spec Inv-loop μ-loop (λ c κs. search needs) loop-holds (λ c κs. search needs) (λ c. search needs) same-length
+    returns (λ c. search needs) same-length-2 returns-2 (λ c. search needs) put-command-requires loop-less loop-again)

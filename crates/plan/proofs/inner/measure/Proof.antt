@@ -15,32 +15,14 @@ Inv-loop input start reader₀ place₀ at₀ reader place at = Counting (drop s
 abbrev μ-loop : tie.MeasureT-loop
 μ-loop input start reader₀ place₀ at₀ reader place at = length (drop start input) - reader .at
 
-fresh-requires : tie.Need-fresh-requires Inv-loop μ-loop
-fresh-requires c κs = search needs
-
 loop-holds : tie.Need-loop-holds Inv-loop μ-loop
 loop-holds c = rw (c .fresh .ensures) (counting-none _)
-
-path-step-requires : tie.Need-path-step-requires Inv-loop μ-loop
-path-step-requires c κs = search needs
-
-enum-told : tie.Need-enum-told Inv-loop μ-loop
-enum-told c = search needs
 
 returns : tie.Need-returns Inv-loop μ-loop
 returns c = counted _ (c .before .before .before .loop .reader) (c .before .before .before .loop .place) (c .before .before .before .loop .at) (c .before .before .before .loop .inv) (step-as _ _ _ _ _ (c .before .before .path-step .ensures) (c .enum-told .given .1))
 
-enum-known-refusal : tie.Need-enum-known-refusal Inv-loop μ-loop
-enum-known-refusal c = search needs
-
 returns-2 : tie.Need-returns-2 Inv-loop μ-loop
 returns-2 c = uncounted _ (c .before .before .before .before .loop .reader) (c .before .before .before .before .loop .place) (c .before .before .before .before .loop .at) (c .before .before .before .before .loop .inv) _ (step-as _ _ _ _ _ (c .before .before .before .path-step .ensures) (c .before .refusal .given .1))
-
-enum-known-command : tie.Need-enum-known-command Inv-loop μ-loop
-enum-known-command c = search needs
-
-width-requires : tie.Need-width-requires Inv-loop μ-loop
-width-requires c κs = search needs
 
 add-at : tie.Need-add-at Inv-loop μ-loop
 add-at c = let w = counting-within _ (c .before .before .before .before .before .loop .reader) (c .before .before .before .before .before .loop .place) (c .before .before .before .before .before .loop .at) (c .before .before .before .before .before .loop .inv) _ _ (step-as _ _ _ _ _ (c .before .before .before .before .path-step .ensures) (c .before .before .command .given .1)) in omega (arith, c .width .ensures, c .before .before .before .before .before .before .before .before .pre)
@@ -57,19 +39,5 @@ loop-again c = counting-more _ (c .before .before .before .before .before .loop 
 pub measure-spec : {M : Type 1} → statement M
 measure-spec =
     tie.close
-    (tie.spec
-    Inv-loop
-    μ-loop
-    fresh-requires
-    loop-holds
-    path-step-requires
-    enum-told
-    returns
-    enum-known-refusal
-    returns-2
-    enum-known-command
-    width-requires
-    add-at
-    add-place
-    loop-less
-    loop-again)
+    (tie.spec Inv-loop μ-loop (λ c κs. search needs) loop-holds (λ c κs. search needs) (λ c. search needs) returns
+    (λ c. search needs) returns-2 (λ c. search needs) (λ c κs. search needs) add-at add-place loop-less loop-again)

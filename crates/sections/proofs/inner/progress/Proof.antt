@@ -8,9 +8,6 @@ use Rattle.sections.specs.Sections.{progressOf}
 use Rattle.sections.proofs.inner.progress.Statement.{statement}
 use Rattle.sections.proofs.inner.progress.Tie as tie
 
-sub-last : tie.Need-sub-last
-sub-last c = search needs
-
 int-to-float-t4 : tie.Need-int-to-float-t4
 unfolding inFloat
 int-to-float-t4 c = le→leb (c .before .args .number) (2 ^ 24) (search needs)
@@ -24,4 +21,6 @@ unfolding progressOf
 returns c = refl
 
 pub progress-spec : {M : Type 1} → statement M
-progress-spec = tie.close (tie.spec sub-last int-to-float-t4 int-to-float-t5 returns)
+progress-spec =
+    tie.close
+    (tie.spec (λ c. search needs) int-to-float-t4 int-to-float-t5 returns)

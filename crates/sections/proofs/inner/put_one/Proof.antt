@@ -8,31 +8,13 @@ use Rattle.sections.proofs.LinesTo.{segment-few, station-none, station-
 use Rattle.sections.proofs.inner.put_one.Statement.{statement}
 use Rattle.sections.proofs.inner.put_one.Tie as tie
 
-put-station-requires : tie.Need-put-station-requires
-put-station-requires c κs = search needs
-
-same-length : tie.Need-same-length
-same-length c = search needs
-
 returns : tie.Need-returns
 returns c = within-as 44 _ (c .before .before .put-station .ensures .put) (station-none _ _ _ _ _ _ (c .before .before .before .before .if1 .taken)) (c .before .before .put-station .ensures .within)
-
-progress-requires : tie.Need-progress-requires
-progress-requires c κs = search needs
-
-spot-requires : tie.Need-spot-requires
-spot-requires c κs = search needs
-
-flown-requires : tie.Need-flown-requires
-flown-requires c κs = search needs
 
 put-station-requires-2 : tie.Need-put-station-requires-2
 put-station-requires-2 c κs =
     let some : 0 < length (c .before .before .before .before .before .before .before .before .before .before .before .before .args .kinds .now) = omega (arith, c .before .before .before .before .before .before .if1 .left) in
     (omega (arith, c .before .before .before .before .before .before .before .before .before .before .before .before .pre .0 .most, c .before .before .before .before .before .before .before .before .before .before .before .before .pre .1), segment-few _ _ _ _ _ (c .before .before .before .before .before .before .before .before .before .before .before .before .pre .0) some _ _ (c .before .before .before .before .spot .ensures), omega arith)
-
-same-length-2 : tie.Need-same-length-2
-same-length-2 c = search needs
 
 returns-2 : tie.Need-returns-2
 returns-2 c =
@@ -44,13 +26,5 @@ returns-2 c =
 pub put-one-spec : {M : Type 1} → statement M
 put-one-spec =
     tie.close
-    (tie.spec
-    put-station-requires
-    same-length
-    returns
-    progress-requires
-    spot-requires
-    flown-requires
-    put-station-requires-2
-    same-length-2
-    returns-2)
+    (tie.spec (λ c κs. search needs) (λ c. search needs) returns (λ c κs. search needs) (λ c κs. search needs)
+    (λ c κs. search needs) put-station-requires-2 (λ c. search needs) returns-2)

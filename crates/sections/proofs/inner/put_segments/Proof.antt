@@ -19,23 +19,8 @@ abbrev μ-loop : tie.MeasureT-loop
 loop-holds : tie.Need-loop-holds Inv-loop μ-loop
 loop-holds c = (omega arith, to-none _ _ _ _)
 
-shared-slice-read-put-segment : tie.Need-shared-slice-read-put-segment Inv-loop μ-loop
-shared-slice-read-put-segment c = search needs
-
-mul-put-segment : tie.Need-mul-put-segment Inv-loop μ-loop
-mul-put-segment c = search needs
-
-shared-slice-read-put-segment-2 : tie.Need-shared-slice-read-put-segment-2 Inv-loop μ-loop
-shared-slice-read-put-segment-2 c = search needs
-
 put-segment-requires : tie.Need-put-segment-requires Inv-loop μ-loop
 put-segment-requires c κs = omega (arith, to-length _ _ _ _ _ _ _ (c .before .before .before .before .loop .inv .1), c .before .before .before .before .loop .inv .1 .within, c .before .before .before .before .before .before .before .before .pre)
-
-add-k : tie.Need-add-k Inv-loop μ-loop
-add-k c = search needs
-
-loop-less : tie.Need-loop-less Inv-loop μ-loop
-loop-less c = search needs
 
 loop-again : tie.Need-loop-again Inv-loop μ-loop
 loop-again c = (omega arith, to-more _ _ _ _ _ _ _ (c .before .before .before .before .before .before .before .loop .inv .1) _ _ (c .before .before .put-segment .ensures))
@@ -50,16 +35,5 @@ returns c = to-all _ _ _ _ _ _ _ _ (c .before .loop .inv .1) (length (c .before 
 pub put-segments-spec : {M : Type 1} → statement M
 put-segments-spec =
     tie.close
-    (tie.spec
-    Inv-loop
-    μ-loop
-    loop-holds
-    shared-slice-read-put-segment
-    mul-put-segment
-    shared-slice-read-put-segment-2
-    put-segment-requires
-    add-k
-    loop-less
-    loop-again
-    same-length
-    returns)
+    (tie.spec Inv-loop μ-loop loop-holds (λ c. search needs) (λ c. search needs) (λ c. search needs)
+    put-segment-requires (λ c. search needs) (λ c. search needs) loop-again same-length returns)

@@ -20,12 +20,6 @@ put-one-requires : tie.Need-put-one-requires Inv-loop μ-loop
 put-one-requires c κs =
     (c .before .before .before .before .before .before .before .before .pre .0, c .before .loop-test .taken, omega (arith, to-length _ _ _ _ _ _ _ (c .before .before .loop .inv .1), c .before .before .loop .inv .1 .within, c .before .before .before .before .before .before .before .before .pre .0 .most, c .before .before .before .before .before .before .before .before .pre .1))
 
-add-number : tie.Need-add-number Inv-loop μ-loop
-add-number c = search needs
-
-loop-less : tie.Need-loop-less Inv-loop μ-loop
-loop-less c = search needs
-
 loop-again : tie.Need-loop-again Inv-loop μ-loop
 loop-again c = (omega arith, to-more _ _ _ _ _ _ _ (c .before .before .before .before .before .loop .inv .1) _ _ (c .before .before .put-one .ensures))
 
@@ -39,13 +33,5 @@ returns c = to-all _ _ _ _ _ _ _ _ (c .before .loop .inv .1) (c .before .before 
 pub put-stations-spec : {M : Type 1} → statement M
 put-stations-spec =
     tie.close
-    (tie.spec
-    Inv-loop
-    μ-loop
-    loop-holds
-    put-one-requires
-    add-number
-    loop-less
-    loop-again
-    same-length
-    returns)
+    (tie.spec Inv-loop μ-loop loop-holds put-one-requires (λ c. search needs) (λ c. search needs) loop-again
+    same-length returns)

@@ -9,12 +9,6 @@ use Rattle.stations.proofs.Lent.{places-few, held-few, room, sized, len
 use Rattle.stations.proofs.flights.fly.Statement.{statement}
 use Rattle.stations.proofs.flights.fly.Tie as tie
 
-slice-aggregate-fill : tie.Need-slice-aggregate-fill
-slice-aggregate-fill c = search needs
-
-slice-aggregate-fill-2 : tie.Need-slice-aggregate-fill-2
-slice-aggregate-fill-2 c = search needs
-
 fill-requires : tie.Need-fill-requires
 fill-requires c κs =
     let a = c .before .before .before .before .args in
@@ -36,39 +30,15 @@ array-share-prefix-numbers c =
 slice-aggregate-build-listed-2 : tie.Need-slice-aggregate-build-listed-2
 slice-aggregate-build-listed-2 c = sym (length-take-le _ _ (array-share-prefix-numbers (c .before)))
 
-slice-aggregate-build-listed-3 : tie.Need-slice-aggregate-build-listed-3
-slice-aggregate-build-listed-3 c = search needs
-
-slice-aggregate-build-listed-4 : tie.Need-slice-aggregate-build-listed-4
-slice-aggregate-build-listed-4 c = search needs
-
-slice-aggregate-build-listed-5 : tie.Need-slice-aggregate-build-listed-5
-slice-aggregate-build-listed-5 c = search needs
-
-slice-aggregate-build-listed-6 : tie.Need-slice-aggregate-build-listed-6
-slice-aggregate-build-listed-6 c = search needs
-
 build-listed-requires : tie.Need-build-listed-requires
 build-listed-requires c κs =
     let a = c .before .before .before .before .before .before .before .before .before .before .before .before .before .args in
     lent-passes _ _ _ (lent-of (commandsOf (drop (a .start) (a .input .now))) (a .places) (a .held) (c .before .before .before .before .before .before .before .before .before .before .before .before .before .pre .0) _ _ _ _ (c .before .before .before .before .before .before .before .before .fill .ensures))
 
-enum-known-refusal : tie.Need-enum-known-refusal
-enum-known-refusal c = search needs
-
-put-refusal-requires : tie.Need-put-refusal-requires
-put-refusal-requires c κs = search needs
-
-same-length : tie.Need-same-length
-same-length c = search needs
-
 returns : tie.Need-returns
 returns c =
     let a = c .before .before .before .before .before .before .before .before .before .before .before .before .before .before .before .before .before .before .before .before .before .before .before .before .before .args in
     unbuilt _ _ _ (lent-of (commandsOf (drop (a .start) (a .input .now))) (a .places) (a .held) (c .before .before .before .before .before .before .before .before .before .before .before .before .before .before .before .before .before .before .before .before .before .before .before .before .before .pre .0) _ _ _ _ (c .before .before .before .before .before .before .before .before .before .before .before .before .before .before .before .before .before .before .before .before .fill .ensures)) _ _ _ _ _ _ _ _ _ (c .before .before .before .before .before .before .before .before .before .before .before .build-listed .ensures) (slice-aggregate-build-listed-3 (c .before .before .before .before .before .before .before .before .before .before .before .before .before .before .before)) (slice-aggregate-build-listed-4 (c .before .before .before .before .before .before .before .before .before .before .before .before .before .before)) (slice-aggregate-build-listed-5 (c .before .before .before .before .before .before .before .before .before .before .before .before .before)) (slice-aggregate-build-listed-6 (c .before .before .before .before .before .before .before .before .before .before .before .before)) _ (c .before .before .before .before .before .refusal .given .1) _ _ _ _ (c .before .before .put-refusal .ensures)
-
-enum-known-segments : tie.Need-enum-known-segments
-enum-known-segments c = search needs
 
 array-share-prefix-kinds : tie.Need-array-share-prefix-kinds
 array-share-prefix-kinds c =
@@ -113,9 +83,6 @@ print-requires c κs =
     let s = c .before .before .before .before .before .before .before .before .before .before .before .before .before .before .before .before .before .before .before .before .before .before .before .before .before .before .pre in
     (sized (commandsOf (drop (a .start) (a .input .now))) (a .places) (a .held) (s .0), ready _ _ _ k _ _ _ _ (flight _ _ _ k _ _ _ _ _ _ _ _ _ (c .before .before .before .before .before .before .before .before .before .before .before .before .build-listed .ensures) (slice-aggregate-build-listed-3 (c .before .before .before .before .before .before .before .before .before .before .before .before .before .before .before .before)) (slice-aggregate-build-listed-4 (c .before .before .before .before .before .before .before .before .before .before .before .before .before .before .before)) (slice-aggregate-build-listed-5 (c .before .before .before .before .before .before .before .before .before .before .before .before .before .before)) (slice-aggregate-build-listed-6 (c .before .before .before .before .before .before .before .before .before .before .before .before .before)) _ _ _ (c .before .before .before .before .before .before .segments .given .1)) (a .count) (s .1) (s .2), omega (arith, s .3))
 
-same-length-2 : tie.Need-same-length-2
-same-length-2 c = search needs
-
 returns-2 : tie.Need-returns-2
 returns-2 c =
     let a = c .before .before .before .before .before .before .before .before .before .before .before .before .before .before .before .before .before .before .before .before .before .before .before .before .before .before .before .before .before .args in
@@ -125,32 +92,10 @@ returns-2 c =
 pub fly-spec : {M : Type 1} → statement M
 fly-spec =
     tie.close
-    (tie.spec
-    slice-aggregate-fill
-    slice-aggregate-fill-2
-    fill-requires
-    array-share-prefix-letters
-    slice-aggregate-build-listed
-    array-share-prefix-numbers
-    slice-aggregate-build-listed-2
-    slice-aggregate-build-listed-3
-    slice-aggregate-build-listed-4
-    slice-aggregate-build-listed-5
-    slice-aggregate-build-listed-6
-    build-listed-requires
-    enum-known-refusal
-    put-refusal-requires
-    same-length
-    returns
-    enum-known-segments
-    array-share-prefix-kinds
-    slice-aggregate-print
-    array-share-prefix-fields
-    slice-aggregate-print-2
-    array-share-prefix-tables
-    slice-aggregate-print-3
-    array-share-prefix-lengths
-    slice-aggregate-print-4
-    print-requires
-    same-length-2
+    (tie.spec (λ c. search needs) (λ c. search needs) fill-requires array-share-prefix-letters
+    slice-aggregate-build-listed array-share-prefix-numbers slice-aggregate-build-listed-2 (λ c. search needs)
+    (λ c. search needs) (λ c. search needs) (λ c. search needs) build-listed-requires (λ c. search needs)
+    (λ c κs. search needs) (λ c. search needs) returns (λ c. search needs) array-share-prefix-kinds
+    slice-aggregate-print array-share-prefix-fields slice-aggregate-print-2 array-share-prefix-tables
+    slice-aggregate-print-3 array-share-prefix-lengths slice-aggregate-print-4 print-requires (λ c. search needs)
     returns-2)

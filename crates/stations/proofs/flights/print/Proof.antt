@@ -8,19 +8,10 @@ use Rattle.stations.proofs.Printing.{few-commands, listed-within, print
 use Rattle.stations.proofs.flights.print.Statement.{statement}
 use Rattle.stations.proofs.flights.print.Tie as tie
 
-slice-aggregate-put-header : tie.Need-slice-aggregate-put-header
-slice-aggregate-put-header c = search needs
-
-put-header-requires : tie.Need-put-header-requires
-put-header-requires c κs = search needs
-
 list-requires : tie.Need-list-requires
 list-requires c κs =
     let a = c .before .before .before .before .before .before .before .before .before .before .before .before .args in
     (few-commands (commandsOf (drop (a .start) (a .input .now))) (a .places) (c .before .before .before .before .before .before .before .before .before .before .before .before .pre .0), omega (arith, c .before .before .before .put-header .ensures .within, put-length (c .before .before .before .put-header .ensures .put), c .before .before .before .before .before .before .before .before .before .before .before .before .pre .2))
-
-slice-aggregate-put-header-2 : tie.Need-slice-aggregate-put-header-2
-slice-aggregate-put-header-2 c = search needs
 
 put-header-requires-2 : tie.Need-put-header-requires-2
 put-header-requires-2 c κs =
@@ -35,9 +26,6 @@ put-segments-requires c κs =
     let ready = c .before .before .before .before .before .before .before .before .before .before .before .before .before .before .before .before .before .before .before .before .before .pre .1 in
     (ready .stored .one, ready .few, omega (arith, w, c .before .before .before .put-header2 .ensures .within, put-length (c .before .before .before .put-header2 .ensures .put), c .before .before .before .before .before .before .before .before .before .before .before .before .put-header .ensures .within, put-length (c .before .before .before .before .before .before .before .before .before .before .before .before .put-header .ensures .put), c .before .before .before .before .before .before .before .before .before .before .before .before .before .before .before .before .before .before .before .before .before .pre .2))
 
-slice-aggregate-put-header-3 : tie.Need-slice-aggregate-put-header-3
-slice-aggregate-put-header-3 c = search needs
-
 put-header-requires-3 : tie.Need-put-header-requires-3
 put-header-requires-3 c κs =
     let a = c .before .before .before .before .before .before .before .before .before .before .before .before .before .before .before .before .before .before .before .before .before .before .before .before .before .before .args in
@@ -50,9 +38,6 @@ put-stations-requires c κs =
     let w = listed-within (commandsOf (drop (a .start) (a .input .now))) _ _ _ _ (c .before .before .before .before .before .before .before .before .before .before .before .before .before .before .before .before .before .list .ensures) in
     (c .before .before .before .before .before .before .before .before .before .before .before .before .before .before .before .before .before .before .before .before .before .before .before .before .before .before .before .before .before .before .pre .1, omega (arith, w, c .before .before .before .put-header3 .ensures .within, put-length (c .before .before .before .put-header3 .ensures .put), c .before .before .before .before .before .before .before .before .put-segments .ensures .within, put-length (c .before .before .before .before .before .before .before .before .put-segments .ensures .put), c .before .before .before .before .before .before .before .before .before .before .before .before .put-header2 .ensures .within, put-length (c .before .before .before .before .before .before .before .before .before .before .before .before .put-header2 .ensures .put), c .before .before .before .before .before .before .before .before .before .before .before .before .before .before .before .before .before .before .before .before .before .put-header .ensures .within, put-length (c .before .before .before .before .before .before .before .before .before .before .before .before .before .before .before .before .before .before .before .before .before .put-header .ensures .put), c .before .before .before .before .before .before .before .before .before .before .before .before .before .before .before .before .before .before .before .before .before .before .before .before .before .before .before .before .before .before .pre .2))
 
-same-length : tie.Need-same-length
-same-length c = search needs
-
 returns : tie.Need-returns
 returns c =
     let a = c .before .before .before .before .before .before .before .before .before .before .before .before .before .before .before .before .before .before .before .before .before .before .before .before .before .before .before .before .before .before .before .before .before .args in
@@ -61,15 +46,5 @@ returns c =
 pub print-spec : {M : Type 1} → statement M
 print-spec =
     tie.close
-    (tie.spec
-    slice-aggregate-put-header
-    put-header-requires
-    list-requires
-    slice-aggregate-put-header-2
-    put-header-requires-2
-    put-segments-requires
-    slice-aggregate-put-header-3
-    put-header-requires-3
-    put-stations-requires
-    same-length
-    returns)
+    (tie.spec (λ c. search needs) (λ c κs. search needs) list-requires (λ c. search needs) put-header-requires-2
+    put-segments-requires (λ c. search needs) put-header-requires-3 put-stations-requires (λ c. search needs) returns)

@@ -6,31 +6,13 @@ use Rattle.stations.proofs.Telling.{line-refused, line-asked}
 use Rattle.stations.proofs.plans.tell.Statement.{statement}
 use Rattle.stations.proofs.plans.tell.Tie as tie
 
-first-line-requires : tie.Need-first-line-requires
-first-line-requires c κs = search needs
-
-enum-known-reason : tie.Need-enum-known-reason
-enum-known-reason c = search needs
-
-put-refusal-requires : tie.Need-put-refusal-requires
-put-refusal-requires c κs = search needs
-
-same-length : tie.Need-same-length
-same-length c = search needs
-
 returns : tie.Need-returns
 returns c = line-refused _ _ _ _ _ (c .before .before .before .before .before .before .before .first-line .ensures) _ (c .before .before .before .before .before .reason .given .1) (c .before .before .put-refusal .ensures)
-
-enum-known-count : tie.Need-enum-known-count
-enum-known-count c = search needs
 
 answer-requires : tie.Need-answer-requires
 answer-requires c κs =
     let a = asked _ _ _ 0 (sym (c .before .before .before .before .first-line .ensures) ∙ c .before .before .count .given .1) in
     (a .inside, a .least, a .most, c .before .before .before .before .before .before .before .pre)
-
-same-length-2 : tie.Need-same-length-2
-same-length-2 c = search needs
 
 returns-2 : tie.Need-returns-2
 returns-2 c = line-asked _ _ _ _ _ (c .before .before .before .before .before .before .before .first-line .ensures) _ _ (c .before .before .before .before .before .count .given .1) (c .before .before .answer .ensures)
@@ -38,13 +20,5 @@ returns-2 c = line-asked _ _ _ _ _ (c .before .before .before .before .before .b
 pub tell-spec : {M : Type 1} → statement M
 tell-spec =
     tie.close
-    (tie.spec
-    first-line-requires
-    enum-known-reason
-    put-refusal-requires
-    same-length
-    returns
-    enum-known-count
-    answer-requires
-    same-length-2
-    returns-2)
+    (tie.spec (λ c κs. search needs) (λ c. search needs) (λ c κs. search needs) (λ c. search needs) returns
+    (λ c. search needs) answer-requires (λ c. search needs) returns-2)

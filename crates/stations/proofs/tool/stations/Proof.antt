@@ -7,14 +7,10 @@ use Rattle.stations.proofs.tool.stations.Tie as tie
 returns : tie.Need-returns
 returns c = told-short _ _ (c .if1 .taken)
 
-tell-requires : tie.Need-tell-requires
-tell-requires c κs = search needs
-
-same-length : tie.Need-same-length
-same-length c = search needs
-
 returns-2 : tie.Need-returns-2
 returns-2 c = told-whole _ _ _ _ (c .before .before .before .before .if1 .left) (c .before .before .tell .ensures)
 
 pub stations-spec : {M : Type 1} → statement M
-stations-spec = tie.close (tie.spec returns tell-requires same-length returns-2)
+stations-spec =
+    tie.close
+    (tie.spec returns (λ c κs. search needs) (λ c. search needs) returns-2)
