@@ -5,24 +5,13 @@ use Rattle.kihavute.proofs.NumberGiven.{text-long, text-fits}
 use Rattle.kihavute.proofs.decimals.kihavute_number.Statement.{statement}
 use Rattle.kihavute.proofs.decimals.kihavute_number.Tie as tie
 
-refuse-requires : tie.Need-refuse-requires
-refuse-requires c κs = search needs
-
-same-length : tie.Need-same-length
-same-length c = search needs
-
 returns : tie.Need-returns
 returns c = given-same _ _ (text-long (c .before .before .before .before .before .before .before .args .text .now) (c .before .before .before .before .if1 .taken)) (c .before .before .refuse .ensures)
-
-read-requires : tie.Need-read-requires
-read-requires c κs = search needs
-
-same-length-2 : tie.Need-same-length-2
-same-length-2 c = search needs
 
 returns-2 : tie.Need-returns-2
 returns-2 c = given-same _ _ (text-fits (c .before .before .before .before .before .before .before .args .text .now) (c .before .before .before .before .if1 .left)) (c .before .before .read .ensures)
 
 pub kihavute-number-spec : {M : Type 1} → statement M
 kihavute-number-spec =
-    tie.close (tie.spec refuse-requires same-length returns read-requires same-length-2 returns-2)
+    tie.close
+    (tie.spec (λ c κs. search needs) (λ c. search needs) returns (λ c κs. search needs) (λ c. search needs) returns-2)

@@ -5,14 +5,10 @@ use Rattle.floats.specs.Floats.{bitsOf}
 use Rattle.kihavute.proofs.numbers.kihavute_clamp.Statement.{statement}
 use Rattle.kihavute.proofs.numbers.kihavute_clamp.Tie as tie
 
-clamp-requires : tie.Need-clamp-requires
-clamp-requires c κs = search needs
-
-bits-requires : tie.Need-bits-requires
-bits-requires c κs = search needs
-
 returns : tie.Need-returns
 returns c = c .bits .ensures ∙ ap bitsOf (c .before .clamp .ensures)
 
 pub kihavute-clamp-spec : {M : Type 1} → statement M
-kihavute-clamp-spec = tie.close (tie.spec clamp-requires bits-requires returns)
+kihavute-clamp-spec =
+    tie.close
+    (tie.spec (λ c κs. search needs) (λ c κs. search needs) returns)

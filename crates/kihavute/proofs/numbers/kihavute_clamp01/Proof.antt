@@ -5,14 +5,10 @@ use Rattle.floats.specs.Floats.{bitsOf}
 use Rattle.kihavute.proofs.numbers.kihavute_clamp01.Statement.{statement}
 use Rattle.kihavute.proofs.numbers.kihavute_clamp01.Tie as tie
 
-clamp01-requires : tie.Need-clamp01-requires
-clamp01-requires c κs = search needs
-
-bits-requires : tie.Need-bits-requires
-bits-requires c κs = search needs
-
 returns : tie.Need-returns
 returns c = c .bits .ensures ∙ ap bitsOf (c .before .clamp01 .ensures)
 
 pub kihavute-clamp01-spec : {M : Type 1} → statement M
-kihavute-clamp01-spec = tie.close (tie.spec clamp01-requires bits-requires returns)
+kihavute-clamp01-spec =
+    tie.close
+    (tie.spec (λ c κs. search needs) (λ c κs. search needs) returns)

@@ -5,14 +5,10 @@ use Rattle.floats.specs.Floats.{bitsOf}
 use Rattle.kihavute.proofs.numbers.kihavute_deg_to_rad.Statement.{statement}
 use Rattle.kihavute.proofs.numbers.kihavute_deg_to_rad.Tie as tie
 
-deg-to-rad-requires : tie.Need-deg-to-rad-requires
-deg-to-rad-requires c κs = search needs
-
-bits-requires : tie.Need-bits-requires
-bits-requires c κs = search needs
-
 returns : tie.Need-returns
 returns c = c .bits .ensures ∙ ap bitsOf (c .before .deg-to-rad .ensures)
 
 pub kihavute-deg-to-rad-spec : {M : Type 1} → statement M
-kihavute-deg-to-rad-spec = tie.close (tie.spec deg-to-rad-requires bits-requires returns)
+kihavute-deg-to-rad-spec =
+    tie.close
+    (tie.spec (λ c κs. search needs) (λ c κs. search needs) returns)

@@ -5,14 +5,10 @@ use Rattle.floats.specs.Floats.{bitsOf}
 use Rattle.kihavute.proofs.numbers.kihavute_rad_to_deg.Statement.{statement}
 use Rattle.kihavute.proofs.numbers.kihavute_rad_to_deg.Tie as tie
 
-rad-to-deg-requires : tie.Need-rad-to-deg-requires
-rad-to-deg-requires c κs = search needs
-
-bits-requires : tie.Need-bits-requires
-bits-requires c κs = search needs
-
 returns : tie.Need-returns
 returns c = c .bits .ensures ∙ ap bitsOf (c .before .rad-to-deg .ensures)
 
 pub kihavute-rad-to-deg-spec : {M : Type 1} → statement M
-kihavute-rad-to-deg-spec = tie.close (tie.spec rad-to-deg-requires bits-requires returns)
+kihavute-rad-to-deg-spec =
+    tie.close
+    (tie.spec (λ c κs. search needs) (λ c κs. search needs) returns)

@@ -4,14 +4,10 @@ use mathlib.Core.Path.{_∙_}
 use Rattle.kihavute.proofs.numbers.kihavute_sqrt.Statement.{statement}
 use Rattle.kihavute.proofs.numbers.kihavute_sqrt.Tie as tie
 
-sqrt-requires : tie.Need-sqrt-requires
-sqrt-requires c κs = search needs
-
-tidy-requires : tie.Need-tidy-requires
-tidy-requires c κs = search needs
-
 returns : tie.Need-returns
 returns c = c .tidy .ensures ∙ c .before .sqrt .ensures
 
 pub kihavute-sqrt-spec : {M : Type 1} → statement M
-kihavute-sqrt-spec = tie.close (tie.spec sqrt-requires tidy-requires returns)
+kihavute-sqrt-spec =
+    tie.close
+    (tie.spec (λ c κs. search needs) (λ c κs. search needs) returns)

@@ -5,14 +5,10 @@ use Rattle.kihavute.specs.Pair.{pairOf}
 use Rattle.kihavute.proofs.points.kihavute_add.Statement.{statement}
 use Rattle.kihavute.proofs.points.kihavute_add.Tie as tie
 
-add-requires : tie.Need-add-requires
-add-requires c κs = search needs
-
-pair-requires : tie.Need-pair-requires
-pair-requires c κs = search needs
-
 returns : tie.Need-returns
 returns c = c .pair .ensures ∙ ap pairOf (c .before .add .ensures)
 
 pub kihavute-add-spec : {M : Type 1} → statement M
-kihavute-add-spec = tie.close (tie.spec add-requires pair-requires returns)
+kihavute-add-spec =
+    tie.close
+    (tie.spec (λ c κs. search needs) (λ c κs. search needs) returns)

@@ -5,14 +5,10 @@ use Rattle.floats.specs.Floats.{bitsOf}
 use Rattle.kihavute.proofs.points.kihavute_distance.Statement.{statement}
 use Rattle.kihavute.proofs.points.kihavute_distance.Tie as tie
 
-distance-requires : tie.Need-distance-requires
-distance-requires c κs = search needs
-
-bits-requires : tie.Need-bits-requires
-bits-requires c κs = search needs
-
 returns : tie.Need-returns
 returns c = c .bits .ensures ∙ ap bitsOf (c .before .distance .ensures)
 
 pub kihavute-distance-spec : {M : Type 1} → statement M
-kihavute-distance-spec = tie.close (tie.spec distance-requires bits-requires returns)
+kihavute-distance-spec =
+    tie.close
+    (tie.spec (λ c κs. search needs) (λ c κs. search needs) returns)

@@ -5,14 +5,10 @@ use Rattle.floats.specs.Floats.{bitsOf}
 use Rattle.kihavute.proofs.points.kihavute_dot.Statement.{statement}
 use Rattle.kihavute.proofs.points.kihavute_dot.Tie as tie
 
-dot-requires : tie.Need-dot-requires
-dot-requires c κs = search needs
-
-bits-requires : tie.Need-bits-requires
-bits-requires c κs = search needs
-
 returns : tie.Need-returns
 returns c = c .bits .ensures ∙ ap bitsOf (c .before .dot .ensures)
 
 pub kihavute-dot-spec : {M : Type 1} → statement M
-kihavute-dot-spec = tie.close (tie.spec dot-requires bits-requires returns)
+kihavute-dot-spec =
+    tie.close
+    (tie.spec (λ c κs. search needs) (λ c κs. search needs) returns)

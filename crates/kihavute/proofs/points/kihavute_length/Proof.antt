@@ -5,14 +5,10 @@ use Rattle.floats.specs.Floats.{bitsOf}
 use Rattle.kihavute.proofs.points.kihavute_length.Statement.{statement}
 use Rattle.kihavute.proofs.points.kihavute_length.Tie as tie
 
-length-requires : tie.Need-length-requires
-length-requires c κs = search needs
-
-bits-requires : tie.Need-bits-requires
-bits-requires c κs = search needs
-
 returns : tie.Need-returns
 returns c = c .bits .ensures ∙ ap bitsOf (c .before .length .ensures)
 
 pub kihavute-length-spec : {M : Type 1} → statement M
-kihavute-length-spec = tie.close (tie.spec length-requires bits-requires returns)
+kihavute-length-spec =
+    tie.close
+    (tie.spec (λ c κs. search needs) (λ c κs. search needs) returns)

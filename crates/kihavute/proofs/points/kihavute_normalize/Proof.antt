@@ -5,14 +5,10 @@ use Rattle.kihavute.specs.Pair.{pairOf}
 use Rattle.kihavute.proofs.points.kihavute_normalize.Statement.{statement}
 use Rattle.kihavute.proofs.points.kihavute_normalize.Tie as tie
 
-normalize-requires : tie.Need-normalize-requires
-normalize-requires c κs = search needs
-
-pair-requires : tie.Need-pair-requires
-pair-requires c κs = search needs
-
 returns : tie.Need-returns
 returns c = c .pair .ensures ∙ ap pairOf (c .before .normalize .ensures)
 
 pub kihavute-normalize-spec : {M : Type 1} → statement M
-kihavute-normalize-spec = tie.close (tie.spec normalize-requires pair-requires returns)
+kihavute-normalize-spec =
+    tie.close
+    (tie.spec (λ c κs. search needs) (λ c κs. search needs) returns)

@@ -5,14 +5,10 @@ use Rattle.kihavute.specs.Pair.{pairOf}
 use Rattle.kihavute.proofs.points.kihavute_scale.Statement.{statement}
 use Rattle.kihavute.proofs.points.kihavute_scale.Tie as tie
 
-scale-requires : tie.Need-scale-requires
-scale-requires c κs = search needs
-
-pair-requires : tie.Need-pair-requires
-pair-requires c κs = search needs
-
 returns : tie.Need-returns
 returns c = c .pair .ensures ∙ ap pairOf (c .before .scale .ensures)
 
 pub kihavute-scale-spec : {M : Type 1} → statement M
-kihavute-scale-spec = tie.close (tie.spec scale-requires pair-requires returns)
+kihavute-scale-spec =
+    tie.close
+    (tie.spec (λ c κs. search needs) (λ c κs. search needs) returns)

@@ -5,14 +5,10 @@ use Rattle.kihavute.specs.Pair.{pairOf}
 use Rattle.kihavute.proofs.points.kihavute_sub.Statement.{statement}
 use Rattle.kihavute.proofs.points.kihavute_sub.Tie as tie
 
-sub-requires : tie.Need-sub-requires
-sub-requires c κs = search needs
-
-pair-requires : tie.Need-pair-requires
-pair-requires c κs = search needs
-
 returns : tie.Need-returns
 returns c = c .pair .ensures ∙ ap pairOf (c .before .sub .ensures)
 
 pub kihavute-sub-spec : {M : Type 1} → statement M
-kihavute-sub-spec = tie.close (tie.spec sub-requires pair-requires returns)
+kihavute-sub-spec =
+    tie.close
+    (tie.spec (λ c κs. search needs) (λ c κs. search needs) returns)

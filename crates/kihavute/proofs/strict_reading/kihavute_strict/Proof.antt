@@ -21,36 +21,6 @@ same-report {before = before} number values p =
       places = p .places ∙ ap (λ (v : Values). cond (short before) before (written (listed v) before)) values;
     }
 
-strict-requires : tie.Need-strict-requires
-strict-requires c κs = search needs
-
-enum-told : tie.Need-enum-told
-enum-told c = search needs
-
-report-requires : tie.Need-report-requires
-report-requires c κs = search needs
-
-enum-told-2 : tie.Need-enum-told-2
-enum-told-2 c = search needs
-
-report-requires-2 : tie.Need-report-requires-2
-report-requires-2 c κs = search needs
-
-enum-known-refusal : tie.Need-enum-known-refusal
-enum-known-refusal c = search needs
-
-number-requires : tie.Need-number-requires
-number-requires c κs = search needs
-
-carried-requires : tie.Need-carried-requires
-carried-requires c κs = search needs
-
-report-requires-3 : tie.Need-report-requires-3
-report-requires-3 c κs = search needs
-
-same-length : tie.Need-same-length
-same-length c = search needs
-
 returns : tie.Need-returns
 returns c =
     let found = c .before .before .before .before .before .before in
@@ -60,9 +30,6 @@ returns c =
       reported = c .before .before .report .ensures;
     }
 
-same-length-2 : tie.Need-same-length-2
-same-length-2 c = search needs
-
 returns-2 : tie.Need-returns-2
 returns-2 c =
     let found = c .before .before .before .before .before .before in
@@ -71,9 +38,6 @@ returns-2 c =
       judged = subst (λ (v : Verdict). Judged (found .before .before .before .args .text .now) (answerOf v)) (c .before .before .before .before .enum-told2 .given .1) (found .strict .ensures);
       reported = c .before .before .report2 .ensures;
     }
-
-same-length-3 : tie.Need-same-length-3
-same-length-3 c = search needs
 
 returns-3 : tie.Need-returns-3
 returns-3 c =
@@ -90,19 +54,6 @@ returns-3 c =
 pub kihavute-strict-spec : {M : Type 1} → statement M
 kihavute-strict-spec =
     tie.close
-    (tie.spec
-    strict-requires
-    enum-told
-    report-requires
-    enum-told-2
-    report-requires-2
-    enum-known-refusal
-    number-requires
-    carried-requires
-    report-requires-3
-    same-length
-    returns
-    same-length-2
-    returns-2
-    same-length-3
-    returns-3)
+    (tie.spec (λ c κs. search needs) (λ c. search needs) (λ c κs. search needs) (λ c. search needs)
+    (λ c κs. search needs) (λ c. search needs) (λ c κs. search needs) (λ c κs. search needs) (λ c κs. search needs)
+    (λ c. search needs) returns (λ c. search needs) returns-2 (λ c. search needs) returns-3)

@@ -4,14 +4,10 @@ use mathlib.Core.Path.{_∙_}
 use Rattle.kihavute.proofs.turns.kihavute_atan2.Statement.{statement}
 use Rattle.kihavute.proofs.turns.kihavute_atan2.Tie as tie
 
-atan2-requires : tie.Need-atan2-requires
-atan2-requires c κs = search needs
-
-tidy-requires : tie.Need-tidy-requires
-tidy-requires c κs = search needs
-
 returns : tie.Need-returns
 returns c = c .tidy .ensures ∙ c .before .atan2 .ensures
 
 pub kihavute-atan2-spec : {M : Type 1} → statement M
-kihavute-atan2-spec = tie.close (tie.spec atan2-requires tidy-requires returns)
+kihavute-atan2-spec =
+    tie.close
+    (tie.spec (λ c κs. search needs) (λ c κs. search needs) returns)

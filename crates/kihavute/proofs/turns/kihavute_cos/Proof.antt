@@ -4,14 +4,10 @@ use mathlib.Core.Path.{_∙_}
 use Rattle.kihavute.proofs.turns.kihavute_cos.Statement.{statement}
 use Rattle.kihavute.proofs.turns.kihavute_cos.Tie as tie
 
-cos-requires : tie.Need-cos-requires
-cos-requires c κs = search needs
-
-tidy-requires : tie.Need-tidy-requires
-tidy-requires c κs = search needs
-
 returns : tie.Need-returns
 returns c = c .tidy .ensures ∙ c .before .cos .ensures
 
 pub kihavute-cos-spec : {M : Type 1} → statement M
-kihavute-cos-spec = tie.close (tie.spec cos-requires tidy-requires returns)
+kihavute-cos-spec =
+    tie.close
+    (tie.spec (λ c κs. search needs) (λ c κs. search needs) returns)

@@ -5,14 +5,10 @@ use Rattle.floats.specs.Floats.{bitsOf}
 use Rattle.kihavute.proofs.turns.kihavute_rotation_deg.Statement.{statement}
 use Rattle.kihavute.proofs.turns.kihavute_rotation_deg.Tie as tie
 
-rotation-deg-requires : tie.Need-rotation-deg-requires
-rotation-deg-requires c κs = search needs
-
-bits-requires : tie.Need-bits-requires
-bits-requires c κs = search needs
-
 returns : tie.Need-returns
 returns c = c .bits .ensures ∙ ap bitsOf (c .before .rotation-deg .ensures)
 
 pub kihavute-rotation-deg-spec : {M : Type 1} → statement M
-kihavute-rotation-deg-spec = tie.close (tie.spec rotation-deg-requires bits-requires returns)
+kihavute-rotation-deg-spec =
+    tie.close
+    (tie.spec (λ c κs. search needs) (λ c κs. search needs) returns)

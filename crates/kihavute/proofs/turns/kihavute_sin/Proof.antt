@@ -4,14 +4,10 @@ use mathlib.Core.Path.{_∙_}
 use Rattle.kihavute.proofs.turns.kihavute_sin.Statement.{statement}
 use Rattle.kihavute.proofs.turns.kihavute_sin.Tie as tie
 
-sin-requires : tie.Need-sin-requires
-sin-requires c κs = search needs
-
-tidy-requires : tie.Need-tidy-requires
-tidy-requires c κs = search needs
-
 returns : tie.Need-returns
 returns c = c .tidy .ensures ∙ c .before .sin .ensures
 
 pub kihavute-sin-spec : {M : Type 1} → statement M
-kihavute-sin-spec = tie.close (tie.spec sin-requires tidy-requires returns)
+kihavute-sin-spec =
+    tie.close
+    (tie.spec (λ c κs. search needs) (λ c κs. search needs) returns)

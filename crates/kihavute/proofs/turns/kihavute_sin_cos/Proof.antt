@@ -8,16 +8,12 @@ use Rattle.kihavute.specs.Pair.{pairOf}
 use Rattle.kihavute.proofs.turns.kihavute_sin_cos.Statement.{statement}
 use Rattle.kihavute.proofs.turns.kihavute_sin_cos.Tie as tie
 
-sin-cos-requires : tie.Need-sin-cos-requires
-sin-cos-requires c κs = search needs
-
-pair-requires : tie.Need-pair-requires
-pair-requires c κs = search needs
-
 returns : tie.Need-returns
 returns c =
     let both = c .before .sin-cos .ensures in
     c .pair .ensures ∙ ap (λ (x : Float). pairOf (pointOf x (c .before .sin-cos .result .sin))) (both .1) ∙ ap (λ (y : Float). pairOf (pointOf (cosineOf (c .before .before .args .angle)) y)) (both .0)
 
 pub kihavute-sin-cos-spec : {M : Type 1} → statement M
-kihavute-sin-cos-spec = tie.close (tie.spec sin-cos-requires pair-requires returns)
+kihavute-sin-cos-spec =
+    tie.close
+    (tie.spec (λ c κs. search needs) (λ c κs. search needs) returns)

@@ -8,18 +8,6 @@ use Rattle.kihavute_curves.proofs.Asked.{asked-given}
 use Rattle.kihavute_curves.proofs.arcs.kihavute_arc_length.Statement.{statement}
 use Rattle.kihavute_curves.proofs.arcs.kihavute_arc_length.Tie as tie
 
-made-requires : tie.Need-made-requires
-made-requires c κs = search needs
-
-arc-length-requires : tie.Need-arc-length-requires
-arc-length-requires c κs = search needs
-
-measure-requires : tie.Need-measure-requires
-measure-requires c κs = search needs
-
-same-length : tie.Need-same-length
-same-length c = search needs
-
 returns : tie.Need-returns
 returns c =
     let given = c .before .before in
@@ -29,4 +17,5 @@ returns c =
 
 pub kihavute-arc-length-spec : {M : Type 1} → statement M
 kihavute-arc-length-spec =
-    tie.close (tie.spec made-requires arc-length-requires measure-requires same-length returns)
+    tie.close
+    (tie.spec (λ c κs. search needs) (λ c κs. search needs) (λ c κs. search needs) (λ c. search needs) returns)

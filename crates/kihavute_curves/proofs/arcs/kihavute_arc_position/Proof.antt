@@ -8,18 +8,6 @@ use Rattle.kihavute_curves.proofs.Asked.{asked-given}
 use Rattle.kihavute_curves.proofs.arcs.kihavute_arc_position.Statement.{statement}
 use Rattle.kihavute_curves.proofs.arcs.kihavute_arc_position.Tie as tie
 
-made-requires : tie.Need-made-requires
-made-requires c κs = search needs
-
-arc-position-requires : tie.Need-arc-position-requires
-arc-position-requires c κs = search needs
-
-place-requires : tie.Need-place-requires
-place-requires c κs = search needs
-
-same-length : tie.Need-same-length
-same-length c = search needs
-
 returns : tie.Need-returns
 returns c =
     let given = c .before .before in
@@ -29,4 +17,5 @@ returns c =
 
 pub kihavute-arc-position-spec : {M : Type 1} → statement M
 kihavute-arc-position-spec =
-    tie.close (tie.spec made-requires arc-position-requires place-requires same-length returns)
+    tie.close
+    (tie.spec (λ c κs. search needs) (λ c κs. search needs) (λ c κs. search needs) (λ c. search needs) returns)

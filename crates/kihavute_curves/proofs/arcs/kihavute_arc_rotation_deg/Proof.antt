@@ -8,18 +8,6 @@ use Rattle.kihavute_curves.proofs.Asked.{asked-given}
 use Rattle.kihavute_curves.proofs.arcs.kihavute_arc_rotation_deg.Statement.{statement}
 use Rattle.kihavute_curves.proofs.arcs.kihavute_arc_rotation_deg.Tie as tie
 
-made-requires : tie.Need-made-requires
-made-requires c κs = search needs
-
-arc-rotation-deg-requires : tie.Need-arc-rotation-deg-requires
-arc-rotation-deg-requires c κs = search needs
-
-turn-requires : tie.Need-turn-requires
-turn-requires c κs = search needs
-
-same-length : tie.Need-same-length
-same-length c = search needs
-
 returns : tie.Need-returns
 returns c =
     let given = c .before .before in
@@ -29,4 +17,5 @@ returns c =
 
 pub kihavute-arc-rotation-deg-spec : {M : Type 1} → statement M
 kihavute-arc-rotation-deg-spec =
-    tie.close (tie.spec made-requires arc-rotation-deg-requires turn-requires same-length returns)
+    tie.close
+    (tie.spec (λ c κs. search needs) (λ c κs. search needs) (λ c κs. search needs) (λ c. search needs) returns)

@@ -11,27 +11,6 @@ use Rattle.kihavute_curves.specs.Arcs.{fellBack, heldTable}
 use Rattle.kihavute_curves.proofs.arcs.kihavute_arc_table.Statement.{statement}
 use Rattle.kihavute_curves.proofs.arcs.kihavute_arc_table.Tie as tie
 
-made-requires : tie.Need-made-requires
-made-requires c κs = search needs
-
-table-numbers-requires : tie.Need-table-numbers-requires
-table-numbers-requires c κs = search needs
-
-array-share-prefix-numbers : tie.Need-array-share-prefix-numbers
-array-share-prefix-numbers c = search needs
-
-slice-aggregate-fill : tie.Need-slice-aggregate-fill
-slice-aggregate-fill c = search needs
-
-fill-requires : tie.Need-fill-requires
-fill-requires c κs = search needs
-
-same-length : tie.Need-same-length
-same-length c = search needs
-
-same-length-2 : tie.Need-same-length-2
-same-length-2 c = search needs
-
 returns : tie.Need-returns
 returns c =
     let filled = c .before .before .before .before in
@@ -39,18 +18,6 @@ returns c =
     let listed = tested .before in
     let made = listed .before .before in
     filled-made (λ (m : MadeArc). m .verdict) (λ (m : MadeArc). fellBack m ∷ []) heldTable (made .made .ensures) (ap (λ (b : Bool). cond b 1 0 ∷ []) (sym (tested .if1 .taken))) (ap (λ (b : Bool). cond b [] (tableNumbers (made .made .result .arc .table))) (sym (tested .if1 .taken))) (filled .fill .ensures)
-
-slice-aggregate-fill-2 : tie.Need-slice-aggregate-fill-2
-slice-aggregate-fill-2 c = search needs
-
-fill-requires-2 : tie.Need-fill-requires-2
-fill-requires-2 c κs = search needs
-
-same-length-3 : tie.Need-same-length-3
-same-length-3 c = search needs
-
-same-length-4 : tie.Need-same-length-4
-same-length-4 c = search needs
 
 returns-2 : tie.Need-returns-2
 returns-2 c =
@@ -63,17 +30,6 @@ returns-2 c =
 pub kihavute-arc-table-spec : {M : Type 1} → statement M
 kihavute-arc-table-spec =
     tie.close
-    (tie.spec
-    made-requires
-    table-numbers-requires
-    array-share-prefix-numbers
-    slice-aggregate-fill
-    fill-requires
-    same-length
-    same-length-2
-    returns
-    slice-aggregate-fill-2
-    fill-requires-2
-    same-length-3
-    same-length-4
-    returns-2)
+    (tie.spec (λ c κs. search needs) (λ c κs. search needs) (λ c. search needs) (λ c. search needs)
+    (λ c κs. search needs) (λ c. search needs) (λ c. search needs) returns (λ c. search needs) (λ c κs. search needs)
+    (λ c. search needs) (λ c. search needs) returns-2)

@@ -8,18 +8,6 @@ use Rattle.kihavute_curves.proofs.Asked.{asked-given}
 use Rattle.kihavute_curves.proofs.arcs.kihavute_line_length.Statement.{statement}
 use Rattle.kihavute_curves.proofs.arcs.kihavute_line_length.Tie as tie
 
-line-requires : tie.Need-line-requires
-line-requires c κs = search needs
-
-line-length-requires : tie.Need-line-length-requires
-line-length-requires c κs = search needs
-
-measure-requires : tie.Need-measure-requires
-measure-requires c κs = search needs
-
-same-length : tie.Need-same-length
-same-length c = search needs
-
 returns : tie.Need-returns
 returns c =
     let given = c .before .before in
@@ -29,4 +17,5 @@ returns c =
 
 pub kihavute-line-length-spec : {M : Type 1} → statement M
 kihavute-line-length-spec =
-    tie.close (tie.spec line-requires line-length-requires measure-requires same-length returns)
+    tie.close
+    (tie.spec (λ c κs. search needs) (λ c κs. search needs) (λ c κs. search needs) (λ c. search needs) returns)

@@ -10,18 +10,6 @@ use Rattle.kihavute_curves.proofs.Asked.{asked-given}
 use Rattle.kihavute_curves.proofs.arcs.kihavute_line_rotation_deg.Statement.{statement}
 use Rattle.kihavute_curves.proofs.arcs.kihavute_line_rotation_deg.Tie as tie
 
-line-requires : tie.Need-line-requires
-line-requires c κs = search needs
-
-line-rotation-deg-requires : tie.Need-line-rotation-deg-requires
-line-rotation-deg-requires c κs = search needs
-
-turn-requires : tie.Need-turn-requires
-turn-requires c κs = search needs
-
-same-length : tie.Need-same-length
-same-length c = search needs
-
 returns : tie.Need-returns
 returns c =
     let given = c .before .before in
@@ -31,4 +19,5 @@ returns c =
 
 pub kihavute-line-rotation-deg-spec : {M : Type 1} → statement M
 kihavute-line-rotation-deg-spec =
-    tie.close (tie.spec line-requires line-rotation-deg-requires turn-requires same-length returns)
+    tie.close
+    (tie.spec (λ c κs. search needs) (λ c κs. search needs) (λ c κs. search needs) (λ c. search needs) returns)

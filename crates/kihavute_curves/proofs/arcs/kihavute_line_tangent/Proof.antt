@@ -10,18 +10,6 @@ use Rattle.kihavute_curves.proofs.Asked.{asked-given}
 use Rattle.kihavute_curves.proofs.arcs.kihavute_line_tangent.Statement.{statement}
 use Rattle.kihavute_curves.proofs.arcs.kihavute_line_tangent.Tie as tie
 
-line-requires : tie.Need-line-requires
-line-requires c κs = search needs
-
-line-tangent-requires : tie.Need-line-tangent-requires
-line-tangent-requires c κs = search needs
-
-place-requires : tie.Need-place-requires
-place-requires c κs = search needs
-
-same-length : tie.Need-same-length
-same-length c = search needs
-
 returns : tie.Need-returns
 returns c =
     let given = c .before .before in
@@ -31,4 +19,5 @@ returns c =
 
 pub kihavute-line-tangent-spec : {M : Type 1} → statement M
 kihavute-line-tangent-spec =
-    tie.close (tie.spec line-requires line-tangent-requires place-requires same-length returns)
+    tie.close
+    (tie.spec (λ c κs. search needs) (λ c κs. search needs) (λ c κs. search needs) (λ c. search needs) returns)

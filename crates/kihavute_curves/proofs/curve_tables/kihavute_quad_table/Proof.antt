@@ -8,24 +8,6 @@ use Rattle.filling.proofs.FilledCases.{filled-made}
 use Rattle.kihavute_curves.proofs.curve_tables.kihavute_quad_table.Statement.{statement}
 use Rattle.kihavute_curves.proofs.curve_tables.kihavute_quad_table.Tie as tie
 
-quad-requires : tie.Need-quad-requires
-quad-requires c κs = search needs
-
-table-numbers-requires : tie.Need-table-numbers-requires
-table-numbers-requires c κs = search needs
-
-slice-aggregate-fill : tie.Need-slice-aggregate-fill
-slice-aggregate-fill c = search needs
-
-fill-requires : tie.Need-fill-requires
-fill-requires c κs = search needs
-
-same-length : tie.Need-same-length
-same-length c = search needs
-
-same-length-2 : tie.Need-same-length-2
-same-length-2 c = search needs
-
 returns : tie.Need-returns
 returns c =
     let filled = c .before .before .before .before in
@@ -35,11 +17,5 @@ returns c =
 pub kihavute-quad-table-spec : {M : Type 1} → statement M
 kihavute-quad-table-spec =
     tie.close
-    (tie.spec
-    quad-requires
-    table-numbers-requires
-    slice-aggregate-fill
-    fill-requires
-    same-length
-    same-length-2
-    returns)
+    (tie.spec (λ c κs. search needs) (λ c κs. search needs) (λ c. search needs) (λ c κs. search needs)
+    (λ c. search needs) (λ c. search needs) returns)

@@ -5,18 +5,6 @@ use Rattle.kihavute_curves.proofs.CurvesGiven.{cubic-rotation-given}
 use Rattle.kihavute_curves.proofs.curves.kihavute_cubic_rotation_deg.Statement.{statement}
 use Rattle.kihavute_curves.proofs.curves.kihavute_cubic_rotation_deg.Tie as tie
 
-cubic-requires : tie.Need-cubic-requires
-cubic-requires c κs = search needs
-
-cubic-rotation-deg-requires : tie.Need-cubic-rotation-deg-requires
-cubic-rotation-deg-requires c κs = search needs
-
-turn-requires : tie.Need-turn-requires
-turn-requires c κs = search needs
-
-same-length : tie.Need-same-length
-same-length c = search needs
-
 returns : tie.Need-returns
 returns c =
     let given = c .before .before in
@@ -26,4 +14,4 @@ returns c =
 pub kihavute-cubic-rotation-deg-spec : {M : Type 1} → statement M
 kihavute-cubic-rotation-deg-spec =
     tie.close
-    (tie.spec cubic-requires cubic-rotation-deg-requires turn-requires same-length returns)
+    (tie.spec (λ c κs. search needs) (λ c κs. search needs) (λ c κs. search needs) (λ c. search needs) returns)

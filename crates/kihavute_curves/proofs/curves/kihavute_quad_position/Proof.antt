@@ -5,18 +5,6 @@ use Rattle.kihavute_curves.proofs.CurvesGiven.{quad-position-given}
 use Rattle.kihavute_curves.proofs.curves.kihavute_quad_position.Statement.{statement}
 use Rattle.kihavute_curves.proofs.curves.kihavute_quad_position.Tie as tie
 
-quad-requires : tie.Need-quad-requires
-quad-requires c κs = search needs
-
-quad-position-requires : tie.Need-quad-position-requires
-quad-position-requires c κs = search needs
-
-place-requires : tie.Need-place-requires
-place-requires c κs = search needs
-
-same-length : tie.Need-same-length
-same-length c = search needs
-
 returns : tie.Need-returns
 returns c =
     let given = c .before .before in
@@ -25,4 +13,5 @@ returns c =
 
 pub kihavute-quad-position-spec : {M : Type 1} → statement M
 kihavute-quad-position-spec =
-    tie.close (tie.spec quad-requires quad-position-requires place-requires same-length returns)
+    tie.close
+    (tie.spec (λ c κs. search needs) (λ c κs. search needs) (λ c κs. search needs) (λ c. search needs) returns)

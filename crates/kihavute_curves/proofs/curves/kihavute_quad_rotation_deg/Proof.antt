@@ -5,18 +5,6 @@ use Rattle.kihavute_curves.proofs.CurvesGiven.{quad-rotation-given}
 use Rattle.kihavute_curves.proofs.curves.kihavute_quad_rotation_deg.Statement.{statement}
 use Rattle.kihavute_curves.proofs.curves.kihavute_quad_rotation_deg.Tie as tie
 
-quad-requires : tie.Need-quad-requires
-quad-requires c κs = search needs
-
-quad-rotation-deg-requires : tie.Need-quad-rotation-deg-requires
-quad-rotation-deg-requires c κs = search needs
-
-turn-requires : tie.Need-turn-requires
-turn-requires c κs = search needs
-
-same-length : tie.Need-same-length
-same-length c = search needs
-
 returns : tie.Need-returns
 returns c =
     let given = c .before .before in
@@ -25,4 +13,5 @@ returns c =
 
 pub kihavute-quad-rotation-deg-spec : {M : Type 1} → statement M
 kihavute-quad-rotation-deg-spec =
-    tie.close (tie.spec quad-requires quad-rotation-deg-requires turn-requires same-length returns)
+    tie.close
+    (tie.spec (λ c κs. search needs) (λ c κs. search needs) (λ c κs. search needs) (λ c. search needs) returns)

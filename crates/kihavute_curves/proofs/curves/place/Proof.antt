@@ -6,28 +6,10 @@ use Rattle.kihavute_curves.proofs.CurvesGiven.{allowed-accepted, allowe
 use Rattle.kihavute_curves.proofs.curves.place.Statement.{statement}
 use Rattle.kihavute_curves.proofs.curves.place.Tie as tie
 
-enum-told : tie.Need-enum-told
-enum-told c = search needs
-
-give-place-requires : tie.Need-give-place-requires
-give-place-requires c κs = search needs
-
-enum-known-verdict : tie.Need-enum-known-verdict
-enum-known-verdict c = search needs
-
-refuse-requires : tie.Need-refuse-requires
-refuse-requires c κs = search needs
-
-same-length : tie.Need-same-length
-same-length c = search needs
-
 returns : tie.Need-returns
 returns c =
     let given = c .before .before in
     given-same _ _ (allowed-accepted _ _ (sym (given .before .before .enum-told .given .1))) (given .give-place .ensures)
-
-same-length-2 : tie.Need-same-length-2
-same-length-2 c = search needs
 
 returns-2 : tie.Need-returns-2
 returns-2 c =
@@ -37,12 +19,5 @@ returns-2 c =
 pub place-spec : {M : Type 1} → statement M
 place-spec =
     tie.close
-    (tie.spec
-    enum-told
-    give-place-requires
-    enum-known-verdict
-    refuse-requires
-    same-length
-    returns
-    same-length-2
-    returns-2)
+    (tie.spec (λ c. search needs) (λ c κs. search needs) (λ c. search needs) (λ c κs. search needs)
+    (λ c. search needs) returns (λ c. search needs) returns-2)

@@ -6,18 +6,10 @@ use Rattle.kihavute_curves.specs.Splines.{measureGiven}
 use Rattle.kihavute_curves.proofs.splines.kihavute_spline_length.Statement.{statement}
 use Rattle.kihavute_curves.proofs.splines.kihavute_spline_length.Tie as tie
 
-spline-length-requires : tie.Need-spline-length-requires
-spline-length-requires c κs = search needs
-
-give-length-requires : tie.Need-give-length-requires
-give-length-requires c κs = search needs
-
-same-length : tie.Need-same-length
-same-length c = search needs
-
 returns : tie.Need-returns
 returns c = given-same _ _ (ap measureGiven (c .before .before .before .before .spline-length .ensures)) (c .before .before .give-length .ensures)
 
 pub kihavute-spline-length-spec : {M : Type 1} → statement M
 kihavute-spline-length-spec =
-    tie.close (tie.spec spline-length-requires give-length-requires same-length returns)
+    tie.close
+    (tie.spec (λ c κs. search needs) (λ c κs. search needs) (λ c. search needs) returns)

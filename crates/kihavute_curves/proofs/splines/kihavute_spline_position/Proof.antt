@@ -6,18 +6,10 @@ use Rattle.giving.proofs.Giving.{given-same}
 use Rattle.kihavute_curves.proofs.splines.kihavute_spline_position.Statement.{statement}
 use Rattle.kihavute_curves.proofs.splines.kihavute_spline_position.Tie as tie
 
-spline-position-requires : tie.Need-spline-position-requires
-spline-position-requires c κs = search needs
-
-give-place-requires : tie.Need-give-place-requires
-give-place-requires c κs = search needs
-
-same-length : tie.Need-same-length
-same-length c = search needs
-
 returns : tie.Need-returns
 returns c = given-same _ _ (ap placeGiven (c .before .before .before .before .spline-position .ensures)) (c .before .before .give-place .ensures)
 
 pub kihavute-spline-position-spec : {M : Type 1} → statement M
 kihavute-spline-position-spec =
-    tie.close (tie.spec spline-position-requires give-place-requires same-length returns)
+    tie.close
+    (tie.spec (λ c κs. search needs) (λ c κs. search needs) (λ c. search needs) returns)

@@ -7,28 +7,10 @@ use Rattle.kihavute_curves.proofs.splines.kihavute_spline_table.Tie as 
 returns : tie.Need-returns
 returns c = short-given _ _ _ (c .if1 .taken)
 
-spline-table-requires : tie.Need-spline-table-requires
-spline-table-requires c κs = search needs
-
-give-count-requires : tie.Need-give-count-requires
-give-count-requires c κs = search needs
-
-same-length : tie.Need-same-length
-same-length c = search needs
-
-same-length-2 : tie.Need-same-length-2
-same-length-2 c = search needs
-
 returns-2 : tie.Need-returns-2
 returns-2 c = stored-given _ _ _ (c .before .before .before .before .before .before .before .before .if1 .left) _ _ _ _ (c .before .before .before .before .before .before .spline-table .ensures) (c .before .before .give-count .ensures)
 
 pub kihavute-spline-table-spec : {M : Type 1} → statement M
 kihavute-spline-table-spec =
     tie.close
-    (tie.spec
-    returns
-    spline-table-requires
-    give-count-requires
-    same-length
-    same-length-2
-    returns-2)
+    (tie.spec returns (λ c κs. search needs) (λ c κs. search needs) (λ c. search needs) (λ c. search needs) returns-2)

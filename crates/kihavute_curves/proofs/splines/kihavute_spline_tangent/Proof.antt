@@ -6,18 +6,10 @@ use Rattle.giving.proofs.Giving.{given-same}
 use Rattle.kihavute_curves.proofs.splines.kihavute_spline_tangent.Statement.{statement}
 use Rattle.kihavute_curves.proofs.splines.kihavute_spline_tangent.Tie as tie
 
-spline-tangent-requires : tie.Need-spline-tangent-requires
-spline-tangent-requires c κs = search needs
-
-give-place-requires : tie.Need-give-place-requires
-give-place-requires c κs = search needs
-
-same-length : tie.Need-same-length
-same-length c = search needs
-
 returns : tie.Need-returns
 returns c = given-same _ _ (ap placeGiven (c .before .before .before .before .spline-tangent .ensures)) (c .before .before .give-place .ensures)
 
 pub kihavute-spline-tangent-spec : {M : Type 1} → statement M
 kihavute-spline-tangent-spec =
-    tie.close (tie.spec spline-tangent-requires give-place-requires same-length returns)
+    tie.close
+    (tie.spec (λ c κs. search needs) (λ c κs. search needs) (λ c. search needs) returns)

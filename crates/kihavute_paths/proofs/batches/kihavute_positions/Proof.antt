@@ -7,18 +7,6 @@ use Rattle.kihavute_paths.proofs.batches.kihavute_positions.Tie as tie
 returns : tie.Need-returns
 returns c = no-positions _ _ _ _ _ _ _ (c .if1 .taken)
 
-positions-requires : tie.Need-positions-requires
-positions-requires c κs = search needs
-
-give-batch-requires : tie.Need-give-batch-requires
-give-batch-requires c κs = search needs
-
-same-length : tie.Need-same-length
-same-length c = search needs
-
-same-length-2 : tie.Need-same-length-2
-same-length-2 c = search needs
-
 returns-2 : tie.Need-returns-2
 returns-2 c =
     let given = c .before .before in
@@ -28,10 +16,4 @@ returns-2 c =
 pub kihavute-positions-spec : {M : Type 1} → statement M
 kihavute-positions-spec =
     tie.close
-    (tie.spec
-    returns
-    positions-requires
-    give-batch-requires
-    same-length
-    same-length-2
-    returns-2)
+    (tie.spec returns (λ c κs. search needs) (λ c κs. search needs) (λ c. search needs) (λ c. search needs) returns-2)

@@ -7,28 +7,10 @@ use Rattle.kihavute_paths.proofs.listings.kihavute_stations.Tie as tie
 returns : tie.Need-returns
 returns c = not-listed _ _ _ (c .if1 .taken)
 
-refuse-requires : tie.Need-refuse-requires
-refuse-requires c κs = search needs
-
-same-length : tie.Need-same-length
-same-length c = search needs
-
 returns-2 : tie.Need-returns-2
 returns-2 c =
     let a = c .before .before .before .before .before .before .before .before .before .args in
     no-room (a .input .now) (a .output .now) (a .answer .now) _ _ (c .before .before .before .before .before .if1 .left) (c .before .before .before .before .if2 .taken) (c .before .before .refuse .ensures)
-
-stations-requires : tie.Need-stations-requires
-stations-requires c κs = search needs
-
-accept-requires : tie.Need-accept-requires
-accept-requires c κs = search needs
-
-same-length-2 : tie.Need-same-length-2
-same-length-2 c = search needs
-
-same-length-3 : tie.Need-same-length-3
-same-length-3 c = search needs
 
 returns-3 : tie.Need-returns-3
 returns-3 c =
@@ -38,13 +20,5 @@ returns-3 c =
 pub kihavute-stations-spec : {M : Type 1} → statement M
 kihavute-stations-spec =
     tie.close
-    (tie.spec
-    returns
-    refuse-requires
-    same-length
-    returns-2
-    stations-requires
-    accept-requires
-    same-length-2
-    same-length-3
-    returns-3)
+    (tie.spec returns (λ c κs. search needs) (λ c. search needs) returns-2 (λ c κs. search needs)
+    (λ c κs. search needs) (λ c. search needs) (λ c. search needs) returns-3)

@@ -6,18 +6,10 @@ use Rattle.kihavute_paths.specs.Morphs.{boundsGiven}
 use Rattle.kihavute_paths.proofs.morphs.kihavute_bounds.Statement.{statement}
 use Rattle.kihavute_paths.proofs.morphs.kihavute_bounds.Tie as tie
 
-bounds-at-requires : tie.Need-bounds-at-requires
-bounds-at-requires c κs = search needs
-
-give-bounds-requires : tie.Need-give-bounds-requires
-give-bounds-requires c κs = search needs
-
-same-length : tie.Need-same-length
-same-length c = search needs
-
 returns : tie.Need-returns
 returns c = given-same _ _ (ap boundsGiven (c .before .before .before .before .bounds-at .ensures)) (c .before .before .give-bounds .ensures)
 
 pub kihavute-bounds-spec : {M : Type 1} → statement M
 kihavute-bounds-spec =
-    tie.close (tie.spec bounds-at-requires give-bounds-requires same-length returns)
+    tie.close
+    (tie.spec (λ c κs. search needs) (λ c κs. search needs) (λ c. search needs) returns)

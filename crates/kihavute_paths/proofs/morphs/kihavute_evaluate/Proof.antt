@@ -7,28 +7,10 @@ use Rattle.kihavute_paths.proofs.morphs.kihavute_evaluate.Tie as tie
 returns : tie.Need-returns
 returns c = put-short _ _ _ (c .if1 .taken)
 
-evaluate-requires : tie.Need-evaluate-requires
-evaluate-requires c κs = search needs
-
-give-evaluated-requires : tie.Need-give-evaluated-requires
-give-evaluated-requires c κs = search needs
-
-same-length : tie.Need-same-length
-same-length c = search needs
-
-same-length-2 : tie.Need-same-length-2
-same-length-2 c = search needs
-
 returns-2 : tie.Need-returns-2
 returns-2 c = put-evaluated (c .before .before .before .before .before .before .before .before .before .before .before .before .before .args .answer .now) _ _ (c .before .before .before .before .before .before .before .before .if1 .left) _ _ _ (c .before .before .before .before .before .before .before .before .before .before .before .before .before .args .out .now) _ _ (c .before .before .before .before .before .before .evaluate .ensures) (c .before .before .give-evaluated .ensures)
 
 pub kihavute-evaluate-spec : {M : Type 1} → statement M
 kihavute-evaluate-spec =
     tie.close
-    (tie.spec
-    returns
-    evaluate-requires
-    give-evaluated-requires
-    same-length
-    same-length-2
-    returns-2)
+    (tie.spec returns (λ c κs. search needs) (λ c κs. search needs) (λ c. search needs) (λ c. search needs) returns-2)

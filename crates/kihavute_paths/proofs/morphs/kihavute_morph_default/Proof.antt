@@ -7,32 +7,11 @@ use Rattle.kihavute_paths.proofs.morphs.kihavute_morph_default.Tie as t
 returns : tie.Need-returns
 returns c = put-two-short _ _ _ _ (c .if1 .taken)
 
-morph-default-requires : tie.Need-morph-default-requires
-morph-default-requires c κs = search needs
-
-give-morphed-requires : tie.Need-give-morphed-requires
-give-morphed-requires c κs = search needs
-
-same-length : tie.Need-same-length
-same-length c = search needs
-
-same-length-2 : tie.Need-same-length-2
-same-length-2 c = search needs
-
-same-length-3 : tie.Need-same-length-3
-same-length-3 c = search needs
-
 returns-2 : tie.Need-returns-2
 returns-2 c = put-morphed (c .before .before .before .before .before .before .before .before .before .before .before .before .before .before .before .before .before .args .answer .now) _ _ (c .before .before .before .before .before .before .before .before .before .before .before .if1 .left) _ _ _ (c .before .before .before .before .before .before .before .before .before .before .before .before .before .before .before .before .before .args .out-from .now) (c .before .before .before .before .before .before .before .before .before .before .before .before .before .before .before .before .before .args .out-to .now) _ _ _ (c .before .before .before .before .before .before .before .before .morph-default .ensures) (c .before .before .give-morphed .ensures)
 
 pub kihavute-morph-default-spec : {M : Type 1} → statement M
 kihavute-morph-default-spec =
     tie.close
-    (tie.spec
-    returns
-    morph-default-requires
-    give-morphed-requires
-    same-length
-    same-length-2
-    same-length-3
-    returns-2)
+    (tie.spec returns (λ c κs. search needs) (λ c κs. search needs) (λ c. search needs) (λ c. search needs)
+    (λ c. search needs) returns-2)

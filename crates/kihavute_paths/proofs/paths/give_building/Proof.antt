@@ -6,28 +6,10 @@ use Rattle.kihavute_paths.proofs.PathsGiven.{building-given, building-r
 use Rattle.kihavute_paths.proofs.paths.give_building.Statement.{statement}
 use Rattle.kihavute_paths.proofs.paths.give_building.Tie as tie
 
-enum-known-building : tie.Need-enum-known-building
-enum-known-building c = search needs
-
-accept-requires : tie.Need-accept-requires
-accept-requires c κs = search needs
-
-enum-known-building-2 : tie.Need-enum-known-building-2
-enum-known-building-2 c = search needs
-
-refuse-requires : tie.Need-refuse-requires
-refuse-requires c κs = search needs
-
-same-length : tie.Need-same-length
-same-length c = search needs
-
 returns : tie.Need-returns
 returns c =
     let given = c .before .before in
     given-same _ _ (building-given _ _ _ _ (sym (given .before .before .before .building .given .1))) (given .accept .ensures)
-
-same-length-2 : tie.Need-same-length-2
-same-length-2 c = search needs
 
 returns-2 : tie.Need-returns-2
 returns-2 c =
@@ -37,12 +19,5 @@ returns-2 c =
 pub give-building-spec : {M : Type 1} → statement M
 give-building-spec =
     tie.close
-    (tie.spec
-    enum-known-building
-    accept-requires
-    enum-known-building-2
-    refuse-requires
-    same-length
-    returns
-    same-length-2
-    returns-2)
+    (tie.spec (λ c. search needs) (λ c κs. search needs) (λ c. search needs) (λ c κs. search needs)
+    (λ c. search needs) returns (λ c. search needs) returns-2)

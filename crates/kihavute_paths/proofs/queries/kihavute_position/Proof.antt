@@ -6,18 +6,10 @@ use Rattle.giving.proofs.Giving.{given-same}
 use Rattle.kihavute_paths.proofs.queries.kihavute_position.Statement.{statement}
 use Rattle.kihavute_paths.proofs.queries.kihavute_position.Tie as tie
 
-position-requires : tie.Need-position-requires
-position-requires c κs = search needs
-
-give-place-requires : tie.Need-give-place-requires
-give-place-requires c κs = search needs
-
-same-length : tie.Need-same-length
-same-length c = search needs
-
 returns : tie.Need-returns
 returns c = let given = c .before .before in given-same _ _ (ap placeGiven (given .before .before .position .ensures)) (given .give-place .ensures)
 
 pub kihavute-position-spec : {M : Type 1} → statement M
 kihavute-position-spec =
-    tie.close (tie.spec position-requires give-place-requires same-length returns)
+    tie.close
+    (tie.spec (λ c κs. search needs) (λ c κs. search needs) (λ c. search needs) returns)

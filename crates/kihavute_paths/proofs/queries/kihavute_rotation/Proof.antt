@@ -6,18 +6,10 @@ use Rattle.giving.proofs.Giving.{given-same}
 use Rattle.kihavute_paths.proofs.queries.kihavute_rotation.Statement.{statement}
 use Rattle.kihavute_paths.proofs.queries.kihavute_rotation.Tie as tie
 
-rotation-deg-requires : tie.Need-rotation-deg-requires
-rotation-deg-requires c κs = search needs
-
-give-turn-requires : tie.Need-give-turn-requires
-give-turn-requires c κs = search needs
-
-same-length : tie.Need-same-length
-same-length c = search needs
-
 returns : tie.Need-returns
 returns c = let given = c .before .before in given-same _ _ (ap turnGiven (given .before .before .rotation-deg .ensures)) (given .give-turn .ensures)
 
 pub kihavute-rotation-spec : {M : Type 1} → statement M
 kihavute-rotation-spec =
-    tie.close (tie.spec rotation-deg-requires give-turn-requires same-length returns)
+    tie.close
+    (tie.spec (λ c κs. search needs) (λ c κs. search needs) (λ c. search needs) returns)

@@ -6,23 +6,8 @@ use borrow.Author.Needs.{needs}
 use Rattle.kihavute_paths.proofs.stored_paths.kihavute_check.Statement.{statement}
 use Rattle.kihavute_paths.proofs.stored_paths.kihavute_check.Tie as tie
 
-check-path-requires : tie.Need-check-path-requires
-check-path-requires c κs = search needs
-
-accept-requires : tie.Need-accept-requires
-accept-requires c κs = search needs
-
-same-length : tie.Need-same-length
-same-length c = search needs
-
 returns : tie.Need-returns
 returns c = given-same _ _ (check-yes _ _ _ _ (sym (c .before .before .before .before .before .check-path .ensures) ∙ c .before .before .before .before .if1 .taken)) (c .before .before .accept .ensures)
-
-refuse-requires : tie.Need-refuse-requires
-refuse-requires c κs = search needs
-
-same-length-2 : tie.Need-same-length-2
-same-length-2 c = search needs
 
 returns-2 : tie.Need-returns-2
 returns-2 c = given-same _ _ (check-no _ _ _ _ (sym (c .before .before .before .before .before .check-path .ensures) ∙ c .before .before .before .before .if1 .left)) (c .before .before .refuse .ensures)
@@ -30,11 +15,5 @@ returns-2 c = given-same _ _ (check-no _ _ _ _ (sym (c .before .before .before .
 pub kihavute-check-spec : {M : Type 1} → statement M
 kihavute-check-spec =
     tie.close
-    (tie.spec
-    check-path-requires
-    accept-requires
-    same-length
-    returns
-    refuse-requires
-    same-length-2
-    returns-2)
+    (tie.spec (λ c κs. search needs) (λ c κs. search needs) (λ c. search needs) returns (λ c κs. search needs)
+    (λ c. search needs) returns-2)

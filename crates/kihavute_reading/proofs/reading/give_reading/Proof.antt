@@ -6,28 +6,10 @@ use Rattle.kihavute_reading.proofs.ReadingGiven.{reading-given, reading
 use Rattle.kihavute_reading.proofs.reading.give_reading.Statement.{statement}
 use Rattle.kihavute_reading.proofs.reading.give_reading.Tie as tie
 
-enum-known-reading : tie.Need-enum-known-reading
-enum-known-reading c = search needs
-
-accept-requires : tie.Need-accept-requires
-accept-requires c κs = search needs
-
-enum-known-reading-2 : tie.Need-enum-known-reading-2
-enum-known-reading-2 c = search needs
-
-refuse-requires : tie.Need-refuse-requires
-refuse-requires c κs = search needs
-
-same-length : tie.Need-same-length
-same-length c = search needs
-
 returns : tie.Need-returns
 returns c =
     let given = c .before .before in
     given-same _ _ (reading-given _ _ _ (sym (given .before .before .before .reading .given .1))) (given .accept .ensures)
-
-same-length-2 : tie.Need-same-length-2
-same-length-2 c = search needs
 
 returns-2 : tie.Need-returns-2
 returns-2 c =
@@ -37,12 +19,5 @@ returns-2 c =
 pub give-reading-spec : {M : Type 1} → statement M
 give-reading-spec =
     tie.close
-    (tie.spec
-    enum-known-reading
-    accept-requires
-    enum-known-reading-2
-    refuse-requires
-    same-length
-    returns
-    same-length-2
-    returns-2)
+    (tie.spec (λ c. search needs) (λ c κs. search needs) (λ c. search needs) (λ c κs. search needs)
+    (λ c. search needs) returns (λ c. search needs) returns-2)

@@ -6,32 +6,11 @@ use Rattle.kihavute_reading.proofs.ReadingGiven.{check-given, check-ref
 use Rattle.kihavute_reading.proofs.reading.kihavute_check_commands.Statement.{statement}
 use Rattle.kihavute_reading.proofs.reading.kihavute_check_commands.Tie as tie
 
-check-commands-requires : tie.Need-check-commands-requires
-check-commands-requires c κs = search needs
-
-enum-told : tie.Need-enum-told
-enum-told c = search needs
-
-accept-requires : tie.Need-accept-requires
-accept-requires c κs = search needs
-
-enum-known-checked : tie.Need-enum-known-checked
-enum-known-checked c = search needs
-
-refuse-requires : tie.Need-refuse-requires
-refuse-requires c κs = search needs
-
-same-length : tie.Need-same-length
-same-length c = search needs
-
 returns : tie.Need-returns
 returns c =
     let given = c .before .before in
     let told = given .before .before in
     given-same _ _ (check-given _ (sym (told .enum-told .given .1)) ∙ told .before .before .check-commands .ensures) (given .accept .ensures)
-
-same-length-2 : tie.Need-same-length-2
-same-length-2 c = search needs
 
 returns-2 : tie.Need-returns-2
 returns-2 c =
@@ -42,13 +21,5 @@ returns-2 c =
 pub kihavute-check-commands-spec : {M : Type 1} → statement M
 kihavute-check-commands-spec =
     tie.close
-    (tie.spec
-    check-commands-requires
-    enum-told
-    accept-requires
-    enum-known-checked
-    refuse-requires
-    same-length
-    returns
-    same-length-2
-    returns-2)
+    (tie.spec (λ c κs. search needs) (λ c. search needs) (λ c κs. search needs) (λ c. search needs)
+    (λ c κs. search needs) (λ c. search needs) returns (λ c. search needs) returns-2)

@@ -7,21 +7,6 @@ use Rattle.kihavute_reading.proofs.reading.kihavute_read.Tie as tie
 returns : tie.Need-returns
 returns c = not-read _ _ _ _ (c .if1 .taken)
 
-read-path-requires : tie.Need-read-path-requires
-read-path-requires c κs = search needs
-
-give-reading-requires : tie.Need-give-reading-requires
-give-reading-requires c κs = search needs
-
-same-length : tie.Need-same-length
-same-length c = search needs
-
-same-length-2 : tie.Need-same-length-2
-same-length-2 c = search needs
-
-same-length-3 : tie.Need-same-length-3
-same-length-3 c = search needs
-
 returns-2 : tie.Need-returns-2
 returns-2 c =
     let given = c .before .before in
@@ -31,11 +16,5 @@ returns-2 c =
 pub kihavute-read-spec : {M : Type 1} → statement M
 kihavute-read-spec =
     tie.close
-    (tie.spec
-    returns
-    read-path-requires
-    give-reading-requires
-    same-length
-    same-length-2
-    same-length-3
-    returns-2)
+    (tie.spec returns (λ c κs. search needs) (λ c κs. search needs) (λ c. search needs) (λ c. search needs)
+    (λ c. search needs) returns-2)
