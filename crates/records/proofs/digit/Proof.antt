@@ -8,20 +8,11 @@ use Rattle.records.proofs.digit.Tie as tie
 returns : tie.Need-returns
 returns c = (below-0 _ (c .if1 .taken), search needs)
 
-cast-result : tie.Need-cast-result
-cast-result c = search needs
-
 returns-2 : tie.Need-returns-2
 returns-2 c = (from-0 _ (search needs) (c .if2 .taken), omega arith)
 
 returns-3 : tie.Need-returns-3
 returns-3 c = (below-A _ (search needs) (c .if3 .taken), search needs)
-
-cast-result-2 : tie.Need-cast-result-2
-cast-result-2 c = search needs
-
-add-result : tie.Need-add-result
-add-result c = search needs
 
 returns-4 : tie.Need-returns-4
 returns-4 c = (from-A _ (search needs) (c .if4 .taken), omega arith)
@@ -32,4 +23,5 @@ returns-5 c = (past-F _ (c .if4 .left), search needs)
 pub digit-spec : {M : Type 1} → statement M
 digit-spec =
     tie.close
-    (tie.spec returns cast-result returns-2 returns-3 cast-result-2 add-result returns-4 returns-5)
+    (tie.spec returns (λ c. search needs) returns-2 returns-3 (λ c. search needs) (λ c. search needs) returns-4
+    returns-5)

@@ -12,57 +12,12 @@ Inv-loop replayed₀ different₀ counter₀ replayed different counter = (count
 abbrev μ-loop : tie.MeasureT-loop
 μ-loop replayed₀ different₀ counter₀ replayed different counter = 1024 - counter
 
-loop-holds : tie.Need-loop-holds Inv-loop μ-loop
-loop-holds c = search needs
-
-slice-aggregate-read-full : tie.Need-slice-aggregate-read-full Inv-loop μ-loop
-slice-aggregate-read-full c = search needs
-
-read-full-requires : tie.Need-read-full-requires Inv-loop μ-loop
-read-full-requires c κs = search needs
-
-add-replayed : tie.Need-add-replayed Inv-loop μ-loop
-add-replayed c = search needs
-
-slice-aggregate-missed : tie.Need-slice-aggregate-missed Inv-loop μ-loop
-slice-aggregate-missed c = search needs
-
-missed-requires : tie.Need-missed-requires Inv-loop μ-loop
-missed-requires c κs = search needs
-
-add-different : tie.Need-add-different Inv-loop μ-loop
-add-different c = search needs
-
-add-counter : tie.Need-add-counter Inv-loop μ-loop
-add-counter c = search needs
-
-loop-less : tie.Need-loop-less Inv-loop μ-loop
-loop-less c = search needs
-
 loop-again : tie.Need-loop-again Inv-loop μ-loop
 loop-again c = ⊎-elim (λ w. omega arith) (λ w. omega arith) (c .if1 .came)
-
-tell-requires : tie.Need-tell-requires Inv-loop μ-loop
-tell-requires c κs = search needs
-
-returns : tie.Need-returns Inv-loop μ-loop
-returns c = search needs
 
 pub main-spec : {M : Type 1} → statement M
 main-spec =
     tie.close
-    (tie.spec
-    Inv-loop
-    μ-loop
-    loop-holds
-    slice-aggregate-read-full
-    read-full-requires
-    add-replayed
-    slice-aggregate-missed
-    missed-requires
-    add-different
-    add-counter
-    loop-less
-    loop-again
-    tell-requires
-    returns)
+    (tie.spec Inv-loop μ-loop (λ c. search needs) (λ c. search needs) (λ c κs. search needs) (λ c. search needs)
+    (λ c. search needs) (λ c κs. search needs) (λ c. search needs) (λ c. search needs) (λ c. search needs) loop-again
+    (λ c κs. search needs) (λ c. search needs))

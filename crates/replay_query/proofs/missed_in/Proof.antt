@@ -5,18 +5,6 @@ use lib.Seq.{length-take-le}
 use Rattle.replay_query.proofs.missed_in.Statement.{statement}
 use Rattle.replay_query.proofs.missed_in.Tie as tie
 
-returns : tie.Need-returns
-returns c = search needs
-
-returns-2 : tie.Need-returns-2
-returns-2 c = search needs
-
-returns-3 : tie.Need-returns-3
-returns-3 c = search needs
-
-returns-4 : tie.Need-returns-4
-returns-4 c = search needs
-
 slice-aggregate-missed-on : tie.Need-slice-aggregate-missed-on
 slice-aggregate-missed-on c = sym (length-take-le _ _ (c .before .before .before .before .if1 .left))
 
@@ -29,23 +17,9 @@ slice-aggregate-missed-on-3 c = sym (length-take-le _ _ (c .before .before .befo
 slice-aggregate-missed-on-4 : tie.Need-slice-aggregate-missed-on-4
 slice-aggregate-missed-on-4 c = sym (length-take-le _ _ (c .before .before .before .before .if4 .left))
 
-missed-on-requires : tie.Need-missed-on-requires
-missed-on-requires c κs = search needs
-
-returns-5 : tie.Need-returns-5
-returns-5 c = search needs
-
 pub missed-in-spec : {M : Type 1} → statement M
 missed-in-spec =
     tie.close
-    (tie.spec
-    returns
-    returns-2
-    returns-3
-    returns-4
-    slice-aggregate-missed-on
-    slice-aggregate-missed-on-2
-    slice-aggregate-missed-on-3
-    slice-aggregate-missed-on-4
-    missed-on-requires
-    returns-5)
+    (tie.spec (λ c. search needs) (λ c. search needs) (λ c. search needs) (λ c. search needs)
+    slice-aggregate-missed-on slice-aggregate-missed-on-2 slice-aggregate-missed-on-3 slice-aggregate-missed-on-4
+    (λ c κs. search needs) (λ c. search needs))

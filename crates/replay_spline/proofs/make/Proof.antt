@@ -10,9 +10,6 @@ use mathlib.Core.Path.{_≡_, refl, sym, _∙_}
 use Rattle.replay_spline.proofs.make.Statement.{statement}
 use Rattle.replay_spline.proofs.make.Tie as tie
 
-array-share-prefix-numbers : tie.Need-array-share-prefix-numbers
-array-share-prefix-numbers c = search needs
-
 -- a part of the 64 places with its length, and the places past it
 grown : (part rest : List Float) (room : ℕ) → length part ≡ length (take room rest) → length rest ≡ 64 → room ≤ 64 → 64 ≡ length (part ++ drop room rest)
 grown part rest room e f h = let g : length part ≡ room = e ∙ length-take-le room rest (omega arith) in simp (length-append, length-drop) (omega arith)
@@ -20,14 +17,8 @@ grown part rest room e f h = let g : length part ≡ room = e ∙ length-take-le
 slice-aggregate-spline-table : tie.Need-slice-aggregate-spline-table
 slice-aggregate-spline-table c = sym (length-take-le _ _ (search needs))
 
-array-borrow-prefix-table : tie.Need-array-borrow-prefix-table
-array-borrow-prefix-table c = search needs
-
 slice-aggregate-spline-table-2 : tie.Need-slice-aggregate-spline-table-2
 slice-aggregate-spline-table-2 c = sym (length-take-le _ _ (search needs))
-
-spline-table-requires : tie.Need-spline-table-requires
-spline-table-requires c κs = search needs
 
 returns : tie.Need-returns
 returns c = let start = c .before .before .before .before in let few : start .args .room ≤ 64 = search needs in grown (c .before .spline-table .last .1 .0) _ (start .args .room) (c .table2 .given) refl few
@@ -35,10 +26,5 @@ returns c = let start = c .before .before .before .before in let few : start .ar
 pub make-spec : {M : Type 1} → statement M
 make-spec =
     tie.close
-    (tie.spec
-    array-share-prefix-numbers
-    slice-aggregate-spline-table
-    array-borrow-prefix-table
-    slice-aggregate-spline-table-2
-    spline-table-requires
-    returns)
+    (tie.spec (λ c. search needs) slice-aggregate-spline-table (λ c. search needs) slice-aggregate-spline-table-2
+    (λ c κs. search needs) returns)

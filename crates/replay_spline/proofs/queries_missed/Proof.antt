@@ -10,45 +10,8 @@ Inv-loop text at numbers count table size different₀ i₀ different i = (diffe
 abbrev μ-loop : tie.MeasureT-loop
 μ-loop text at numbers count table size different₀ i₀ different i = 4 - i
 
-loop-holds : tie.Need-loop-holds Inv-loop μ-loop
-loop-holds c = search needs
-
-mul-missed-at : tie.Need-mul-missed-at Inv-loop μ-loop
-mul-missed-at c = search needs
-
-add-missed-at : tie.Need-add-missed-at Inv-loop μ-loop
-add-missed-at c = search needs
-
-missed-at-requires : tie.Need-missed-at-requires Inv-loop μ-loop
-missed-at-requires c κs = search needs
-
-add-different : tie.Need-add-different Inv-loop μ-loop
-add-different c = search needs
-
-add-i : tie.Need-add-i Inv-loop μ-loop
-add-i c = search needs
-
-loop-less : tie.Need-loop-less Inv-loop μ-loop
-loop-less c = search needs
-
-loop-again : tie.Need-loop-again Inv-loop μ-loop
-loop-again c = search needs
-
-returns : tie.Need-returns Inv-loop μ-loop
-returns c = search needs
-
 pub queries-missed-spec : {M : Type 1} → statement M
 queries-missed-spec =
     tie.close
-    (tie.spec
-    Inv-loop
-    μ-loop
-    loop-holds
-    mul-missed-at
-    add-missed-at
-    missed-at-requires
-    add-different
-    add-i
-    loop-less
-    loop-again
-    returns)
+    (tie.spec Inv-loop μ-loop (λ c. search needs) (λ c. search needs) (λ c. search needs) (λ c κs. search needs)
+    (λ c. search needs) (λ c. search needs) (λ c. search needs) (λ c. search needs) (λ c. search needs))

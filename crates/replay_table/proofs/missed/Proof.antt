@@ -10,69 +10,10 @@ Inv-loop text at lengths total different₀ i₀ different i = (different ≤ i)
 abbrev μ-loop : tie.MeasureT-loop
 μ-loop text at lengths total different₀ i₀ different i = 16 - i
 
-add-lengths-at : tie.Need-add-lengths-at Inv-loop μ-loop
-add-lengths-at c = search needs
-
-lengths-at-requires : tie.Need-lengths-at-requires Inv-loop μ-loop
-lengths-at-requires c κs = search needs
-
-add-pattern : tie.Need-add-pattern Inv-loop μ-loop
-add-pattern c = search needs
-
-pattern-requires : tie.Need-pattern-requires Inv-loop μ-loop
-pattern-requires c κs = search needs
-
-float-requires : tie.Need-float-requires Inv-loop μ-loop
-float-requires c κs = search needs
-
-loop-holds : tie.Need-loop-holds Inv-loop μ-loop
-loop-holds c = search needs
-
-add-missed-at : tie.Need-add-missed-at Inv-loop μ-loop
-add-missed-at c = search needs
-
-mul-missed-at : tie.Need-mul-missed-at Inv-loop μ-loop
-mul-missed-at c = search needs
-
-add-missed-at-2 : tie.Need-add-missed-at-2 Inv-loop μ-loop
-add-missed-at-2 c = search needs
-
-missed-at-requires : tie.Need-missed-at-requires Inv-loop μ-loop
-missed-at-requires c κs = search needs
-
-add-different : tie.Need-add-different Inv-loop μ-loop
-add-different c = search needs
-
-add-i : tie.Need-add-i Inv-loop μ-loop
-add-i c = search needs
-
-loop-less : tie.Need-loop-less Inv-loop μ-loop
-loop-less c = search needs
-
-loop-again : tie.Need-loop-again Inv-loop μ-loop
-loop-again c = search needs
-
-returns : tie.Need-returns Inv-loop μ-loop
-returns c = search needs
-
 pub missed-spec : {M : Type 1} → statement M
 missed-spec =
     tie.close
-    (tie.spec
-    Inv-loop
-    μ-loop
-    add-lengths-at
-    lengths-at-requires
-    add-pattern
-    pattern-requires
-    float-requires
-    loop-holds
-    add-missed-at
-    mul-missed-at
-    add-missed-at-2
-    missed-at-requires
-    add-different
-    add-i
-    loop-less
-    loop-again
-    returns)
+    (tie.spec Inv-loop μ-loop (λ c. search needs) (λ c κs. search needs) (λ c. search needs) (λ c κs. search needs)
+    (λ c κs. search needs) (λ c. search needs) (λ c. search needs) (λ c. search needs) (λ c. search needs)
+    (λ c κs. search needs) (λ c. search needs) (λ c. search needs) (λ c. search needs) (λ c. search needs)
+    (λ c. search needs))

@@ -4,18 +4,6 @@ use mathlib.Core.Path.{refl}
 use Rattle.records.proofs.curves.placed.Statement.{statement}
 use Rattle.records.proofs.curves.placed.Tie as tie
 
-enum-known-found : tie.Need-enum-known-found
-enum-known-found c = search needs
-
-same-point-requires : tie.Need-same-point-requires
-same-point-requires c κs = search needs
-
-enum-known-found-2 : tie.Need-enum-known-found-2
-enum-known-found-2 c = search needs
-
-number-requires : tie.Need-number-requires
-number-requires c κs = search needs
-
 returns : tie.Need-returns
 returns c = rw (c .before .before .found .given .1, c .same-point .ensures) refl
 
@@ -25,10 +13,4 @@ returns-2 c = rw (c .before .before .found2 .given .1, c .number .ensures) refl
 pub placed-spec : {M : Type 1} → statement M
 placed-spec =
     tie.close
-    (tie.spec
-    enum-known-found
-    same-point-requires
-    enum-known-found-2
-    number-requires
-    returns
-    returns-2)
+    (tie.spec (λ c. search needs) (λ c κs. search needs) (λ c. search needs) (λ c κs. search needs) returns returns-2)

@@ -8,9 +8,6 @@ use Rattle.records.proofs.decimals.decimal.Tie as tie
 returns : tie.Need-returns
 returns c = (decimal-below _ (c .if1 .taken), search needs)
 
-cast-result : tie.Need-cast-result
-cast-result c = search needs
-
 returns-2 : tie.Need-returns-2
 returns-2 c = (decimal-within _ (search needs) (c .if2 .taken), omega arith)
 
@@ -18,4 +15,6 @@ returns-3 : tie.Need-returns-3
 returns-3 c = (decimal-above _ (c .if2 .left), search needs)
 
 pub decimal-spec : {M : Type 1} → statement M
-decimal-spec = tie.close (tie.spec returns cast-result returns-2 returns-3)
+decimal-spec =
+    tie.close
+    (tie.spec returns (λ c. search needs) returns-2 returns-3)

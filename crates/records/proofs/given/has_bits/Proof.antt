@@ -3,11 +3,10 @@ use borrow.Author.Needs.{needs}
 use Rattle.records.proofs.given.has_bits.Statement.{statement}
 use Rattle.records.proofs.given.has_bits.Tie as tie
 
-bits-requires : tie.Need-bits-requires
-bits-requires c κs = search needs
-
 returns : tie.Need-returns
 returns c = cc
 
 pub has-bits-spec : {M : Type 1} → statement M
-has-bits-spec = tie.close (tie.spec bits-requires returns)
+has-bits-spec =
+    tie.close
+    (tie.spec (λ c κs. search needs) returns)

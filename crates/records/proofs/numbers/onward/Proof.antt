@@ -4,9 +4,6 @@ use borrow.Author.Tests.{lt-ltb, le-ltb}
 use Rattle.records.proofs.numbers.onward.Statement.{statement}
 use Rattle.records.proofs.numbers.onward.Tie as tie
 
-add-result : tie.Need-add-result
-add-result c = search needs
-
 returns : tie.Need-returns
 returns c = rw (lt-ltb _ _ (c .if1 .taken))
 
@@ -14,4 +11,6 @@ returns-2 : tie.Need-returns-2
 returns-2 c = rw (le-ltb _ _ (c .if1 .left))
 
 pub onward-spec : {M : Type 1} → statement M
-onward-spec = tie.close (tie.spec add-result returns returns-2)
+onward-spec =
+    tie.close
+    (tie.spec (λ c. search needs) returns returns-2)

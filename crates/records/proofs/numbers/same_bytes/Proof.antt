@@ -15,24 +15,6 @@ abbrev μ-loop : tie.MeasureT-loop
 loop-holds : tie.Need-loop-holds Inv-loop μ-loop
 loop-holds c = matching-start _ _ _ _
 
-shared-slice-read-is-above : tie.Need-shared-slice-read-is-above Inv-loop μ-loop
-shared-slice-read-is-above c = search needs
-
-add-is-above : tie.Need-add-is-above Inv-loop μ-loop
-add-is-above c = search needs
-
-shared-slice-read-is-above-2 : tie.Need-shared-slice-read-is-above-2 Inv-loop μ-loop
-shared-slice-read-is-above-2 c = search needs
-
-is-above-requires : tie.Need-is-above-requires Inv-loop μ-loop
-is-above-requires c κs = search needs
-
-add-i : tie.Need-add-i Inv-loop μ-loop
-add-i c = search needs
-
-loop-less : tie.Need-loop-less Inv-loop μ-loop
-loop-less c = search needs
-
 loop-again : tie.Need-loop-again Inv-loop μ-loop
 loop-again c =
     let at-test = c .before .before .before .before in
@@ -49,16 +31,5 @@ returns-2 c = matching-done _ _ _ _ _ (c .before .loop .inv) (c .loop-test .left
 pub same-bytes-spec : {M : Type 1} → statement M
 same-bytes-spec =
     tie.close
-    (tie.spec
-    Inv-loop
-    μ-loop
-    loop-holds
-    shared-slice-read-is-above
-    add-is-above
-    shared-slice-read-is-above-2
-    is-above-requires
-    add-i
-    loop-less
-    loop-again
-    returns
-    returns-2)
+    (tie.spec Inv-loop μ-loop loop-holds (λ c. search needs) (λ c. search needs) (λ c. search needs)
+    (λ c κs. search needs) (λ c. search needs) (λ c. search needs) loop-again returns returns-2)
