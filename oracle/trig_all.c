@@ -1,4 +1,4 @@
-// Runs sine and cosine of the proved library on every f32. Run it after a change of the crates `sums` or `trig`:
+// Runs sine and cosine of the proved library on every f32. Run it after a change of the crates `trig_rule` or `trig`:
 //
 //   gcc -O2 -ffp-contract=off oracle/trig_all.c target/native/libkihavute.a -lm -o trig_all
 //   ./trig_all main trig.bin && ./trig_all tiny && ./trig_all far && python3 oracle/trig_whole.py trig.bin

@@ -3,7 +3,7 @@ use mathlib.Core.Path.{_≡_, refl, ap, _∙_}
 use mathlib.Core.Bool.{Bool, true, false, _&&_, cond}
 use lib.Ieee.{Float, binary32, ofBits, eq}
 use Rattle.floats.specs.Floats.{zeroF}
-use Rattle.bearing.specs.Steps.{atan2Of}
+use Rattle.atan2_rule.specs.Steps.{atan2Of}
 use Rattle.math.specs.declared.points.Point.{Point}
 use Rattle.math.specs.Math.{radToDegOf}
 use Rattle.angles.specs.Angles.{still, rotationDegOf}

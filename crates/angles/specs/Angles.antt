@@ -4,7 +4,7 @@ use mathlib.Core.Bool.{Bool, _&&_, cond}
 use lib.Ieee.{Float, binary32, ofBits, neg, sub, mul, div, lt, eq}
 use Rattle.floats.specs.Floats.{zeroF, oneF, epsilonF, maxOf, clampOf}
 use Rattle.root.specs.Root.{sqrtOf}
-use Rattle.bearing.specs.Steps.{atan2Of}
+use Rattle.atan2_rule.specs.Steps.{atan2Of}
 use Rattle.math.specs.declared.points.Point.{Point}
 use Rattle.math.specs.Math.{lengthOf, dotOf, radToDegOf}
 

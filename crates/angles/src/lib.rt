@@ -15,7 +15,7 @@ pub fn rotation_deg(tangent: Point) -> f32
             return 0.0;
         }
     }
-    math::rad_to_deg(arctan::atan2(y, x))
+    math::rad_to_deg(atan2::atan2(y, x))
 }
 
 // -1 where v lies clockwise of u, by the sign of u.x·v.y - u.y·v.x, and 1 elsewhere.
@@ -42,5 +42,5 @@ pub fn angle_between(u: Point, v: Point) -> f32
     ensures { λ r. ⌜ r ≡ angleBetweenOf u v ⌝ }
 {
     let value = cosine(u, v);
-    sign(u, v) * arctan::atan2(root::sqrt(floats::max(1.0 - value * value, 0.0)), value)
+    sign(u, v) * atan2::atan2(root::sqrt(floats::max(1.0 - value * value, 0.0)), value)
 }

@@ -7,7 +7,7 @@ use native.Mathlib.Omega.{arith}
 use lib.Dec.{T}
 use lib.Ieee.{Float}
 use Rattle.table.specs.declared.tables.Table.{Table}
-use Rattle.order.specs.Stated.{F32Table}
+use Rattle.table_order.specs.Stated.{F32Table}
 use Rattle.bezier.specs.declared.curves.Verdict.the-variants as Verdict
 use Rattle.bezier.proofs.Steady.{Steady, steady, accepted-table}
 use Rattle.ellipse.specs.declared.ends.Chord.{Chord}

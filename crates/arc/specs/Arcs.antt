@@ -10,7 +10,7 @@ use Rattle.math.specs.Math.{originF, distanceOf}
 use Rattle.angles.specs.Angles.{rotationDegOf}
 use Rattle.table.specs.declared.tables.Table.{Table}
 use Rattle.table.specs.Lookup.{rawOf}
-use Rattle.samples.specs.Samples.{tableOf}
+use Rattle.table_samples.specs.Samples.{tableOf}
 use Rattle.bezier.specs.declared.curves.Placed.{Placed}
 use Rattle.bezier.specs.declared.curves.Placed.the-variants as Placed
 use Rattle.bezier.specs.declared.curves.Turned.{Turned}

@@ -29,7 +29,7 @@ use table::number_of;
 use table::table_is_sound;
 use table::table_of;
 ghost use mathlib.Core.Path.{_≡_};
-ghost use Rattle.samples.specs.Samples.{stepsOf, tableOf};
+ghost use Rattle.table_samples.specs.Samples.{stepsOf, tableOf};
 ghost use Rattle.ellipse.specs.Shape.{pointOn, directionOn};
 ghost use Rattle.arc.specs.Arcs.{isFallback, inRange, fallbackShape, noTable, chordLine, fallenBack, fitted, outOfRange, madeArcOf, arcLengthOf, arcPlacedOf, arcHeadingOf, inDegrees, arcTurnedOf};
 

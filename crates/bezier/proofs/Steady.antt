@@ -14,10 +14,10 @@ use Rattle.floats.specs.Floats.{zeroF, oneF, epsilonF, clamp01Of}
 use Rattle.math.specs.declared.points.Point.{Point}
 use Rattle.table.specs.Lookup.{targetOf, rawOf}
 use Rattle.table.specs.Sound.{SoundTable}
-use Rattle.order.specs.Stated.{F32Table}
-use Rattle.order.proofs.Theorems.{Placed, raw-order, raw-starts, raw-ends, raw-placed}
-use Rattle.samples.specs.Samples.{totalOf, lengthsOf, tableOf}
-use Rattle.samples.proofs.Made.{made-sound, made-fits, made-total-fits, made-count}
+use Rattle.table_order.specs.Stated.{F32Table}
+use Rattle.table_order.proofs.Theorems.{Placed, raw-order, raw-starts, raw-ends, raw-placed}
+use Rattle.table_samples.specs.Samples.{totalOf, lengthsOf, tableOf}
+use Rattle.table_samples.proofs.Made.{made-sound, made-fits, made-total-fits, made-count}
 use Rattle.bezier.specs.declared.curves.Verdict.{Verdict}
 use Rattle.bezier.specs.declared.curves.Verdict.the-variants as Verdict
 use Rattle.bezier.specs.declared.quads.QuadBezier.{QuadBezier}

@@ -4,7 +4,7 @@ use Rattle.floats.specs.Floats.{oneF, clamp01Of}
 use Rattle.math.specs.declared.points.Point.{Point}
 use Rattle.math.specs.Math.{addOf, subOf, scaleOf, normalizeOf, lerpPointOf}
 use Rattle.table.specs.Lookup.{rawOf}
-use Rattle.samples.specs.Samples.{tableOf}
+use Rattle.table_samples.specs.Samples.{tableOf}
 use Rattle.angles.specs.Angles.{rotationDegOf}
 use Rattle.bezier.specs.declared.curves.Placed.{Placed}
 use Rattle.bezier.specs.declared.curves.Turned.{Turned}

@@ -23,7 +23,7 @@ use table::number_of;
 use table::table_is_sound;
 use table::table_of;
 ghost use mathlib.Core.Path.{_≡_};
-ghost use Rattle.samples.specs.Samples.{stepsOf, tableOf};
+ghost use Rattle.table_samples.specs.Samples.{stepsOf, tableOf};
 ghost use Rattle.bezier.specs.Quads.{quadSampleOf, quadDerivativeOf, madeQuadOf, quadPlacedOf, quadHeadingOf, quadTurnedOf};
 
 // From `start` to `end`, drawn towards `control`, with its running lengths. `quad` makes one whose table is sound.

@@ -3,9 +3,9 @@ use Prim.Native.Nat.{ℕ, _+_, _-_, _^_, _≤_, _<_}
 use mathlib.Core.Path.{_≡_, refl, ap, sym, _∙_}
 use mathlib.Core.Logic.{_⊎_, inl, inr}
 use native.Mathlib.Omega.{arith}
-use Rattle.rounding.proofs.Compares.{below-or-not}
-use Rattle.digits.specs.Exponent.{most, capped}
-use Rattle.digits.proofs.Capping.{capped-small, capped-large, capped-either}
+use Rattle.decimal_rounding.proofs.Compares.{below-or-not}
+use Rattle.decimal_digits.specs.Exponent.{most, capped}
+use Rattle.decimal_digits.proofs.Capping.{capped-small, capped-large, capped-either}
 
 pub sum-capped : (a b n : ℕ) → b ≡ capped n → a < most → most - a < b → most ≡ capped (a + n)
 sum-capped a b n e h l = go (capped-either n)

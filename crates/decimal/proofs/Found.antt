@@ -10,7 +10,7 @@ use lib.Dec.{ltb, eqb}
 use borrow.Author.Tests.{lt-ltb, le-ltb, eq-eqb, ne-eqb}
 use lib.ListN.{length, getD, length-append, List·getD-eq-default}
 use lib.Ieee.{Float}
-use Rattle.rounding.proofs.Compares.{below-or-not}
+use Rattle.decimal_rounding.proofs.Compares.{below-or-not}
 use Rattle.answers.specs.declared.refusals.Refusal.{Refusal}
 use Rattle.answers.specs.declared.refusals.Refusal.the-variants.{ExpectedNumber, InvalidNumber}
 use Rattle.scan.specs.Bytes.{among, digits, points, signs, exponentMarks}
@@ -22,14 +22,14 @@ use Rattle.scan.specs.declared.numbers.Number.the-variants.{Scanned, NoDigit, N
 use Rattle.scan.proofs.ByteLaws.{clash, either-way, apart}
 use Rattle.scan.proofs.RunLaws.{one-step, one-onward, stands-within, stands-among, all-onward, all-again}
 use Rattle.scan.proofs.NumberLaws.{mark-taken, mark-left, mark-end, number-none, number-bare, number-found, scanned-number}
-use Rattle.digits.specs.Digits.{digitsIn, val}
-use Rattle.digits.specs.Leading.{Leads, Gathers}
-use Rattle.digits.specs.Exponent.{capped, exponentOf}
-use Rattle.digits.specs.declared.inner.Leading.{Leading}
-use Rattle.digits.specs.declared.inner.Power.{Power}
-use Rattle.digits.proofs.Places.{none-in, join-in, other-in, run-in}
-use Rattle.digits.proofs.Holding.{leads-start, leads-other}
-use Rattle.digits.proofs.Capping.{size-start, capped-small}
+use Rattle.decimal_digits.specs.Digits.{digitsIn, val}
+use Rattle.decimal_digits.specs.Leading.{Leads, Gathers}
+use Rattle.decimal_digits.specs.Exponent.{capped, exponentOf}
+use Rattle.decimal_digits.specs.declared.inner.Leading.{Leading}
+use Rattle.decimal_digits.specs.declared.inner.Power.{Power}
+use Rattle.decimal_digits.proofs.Places.{none-in, join-in, other-in, run-in}
+use Rattle.decimal_digits.proofs.Holding.{leads-start, leads-other}
+use Rattle.decimal_digits.proofs.Capping.{size-start, capped-small}
 use Rattle.decimal.specs.Decimal.{digitsOf, placesOf, powerOf, falls, riseOf, fallOf, valueOf, readOf, numberOf, minus}
 use Rattle.decimal.specs.Bits.{Held, SaysFound, Finds}
 use Rattle.decimal.specs.declared.numbers.Parts.{Parts}

@@ -8,7 +8,7 @@ use Rattle.scan.specs.Scan.{leading, scan}
 use Rattle.scan.specs.Bytes.{among}
 use Rattle.scan.specs.Runs.{stands, pastOne, pastAll, pastMarkOf}
 use Rattle.scan.specs.Numbers.{wholeOf, pointOf, fractionOf, markOf, exponentOf, endOf, placesOf, noDigit, noExponentDigit, scanNumberOf}
-use Rattle.digits.specs.Digits.{digitsAmong, val}
+use Rattle.decimal_digits.specs.Digits.{digitsAmong, val}
 use Rattle.decimal.specs.Decimal.{falls, riseOf, fallOf, valueOf, numberOf}
 use Rattle.decimal.specs.declared.numbers.Read.the-variants.{Value, Refused}
 

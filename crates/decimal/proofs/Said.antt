@@ -6,8 +6,8 @@ use lib.IntN.{pos}
 use lib.Ieee.{Float, nan, inf, fin, binary32, binary64, up, down, round, toBits, size, units, odd}
 use lib.Count.{trailingZeros}
 use mathlib.Core.Bool.{Bool, false}
-use Rattle.rounding.proofs.Limits.{infinite-from, zero-to, Signed, sign-kept}
-use Rattle.digits.proofs.Values.{ten-pos}
+use Rattle.decimal_rounding.proofs.Limits.{infinite-from, zero-to, Signed, sign-kept}
+use Rattle.decimal_digits.proofs.Values.{ten-pos}
 use Rattle.scan.specs.declared.numbers.Places.{Places}
 use Rattle.decimal.specs.Decimal.{numerator, denominator, negative, valueOf}
 

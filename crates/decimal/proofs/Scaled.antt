@@ -9,15 +9,15 @@ use native.Mathlib.Nat.{le-refl, le-trans, le-of-eq, le-of-lt, add-mul, add-zero
 use native.Mathlib.Omega.{arith}
 use lib.Dec.{lit≤, lit<}
 use lib.Pow.{pow-add}
-use Rattle.rounding.proofs.Compares.{below-or-not}
-use Rattle.rounding.proofs.Limits.{infinite-from, zero-to}
-use Rattle.rounding.proofs.Pattern.{infinite-bits, zero-bits}
-use Rattle.digits.specs.Digits.{val}
-use Rattle.digits.specs.Leading.{Leads}
-use Rattle.digits.proofs.Values.{ten-pos}
-use Rattle.product.specs.Near.{Leading, Cell, Says, Nearest as Product}
-use Rattle.product.specs.declared.inner.Near.{Near}
-use Rattle.product.specs.declared.inner.Near.the-variants.{Bits, Between}
+use Rattle.decimal_rounding.proofs.Compares.{below-or-not}
+use Rattle.decimal_rounding.proofs.Limits.{infinite-from, zero-to}
+use Rattle.decimal_rounding.proofs.Pattern.{infinite-bits, zero-bits}
+use Rattle.decimal_digits.specs.Digits.{val}
+use Rattle.decimal_digits.specs.Leading.{Leads}
+use Rattle.decimal_digits.proofs.Values.{ten-pos}
+use Rattle.decimal_product.specs.Near.{Leading, Cell, Says, Nearest as Product}
+use Rattle.decimal_product.specs.declared.inner.Near.{Near}
+use Rattle.decimal_product.specs.declared.inner.Near.the-variants.{Bits, Between}
 use Rattle.decimal.specs.Bits.{Nearest}
 
 -- no digit but 0

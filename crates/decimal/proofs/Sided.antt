@@ -9,13 +9,13 @@ use native.Mathlib.Omega.{arith}
 use lib.Pow.{pow-add}
 use lib.ListN.{length}
 use lib.Ieee.{binary32, units, round, ofBits}
-use Rattle.rounding.proofs.Compares.{compare-scale, lt-of-compare, eq-of-compare, gt-of-compare}
-use Rattle.rounding.proofs.Halves.{near-down, near-up}
-use Rattle.rounding.proofs.Pattern.{units-pattern}
-use Rattle.digits.specs.Digits.{val}
-use Rattle.digits.proofs.Values.{ten-pos}
-use Rattle.middle.specs.Weighing.{weighOf}
-use Rattle.product.specs.Near.{Cell}
+use Rattle.decimal_rounding.proofs.Compares.{compare-scale, lt-of-compare, eq-of-compare, gt-of-compare}
+use Rattle.decimal_rounding.proofs.Halves.{near-down, near-up}
+use Rattle.decimal_rounding.proofs.Pattern.{units-pattern}
+use Rattle.decimal_digits.specs.Digits.{val}
+use Rattle.decimal_digits.proofs.Values.{ten-pos}
+use Rattle.decimal_tie.specs.Weighing.{weighOf}
+use Rattle.decimal_product.specs.Near.{Cell}
 use Rattle.decimal.specs.Bits.{Nearest}
 
 -- ---- two ways to write a fraction

@@ -11,12 +11,12 @@ use borrow.Author.Tests.{le-ltb, leb-true, eqb-true}
 use lib.ListN.{length, getD}
 use lib.Ieee.{Float, binary32, round, neg, ofBits, nanBits}
 use lib.Ieee.Bits.{nanBits-above}
-use Rattle.rounding.proofs.Limits.{round-neg}
+use Rattle.decimal_rounding.proofs.Limits.{round-neg}
 use Rattle.scan.specs.declared.numbers.Places.{Places}
-use Rattle.digits.specs.Digits.{val}
-use Rattle.digits.specs.Leading.{Leads}
-use Rattle.digits.specs.Exponent.{most, capped}
-use Rattle.digits.proofs.Capping.{capped-small, capped-either}
+use Rattle.decimal_digits.specs.Digits.{val}
+use Rattle.decimal_digits.specs.Leading.{Leads}
+use Rattle.decimal_digits.specs.Exponent.{most, capped}
+use Rattle.decimal_digits.proofs.Capping.{capped-small, capped-either}
 use Rattle.decimal.specs.Decimal.{digitsOf, placesOf, powerOf, falls, riseOf, fallOf, numerator, denominator, negative, valueOf}
 use Rattle.decimal.specs.Bits.{Nearest, Gathered, Held}
 

@@ -9,12 +9,12 @@ use lib.Ieee.{binary32, round, ofBits}
 use Rattle.scan.specs.Numbers.{scanNumberOf}
 use Rattle.scan.specs.declared.numbers.Places.{Places}
 use Rattle.scan.specs.declared.numbers.Number.the-variants.{Scanned}
-use Rattle.digits.specs.Digits.{val}
-use Rattle.digits.specs.Leading.{Leads}
-use Rattle.digits.specs.Exponent.{most, capped}
-use Rattle.product.specs.Near.{Cell}
-use Rattle.middle.specs.Weighing.{orderOf}
-use Rattle.middle.specs.declared.inner.Order.{Order}
+use Rattle.decimal_digits.specs.Digits.{val}
+use Rattle.decimal_digits.specs.Leading.{Leads}
+use Rattle.decimal_digits.specs.Exponent.{most, capped}
+use Rattle.decimal_product.specs.Near.{Cell}
+use Rattle.decimal_tie.specs.Weighing.{orderOf}
+use Rattle.decimal_tie.specs.declared.inner.Order.{Order}
 use Rattle.decimal.specs.Decimal.{digitsOf, placesOf, riseOf, fallOf, numberOf}
 use Rattle.decimal.specs.declared.numbers.Read.the-variants.{Refused}
 use Rattle.decimal.specs.declared.numbers.Found.{Found}

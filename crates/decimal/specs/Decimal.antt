@@ -13,7 +13,7 @@ use Rattle.scan.specs.Numbers.{scanNumberOf}
 use Rattle.scan.specs.declared.numbers.Places.{Places}
 use Rattle.scan.specs.declared.numbers.Number.{Number}
 use Rattle.scan.specs.declared.numbers.Number.the-variants.{Scanned, NoDigit, NoExponentDigit}
-use Rattle.digits.specs.Digits.{digitsIn, val}
+use Rattle.decimal_digits.specs.Digits.{digitsIn, val}
 use Rattle.decimal.specs.declared.numbers.Read.{Read}
 use Rattle.decimal.specs.declared.numbers.Read.the-variants.{Value, Refused}
 

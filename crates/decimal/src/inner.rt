@@ -7,13 +7,13 @@ ghost use mathlib.Core.Bool.{false};
 ghost use Prim.Native.Nat.{ℕ, _+_, _-_, _*_, _^_, _≤_, _<_};
 ghost use lib.Ieee.{binary32, round};
 ghost use lib.Ieee.Exact.{HasValue};
-ghost use Rattle.digits.specs.Digits.{digitsAmong};
-ghost use Rattle.digits.specs.Exponent.{capped, most};
+ghost use Rattle.decimal_digits.specs.Digits.{digitsAmong};
+ghost use Rattle.decimal_digits.specs.Exponent.{capped, most};
 ghost use Rattle.decimal.specs.Bits.{Sides, Gathered, Rounds, Settles};
-use middle::inner::Order;
-use middle::inner::weigh;
-use product::inner::Near;
-use product::inner::nearest;
+use decimal_product::inner::Near;
+use decimal_product::inner::nearest;
+use decimal_tie::inner::Order;
+use decimal_tie::inner::weigh;
 
 // 10^places.
 fn ten(places: u64) -> f32

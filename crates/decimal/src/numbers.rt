@@ -2,8 +2,8 @@
 use crate::inner::magnitude;
 use crate::inner::short;
 use answers::Refusal;
-use digits::inner::exponent;
-use digits::inner::gather;
+use decimal_digits::inner::exponent;
+use decimal_digits::inner::gather;
 use scan::Places;
 use scan::byte_at;
 use scan::is_exponent_mark;

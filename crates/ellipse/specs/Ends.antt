@@ -4,7 +4,7 @@ use mathlib.Core.Bool.{Bool, true, false, Bool·beq, cond}
 use lib.Ieee.{Float, binary32, ofBits, neg, add, sub, mul, div, lt, le}
 use Rattle.floats.specs.Floats.{zeroF, oneF, epsilonF, maxOf}
 use Rattle.root.specs.Root.{sqrtOf}
-use Rattle.sums.specs.Steps.{sineOf, cosineOf}
+use Rattle.trig_rule.specs.Steps.{sineOf, cosineOf}
 use Rattle.math.specs.declared.points.Point.{Point}
 use Rattle.math.specs.Math.{piF, pointOf, scaleOf, degToRadOf}
 use Rattle.angles.specs.Angles.{minusOneF, angleBetweenOf}

@@ -1,7 +1,7 @@
 -- Points and directions on the ellipse of an arc: `sample` and `tangent` of poly.rs (source document 002; F.6.3). Definitions only.
 use lib.Ieee.{Float, binary32, neg, add, sub, mul}
 use Rattle.floats.specs.Floats.{clamp01Of}
-use Rattle.sums.specs.Steps.{sineOf, cosineOf}
+use Rattle.trig_rule.specs.Steps.{sineOf, cosineOf}
 use Rattle.math.specs.declared.points.Point.{Point}
 use Rattle.math.specs.Math.{pointOf, degToRadOf, normalizeOf}
 use Rattle.ellipse.specs.declared.ends.Arc.{Arc}

@@ -1,6 +1,6 @@
 // One decimal number at the start of a text.
 ghost use Rattle.decimal.specs.Decimal.{numberOf};
-ghost use Rattle.giving.specs.Given.{Given};
+ghost use Rattle.c_answer.specs.Given.{Given};
 ghost use Rattle.kihavute.specs.Decimals.{readGiven, numberGiven};
 use answers::Refusal;
 use answers::Values;
@@ -14,9 +14,9 @@ fn read(text: &[u8], answer: &mut [u64]) -> u32
     match found {
         Read::Value(value, end) => {
             let bits = floats::bits(value);
-            giving::accept(Values::Two(bits as usize, end), answer)
+            c_answer::accept(Values::Two(bits as usize, end), answer)
         }
-        Read::Refused(refusal) => giving::refuse(refusal, answer),
+        Read::Refused(refusal) => c_answer::refuse(refusal, answer),
     }
 }
 
@@ -27,7 +27,7 @@ pub extern "C" fn kihavute_number(text: &[u8], answer: &mut [u64]) -> u32
     ensures { λ r. ⌜ Given (numberGiven (now (text .entry))) (now (answer .entry)) r (now (answer .exit)) ⌝ }
 {
     if 65536 < text.len() {
-        return giving::refuse(Refusal::TooLong(text.len()), answer);
+        return c_answer::refuse(Refusal::TooLong(text.len()), answer);
     }
     read(text, answer)
 }

@@ -1,6 +1,6 @@
 // The lookups: from a progress to a curve's raw parameter, and to a segment of a path.
 ghost use Rattle.table.specs.Answered.{lookedOf, spottedOf};
-ghost use Rattle.giving.specs.Given.{Given};
+ghost use Rattle.c_answer.specs.Given.{Given};
 ghost use Rattle.kihavute.specs.Lookups.{rawGiven, spotGiven};
 use answers::Values;
 use table::Looked;
@@ -21,9 +21,9 @@ pub extern "C" fn kihavute_raw_parameter(
     match looked {
         Looked::At(raw) => {
             let bits = floats::bits(table::number_of(raw));
-            giving::accept(Values::One(bits as usize), answer)
+            c_answer::accept(Values::One(bits as usize), answer)
         }
-        Looked::Refused(refusal) => giving::refuse(refusal, answer),
+        Looked::Refused(refusal) => c_answer::refuse(refusal, answer),
     }
 }
 
@@ -38,9 +38,9 @@ pub extern "C" fn kihavute_spot(lengths: &[f32], progress: f32, answer: &mut [u6
         Spotted::At(spot) => {
             let along = spot.progress;
             let bits = floats::bits(along.value);
-            giving::accept(Values::Two(spot.segment, bits as usize), answer)
+            c_answer::accept(Values::Two(spot.segment, bits as usize), answer)
         }
-        Spotted::NoSegment => giving::accept(Values::Nothing, answer),
-        Spotted::Refused(refusal) => giving::refuse(refusal, answer),
+        Spotted::NoSegment => c_answer::accept(Values::Nothing, answer),
+        Spotted::Refused(refusal) => c_answer::refuse(refusal, answer),
     }
 }

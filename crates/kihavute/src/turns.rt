@@ -2,8 +2,8 @@
 use math::Point;
 ghost use mathlib.Core.Path.{_≡_};
 ghost use Rattle.floats.specs.Floats.{bitsOf};
-ghost use Rattle.sums.specs.Steps.{sineOf, cosineOf};
-ghost use Rattle.bearing.specs.Steps.{atan2Of};
+ghost use Rattle.trig_rule.specs.Steps.{sineOf, cosineOf};
+ghost use Rattle.atan2_rule.specs.Steps.{atan2Of};
 ghost use Rattle.math.specs.Math.{pointOf};
 ghost use Rattle.angles.specs.Angles.{rotationDegOf, angleBetweenOf};
 ghost use Rattle.kihavute.specs.Pair.{pairOf};
@@ -41,7 +41,7 @@ pub extern "C" fn kihavute_sin_cos(angle: f32) -> u64
 pub extern "C" fn kihavute_atan2(y: f32, x: f32) -> f32
     ensures { λ r. ⌜ r ≡ atan2Of y x ⌝ }
 {
-    floats::tidy(arctan::atan2(y, x))
+    floats::tidy(atan2::atan2(y, x))
 }
 
 // The heading of a tangent in degrees.

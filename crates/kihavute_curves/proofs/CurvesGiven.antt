@@ -14,7 +14,7 @@ use Rattle.bezier.specs.declared.quads.MadeQuad.{MadeQuad}
 use Rattle.bezier.specs.declared.cubics.MadeCubic.{MadeCubic}
 use Rattle.bezier.specs.Quads.{quadPlacedOf, quadHeadingOf, quadTurnedOf}
 use Rattle.bezier.specs.Cubics.{cubicPlacedOf, cubicHeadingOf, cubicTurnedOf}
-use Rattle.giving.specs.Places.{placeGiven, turnGiven}
+use Rattle.c_answer.specs.Places.{placeGiven, turnGiven}
 use Rattle.kihavute_curves.specs.Curves.{allowed, lengthGiven, quadPositionGiven, quadTangentGiven, quadRotationGiven, quadLengthGiven, cubicPositionGiven, cubicTangentGiven, cubicRotationGiven, cubicLengthGiven}
 
 -- ---- a curve that can be had, and one that cannot

@@ -15,8 +15,8 @@ use Rattle.spline_table.specs.declared.tables.Tabled.{Tabled}
 use Rattle.spline_table.specs.declared.tables.Tabled.the-variants as Tabled
 use Rattle.spline_query.specs.declared.queries.Measured.{Measured}
 use Rattle.spline_query.specs.declared.queries.Measured.the-variants as Measured
-use Rattle.giving.specs.Given.{Given}
-use Rattle.giving.proofs.Giving.{given-same}
+use Rattle.c_answer.specs.Given.{Given}
+use Rattle.c_answer.proofs.Giving.{given-same}
 use Rattle.kihavute_curves.specs.Splines.{SplineTableGiven, measureGiven}
 
 pub length-of-given : (measured : Measured) (total : Float) (bits : ℕ) → bits ≡ bitsOf total → Measured.Length total ≡ measured → accepted (bits ∷ []) ≡ measureGiven measured

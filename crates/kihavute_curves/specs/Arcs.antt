@@ -13,8 +13,8 @@ use Rattle.arc.specs.declared.lines.MadeLine.{MadeLine}
 use Rattle.arc.specs.declared.arcs.MadeArc.{MadeArc}
 use Rattle.arc.specs.Lines.{lineLengthOf, linePositionOf, lineTangentOf, lineRotationDegOf}
 use Rattle.arc.specs.Arcs.{arcLengthOf, arcPlacedOf, arcHeadingOf, arcTurnedOf}
-use Rattle.filling.specs.Filling.{Filled, tableNumbers, arcNumbers}
-use Rattle.giving.specs.Places.{placeGiven, turnGiven}
+use Rattle.c_output.specs.Filling.{Filled, tableNumbers, arcNumbers}
+use Rattle.c_answer.specs.Places.{placeGiven, turnGiven}
 use Rattle.kihavute_curves.specs.Curves.{allowed, lengthGiven}
 
 -- ---- a line's answers

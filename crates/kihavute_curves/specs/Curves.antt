@@ -9,7 +9,7 @@ use Rattle.bezier.specs.declared.quads.MadeQuad.{MadeQuad}
 use Rattle.bezier.specs.declared.cubics.MadeCubic.{MadeCubic}
 use Rattle.bezier.specs.Quads.{quadPlacedOf, quadHeadingOf, quadTurnedOf}
 use Rattle.bezier.specs.Cubics.{cubicPlacedOf, cubicHeadingOf, cubicTurnedOf}
-use Rattle.giving.specs.Places.{placeGiven, turnGiven}
+use Rattle.c_answer.specs.Places.{placeGiven, turnGiven}
 
 -- a curve that cannot be had answers that, and any other what it is asked
 abbrev pub allowed : Verdict → Answer → Answer

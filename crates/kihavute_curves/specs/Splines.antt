@@ -11,7 +11,7 @@ use Rattle.floats.specs.Floats.{bitsOf}
 use Rattle.spline_table.specs.Tables.{splineTableOf, answered, placesOf}
 use Rattle.spline_query.specs.declared.queries.Measured.{Measured}
 use Rattle.spline_query.specs.declared.queries.Measured.the-variants as Measured
-use Rattle.giving.specs.Given.{Given}
+use Rattle.c_answer.specs.Given.{Given}
 
 -- the count of the entries, or the refusal; a short answer is judged first, and then nothing is stored
 pub record SplineTableGiven (points before : List Float) (answer : List ℕ) (returned : ℕ) (after : List Float) (answer′ : List ℕ) : Type 0 where

@@ -3,7 +3,7 @@ ghost use mathlib.Core.Path.{_≡_};
 ghost use Rattle.math.specs.Math.{pointOf};
 ghost use Rattle.arc.specs.Lines.{madeLineOf};
 ghost use Rattle.arc.specs.Arcs.{madeArcOf};
-ghost use Rattle.giving.specs.Given.{Given};
+ghost use Rattle.c_answer.specs.Given.{Given};
 ghost use Rattle.kihavute_curves.specs.Arcs.{chordOf, linePositionGiven, lineTangentGiven, lineRotationGiven, lineLengthGiven, arcPositionGiven, arcTangentGiven, arcRotationGiven, arcLengthGiven, ArcShape, ArcTable};
 use crate::curves::measure;
 use crate::curves::place;
@@ -226,11 +226,11 @@ pub extern "C" fn kihavute_arc_shape(
     let made = made(sx, sy, rx, ry, rotation, large, sweep, ex, ey);
     let verdict = made.verdict;
     let arc = made.arc;
-    let numbers = filling::arc_numbers(arc.shape);
+    let numbers = c_output::arc_numbers(arc.shape);
     if arc.line_fallback {
-        return filling::fill(verdict, &numbers, Values::One(1), out, answer);
+        return c_output::fill(verdict, &numbers, Values::One(1), out, answer);
     }
-    filling::fill(verdict, &numbers, Values::One(0), out, answer)
+    c_output::fill(verdict, &numbers, Values::One(0), out, answer)
 }
 
 // Its table: 32 running lengths and then their total, or nothing where it fell back to a line; and
@@ -254,9 +254,9 @@ pub extern "C" fn kihavute_arc_table(
     let made = made(sx, sy, rx, ry, rotation, large, sweep, ex, ey);
     let verdict = made.verdict;
     let arc = made.arc;
-    let numbers = filling::table_numbers(arc.table);
+    let numbers = c_output::table_numbers(arc.table);
     if arc.line_fallback {
-        return filling::fill(verdict, &numbers[..0], Values::One(1), out, answer);
+        return c_output::fill(verdict, &numbers[..0], Values::One(1), out, answer);
     }
-    filling::fill(verdict, &numbers, Values::One(0), out, answer)
+    c_output::fill(verdict, &numbers, Values::One(0), out, answer)
 }

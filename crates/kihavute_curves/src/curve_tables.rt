@@ -27,9 +27,9 @@ pub extern "C" fn kihavute_quad_table(
         Point { x: ex, y: ey },
     );
     let curve = made.curve;
-    let numbers = filling::table_numbers(curve.table);
+    let numbers = c_output::table_numbers(curve.table);
     let verdict = made.verdict;
-    filling::fill(verdict, &numbers, Values::Nothing, out, answer)
+    c_output::fill(verdict, &numbers, Values::Nothing, out, answer)
 }
 
 // The table of a cubic from (sx, sy) to (ex, ey) with the controls (ax, ay) and (bx, by).
@@ -55,7 +55,7 @@ pub extern "C" fn kihavute_cubic_table(
         Point { x: ex, y: ey },
     );
     let curve = made.curve;
-    let numbers = filling::table_numbers(curve.table);
+    let numbers = c_output::table_numbers(curve.table);
     let verdict = made.verdict;
-    filling::fill(verdict, &numbers, Values::Nothing, out, answer)
+    c_output::fill(verdict, &numbers, Values::Nothing, out, answer)
 }

@@ -2,8 +2,8 @@
 ghost use Rattle.math.specs.Math.{pointOf};
 ghost use Rattle.bezier.specs.Quads.{madeQuadOf};
 ghost use Rattle.bezier.specs.Cubics.{madeCubicOf};
-ghost use Rattle.giving.specs.Given.{Given};
-ghost use Rattle.giving.specs.Places.{placeGiven, turnGiven};
+ghost use Rattle.c_answer.specs.Given.{Given};
+ghost use Rattle.c_answer.specs.Places.{placeGiven, turnGiven};
 ghost use Rattle.kihavute_curves.specs.Curves.{allowed, lengthGiven, quadPositionGiven, quadTangentGiven, quadRotationGiven, quadLengthGiven, cubicPositionGiven, cubicTangentGiven, cubicRotationGiven, cubicLengthGiven};
 use answers::Values;
 use bezier::Placed;
@@ -19,8 +19,8 @@ pub(crate) fn place(verdict: Verdict, placed: Placed, answer: &mut [u64]) -> u32
     ensures { λ r. ⌜ Given (allowed verdict (placeGiven placed)) (now (answer .entry)) r (now (answer .exit)) ⌝ }
 {
     match verdict {
-        Verdict::Accepted => giving::give_place(placed, answer),
-        Verdict::Refused(refusal) => giving::refuse(refusal, answer),
+        Verdict::Accepted => c_answer::give_place(placed, answer),
+        Verdict::Refused(refusal) => c_answer::refuse(refusal, answer),
     }
 }
 
@@ -29,8 +29,8 @@ pub(crate) fn turn(verdict: Verdict, turned: Turned, answer: &mut [u64]) -> u32
     ensures { λ r. ⌜ Given (allowed verdict (turnGiven turned)) (now (answer .entry)) r (now (answer .exit)) ⌝ }
 {
     match verdict {
-        Verdict::Accepted => giving::give_turn(turned, answer),
-        Verdict::Refused(refusal) => giving::refuse(refusal, answer),
+        Verdict::Accepted => c_answer::give_turn(turned, answer),
+        Verdict::Refused(refusal) => c_answer::refuse(refusal, answer),
     }
 }
 
@@ -41,9 +41,9 @@ pub(crate) fn measure(verdict: Verdict, total: f32, answer: &mut [u64]) -> u32
     match verdict {
         Verdict::Accepted => {
             let bits = floats::bits(total);
-            giving::accept(Values::One(bits as usize), answer)
+            c_answer::accept(Values::One(bits as usize), answer)
         }
-        Verdict::Refused(refusal) => giving::refuse(refusal, answer),
+        Verdict::Refused(refusal) => c_answer::refuse(refusal, answer),
     }
 }
 

@@ -1,12 +1,12 @@
 // Splines: the table of the points that are lent, and queries of points with their table.
 ghost use Rattle.spline_table.specs.Tables.{answerOf};
 ghost use Rattle.spline_query.specs.Queries.{splinePlacedOf, splineHeadingOf, splineTurnedOf, splineMeasuredOf};
-ghost use Rattle.giving.specs.Given.{Given};
-ghost use Rattle.giving.specs.Places.{placeGiven, turnGiven};
+ghost use Rattle.c_answer.specs.Given.{Given};
+ghost use Rattle.c_answer.specs.Places.{placeGiven, turnGiven};
 ghost use Rattle.kihavute_curves.specs.Splines.{SplineTableGiven, measureGiven};
 use answers::Values;
-use giving::give_place;
-use giving::give_turn;
+use c_answer::give_place;
+use c_answer::give_turn;
 use spline_query::Measured;
 use spline_table::Tabled;
 use table::Progress;
@@ -16,8 +16,8 @@ fn give_count(tabled: Tabled, answer: &mut [u64]) -> u32
     ensures { λ r. ⌜ Given (answerOf tabled) (now (answer .entry)) r (now (answer .exit)) ⌝ }
 {
     match tabled {
-        Tabled::Stored(count) => giving::accept(Values::One(count), answer),
-        Tabled::Refused(refusal) => giving::refuse(refusal, answer),
+        Tabled::Stored(count) => c_answer::accept(Values::One(count), answer),
+        Tabled::Refused(refusal) => c_answer::refuse(refusal, answer),
     }
 }
 
@@ -28,9 +28,9 @@ fn give_length(measured: Measured, answer: &mut [u64]) -> u32
     match measured {
         Measured::Length(total) => {
             let bits = floats::bits(total);
-            giving::accept(Values::One(bits as usize), answer)
+            c_answer::accept(Values::One(bits as usize), answer)
         }
-        Measured::Refused(refusal) => giving::refuse(refusal, answer),
+        Measured::Refused(refusal) => c_answer::refuse(refusal, answer),
     }
 }
 

@@ -10,8 +10,8 @@ use Rattle.answers.specs.Answers.{accepted, refused}
 use Rattle.path_batch.specs.declared.batches.Batch.{Batch}
 use Rattle.path_batch.specs.declared.batches.Batch.the-variants as Batch
 use Rattle.path_batch.specs.Batches.{batchAnswer, Places, Positions}
-use Rattle.giving.specs.Given.{Given}
-use Rattle.giving.proofs.Giving.{given-same}
+use Rattle.c_answer.specs.Given.{Given}
+use Rattle.c_answer.proofs.Giving.{given-same}
 use Rattle.kihavute_paths.specs.Batches.{PlacesGiven, PositionsGiven}
 
 module _ (batch : Batch) where

@@ -7,7 +7,7 @@ use lib.ListN.{length}
 use lib.Ieee.{Float}
 use Rattle.answers.specs.declared.refusals.Refusal.the-variants.{BadPath}
 use Rattle.answers.specs.Answers.{accepted, refused}
-use Rattle.stored.specs.Stored.{isStored}
+use Rattle.path_stored.specs.Stored.{isStored}
 use Rattle.kihavute_paths.specs.StoredPaths.{checkGiven}
 
 module _ (kinds : List ℕ) (fields tables lengths : List Float) where

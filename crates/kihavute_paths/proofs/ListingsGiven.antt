@@ -7,9 +7,9 @@ use lib.ListN.{length}
 use Rattle.answers.specs.Answers.{accepted, refused}
 use Rattle.answers.specs.declared.refusals.Refusal.the-variants.{NoRoom}
 use Rattle.answers.specs.declared.refusals.Values.the-variants.{One}
-use Rattle.stations.specs.Stations.{Stations, stationsOf}
-use Rattle.giving.specs.Given.{Given}
-use Rattle.giving.proofs.Giving.{given-same, given-short}
+use Rattle.station_listing.specs.Stations.{Stations, stationsOf}
+use Rattle.c_answer.specs.Given.{Given}
+use Rattle.c_answer.proofs.Giving.{given-same, given-short}
 use Rattle.kihavute_paths.specs.Listings.{listingGiven, PlanListed}
 
 module _ (input output answer : List ℕ) where

@@ -7,12 +7,12 @@ use lib.Ieee.{Float}
 use lib.ListN.{length}
 use Rattle.answers.specs.declared.refusals.Refusal.{Refusal}
 use Rattle.answers.specs.Answers.{accepted, refused}
-use Rattle.drawing.specs.Building.{Built}
-use Rattle.path.specs.Answers.{answerOf, Answers}
-use Rattle.path.specs.declared.sizes.Building.{Building}
-use Rattle.path.specs.declared.sizes.Building.the-variants as Building
-use Rattle.giving.specs.Given.{Given}
-use Rattle.giving.proofs.Giving.{given-same}
+use Rattle.path_drawing.specs.Building.{Built}
+use Rattle.path_build.specs.Answers.{answerOf, Answers}
+use Rattle.path_build.specs.declared.sizes.Building.{Building}
+use Rattle.path_build.specs.declared.sizes.Building.the-variants as Building
+use Rattle.c_answer.specs.Given.{Given}
+use Rattle.c_answer.proofs.Giving.{given-same}
 use Rattle.kihavute_paths.specs.Paths.{PathBuilt}
 
 pub building-given : (building : Building) (segments fields tables : ℕ) → Building.Built segments fields tables ≡ building → accepted (segments ∷ fields ∷ tables ∷ segments ∷ []) ≡ answerOf building

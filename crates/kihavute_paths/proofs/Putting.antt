@@ -17,8 +17,8 @@ use Rattle.morph.specs.declared.bounding.Bounds.{Bounds}
 use Rattle.morph.specs.declared.bounding.Bounded.the-variants.{Within}
 use Rattle.morph.specs.declared.evaluating.Evaluated.{Evaluated}
 use Rattle.morph.specs.declared.morphing.Morphed.{Morphed}
-use Rattle.giving.specs.Given.{Given}
-use Rattle.giving.proofs.Giving.{given-same, given-short}
+use Rattle.c_answer.specs.Given.{Given}
+use Rattle.c_answer.proofs.Giving.{given-same, given-short}
 use Rattle.kihavute_paths.specs.Morphs.{Put, PutTwo, resampledGiven, evaluatedGiven, morphedGiven, boundsGiven}
 
 -- ---- a short answer

@@ -5,7 +5,7 @@ use mathlib.Core.List.{[], _∷_}
 use Rattle.answers.specs.declared.refusals.Refusal.{Refusal}
 use Rattle.answers.specs.Answers.{accepted, refused}
 use Rattle.floats.specs.Floats.{bitsOf}
-use Rattle.place.specs.declared.places.Place.{Place}
+use Rattle.path_place.specs.declared.places.Place.{Place}
 use Rattle.path_query.specs.declared.queries.Located.{Located}
 use Rattle.path_query.specs.declared.queries.Located.the-variants as Located
 use Rattle.kihavute_paths.specs.Queries.{locatedGiven}

@@ -8,9 +8,9 @@ use Rattle.answers.specs.Answers.{Answer, accepted, refused}
 use Rattle.answers.specs.Report.{short, written}
 use Rattle.answers.specs.declared.refusals.Refusal.the-variants.{NoRoom}
 use Rattle.answers.specs.declared.refusals.Values.the-variants.{One}
-use Rattle.stations.specs.Stations as Tool
-use Rattle.stations.specs.Stations.{stationsOf}
-use Rattle.giving.specs.Given.{Given}
+use Rattle.station_listing.specs.Stations as Tool
+use Rattle.station_listing.specs.Stations.{stationsOf}
+use Rattle.c_answer.specs.Given.{Given}
 
 -- the listing's length, or 8 with the places that every listing fits
 abbrev pub listingGiven : List ℕ → List ℕ → Answer

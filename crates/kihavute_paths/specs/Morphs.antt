@@ -17,7 +17,7 @@ use Rattle.morph.specs.declared.evaluating.Evaluated.{Evaluated}
 use Rattle.morph.specs.declared.morphing.Morphed.{Morphed}
 use Rattle.morph.specs.declared.bounding.Bounded.{Bounded}
 use Rattle.morph.specs.declared.bounding.Bounded.the-variants as Bounded
-use Rattle.giving.specs.Given.{Given}
+use Rattle.c_answer.specs.Given.{Given}
 
 -- one output
 pub record Put (outcome : Outcome) (before : List Float) (answer : List ℕ) (returned : ℕ) (after : List Float) (answer′ : List ℕ) : Type 0 where

@@ -5,10 +5,10 @@ use mathlib.Core.Bool.{cond}
 use mathlib.Core.List.{List}
 use lib.Ieee.{Float}
 use Rattle.answers.specs.Report.{short, written}
-use Rattle.stored.specs.Layout.{kindsOf, fieldsOfAll, tablesOfAll, lengthsOfAll}
-use Rattle.drawing.specs.Building.{Built}
-use Rattle.path.specs.Answers.{answered, segmentsWritten}
-use Rattle.giving.specs.Given.{Given}
+use Rattle.path_stored.specs.Layout.{kindsOf, fieldsOfAll, tablesOfAll, lengthsOfAll}
+use Rattle.path_drawing.specs.Building.{Built}
+use Rattle.path_build.specs.Answers.{answered, segmentsWritten}
+use Rattle.c_answer.specs.Given.{Given}
 
 -- what is built is reported and stored; with an answer that is too short nothing is built
 pub record PathBuilt (built : Built) (kinds : List ℕ) (fields tables lengths : List Float) (answer : List ℕ) (returned : ℕ) (kinds′ : List ℕ) (fields′ tables′ lengths′ : List Float) (answer′ : List ℕ) : Type 0 where

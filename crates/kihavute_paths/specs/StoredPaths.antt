@@ -6,7 +6,7 @@ use lib.ListN.{length}
 use lib.Ieee.{Float}
 use Rattle.answers.specs.declared.refusals.Refusal.the-variants.{BadPath}
 use Rattle.answers.specs.Answers.{Answer, accepted, refused}
-use Rattle.stored.specs.Stored.{isStored}
+use Rattle.path_stored.specs.Stored.{isStored}
 
 -- the count of its segments, or 12
 unfoldable pub checkGiven : List ℕ → List Float → List Float → List Float → Answer

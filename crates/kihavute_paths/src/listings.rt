@@ -13,8 +13,8 @@ pub extern "C" fn kihavute_stations(input: &[u8], output: &mut [u8], answer: &mu
         return 255;
     }
     if output.len() < 65536 {
-        return giving::refuse(Refusal::NoRoom(Values::One(65536)), answer);
+        return c_answer::refuse(Refusal::NoRoom(Values::One(65536)), answer);
     }
-    let length = stations::stations(input, output);
-    giving::accept(Values::One(length), answer)
+    let length = station_listing::stations(input, output);
+    c_answer::accept(Values::One(length), answer)
 }

@@ -1,6 +1,6 @@
 // Shapes: a line with evenly spaced points, two shapes resampled for a morph, the shape between them
 // and its bounds. A short answer is judged first, so that nothing is written then.
-ghost use Rattle.giving.specs.Given.{Given};
+ghost use Rattle.c_answer.specs.Given.{Given};
 ghost use Rattle.kihavute_paths.specs.Morphs.{Put, PutTwo, resampledGiven, evaluatedGiven, morphedGiven, boundsGiven};
 ghost use lib.ListN.{length};
 ghost use Rattle.resample.specs.Resample.{resampleOf};
@@ -18,8 +18,8 @@ fn give_resampled(resampled: Resampled, answer: &mut [u64]) -> u32
     ensures { λ r. ⌜ Given (resampledGiven resampled) (now (answer .entry)) r (now (answer .exit)) ⌝ }
 {
     match resampled {
-        Resampled::Numbers(numbers) => giving::accept(Values::One(numbers), answer),
-        Resampled::Refused(refusal) => giving::refuse(refusal, answer),
+        Resampled::Numbers(numbers) => c_answer::accept(Values::One(numbers), answer),
+        Resampled::Refused(refusal) => c_answer::refuse(refusal, answer),
     }
 }
 
@@ -45,8 +45,8 @@ fn give_morphed(morphed: Morphed, answer: &mut [u64]) -> u32
     ensures { λ r. ⌜ Given (morphedGiven morphed) (now (answer .entry)) r (now (answer .exit)) ⌝ }
 {
     match morphed {
-        Morphed::Numbers { from, to } => giving::accept(Values::Two(from, to), answer),
-        Morphed::Refused(refusal) => giving::refuse(refusal, answer),
+        Morphed::Numbers { from, to } => c_answer::accept(Values::Two(from, to), answer),
+        Morphed::Refused(refusal) => c_answer::refuse(refusal, answer),
     }
 }
 
@@ -92,8 +92,8 @@ fn give_evaluated(evaluated: Evaluated, answer: &mut [u64]) -> u32
     ensures { λ r. ⌜ Given (evaluatedGiven evaluated) (now (answer .entry)) r (now (answer .exit)) ⌝ }
 {
     match evaluated {
-        Evaluated::Numbers(numbers) => giving::accept(Values::One(numbers), answer),
-        Evaluated::Refused(refusal) => giving::refuse(refusal, answer),
+        Evaluated::Numbers(numbers) => c_answer::accept(Values::One(numbers), answer),
+        Evaluated::Refused(refusal) => c_answer::refuse(refusal, answer),
     }
 }
 
@@ -125,9 +125,9 @@ fn give_bounds(bounded: Bounded, answer: &mut [u64]) -> u32
             let min_y = floats::bits(bounds.min_y) as usize;
             let max_x = floats::bits(bounds.max_x) as usize;
             let max_y = floats::bits(bounds.max_y) as usize;
-            giving::accept(Values::Four(min_x, min_y, max_x, max_y), answer)
+            c_answer::accept(Values::Four(min_x, min_y, max_x, max_y), answer)
         }
-        Bounded::Refused(refusal) => giving::refuse(refusal, answer),
+        Bounded::Refused(refusal) => c_answer::refuse(refusal, answer),
     }
 }
 

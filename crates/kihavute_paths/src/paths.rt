@@ -1,11 +1,11 @@
 // Stored paths built from a command list or from a text.
-ghost use Rattle.path.specs.Answers.{answerOf};
-ghost use Rattle.path.specs.Paths.{lentOf, buildPathOf};
+ghost use Rattle.path_build.specs.Answers.{answerOf};
+ghost use Rattle.path_build.specs.Paths.{lentOf, buildPathOf};
 ghost use Rattle.path_text.specs.Builds.{buildTextOf};
-ghost use Rattle.giving.specs.Given.{Given};
+ghost use Rattle.c_answer.specs.Given.{Given};
 ghost use Rattle.kihavute_paths.specs.Paths.{PathBuilt};
 use answers::Values;
-use path::Building;
+use path_build::Building;
 
 // The counts of what was stored, one for each output.
 fn give_building(building: Building, answer: &mut [u64]) -> u32
@@ -16,8 +16,8 @@ fn give_building(building: Building, answer: &mut [u64]) -> u32
             segments,
             fields: own,
             tables: more,
-        } => giving::accept(Values::Four(segments, own, more, segments), answer),
-        Building::Refused(refusal) => giving::refuse(refusal, answer),
+        } => c_answer::accept(Values::Four(segments, own, more, segments), answer),
+        Building::Refused(refusal) => c_answer::refuse(refusal, answer),
     }
 }
 
@@ -38,7 +38,7 @@ pub extern "C" fn kihavute_build(
     if answer.len() < 8 {
         return 255;
     }
-    let building = path::build_path(letters, numbers, kinds, fields, tables, lengths);
+    let building = path_build::build_path(letters, numbers, kinds, fields, tables, lengths);
     give_building(building, answer)
 }
 

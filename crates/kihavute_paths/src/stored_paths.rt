@@ -1,5 +1,5 @@
 // Stored paths.
-ghost use Rattle.giving.specs.Given.{Given};
+ghost use Rattle.c_answer.specs.Given.{Given};
 ghost use Rattle.kihavute_paths.specs.StoredPaths.{checkGiven};
 use answers::Refusal;
 use answers::Values;
@@ -16,8 +16,8 @@ pub extern "C" fn kihavute_check(
 ) -> u32
     ensures { λ r. ⌜ Given (checkGiven (now (kinds .entry)) (now (fields .entry)) (now (tables .entry)) (now (lengths .entry))) (now (answer .entry)) r (now (answer .exit)) ⌝ }
 {
-    if stored::check_path(kinds, fields, tables, lengths) {
-        return giving::accept(Values::One(kinds.len()), answer);
+    if path_stored::check_path(kinds, fields, tables, lengths) {
+        return c_answer::accept(Values::One(kinds.len()), answer);
     }
-    giving::refuse(Refusal::BadPath, answer)
+    c_answer::refuse(Refusal::BadPath, answer)
 }

@@ -14,8 +14,8 @@ use Rattle.commands.specs.declared.checking.Checked.the-variants as Checked
 use Rattle.svg.specs.Readings.{ReadPath, answerOf}
 use Rattle.svg.specs.declared.reading.Reading.{Reading}
 use Rattle.svg.specs.declared.reading.Reading.the-variants as Reading
-use Rattle.giving.specs.Given.{Given}
-use Rattle.giving.proofs.Giving.{given-same}
+use Rattle.c_answer.specs.Given.{Given}
+use Rattle.c_answer.proofs.Giving.{given-same}
 use Rattle.kihavute_reading.specs.Reading.{PathRead}
 
 pub reading-given : (reading : Reading) (places count : ℕ) → Reading.Read places count ≡ reading → accepted (places ∷ count ∷ []) ≡ answerOf reading

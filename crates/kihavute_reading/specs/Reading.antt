@@ -7,7 +7,7 @@ use lib.Ieee.{Float}
 use lib.ListN.{length}
 use Rattle.answers.specs.Report.{Report, short, written}
 use Rattle.svg.specs.Readings.{answered, readPathOf, lettersWritten, numbersWritten}
-use Rattle.giving.specs.Given.{Given}
+use Rattle.c_answer.specs.Given.{Given}
 
 -- the reader's answer is reported, and its commands are stored; with an answer that is too short nothing is read
 pub record PathRead (text letters : List ℕ) (numbers : List Float) (answer : List ℕ) (returned : ℕ) (letters′ : List ℕ) (numbers′ : List Float) (answer′ : List ℕ) : Type 0 where

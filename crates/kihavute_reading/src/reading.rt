@@ -1,7 +1,7 @@
 // The permissive reader, and the check of a stored command list.
 ghost use Rattle.svg.specs.Readings.{answerOf};
 ghost use Rattle.commands.specs.Checked.{checkCommandsOf};
-ghost use Rattle.giving.specs.Given.{Given};
+ghost use Rattle.c_answer.specs.Given.{Given};
 ghost use Rattle.kihavute_reading.specs.Reading.{PathRead};
 use answers::Values;
 use commands::Checked;
@@ -15,8 +15,8 @@ fn give_reading(reading: Reading, answer: &mut [u64]) -> u32
         Reading::Read {
             letters: places,
             numbers: count,
-        } => giving::accept(Values::Two(places, count), answer),
-        Reading::Refused(refusal) => giving::refuse(refusal, answer),
+        } => c_answer::accept(Values::Two(places, count), answer),
+        Reading::Refused(refusal) => c_answer::refuse(refusal, answer),
     }
 }
 
@@ -49,7 +49,7 @@ pub extern "C" fn kihavute_check_commands(
 {
     let checked = commands::check_commands(letters, numbers);
     match checked {
-        Checked::WellFormed => giving::accept(Values::Nothing, answer),
-        Checked::Refused(refusal) => giving::refuse(refusal, answer),
+        Checked::WellFormed => c_answer::accept(Values::Nothing, answer),
+        Checked::Refused(refusal) => c_answer::refuse(refusal, answer),
     }
 }

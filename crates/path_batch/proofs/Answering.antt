@@ -12,7 +12,7 @@ use Rattle.answers.specs.declared.refusals.Refusal.the-variants.{BadPath, NoRoo
 use Rattle.answers.specs.declared.refusals.Values.the-variants.{One, Two}
 use Rattle.answers.specs.Report.{written}
 use Rattle.floats.specs.Floats.{zeroF}
-use Rattle.stored.specs.Stored.{isStored}
+use Rattle.path_stored.specs.Stored.{isStored}
 use Rattle.path_batch.specs.declared.batches.Batch.{Batch}
 use Rattle.path_batch.specs.declared.batches.Batch.the-variants as Batch
 use Rattle.path_batch.specs.Batches.{segmentsFor, rawsFor, numbersFor, placesIn, placesOf, positionsOf, givenBy, Places, Positions, FilledPlaces, FilledPositions}

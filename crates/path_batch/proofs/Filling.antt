@@ -13,9 +13,9 @@ use Rattle.floats.specs.Floats.{zeroF}
 use Rattle.math.specs.Math.{originF}
 use Rattle.table.specs.declared.tables.Spot.{Spot}
 use Rattle.table.specs.Spots.{spotOf}
-use Rattle.place.specs.declared.cursors.Cursor.{Cursor}
-use Rattle.place.specs.Cursors.{cursorOf, Moving}
-use Rattle.place.proofs.Standing.{cursor-own, spot-among}
+use Rattle.path_place.specs.declared.cursors.Cursor.{Cursor}
+use Rattle.path_place.specs.Cursors.{cursorOf, Moving}
+use Rattle.path_place.proofs.Standing.{cursor-own, spot-among}
 use Rattle.path_query.specs.Flights.{flightOf, Flyable}
 use Rattle.path_query.proofs.Seats.{some-place}
 use Rattle.path_batch.specs.Batches.{each, numbersOf, numbersFor}

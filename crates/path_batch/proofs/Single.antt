@@ -6,8 +6,8 @@ use mathlib.Core.Bool.{true}
 use mathlib.Core.List.{List, [], _∷_}
 use lib.ListN.{length, getD, take, drop}
 use lib.Ieee.{Float, nan}
-use Rattle.stored.specs.Stored.{isStored}
-use Rattle.place.specs.Places.{placed, placeOf}
+use Rattle.path_stored.specs.Stored.{isStored}
+use Rattle.path_place.specs.Places.{placed, placeOf}
 use Rattle.path_query.specs.declared.queries.Located.the-variants as Located
 use Rattle.path_query.specs.Flights.{flightOf}
 use Rattle.path_query.specs.Answered.{locatedOf}

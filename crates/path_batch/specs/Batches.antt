@@ -10,8 +10,8 @@ use Rattle.answers.specs.declared.refusals.Refusal.the-variants.{BadPath, NoRoo
 use Rattle.answers.specs.declared.refusals.Values.the-variants.{One, Two}
 use Rattle.answers.specs.Answers.{Answer, accepted, refused}
 use Rattle.answers.specs.Report.{written}
-use Rattle.stored.specs.Stored.{isStored}
-use Rattle.place.specs.Places.{placeOf}
+use Rattle.path_stored.specs.Stored.{isStored}
+use Rattle.path_place.specs.Places.{placeOf}
 use Rattle.path_query.specs.declared.flights.Flown.{Flown}
 use Rattle.path_batch.specs.declared.batches.Batch.{Batch}
 use Rattle.path_batch.specs.declared.batches.Batch.the-variants as Batch

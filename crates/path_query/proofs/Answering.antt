@@ -7,9 +7,9 @@ use mathlib.Core.List.{List, [], _∷_}
 use lib.ListN.{length}
 use lib.Ieee.{Float}
 use Rattle.answers.specs.declared.refusals.Refusal.the-variants.{BadPath}
-use Rattle.stored.specs.Stored.{isStored}
-use Rattle.place.specs.declared.places.Place.{Place}
-use Rattle.place.specs.Places.{placeOf}
+use Rattle.path_stored.specs.Stored.{isStored}
+use Rattle.path_place.specs.declared.places.Place.{Place}
+use Rattle.path_place.specs.Places.{placeOf}
 use Rattle.path_query.specs.declared.flights.Flown.{Flown}
 use Rattle.path_query.specs.declared.flights.Flight.the-variants as Flight
 use Rattle.path_query.specs.declared.queries.Located.the-variants as Located

@@ -10,15 +10,15 @@ use Rattle.math.specs.declared.points.Point.{Point}
 use Rattle.table.specs.declared.tables.Spot.{Spot}
 use Rattle.table.specs.Spots.{spotOf}
 use Rattle.bezier.specs.Curves.{aheadOf}
-use Rattle.segment.specs.declared.segments.PathSegment.{PathSegment}
-use Rattle.segment.specs.Segments.{kindOf, widthOf, hasTable, segmentOf}
-use Rattle.stored.specs.Stored.{before, Numbered, Stored, segmentIn}
-use Rattle.place.specs.declared.cursors.Cursor.{Cursor}
-use Rattle.place.specs.Cursors.{cursorOf}
-use Rattle.place.specs.Places.{placeOf, rawIn, rawWithin, TableThere, SomePlace}
-use Rattle.place.proofs.Tables.{findable}
-use Rattle.place.proofs.Standing.{cursor-own, cursor-tables, standing}
-use Rattle.heading.specs.Headings.{sampleOf, headingOf}
+use Rattle.path_segment.specs.declared.segments.PathSegment.{PathSegment}
+use Rattle.path_segment.specs.Segments.{kindOf, widthOf, hasTable, segmentOf}
+use Rattle.path_stored.specs.Stored.{before, Numbered, Stored, segmentIn}
+use Rattle.path_place.specs.declared.cursors.Cursor.{Cursor}
+use Rattle.path_place.specs.Cursors.{cursorOf}
+use Rattle.path_place.specs.Places.{placeOf, rawIn, rawWithin, TableThere, SomePlace}
+use Rattle.path_place.proofs.Tables.{findable}
+use Rattle.path_place.proofs.Standing.{cursor-own, cursor-tables, standing}
+use Rattle.path_heading.specs.Headings.{sampleOf, headingOf}
 use Rattle.path_query.specs.Flights.{flownWithin, flownOf, Seated, Flyable}
 
 -- ---- the numbers of a segment

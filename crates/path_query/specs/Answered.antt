@@ -10,8 +10,8 @@ use Rattle.bezier.specs.declared.curves.Placed.{Placed}
 use Rattle.bezier.specs.declared.curves.Placed.the-variants as Placed
 use Rattle.bezier.specs.declared.curves.Turned.{Turned}
 use Rattle.bezier.specs.declared.curves.Turned.the-variants as Turned
-use Rattle.stored.specs.Stored.{isStored}
-use Rattle.place.specs.Places.{placeOf}
+use Rattle.path_stored.specs.Stored.{isStored}
+use Rattle.path_place.specs.Places.{placeOf}
 use Rattle.path_query.specs.declared.flights.Flight.{Flight}
 use Rattle.path_query.specs.declared.flights.Flight.the-variants as Flight
 use Rattle.path_query.specs.declared.queries.Located.{Located}

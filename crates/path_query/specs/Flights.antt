@@ -1,5 +1,5 @@
 -- What is flown at a progress along a stored path: `position` and `tangent` of `CompoundPath` (source document 002). Both are, by definition, the sample and the tangent of the pair
--- (segment, raw parameter) that `place/proofs/Demand3.antt` speaks of. Definitions only.
+-- (segment, raw parameter) that `path_place/proofs/Demand3.antt` speaks of. Definitions only.
 use Prim.Native.Nat.{ℕ, _<_}
 use mathlib.Core.List.{List, [], _∷_}
 use lib.ListN.{length}
@@ -7,11 +7,11 @@ use lib.Ieee.{Float}
 use Rattle.math.specs.Math.{originF}
 use Rattle.table.specs.Spots.{spotOf}
 use Rattle.bezier.specs.Curves.{aheadOf}
-use Rattle.stored.specs.Stored.{Numbered, Stored, segmentIn}
-use Rattle.place.specs.declared.cursors.Cursor.{Cursor}
-use Rattle.place.specs.declared.places.Place.{Place}
-use Rattle.place.specs.Places.{placed, placeOf, rawIn, rawWithin, tablePlace, Standing}
-use Rattle.heading.specs.Headings.{sampleOf, headingOf}
+use Rattle.path_stored.specs.Stored.{Numbered, Stored, segmentIn}
+use Rattle.path_place.specs.declared.cursors.Cursor.{Cursor}
+use Rattle.path_place.specs.declared.places.Place.{Place}
+use Rattle.path_place.specs.Places.{placed, placeOf, rawIn, rawWithin, tablePlace, Standing}
+use Rattle.path_heading.specs.Headings.{sampleOf, headingOf}
 use Rattle.path_query.specs.declared.flights.Flown.{Flown}
 
 -- the sample of a pair; and its tangent, whose second try looks at the raw parameter a thousandth after the local progress

@@ -1,17 +1,17 @@
 // The queries without the check, for callers that know the path to be a stored one with a segment.
 use crate::flights::Flown;
-use heading::inner::heading;
-use heading::sample;
-use place::Cursor;
-use place::first_cursor;
-use place::inner::forward;
-use place::inner::raw_within;
-use segment::PathSegment;
-use segment::inner::segment_at;
+use path_heading::inner::heading;
+use path_heading::sample;
+use path_place::Cursor;
+use path_place::first_cursor;
+use path_place::inner::forward;
+use path_place::inner::raw_within;
+use path_segment::PathSegment;
+use path_segment::inner::segment_at;
 use table::Progress;
 use table::inner::spot;
 ghost use mathlib.Core.Path.{_≡_};
-ghost use Rattle.stored.specs.Stored.{segmentIn};
+ghost use Rattle.path_stored.specs.Stored.{segmentIn};
 ghost use Rattle.path_query.specs.Flights.{Flyable, Seated, flownOf, flownWithin};
 
 // The segment at which a cursor stands.

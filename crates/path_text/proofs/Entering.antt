@@ -14,15 +14,15 @@ use Rattle.commands.proofs.ReadBack.{read-back, stored-passes}
 use Rattle.svg.specs.Texts.{Outcome, commands, refusal as unread, commandsOf, measureOf as lengthOf}
 use Rattle.svg.specs.declared.passes.Size.the-variants as Length
 use Rattle.svg.proofs.Texts.{commands-few}
-use Rattle.drawing.specs.Building.{refusal, buildOf}
-use Rattle.path.specs.Answers.{roomed, measureOf}
-use Rattle.path.specs.Paths.{builtBy, lentOf, buildPathOf}
-use Rattle.path.specs.declared.sizes.Building.the-variants as Building
-use Rattle.path.specs.declared.sizes.Counts.{Counts}
-use Rattle.path.specs.declared.sizes.Size.the-variants as Size
-use Rattle.path.proofs.Along.{refused-is}
-use Rattle.path.proofs.Answering.{refuses}
-use Rattle.path.proofs.Entering.{entered}
+use Rattle.path_drawing.specs.Building.{refusal, buildOf}
+use Rattle.path_build.specs.Answers.{roomed, measureOf}
+use Rattle.path_build.specs.Paths.{builtBy, lentOf, buildPathOf}
+use Rattle.path_build.specs.declared.sizes.Building.the-variants as Building
+use Rattle.path_build.specs.declared.sizes.Counts.{Counts}
+use Rattle.path_build.specs.declared.sizes.Size.the-variants as Size
+use Rattle.path_build.proofs.Along.{refused-is}
+use Rattle.path_build.proofs.Answering.{refuses}
+use Rattle.path_build.proofs.Entering.{entered}
 use Rattle.path_text.specs.Builds.{builtFrom, buildTextOf, BuildFromText}
 
 -- ---- reading before building

@@ -9,8 +9,8 @@ use Rattle.commands.specs.declared.command.PathCommand.the-variants.{MoveTo, Li
 use Rattle.svg.specs.Texts.{Outcome, commands, refusal}
 use Rattle.svg.specs.Readings.{readPathOf}
 use Rattle.svg.proofs.Readings.{readings}
-use Rattle.drawing.specs.Drawing.{freshOf, drawOf}
-use Rattle.drawing.specs.Building.{path, buildFrom, buildOf}
+use Rattle.path_drawing.specs.Drawing.{freshOf, drawOf}
+use Rattle.path_drawing.specs.Building.{path, buildFrom, buildOf}
 
 -- a point by the bits of its coordinates
 abbrev point : ℕ → ℕ → Point

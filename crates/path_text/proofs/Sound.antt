@@ -8,15 +8,15 @@ use borrow.Author.Tests.{ltb-false}
 use lib.Dec.{T, ltb}
 use lib.ListN.{length}
 use Rattle.answers.specs.declared.refusals.Refusal.the-variants.{TooLong}
-use Rattle.segment.specs.declared.segments.PathSegment.{PathSegment}
-use Rattle.stored.specs.Layout.{kindsOf, fieldsOfAll, tablesOfAll, lengthsOfAll}
-use Rattle.stored.specs.Stored.{isStored}
+use Rattle.path_segment.specs.declared.segments.PathSegment.{PathSegment}
+use Rattle.path_stored.specs.Layout.{kindsOf, fieldsOfAll, tablesOfAll, lengthsOfAll}
+use Rattle.path_stored.specs.Stored.{isStored}
 use Rattle.svg.specs.Texts.{Outcome, commands, refusal as unread, commandsOf}
 use Rattle.svg.proofs.Texts.{commands-few}
-use Rattle.drawing.specs.Building.{path, refusal}
-use Rattle.path.specs.Answers.{roomed}
-use Rattle.path.specs.declared.sizes.Counts.{Counts}
-use Rattle.path.proofs.Sound.{built-stored, roomed-path}
+use Rattle.path_drawing.specs.Building.{path, refusal}
+use Rattle.path_build.specs.Answers.{roomed}
+use Rattle.path_build.specs.declared.sizes.Counts.{Counts}
+use Rattle.path_build.proofs.Sound.{built-stored, roomed-path}
 use Rattle.path_text.specs.Builds.{builtFrom, buildTextOf}
 
 pub build-text-stored :

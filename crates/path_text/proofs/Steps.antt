@@ -7,27 +7,27 @@ use lib.Ieee.{Float}
 use lib.ListN.{length, length-append}
 use Rattle.answers.specs.declared.refusals.Refusal.{Refusal}
 use Rattle.commands.specs.declared.command.PathCommand.{PathCommand}
-use Rattle.segment.specs.declared.segments.PathSegment.{PathSegment}
+use Rattle.path_segment.specs.declared.segments.PathSegment.{PathSegment}
 use Rattle.svg.specs.Steps.{freshOf, readStepOf}
 use Rattle.svg.specs.Texts.{Outcome, commands, refusal as unread, readFrom, commandsOf}
 use Rattle.svg.specs.declared.steps.Reader.{Reader}
 use Rattle.svg.specs.declared.steps.Step.the-variants.{Command, Done, Refused as StepRefused}
 use Rattle.svg.proofs.Ahead.{step-ahead}
 use Rattle.svg.proofs.PassLaws.{onto as ontoCommands, Known, known-none, known-all, known-refused, known-more}
-use Rattle.drawing.specs.Drawing.{drawOf}
-use Rattle.drawing.specs.Building.{Built, path, refusal, buildOf}
-use Rattle.laying.specs.Sites.{startOf, advanceOf, drawnBy, Few, Room, Laid}
-use Rattle.laying.specs.Tallies.{tallyOf, Scant, talliedOf}
-use Rattle.laying.specs.declared.sites.Site.{Site}
-use Rattle.laying.specs.declared.sites.Advanced.the-variants.{To, Refused}
-use Rattle.laying.specs.declared.tallies.Tally.{Tally}
-use Rattle.laying.specs.declared.tallies.Tallied.the-variants as Tallied
-use Rattle.laying.proofs.Along.{At, at-none, at-few, at-all, at-next, at-refused}
-use Rattle.laying.proofs.Filling.{Filling, filling-none, filling-more, roomed, same-kinds, same-fields, same-tables, same-lengths}
-use Rattle.laying.proofs.Foreseen.{Calm, calm-start, foreseen}
-use Rattle.path.specs.Answers.{measureOf, Holding, Filled}
-use Rattle.path.specs.declared.sizes.Size.the-variants as Size
-use Rattle.path.proofs.Along.{counts-are, counted-at, scant-at, Holdable, holdable, filled-is}
+use Rattle.path_drawing.specs.Drawing.{drawOf}
+use Rattle.path_drawing.specs.Building.{Built, path, refusal, buildOf}
+use Rattle.path_storing.specs.Sites.{startOf, advanceOf, drawnBy, Few, Room, Laid}
+use Rattle.path_storing.specs.Tallies.{tallyOf, Scant, talliedOf}
+use Rattle.path_storing.specs.declared.sites.Site.{Site}
+use Rattle.path_storing.specs.declared.sites.Advanced.the-variants.{To, Refused}
+use Rattle.path_storing.specs.declared.tallies.Tally.{Tally}
+use Rattle.path_storing.specs.declared.tallies.Tallied.the-variants as Tallied
+use Rattle.path_storing.proofs.Along.{At, at-none, at-few, at-all, at-next, at-refused}
+use Rattle.path_storing.proofs.Filling.{Filling, filling-none, filling-more, roomed, same-kinds, same-fields, same-tables, same-lengths}
+use Rattle.path_storing.proofs.Foreseen.{Calm, calm-start, foreseen}
+use Rattle.path_build.specs.Answers.{measureOf, Holding, Filled}
+use Rattle.path_build.specs.declared.sizes.Size.the-variants as Size
+use Rattle.path_build.proofs.Along.{counts-are, counted-at, scant-at, Holdable, holdable, filled-is}
 use Rattle.path_text.specs.Builds.{builtFrom}
 
 -- the rest of a text whose first commands are known

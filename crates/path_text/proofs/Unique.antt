@@ -3,9 +3,9 @@ use Prim.Native.Nat.{ℕ}
 use mathlib.Core.Path.{_≡_}
 use mathlib.Core.List.{List}
 use lib.Ieee.{Float}
-use Rattle.path.specs.Paths.{lentOf}
-use Rattle.path.specs.declared.sizes.Building.{Building}
-use Rattle.path.proofs.Unique.{answers-unique}
+use Rattle.path_build.specs.Paths.{lentOf}
+use Rattle.path_build.specs.declared.sizes.Building.{Building}
+use Rattle.path_build.proofs.Unique.{answers-unique}
 use Rattle.path_text.specs.Builds.{buildTextOf, BuildFromText}
 
 pub build-from-text-unique :

@@ -10,12 +10,12 @@ use lib.ListN.{length}
 use Rattle.answers.specs.declared.refusals.Refusal.the-variants.{TooLong}
 use Rattle.commands.specs.declared.command.PathCommand.{PathCommand}
 use Rattle.svg.specs.Texts.{Outcome, commands, refusal as unread, commandsOf}
-use Rattle.drawing.specs.Building.{Built, refusal, buildOf}
-use Rattle.path.specs.Answers.{roomed, Answers, measureOf}
-use Rattle.path.specs.Paths.{lentOf}
-use Rattle.path.specs.declared.sizes.Building.{Building}
-use Rattle.path.specs.declared.sizes.Counts.{Counts}
-use Rattle.path.specs.declared.sizes.Size.the-variants as Size
+use Rattle.path_drawing.specs.Building.{Built, refusal, buildOf}
+use Rattle.path_build.specs.Answers.{roomed, Answers, measureOf}
+use Rattle.path_build.specs.Paths.{lentOf}
+use Rattle.path_build.specs.declared.sizes.Building.{Building}
+use Rattle.path_build.specs.declared.sizes.Counts.{Counts}
+use Rattle.path_build.specs.declared.sizes.Size.the-variants as Size
 use Rattle.path_text.specs.declared.texts.Found.{Found}
 use Rattle.path_text.specs.declared.texts.Found.the-variants.{Counted, Unread, Unbuilt}
 

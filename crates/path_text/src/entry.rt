@@ -3,17 +3,17 @@ ghost use mathlib.Core.Path.{_≡_};
 ghost use Prim.Native.Nat.{_≤_};
 ghost use lib.ListN.{length};
 ghost use Rattle.svg.specs.Texts.{commandsOf};
-ghost use Rattle.path.specs.Answers.{measureOf};
+ghost use Rattle.path_build.specs.Answers.{measureOf};
 ghost use Rattle.path_text.specs.Builds.{builtFrom, BuildFromText};
 use crate::texts::Found;
 use crate::texts::fill;
 use crate::texts::measure;
 use answers::Refusal;
 use answers::Values;
-use path::Building;
-use path::inner::Counts;
-use path::inner::Size;
-use path::inner::is_short;
+use path_build::Building;
+use path_build::inner::Counts;
+use path_build::inner::Size;
+use path_build::inner::is_short;
 
 // What a text builds: the places needed, or its first refusal, where any of reading comes before one of building.
 fn size_of(text: &[u8]) -> Size

@@ -14,7 +14,7 @@ use Rattle.table.specs.Lookup.{at}
 use Rattle.table.specs.Sound.{tableIsSound}
 use Rattle.table.specs.Sums.{runningSums, sumOf}
 use Rattle.table.proofs.Sums.{running-length, running-first, running-next, sums-sound}
-use Rattle.samples.proofs.Made.{distance-not-below}
+use Rattle.table_samples.proofs.Made.{distance-not-below}
 use Rattle.polyline.specs.Points.{countOf, pointAt}
 use Rattle.polyline.specs.Lengths.{legOf, legsFrom, legsOf, lengthsOf, totalOf}
 

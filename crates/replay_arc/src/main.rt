@@ -7,13 +7,13 @@ use arc::LineSegment;
 use bezier::Placed;
 use bezier::Turned;
 use ellipse::Chord;
-use records::float;
-use records::has_bits;
-use records::number_of;
-use records::pattern;
-use records::point;
-use records::same_answers;
-use records::same_numbers;
+use replay_records::float;
+use replay_records::has_bits;
+use replay_records::number_of;
+use replay_records::pattern;
+use replay_records::point;
+use replay_records::same_answers;
+use replay_records::same_numbers;
 use table::Progress;
 
 // A block is a segment and six progresses. Its first line has a letter (a or l), the refusal's number or
@@ -33,7 +33,7 @@ fn main() {
     let mut space = io::large_buffer();
     let n = io::read_full(0, &mut space);
     let different = differing(&space[..n]);
-    records::tell((n / BLOCK * LINES) as u64, different);
+    replay_records::tell((n / BLOCK * LINES) as u64, different);
 }
 
 // How many lines of whole blocks hold another answer than the proved segments give.
@@ -137,11 +137,11 @@ fn chord(text: &[u8], at: usize) -> Chord
 fn same_shape(own: EllipticalArc, text: &[u8], at: usize) -> bool
     requires { ⌜ at + 715 ≤ length (now text) ⌝ }
 {
-    let numbers = filling::arc_numbers(own.shape);
+    let numbers = c_output::arc_numbers(own.shape);
     if own.line_fallback {
         return text[at + 67] == b'1' && same_numbers(&numbers, text, at + 68, 8);
     }
-    let table = filling::table_numbers(own.table);
+    let table = c_output::table_numbers(own.table);
     text[at + 67] == b'0'
         && same_numbers(&numbers, text, at + 68, 8)
         && same_numbers(&table, text, at + 156, 8)

@@ -4,13 +4,13 @@ ghost use Prim.Native.Nat.{_+_, _≤_};
 ghost use lib.ListN.{length};
 use bezier::Placed;
 use bezier::Turned;
-use records::float;
-use records::has_bits;
-use records::number_of;
-use records::pattern;
-use records::point;
-use records::same_answers;
-use records::same_numbers;
+use replay_records::float;
+use replay_records::has_bits;
+use replay_records::number_of;
+use replay_records::pattern;
+use replay_records::point;
+use replay_records::same_answers;
+use replay_records::same_numbers;
 use table::Progress;
 use table::Table;
 
@@ -30,7 +30,7 @@ fn main() {
     let mut space = io::large_buffer();
     let n = io::read_full(0, &mut space);
     let different = differing(&space[..n]);
-    records::tell((n / BLOCK * LINES) as u64, different);
+    replay_records::tell((n / BLOCK * LINES) as u64, different);
 }
 
 // How many lines of whole blocks hold another answer than the proved curves give.

@@ -4,9 +4,9 @@ ghost use Prim.Native.Nat.{_+_, _≤_};
 ghost use lib.ListN.{length};
 use answers::Values;
 use decimal::Read;
-use records::has_bits;
-use records::pattern;
-use records::three;
+use replay_records::has_bits;
+use replay_records::pattern;
+use replay_records::three;
 
 // The bytes of a record: v and the value's pattern or r and the refusal's number, as eight
 // hexadecimal digits; the count of bytes taken or the refusal's place, and the text's length, as
@@ -17,7 +17,7 @@ fn main() {
     let mut space = io::large_buffer();
     let n = io::read_full(0, &mut space);
     let different = differing(&space[..n]);
-    records::tell((n / RECORD) as u64, different);
+    replay_records::tell((n / RECORD) as u64, different);
 }
 
 // How many whole records hold another answer than the proved reader gives.

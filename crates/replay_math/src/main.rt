@@ -3,10 +3,10 @@
 ghost use Prim.Native.Nat.{_+_, _≤_};
 ghost use lib.ListN.{length};
 use math::Point;
-use records::float;
-use records::has_bits;
-use records::pattern;
-use records::same_point;
+use replay_records::float;
+use replay_records::has_bits;
+use replay_records::pattern;
+use replay_records::same_point;
 
 // The bytes of a record, which is a line: the helper's letter, then five operands and two answers as
 // patterns of eight hexadecimal digits, a space before each. Places that a helper does not use hold
@@ -17,7 +17,7 @@ fn main() {
     let mut space = io::large_buffer();
     let n = io::read_full(0, &mut space);
     let different = differing(&space[..n]);
-    records::tell((n / RECORD) as u64, different);
+    replay_records::tell((n / RECORD) as u64, different);
 }
 
 // How many whole records hold another answer than the proved crates give.

@@ -8,12 +8,12 @@ use answers::Values;
 use morph::Bounded;
 use morph::Evaluated;
 use morph::Morphed;
-use records::float;
-use records::has_bits;
-use records::held;
-use records::pattern;
-use records::read_numbers;
-use records::same_numbers;
+use replay_records::float;
+use replay_records::has_bits;
+use replay_records::held;
+use replay_records::pattern;
+use replay_records::read_numbers;
+use replay_records::same_numbers;
 use resample::Resampled;
 
 // A line has a letter (r: resample, m: a morph with a resolution, d: with the default, e: evaluate, b:
@@ -48,7 +48,7 @@ fn main() {
             different += missed(&line);
         }
     }
-    records::tell(replayed, different);
+    replay_records::tell(replayed, different);
 }
 
 // 1 where the call of this line gives another answer, else 0.

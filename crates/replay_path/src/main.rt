@@ -3,11 +3,11 @@
 ghost use Prim.Native.Nat.{_+_, _≤_, _<_};
 ghost use lib.ListN.{length};
 use answers::Values;
-use path::Building;
-use records::pattern;
-use records::same_bytes;
-use records::three;
-use records::two;
+use path_build::Building;
+use replay_records::pattern;
+use replay_records::same_bytes;
+use replay_records::three;
+use replay_records::two;
 
 // The bytes of a record: the text's length as two digits; the text, which has at most 90 bytes, and
 // blanks up to 90; the refusal's number, or 0, as two digits, and three values as three digits each,
@@ -24,7 +24,7 @@ fn main() {
     let mut more = io::large_buffer();
     let m = io::read_full(0, &mut more);
     let different = differing(&space[..n]) + differing(&more[..m]);
-    records::tell((n / RECORD + m / RECORD) as u64, different);
+    replay_records::tell((n / RECORD + m / RECORD) as u64, different);
 }
 
 // How many whole records hold another answer than building gives.

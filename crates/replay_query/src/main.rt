@@ -4,13 +4,13 @@ ghost use Prim.Native.Nat.{_+_, _≤_, _<_};
 ghost use lib.ListN.{length};
 use bezier::Placed;
 use bezier::Turned;
-use path::Building;
 use path_batch::Batch;
+use path_build::Building;
 use path_query::Located;
-use records::float;
-use records::pattern;
-use records::same_answers;
-use records::two;
+use replay_records::float;
+use replay_records::pattern;
+use replay_records::same_answers;
+use replay_records::two;
 use table::Progress;
 
 // A block is a path and six progresses. Its first line has the text's length as two digits, the text, which has at most 90 bytes,
@@ -32,7 +32,7 @@ fn main() {
     let mut space = io::large_buffer();
     let n = io::read_full(0, &mut space);
     let different = differing(&space[..n]);
-    records::tell((n / BLOCK * LINES) as u64, different);
+    replay_records::tell((n / BLOCK * LINES) as u64, different);
 }
 
 // How many lines of whole blocks hold another answer than the proved queries give.

@@ -3,14 +3,14 @@
 ghost use Prim.Native.Nat.{_+_, _≤_};
 ghost use mathlib.Core.Path.{_≡_};
 ghost use lib.ListN.{length};
-use records::first_of;
-use records::float;
-use records::has_bits;
-use records::held;
-use records::pattern;
-use records::placed;
-use records::read_numbers;
-use records::turned;
+use replay_records::first_of;
+use replay_records::float;
+use replay_records::has_bits;
+use replay_records::held;
+use replay_records::pattern;
+use replay_records::placed;
+use replay_records::read_numbers;
+use replay_records::turned;
 use spline_query::Measured;
 use spline_table::Tabled;
 use table::Progress;
@@ -33,7 +33,7 @@ fn main() {
     let mut space = io::large_buffer();
     let n = io::read_full(0, &mut space);
     let different = differing(&space[..n]);
-    records::tell((n / BLOCK * ANSWERS) as u64, different);
+    replay_records::tell((n / BLOCK * ANSWERS) as u64, different);
 }
 
 // How many answers of whole blocks differ from the recorded ones.

@@ -2,7 +2,7 @@
 // writes the plans to this crate's stdin, and to its stdout the answers of the Rust, in the words of document 01.
 ghost use Prim.Native.Nat.{_+_, _≤_, _<_};
 ghost use lib.ListN.{length};
-use records::two;
+use replay_records::two;
 
 fn main() {
     let mut plans = io::large_buffer();
@@ -29,7 +29,7 @@ fn replay(plans: &[u8], listing: &mut [u8])
 }
 
 fn fly(plan: &[u8], listing: &mut [u8]) {
-    let count = stations::stations(plan, listing);
+    let count = station_listing::stations(plan, listing);
     print(listing, count);
 }
 

@@ -12,7 +12,7 @@ fn main() {
     let mut space = io::large_buffer();
     let n = io::read_full(0, &mut space);
     let different = differing(&space[..n]);
-    records::tell((n / RECORD) as u64, different);
+    replay_records::tell((n / RECORD) as u64, different);
 }
 
 // How many whole records hold another verdict than strict reading gives.
@@ -36,7 +36,7 @@ fn missed(lines: &[u8], at: usize) -> u64
 fn agrees(lines: &[u8], at: usize) -> bool
     requires { ⌜ at + 64 ≤ length (now lines) ⌝ }
 {
-    let size = records::two(lines, at + 1);
+    let size = replay_records::two(lines, at + 1);
     if 60 < size {
         return false;
     }

@@ -3,12 +3,12 @@
 ghost use Prim.Native.Nat.{_+_, _≤_};
 ghost use lib.ListN.{length};
 use answers::Values;
-use records::first_of;
-use records::one;
-use records::same_bytes;
-use records::same_numbers;
-use records::three;
-use records::two;
+use replay_records::first_of;
+use replay_records::one;
+use replay_records::same_bytes;
+use replay_records::same_numbers;
+use replay_records::three;
+use replay_records::two;
 use svg::Reading;
 
 // The bytes of a record: the text's length as two digits; the text, which has at most 32 bytes, and
@@ -22,7 +22,7 @@ fn main() {
     let mut more = io::large_buffer();
     let m = io::read_full(0, &mut more);
     let different = differing(&space[..n]) + differing(&more[..m]) + missed_spaces();
-    records::tell((n / RECORD + m / RECORD) as u64 + 2, different);
+    replay_records::tell((n / RECORD + m / RECORD) as u64 + 2, different);
 }
 
 // How many whole records hold another answer than the reader gives.

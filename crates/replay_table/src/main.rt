@@ -3,11 +3,11 @@
 ghost use Prim.Native.Nat.{_+_, _≤_};
 ghost use mathlib.Core.Path.{_≡_};
 ghost use lib.ListN.{length};
-use records::float;
-use records::has_bits;
-use records::held;
-use records::pattern;
-use records::read_numbers;
+use replay_records::float;
+use replay_records::has_bits;
+use replay_records::held;
+use replay_records::pattern;
+use replay_records::read_numbers;
 use table::Looked;
 use table::Progress;
 use table::Spotted;
@@ -29,7 +29,7 @@ fn main() {
     let mut space = io::large_buffer();
     let n = io::read_full(0, &mut space);
     let different = differing(&space[..n]);
-    records::tell((n / BLOCK * LOOKUPS) as u64, different);
+    replay_records::tell((n / BLOCK * LOOKUPS) as u64, different);
 }
 
 // How many lookups of whole blocks give another answer than the recorded one.

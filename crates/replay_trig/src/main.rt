@@ -4,9 +4,9 @@
 ghost use Prim.Native.Nat.{_+_, _≤_};
 ghost use lib.ListN.{length};
 use math::Point;
-use records::float;
-use records::has_bits;
-use records::pattern;
+use replay_records::float;
+use replay_records::has_bits;
+use replay_records::pattern;
 use trig::SinCos;
 
 // The bytes of a record, which is a line: the function's letter, then five operands and two answers
@@ -18,7 +18,7 @@ fn main() {
     let mut space = io::large_buffer();
     let n = io::read_full(0, &mut space);
     let different = differing(&space[..n]);
-    records::tell((n / RECORD) as u64, different);
+    replay_records::tell((n / RECORD) as u64, different);
 }
 
 // How many whole records hold another answer than the proved crates give.
@@ -54,7 +54,7 @@ fn agrees(text: &[u8], at: usize) -> bool
         b's' => has_bits(trig::sin(a), x),
         b'c' => has_bits(trig::cos(a), x),
         b'p' => both(trig::sin_cos(a), x, y),
-        b'a' => has_bits(arctan::atan2(a, b), x),
+        b'a' => has_bits(atan2::atan2(a, b), x),
         b'h' => has_bits(angles::rotation_deg(p), x),
         b'b' => has_bits(angles::angle_between(p, q), x),
         _ => false,

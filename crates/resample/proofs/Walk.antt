@@ -13,7 +13,7 @@ use Rattle.floats.specs.Floats.{zeroF}
 use Rattle.floats.proofs.Tests.{passed, failed, clashing}
 use Rattle.table.specs.Lookup.{at, firstNotBelow}
 use Rattle.table.proofs.Search.{first-is, first-upto}
-use Rattle.order.proofs.Division.{first-mono}
+use Rattle.table_order.proofs.Division.{first-mono}
 use Rattle.polyline.specs.Points.{countOf}
 use Rattle.polyline.specs.Lengths.{legOf, lengthsOf}
 use Rattle.polyline.proofs.Legs.{lengths-first, lengths-next}

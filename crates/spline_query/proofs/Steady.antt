@@ -11,7 +11,7 @@ use lib.Ieee.{Float, binary32, fits}
 use lib.Ieee.Fits.{and-i}
 use denote.Floats.{passes}
 use Rattle.table.specs.Lookup.{at}
-use Rattle.order.specs.Stated.{F32Table}
+use Rattle.table_order.specs.Stated.{F32Table}
 use Rattle.table.specs.Sound.{tableIsSound}
 use Rattle.bezier.proofs.Steady.{Steady, steady}
 use Rattle.polyline.specs.Points.{countOf}

@@ -10,8 +10,8 @@ use Rattle.answers.specs.Report.{written}
 use Rattle.answers.specs.declared.refusals.Values.the-variants.{One}
 use Rattle.answers.specs.declared.refusals.Refusal.{Refusal}
 use Rattle.answers.specs.declared.refusals.Refusal.the-variants.{BadList, Range, NotFinite, NoRoom}
-use Rattle.samples.specs.Samples.{lengthsOf}
-use Rattle.samples.proofs.Made.{made-count}
+use Rattle.table_samples.specs.Samples.{lengthsOf}
+use Rattle.table_samples.proofs.Made.{made-count}
 use Rattle.polyline.specs.Points.{countOf}
 use Rattle.polyline.specs.Lengths.{firstNotFinite}
 use Rattle.spline.specs.Formula.{splineSampleOf}

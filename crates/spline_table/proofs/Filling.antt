@@ -12,8 +12,8 @@ use Rattle.math.specs.declared.points.Point.{Point}
 use Rattle.answers.specs.Report.{written}
 use Rattle.answers.proofs.Writing.{written-next, length-written}
 use Rattle.table.specs.Lookup.{at}
-use Rattle.samples.specs.Samples.{lengthsOf}
-use Rattle.samples.proofs.Made.{made-count}
+use Rattle.table_samples.specs.Samples.{lengthsOf}
+use Rattle.table_samples.proofs.Made.{made-count}
 use Rattle.spline_table.proofs.Passing.{Walking}
 
 pub record Filling (formula : Float → Point) (n : ℕ) (before table : List Float) (previous : Point) (total : Float) (k : ℕ) : Type 0 where

@@ -8,8 +8,8 @@ use lib.Ieee.{Float}
 use lib.Ieee.Scale.{finite}
 use Rattle.floats.specs.Floats.{zeroF}
 use Rattle.math.specs.declared.points.Point.{Point}
-use Rattle.samples.specs.Samples.{lengthsOf}
-use Rattle.samples.proofs.Made.{made-count}
+use Rattle.table_samples.specs.Samples.{lengthsOf}
+use Rattle.table_samples.proofs.Made.{made-count}
 use Rattle.polyline.specs.Lengths.{firstNotFinite}
 use Rattle.polyline.proofs.FirstNotFinite.{finite-start, finite-more, finite-stop, finite-upto}
 use Rattle.spline_table.proofs.Passing.{Walking, lengths-first}

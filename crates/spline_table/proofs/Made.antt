@@ -17,10 +17,10 @@ use Rattle.floats.proofs.Tests.{passed}
 use Rattle.table.specs.Lookup.{at, lastOf}
 use Rattle.table.specs.Sound.{tableIsSound, SoundTable}
 use Rattle.table.specs.Sums.{sumOf}
-use Rattle.order.specs.Stated.{F32Table}
-use Rattle.samples.specs.Samples.{stepsOf, lengthsOf, totalOf}
-use Rattle.samples.proofs.Made.{made-sound, made-fits, made-count}
-use Rattle.samples.proofs.Stepping.{steps-count}
+use Rattle.table_order.specs.Stated.{F32Table}
+use Rattle.table_samples.specs.Samples.{stepsOf, lengthsOf, totalOf}
+use Rattle.table_samples.proofs.Made.{made-sound, made-fits, made-count}
+use Rattle.table_samples.proofs.Stepping.{steps-count}
 use Rattle.polyline.specs.Points.{countOf}
 use Rattle.polyline.specs.Lengths.{firstNotFinite}
 use Rattle.polyline.specs.Judging.{isOdd}

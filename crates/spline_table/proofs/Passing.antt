@@ -10,8 +10,8 @@ use Rattle.math.specs.declared.points.Point.{Point}
 use Rattle.math.specs.Math.{distanceOf}
 use Rattle.table.specs.Lookup.{at}
 use Rattle.table.proofs.Sums.{running-first, running-next}
-use Rattle.samples.specs.Samples.{sampleAt, stepsOf, lengthsOf}
-use Rattle.samples.proofs.Stepping.{steps-count, step-is}
+use Rattle.table_samples.specs.Samples.{sampleAt, stepsOf, lengthsOf}
+use Rattle.table_samples.proofs.Stepping.{steps-count, step-is}
 
 module _ (formula : Float → Point) (n : ℕ) where
   pub lengths-first : at (lengthsOf formula n) 0 ≡ zeroF

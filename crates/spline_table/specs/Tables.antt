@@ -13,7 +13,7 @@ use Rattle.answers.specs.declared.refusals.Values.the-variants.{One}
 use Rattle.answers.specs.declared.refusals.Refusal.{Refusal}
 use Rattle.answers.specs.declared.refusals.Refusal.the-variants.{BadList, Range, NotFinite, NoRoom}
 use Rattle.table.specs.Sound.{countable}
-use Rattle.samples.specs.Samples.{lengthsOf}
+use Rattle.table_samples.specs.Samples.{lengthsOf}
 use Rattle.polyline.specs.Points.{countOf}
 use Rattle.polyline.specs.Lengths.{firstNotFinite}
 use Rattle.polyline.specs.Judging.{isOdd}

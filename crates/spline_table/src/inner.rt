@@ -7,7 +7,7 @@ use table::inner::mark;
 ghost use mathlib.Core.Path.{_≡_};
 ghost use Prim.Native.Nat.{_≤_};
 ghost use Rattle.answers.specs.Report.{written};
-ghost use Rattle.samples.specs.Samples.{lengthsOf};
+ghost use Rattle.table_samples.specs.Samples.{lengthsOf};
 ghost use Rattle.polyline.specs.Lengths.{firstNotFinite};
 ghost use Rattle.spline.specs.Formula.{splineSampleOf};
 ghost use Rattle.spline_table.specs.Tables.{lastEntryOf, mostPoints, Sampled, Roomy};

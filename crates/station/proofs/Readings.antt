@@ -7,37 +7,37 @@ use Rattle.scan.specs.Bytes.{among}
 use Rattle.scan.specs.Numbers.{wholeOf, pointOf, fractionOf, markOf as markOf-of-scan-numbers, exponentOf as exponentOf-of-scan-numbers, endOf, placesOf, noDigit, noExponentDigit, scanNumberOf}
 use Rattle.scan.specs.Runs.{stands, pastOne, pastAll, pastMarkOf}
 use Rattle.scan.specs.Scan.{leading, scan}
-use Rattle.digits.specs.Digits.{digitsAmong, val}
-use Rattle.digits.specs.Exponent.{capped, exponentOf as exponentOf-of-digits-exponent}
+use Rattle.decimal_digits.specs.Digits.{digitsAmong, val}
+use Rattle.decimal_digits.specs.Exponent.{capped, exponentOf as exponentOf-of-digits-exponent}
 use Rattle.decimal.specs.Decimal.{falls, riseOf, fallOf, valueOf, numberOf}
 use Rattle.floats.specs.Floats.{zeroF, oneF, epsilonF, largestF, minOf, maxOf, clampOf, clamp01Of}
 use Rattle.root.specs.Root.{rootDigits, rootOf, sqrtOf}
 use Rattle.math.specs.Math.{lerpOf, originF, addOf, subOf, scaleOf, dotOf, lengthOf, distanceOf, normalizeOf, lerpPointOf}
 use Rattle.table.specs.Lookup.{firstNotBelow, targetOf, shareOf, markOf as markOf-of-table-lookup, placeOf as placeOf-of-table-lookup, rawAt, rawOf}
 use Rattle.table.specs.Spots.{before as before-of-table-spots, pathTotal, spotAt, spotOf}
-use Rattle.segment.specs.Segments.{widthOf, tablesOf, hasTable, segmentOf, tableFor, lengthFor}
-use Rattle.stored.specs.Layout.{kindsOf, fieldsOfAll, tableStored, tablesOfAll, runningOf, lengthsOfAll}
-use Rattle.stored.specs.Stored.{before as before-of-stored-stored, areKnown, tablesAreSound, isStored, segmentIn, tableIn}
+use Rattle.path_segment.specs.Segments.{widthOf, tablesOf, hasTable, segmentOf, tableFor, lengthFor}
+use Rattle.path_stored.specs.Layout.{kindsOf, fieldsOfAll, tableStored, tablesOfAll, runningOf, lengthsOfAll}
+use Rattle.path_stored.specs.Stored.{before as before-of-stored-stored, areKnown, tablesAreSound, isStored, segmentIn, tableIn}
 use Rattle.commands.specs.Stored.{lettersOf, numbersOf}
-use Rattle.groups.specs.Groups.{readMoveOf, readLineOf, readHorizontalOf, readVerticalOf, readCubicOf, readQuadOf, readArcOf, readGroupOf}
-use Rattle.groups.specs.Letters.{isLetterOf, meaningOf}
-use Rattle.groups.specs.Numbers.{readNumberOf, flagAt, readFlagOf, readFlagsOf, movedOf, readPairOf}
+use Rattle.svg_group.specs.Groups.{readMoveOf, readLineOf, readHorizontalOf, readVerticalOf, readCubicOf, readQuadOf, readArcOf, readGroupOf}
+use Rattle.svg_group.specs.Letters.{isLetterOf, meaningOf}
+use Rattle.svg_group.specs.Numbers.{readNumberOf, flagAt, readFlagOf, readFlagsOf, movedOf, readPairOf}
 use Rattle.svg.specs.Steps.{isRelativeOf, needsPointOf, repeatedOf, afterOf, dueGroupOf, dueLetterOf, dueAgainOf, nextDueOf, readStepOf}
 use Rattle.svg.specs.Texts.{readFrom, commandsOf}
 use Rattle.arc.specs.Arcs.{isFallback, mostDegrees, inRange, fallbackShape, noTable, fallenBack, fitted, outOfRange, madeArcOf, arcPositionOf, arcTangentOf, arcPlacedOf, arcHeadingOf, arcTurnedOf, arcLengthOf}
 use Rattle.arc.specs.Lines.{lineLengthOf, linePointOf, linePositionOf, lineTangentOf, lineRotationDegOf, madeLineOf}
-use Rattle.drawing.specs.Building.{buildFrom, buildOf}
-use Rattle.drawing.specs.Drawing.{freshOf, arcOf, arcStrokeOf, drawOf}
-use Rattle.place.specs.Cursors.{cursorOf}
-use Rattle.place.specs.Places.{rawIn, rawFor, tablePlace, rawWithin, placeOf as placeOf-of-place-places}
-use Rattle.heading.specs.Headings.{sampleOf, quadHeading, cubicHeading, headingOf}
+use Rattle.path_drawing.specs.Building.{buildFrom, buildOf}
+use Rattle.path_drawing.specs.Drawing.{freshOf, arcOf, arcStrokeOf, drawOf}
+use Rattle.path_place.specs.Cursors.{cursorOf}
+use Rattle.path_place.specs.Places.{rawIn, rawFor, tablePlace, rawWithin, placeOf as placeOf-of-place-places}
+use Rattle.path_heading.specs.Headings.{sampleOf, quadHeading, cubicHeading, headingOf}
 use Rattle.path_query.specs.Flights.{flownWithin, flownOf, flightOf}
 use Rattle.text_reader.specs.Plans.{judged, firstLineOf}
-use Rattle.listing.specs.Lines.{bitsFields, argumentFields, commandLine, pointFields, kindName, segmentLine, headerLine, segmentField, stationLine}
-use Rattle.listing.specs.Numbers.{hexDigit, hexDigits, decimalFrom, decimalOf, bitsField, numberField}
-use Rattle.plan.specs.Passes.{commandLines}
-use Rattle.sections.specs.Sections.{linesTo, segmentLines, progressOf, foundOf, stationOf, stationLines}
-use Rattle.stations.specs.Stations.{sectionsOf, readOf, planOf, stationsOf}
+use Rattle.station_lines.specs.Lines.{bitsFields, argumentFields, commandLine, pointFields, kindName, segmentLine, headerLine, segmentField, stationLine}
+use Rattle.station_lines.specs.Numbers.{hexDigit, hexDigits, decimalFrom, decimalOf, bitsField, numberField}
+use Rattle.station_commands.specs.Passes.{commandLines}
+use Rattle.station_sections.specs.Sections.{linesTo, segmentLines, progressOf, foundOf, stationOf, stationLines}
+use Rattle.station_listing.specs.Stations.{sectionsOf, readOf, planOf, stationsOf}
 
 pub example-listed :
     -- `3`, LF, `M0 0L3 4`

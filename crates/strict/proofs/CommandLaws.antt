@@ -12,15 +12,15 @@ use Rattle.scan.specs.Bytes.{among, whiteSpace, numberStarts}
 use Rattle.scan.specs.Runs.{stands, pastWhiteOf}
 use Rattle.scan.proofs.ByteLaws.{withinb, clash, either-way}
 use Rattle.scan.proofs.RunLaws.{stands-within}
-use Rattle.grammar.specs.Spans.{Span, Byte, _·_, _∥_, opt, star, none, more, longest, sequence, last, then}
-use Rattle.grammar.specs.Grammar.{wsp, comma-wsp, moveto, moveto-argument-sequence, lineto, horizontal-lineto, vertical-lineto, curveto, smooth-curveto, quadratic-bezier-curveto, smooth-quadratic-bezier-curveto, closepath, elliptical-arc, drawto-command}
-use Rattle.grammar.specs.Words.{Past, Lacks, Only, Goes}
-use Rattle.grammar.proofs.SpanLaws.{standing, not-byte, not-both, other, wider, star-le, run-same, run-found}
-use Rattle.arguments.specs.Reading
-use Rattle.arguments.specs.Reading.{Reads, nowhere, argumentOf}
-use Rattle.arguments.specs.declared.groups.Kind.{Kind}
-use Rattle.arguments.specs.declared.groups.Kind.the-variants.{Coordinate, Pair, TwoPairs, ThreePairs, Arc}
-use Rattle.arguments.proofs.Starts.{argument-starts, argument-grows}
+use Rattle.strict_grammar.specs.Spans.{Span, Byte, _·_, _∥_, opt, star, none, more, longest, sequence, last, then}
+use Rattle.strict_grammar.specs.Grammar.{wsp, comma-wsp, moveto, moveto-argument-sequence, lineto, horizontal-lineto, vertical-lineto, curveto, smooth-curveto, quadratic-bezier-curveto, smooth-quadratic-bezier-curveto, closepath, elliptical-arc, drawto-command}
+use Rattle.strict_grammar.specs.Words.{Past, Lacks, Only, Goes}
+use Rattle.strict_grammar.proofs.SpanLaws.{standing, not-byte, not-both, other, wider, star-le, run-same, run-found}
+use Rattle.strict_argument.specs.Reading
+use Rattle.strict_argument.specs.Reading.{Reads, nowhere, argumentOf}
+use Rattle.strict_argument.specs.declared.groups.Kind.{Kind}
+use Rattle.strict_argument.specs.declared.groups.Kind.the-variants.{Coordinate, Pair, TwoPairs, ThreePairs, Arc}
+use Rattle.strict_argument.proofs.Starts.{argument-starts, argument-grows}
 use Rattle.strict.specs.Commands.{moveLetters, closeLetters, lettersOf, commandLetters, Reaches, ends, missing, Arguments, Item, Further, Command}
 use Rattle.strict.proofs.Sequences.{to-star, of-star, items-le}
 use Rattle.strict.proofs.Letters.{kinds-apart, close-apart, move-apart, kind-within, halves}

@@ -10,10 +10,10 @@ use Rattle.scan.specs.Bytes.{among}
 use Rattle.scan.specs.Runs.{stands}
 use Rattle.scan.proofs.ByteLaws.{apartb, withinb, clash, either-of}
 use Rattle.scan.proofs.RunLaws.{stands-inside, stands-among, stands-within}
-use Rattle.grammar.specs.Spans.{Byte}
-use Rattle.grammar.proofs.SpanLaws.{inside}
-use Rattle.arguments.specs.declared.groups.Kind.{Kind}
-use Rattle.arguments.specs.declared.groups.Kind.the-variants.{Coordinate, Pair, TwoPairs, ThreePairs, Arc}
+use Rattle.strict_grammar.specs.Spans.{Byte}
+use Rattle.strict_grammar.proofs.SpanLaws.{inside}
+use Rattle.strict_argument.specs.declared.groups.Kind.{Kind}
+use Rattle.strict_argument.specs.declared.groups.Kind.the-variants.{Coordinate, Pair, TwoPairs, ThreePairs, Arc}
 use Rattle.strict.specs.Commands.{moveLetters, closeLetters, lettersOf, commandLetters, LetterOf, LetterAt}
 use Rattle.strict.specs.declared.commands.Letter.{Letter}
 use Rattle.strict.specs.declared.commands.Letter.the-variants.{Moves, Closes, Takes, Other}

@@ -12,10 +12,10 @@ use Rattle.scan.specs.Bytes.{among, commas, whiteSpace, numberStarts}
 use Rattle.scan.specs.Runs.{stands, pastWhiteOf}
 use Rattle.scan.proofs.ByteLaws.{apartb, clash}
 use Rattle.scan.proofs.RunLaws.{stands-within, stands-past}
-use Rattle.grammar.specs.Spans.{Span, _·_, _∥_, opt, star, none, more, longest, sequence, last, then}
-use Rattle.grammar.specs.Grammar.{wsp, comma-wsp, moveto, drawto-command, drawto-commands, moveto-drawto-command-group, moveto-drawto-command-groups, svg-path, Matches}
-use Rattle.grammar.specs.Words.{Past, Lacks, Goes}
-use Rattle.grammar.proofs.SpanLaws.{standing, other, le-or, joined, star-stops, star-rest, plus-star, run-same, run-found}
+use Rattle.strict_grammar.specs.Spans.{Span, _·_, _∥_, opt, star, none, more, longest, sequence, last, then}
+use Rattle.strict_grammar.specs.Grammar.{wsp, comma-wsp, moveto, drawto-command, drawto-commands, moveto-drawto-command-group, moveto-drawto-command-groups, svg-path, Matches}
+use Rattle.strict_grammar.specs.Words.{Past, Lacks, Goes}
+use Rattle.strict_grammar.proofs.SpanLaws.{standing, other, le-or, joined, star-stops, star-rest, plus-star, run-same, run-found}
 use Rattle.strict.specs.Commands.{commandLetters, Command}
 use Rattle.strict.proofs.CommandLaws.{command-letter}
 

@@ -9,14 +9,14 @@ use lib.ListN.{length}
 use Rattle.scan.specs.Bytes.{numberStarts}
 use Rattle.scan.specs.Runs.{stands}
 use Rattle.scan.proofs.RunLaws.{stands-within}
-use Rattle.grammar.specs.Spans.{Span, _·_, opt, star, none, more, sequence, last, then}
-use Rattle.grammar.specs.Grammar.{comma-wsp}
-use Rattle.grammar.specs.Words.{Only, Lacks, Goes, pastSeparatorOf}
-use Rattle.grammar.proofs.SpanLaws.{snoc}
-use Rattle.grammar.proofs.Separators.{separator-past, separator-forced, separator-le}
-use Rattle.arguments.specs.Reading.{Reads, ends, missing, nowhere, argumentOf}
-use Rattle.arguments.specs.declared.groups.Kind.{Kind}
-use Rattle.arguments.proofs.Starts.{argument-starts, argument-grows}
+use Rattle.strict_grammar.specs.Spans.{Span, _·_, opt, star, none, more, sequence, last, then}
+use Rattle.strict_grammar.specs.Grammar.{comma-wsp}
+use Rattle.strict_grammar.specs.Words.{Only, Lacks, Goes, pastSeparatorOf}
+use Rattle.strict_grammar.proofs.SpanLaws.{snoc}
+use Rattle.strict_grammar.proofs.Separators.{separator-past, separator-forced, separator-le}
+use Rattle.strict_argument.specs.Reading.{Reads, ends, missing, nowhere, argumentOf}
+use Rattle.strict_argument.specs.declared.groups.Kind.{Kind}
+use Rattle.strict_argument.proofs.Starts.{argument-starts, argument-grows}
 use Rattle.strict.specs.Commands.{Item, Further}
 
 -- ---- a sequence as a star

@@ -9,7 +9,7 @@ use Rattle.answers.specs.Answers.{Answer, refused, accepted, numberOf}
 use Rattle.answers.specs.declared.refusals.Refusal.{Refusal}
 use Rattle.answers.specs.declared.refusals.Refusal.the-variants.{TooLong, UnexpectedEnd, ExpectedNumber, InvalidNumber, ExpectedFlag, UnsupportedCommand, MissingMoveTo, NoRoom, BadList, RotationRange, NotFinite, BadPath, Range}
 use Rattle.answers.proofs.Settled.{refusal-settled}
-use Rattle.grammar.specs.Grammar.{Matches}
+use Rattle.strict_grammar.specs.Grammar.{Matches}
 use Rattle.strict.specs.Verdicts.{Judged, yes, no, tooLong, answerOf, mostBytes}
 use Rattle.strict.specs.declared.texts.Verdict.{Verdict}
 use Rattle.strict.specs.declared.texts.Verdict.the-variants.{Yes, No, Refused}

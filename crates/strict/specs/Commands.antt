@@ -6,12 +6,12 @@ use mathlib.Core.Logic.{_⊎_}
 use mathlib.Core.List.{List, [], _∷_, _++_}
 use Rattle.scan.specs.Bytes.{among}
 use Rattle.scan.specs.Runs.{stands}
-use Rattle.grammar.specs.Spans.{Span, _·_, _∥_, opt, star, sequence}
-use Rattle.grammar.specs.Grammar.{wsp, comma-wsp, moveto, drawto-command}
-use Rattle.grammar.specs.Words.{Past, Lacks, Goes}
-use Rattle.arguments.specs.Reading.{nowhere, argumentOf}
-use Rattle.arguments.specs.declared.groups.Kind.{Kind}
-use Rattle.arguments.specs.declared.groups.Kind.the-variants.{Coordinate, Pair, TwoPairs, ThreePairs, Arc}
+use Rattle.strict_grammar.specs.Spans.{Span, _·_, _∥_, opt, star, sequence}
+use Rattle.strict_grammar.specs.Grammar.{wsp, comma-wsp, moveto, drawto-command}
+use Rattle.strict_grammar.specs.Words.{Past, Lacks, Goes}
+use Rattle.strict_argument.specs.Reading.{nowhere, argumentOf}
+use Rattle.strict_argument.specs.declared.groups.Kind.{Kind}
+use Rattle.strict_argument.specs.declared.groups.Kind.the-variants.{Coordinate, Pair, TwoPairs, ThreePairs, Arc}
 use Rattle.strict.specs.declared.commands.Letter.{Letter}
 use Rattle.strict.specs.declared.commands.Letter.the-variants.{Moves, Closes, Takes, Other}
 

@@ -5,7 +5,7 @@ use mathlib.Core.List.{List, [], _∷_}
 use lib.ListN.{length}
 use Rattle.answers.specs.Answers.{Answer, refused, accepted}
 use Rattle.answers.specs.declared.refusals.Refusal.the-variants.{TooLong}
-use Rattle.grammar.specs.Grammar.{Matches}
+use Rattle.strict_grammar.specs.Grammar.{Matches}
 use Rattle.strict.specs.declared.texts.Verdict.{Verdict}
 use Rattle.strict.specs.declared.texts.Verdict.the-variants.{Yes, No, Refused}
 

@@ -1,10 +1,10 @@
 // Commands: a letter, and the sequence of arguments that it takes.
-use arguments::Kind;
-use arguments::NOWHERE;
-use arguments::past_separator;
-use arguments::read_argument;
 use scan::past_white;
-ghost use Rattle.grammar.specs.Words.{Goes};
+use strict_argument::Kind;
+use strict_argument::NOWHERE;
+use strict_argument::past_separator;
+use strict_argument::read_argument;
+ghost use Rattle.strict_grammar.specs.Words.{Goes};
 ghost use Rattle.strict.specs.Commands.{LetterOf, LetterAt, Reaches, Further, Arguments, Command};
 
 // What a byte begins where a command is due.

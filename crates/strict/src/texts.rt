@@ -1,11 +1,11 @@
 // A whole text against the grammar.
 use crate::commands::read_command;
 use answers::Refusal;
-use arguments::NOWHERE;
 use scan::past_white;
+use strict_argument::NOWHERE;
 ghost use mathlib.Core.Path.{_≡_};
 ghost use mathlib.Core.Bool.{true};
-ghost use Rattle.grammar.specs.Grammar.{Matches};
+ghost use Rattle.strict_grammar.specs.Grammar.{Matches};
 ghost use Rattle.strict.specs.Verdicts.{Judged, answerOf};
 
 // The answer of strict reading.

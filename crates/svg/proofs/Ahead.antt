@@ -14,14 +14,14 @@ use Rattle.scan.proofs.RunLaws.{all-onward}
 use Rattle.math.specs.declared.points.Point.{Point}
 use Rattle.commands.specs.declared.command.PathCommand.{PathCommand}
 use Rattle.commands.specs.declared.command.PathCommand.the-variants.{MoveTo, LineTo, QuadTo, CubicTo, ArcTo, ClosePath}
-use Rattle.groups.specs.Letters.{isLetterOf, meaningOf}
-use Rattle.groups.specs.Groups.{readGroupOf}
-use Rattle.groups.specs.declared.letters.Kind.{Kind}
-use Rattle.groups.specs.declared.letters.Letter.{Letter}
-use Rattle.groups.specs.declared.letters.Letter.the-variants.{Draws, Closes, Unknown}
-use Rattle.groups.specs.declared.groups.Group.{Group}
-use Rattle.groups.specs.declared.groups.Group.the-variants.{Taken, Refused as GroupRefused}
-use Rattle.groups.proofs.Ahead.{group-ahead}
+use Rattle.svg_group.specs.Letters.{isLetterOf, meaningOf}
+use Rattle.svg_group.specs.Groups.{readGroupOf}
+use Rattle.svg_group.specs.declared.letters.Kind.{Kind}
+use Rattle.svg_group.specs.declared.letters.Letter.{Letter}
+use Rattle.svg_group.specs.declared.letters.Letter.the-variants.{Draws, Closes, Unknown}
+use Rattle.svg_group.specs.declared.groups.Group.{Group}
+use Rattle.svg_group.specs.declared.groups.Group.the-variants.{Taken, Refused as GroupRefused}
+use Rattle.svg_group.proofs.Ahead.{group-ahead}
 use Rattle.svg.specs.Steps.{isRelativeOf, needsPointOf, repeatedOf, afterOf, dueGroupOf, begun, dueLetterOf, again, dueAgainOf, nextDueOf, taken, stepped, readStepOf}
 use Rattle.svg.specs.declared.steps.Reader.{Reader}
 use Rattle.svg.specs.declared.steps.Due.{Due}

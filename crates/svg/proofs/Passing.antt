@@ -10,15 +10,15 @@ use Rattle.math.specs.declared.points.Point.{Point}
 use Rattle.commands.specs.Stored.{argumentsOf}
 use Rattle.commands.specs.declared.command.PathCommand.{PathCommand}
 use Rattle.commands.specs.declared.command.PathCommand.the-variants.{MoveTo, LineTo, QuadTo, CubicTo, ArcTo, ClosePath}
-use Rattle.groups.specs.Letters.{widthOf}
-use Rattle.groups.specs.Groups.{readGroupOf}
-use Rattle.groups.specs.Passing.{passGroupOf}
-use Rattle.groups.specs.declared.letters.Kind.{Kind}
-use Rattle.groups.specs.declared.letters.Kind.the-variants.{Move, Line, Horizontal, Vertical, Cubic, Quad, Arc}
-use Rattle.groups.specs.declared.groups.Group.{Group}
-use Rattle.groups.specs.declared.groups.Group.the-variants.{Taken, Refused as GroupRefused}
-use Rattle.groups.proofs.Places.{groupPlace, group-place}
-use Rattle.groups.proofs.Widths.{group-width}
+use Rattle.svg_group.specs.Letters.{widthOf}
+use Rattle.svg_group.specs.Groups.{readGroupOf}
+use Rattle.svg_group.specs.Passing.{passGroupOf}
+use Rattle.svg_group.specs.declared.letters.Kind.{Kind}
+use Rattle.svg_group.specs.declared.letters.Kind.the-variants.{Move, Line, Horizontal, Vertical, Cubic, Quad, Arc}
+use Rattle.svg_group.specs.declared.groups.Group.{Group}
+use Rattle.svg_group.specs.declared.groups.Group.the-variants.{Taken, Refused as GroupRefused}
+use Rattle.svg_group.proofs.Places.{groupPlace, group-place}
+use Rattle.svg_group.proofs.Widths.{group-width}
 use Rattle.svg.specs.Steps.{freshOf, isRelativeOf, afterOf, nextDueOf, taken, stepped, readStepOf, passedTo, passed, passStepOf}
 use Rattle.svg.specs.Texts.{commandsOf, measureOf}
 use Rattle.svg.specs.declared.steps.Reader.{Reader}

@@ -8,15 +8,15 @@ use Rattle.scan.specs.Scan.{leading, scan}
 use Rattle.scan.specs.Bytes.{among}
 use Rattle.scan.specs.Runs.{stands, pastOne, pastAll, pastMarkOf}
 use Rattle.scan.specs.Numbers.{wholeOf, pointOf, fractionOf, markOf, exponentOf, endOf, placesOf, noDigit, noExponentDigit, scanNumberOf}
-use Rattle.digits.specs.Digits.{digitsAmong, val}
+use Rattle.decimal_digits.specs.Digits.{digitsAmong, val}
 use Rattle.decimal.specs.Decimal.{falls, riseOf, fallOf, valueOf, numberOf}
 use Rattle.math.specs.Math.{addOf}
 use Rattle.math.specs.declared.points.Point.{Point}
 use Rattle.commands.specs.Stored.{lettersOf, numbersOf}
 use Rattle.commands.specs.declared.command.PathCommand.the-variants.{MoveTo, LineTo, ClosePath}
-use Rattle.groups.specs.Letters.{isLetterOf, meaningOf}
-use Rattle.groups.specs.Numbers.{readNumberOf, flagAt, readFlagOf, readFlagsOf, movedOf, readPairOf}
-use Rattle.groups.specs.Groups.{readMoveOf, readLineOf, readHorizontalOf, readVerticalOf, readCubicOf, readQuadOf, readArcOf, readGroupOf}
+use Rattle.svg_group.specs.Letters.{isLetterOf, meaningOf}
+use Rattle.svg_group.specs.Numbers.{readNumberOf, flagAt, readFlagOf, readFlagsOf, movedOf, readPairOf}
+use Rattle.svg_group.specs.Groups.{readMoveOf, readLineOf, readHorizontalOf, readVerticalOf, readCubicOf, readQuadOf, readArcOf, readGroupOf}
 use Rattle.svg.specs.Steps.{isRelativeOf, needsPointOf, repeatedOf, afterOf, dueGroupOf, dueLetterOf, dueAgainOf, nextDueOf, readStepOf}
 use Rattle.svg.specs.Texts.{Outcome, commands, refusal, readFrom, commandsOf}
 use Rattle.svg.specs.Readings.{readPathOf}

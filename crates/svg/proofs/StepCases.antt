@@ -8,9 +8,9 @@ use lib.ListN.{length, getD}
 use Rattle.answers.specs.declared.refusals.Refusal.the-variants.{ExpectedNumber, UnsupportedCommand, MissingMoveTo}
 use Rattle.scan.specs.Bytes.{among, numberStarts}
 use Rattle.scan.specs.Runs.{pastSeparatorsOf}
-use Rattle.groups.specs.Letters.{isLetterOf, meaningOf}
-use Rattle.groups.specs.declared.letters.Kind.{Kind}
-use Rattle.groups.specs.declared.letters.Letter.the-variants.{Draws, Closes, Unknown}
+use Rattle.svg_group.specs.Letters.{isLetterOf, meaningOf}
+use Rattle.svg_group.specs.declared.letters.Kind.{Kind}
+use Rattle.svg_group.specs.declared.letters.Letter.the-variants.{Draws, Closes, Unknown}
 use Rattle.svg.specs.Steps.{needsPointOf, repeatedOf, dueGroupOf, dueLetterOf, dueAgainOf, nextDueOf}
 use Rattle.svg.specs.declared.steps.Due.{Due}
 use Rattle.svg.specs.declared.steps.Due.the-variants.{Done, Refused, Close, Group}

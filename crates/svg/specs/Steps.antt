@@ -12,17 +12,17 @@ use Rattle.scan.specs.Runs.{pastSeparatorsOf}
 use Rattle.math.specs.declared.points.Point.{Point}
 use Rattle.commands.specs.declared.command.PathCommand.{PathCommand}
 use Rattle.commands.specs.declared.command.PathCommand.the-variants.{MoveTo, LineTo, QuadTo, CubicTo, ArcTo, ClosePath}
-use Rattle.groups.specs.Letters.{isLetterOf, meaningOf, widthOf}
-use Rattle.groups.specs.Groups.{readGroupOf}
-use Rattle.groups.specs.declared.letters.Kind.{Kind}
-use Rattle.groups.specs.declared.letters.Kind.the-variants.{Move, Line, Horizontal, Vertical, Cubic, Quad, Arc}
-use Rattle.groups.specs.declared.letters.Letter.{Letter}
-use Rattle.groups.specs.declared.letters.Letter.the-variants.{Draws, Closes, Unknown}
-use Rattle.groups.specs.Passing.{passGroupOf}
-use Rattle.groups.specs.declared.groups.Group.{Group}
-use Rattle.groups.specs.declared.groups.Group.the-variants.{Taken, Refused as GroupRefused}
-use Rattle.groups.specs.declared.passing.Passed.{Passed}
-use Rattle.groups.specs.declared.passing.Passed.the-variants.{To, Refused as NotPassed}
+use Rattle.svg_group.specs.Letters.{isLetterOf, meaningOf, widthOf}
+use Rattle.svg_group.specs.Groups.{readGroupOf}
+use Rattle.svg_group.specs.declared.letters.Kind.{Kind}
+use Rattle.svg_group.specs.declared.letters.Kind.the-variants.{Move, Line, Horizontal, Vertical, Cubic, Quad, Arc}
+use Rattle.svg_group.specs.declared.letters.Letter.{Letter}
+use Rattle.svg_group.specs.declared.letters.Letter.the-variants.{Draws, Closes, Unknown}
+use Rattle.svg_group.specs.Passing.{passGroupOf}
+use Rattle.svg_group.specs.declared.groups.Group.{Group}
+use Rattle.svg_group.specs.declared.groups.Group.the-variants.{Taken, Refused as GroupRefused}
+use Rattle.svg_group.specs.declared.passing.Passed.{Passed}
+use Rattle.svg_group.specs.declared.passing.Passed.the-variants.{To, Refused as NotPassed}
 use Rattle.svg.specs.declared.steps.Due.{Due}
 use Rattle.svg.specs.declared.steps.Due.the-variants.{Done as NothingDue, Refused as NotDue, Close, Group as GroupDue}
 use Rattle.svg.specs.declared.steps.Pass.{Pass}

@@ -5,11 +5,11 @@ ghost use lib.ListN.{length};
 ghost use Rattle.svg.specs.Steps.{freshOf, isRelativeOf, needsPointOf, repeatedOf, afterOf, dueGroupOf, dueLetterOf, dueAgainOf, nextDueOf, readStepOf, passStepOf};
 use answers::Refusal;
 use commands::PathCommand;
-use groups::Group;
-use groups::Kind;
-use groups::Letter;
-use groups::Passed;
 use math::Point;
+use svg_group::Group;
+use svg_group::Kind;
+use svg_group::Letter;
+use svg_group::Passed;
 
 // The reader's state between two commands.
 pub struct Reader {
@@ -173,7 +173,7 @@ fn due_letter(text: &[u8], at: usize, letter: u8, placed: bool) -> Due
     requires { ⌜ at < length (now text) ⌝ }
     ensures { λ r. ⌜ r ≡ dueLetterOf (now (text .entry)) at letter placed ⌝ }
 {
-    match groups::meaning(letter) {
+    match svg_group::meaning(letter) {
         Letter::Unknown => Due::Refused(Refusal::UnsupportedCommand(letter, at)),
         Letter::Closes => Due::Close(at + 1),
         Letter::Draws(kind) => {
@@ -192,7 +192,7 @@ fn due_letter(text: &[u8], at: usize, letter: u8, placed: bool) -> Due
 fn due_again(text: &[u8], at: usize, letter: u8) -> Due
     ensures { λ r. ⌜ r ≡ dueAgainOf (now (text .entry)) at letter ⌝ }
 {
-    match groups::meaning(letter) {
+    match svg_group::meaning(letter) {
         Letter::Unknown => Due::Refused(Refusal::MissingMoveTo(at)),
         Letter::Closes => Due::Refused(Refusal::MissingMoveTo(at)),
         Letter::Draws(kind) => due_group(text, at, repeated(kind), letter),
@@ -208,7 +208,7 @@ pub fn next_due(text: &[u8], from: usize, letter: u8, placed: bool) -> Due
         return Due::Done;
     }
     let byte = text[at];
-    if groups::is_letter(byte) {
+    if svg_group::is_letter(byte) {
         return due_letter(text, at, byte, placed);
     }
     due_again(text, at, letter)
@@ -233,7 +233,7 @@ pub fn read_step(text: &[u8], reader: Reader) -> Step
         } => {
             let current = reader.current;
             let relative = is_relative(letter, reader.placed);
-            match groups::read_group(text, first, kind, relative, current) {
+            match svg_group::read_group(text, first, kind, relative, current) {
                 Group::Refused(refusal) => Step::Refused(refusal),
                 Group::Taken { command, next } => Step::Command {
                     command,
@@ -272,10 +272,10 @@ pub fn pass_step(text: &[u8], from: usize, letter: u8, placed: bool) -> Pass
             kind,
             letter: own,
             first,
-        } => match groups::pass_group(text, first, kind) {
+        } => match svg_group::pass_group(text, first, kind) {
             Passed::Refused(refusal) => Pass::Refused(refusal),
             Passed::To(next) => Pass::Command {
-                width: groups::width(kind),
+                width: svg_group::width(kind),
                 next,
                 letter: own,
             },

@@ -14,12 +14,12 @@ use Rattle.scan.specs.Bytes.{among, digits}
 use Rattle.scan.specs.Runs.{pastAll, pastDigitsOf}
 use Rattle.scan.proofs.ByteLaws.{either-way}
 use Rattle.scan.proofs.RunLaws.{all-onward, all-within, all-end, all-passed}
-use Rattle.digits.specs.Digits.{digitsIn, val}
-use Rattle.digits.specs.Exponent.{capped, exponentOf}
-use Rattle.digits.specs.declared.inner.Power.{Power}
-use Rattle.digits.proofs.Capping.{capped-small}
-use Rattle.digits.proofs.Places.{run-in}
-use Rattle.digits.proofs.Values.{val-lt}
+use Rattle.decimal_digits.specs.Digits.{digitsIn, val}
+use Rattle.decimal_digits.specs.Exponent.{capped, exponentOf}
+use Rattle.decimal_digits.specs.declared.inner.Power.{Power}
+use Rattle.decimal_digits.proofs.Capping.{capped-small}
+use Rattle.decimal_digits.proofs.Places.{run-in}
+use Rattle.decimal_digits.proofs.Values.{val-lt}
 use Rattle.text_reader.specs.Plans.{judged, firstLineOf}
 use Rattle.text_reader.specs.declared.line.FirstLine.{FirstLine}
 use Rattle.text_reader.specs.declared.line.FirstLine.the-variants.{Stations, Refused}

@@ -6,7 +6,7 @@ use lib.Dec.{ltb, leb, eqb}
 use lib.ListN.{getD, drop}
 use Rattle.answers.specs.declared.refusals.Refusal.the-variants.{Range}
 use Rattle.scan.specs.Runs.{pastDigitsOf}
-use Rattle.digits.specs.Digits.{digitsIn, val}
+use Rattle.decimal_digits.specs.Digits.{digitsIn, val}
 use Rattle.svg.specs.Steps.{readStepOf}
 use Rattle.svg.specs.declared.steps.Reader.{Reader}
 use Rattle.svg.specs.declared.steps.Step.{Step}

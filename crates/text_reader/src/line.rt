@@ -27,7 +27,7 @@ fn judge(count: usize, next: usize) -> FirstLine
 pub fn line_at(text: &[u8], at: usize) -> FirstLine
     ensures { λ r. ⌜ r ≡ firstLineOf (now (text .entry)) at ⌝ }
 {
-    let run = digits::inner::exponent(text, at);
+    let run = decimal_digits::inner::exponent(text, at);
     let end = run.at;
     let size = run.size;
     if end <= at {

@@ -1,4 +1,4 @@
-// Sine and cosine of an angle in radians. Each equals its definition by steps in the crate `sums`,
+// Sine and cosine of an angle in radians. Each equals its definition by steps in the crate `trig_rule`,
 // whose laws show that it keeps the rule.
 pub mod inner;
 
@@ -7,8 +7,8 @@ use crate::inner::fixed;
 use crate::inner::reduce;
 use crate::inner::sine_at;
 ghost use mathlib.Core.Path.{_≡_};
-ghost use Rattle.sums.specs.Rule.{inReach};
-ghost use Rattle.sums.specs.Steps.{sineOf, cosineOf};
+ghost use Rattle.trig_rule.specs.Rule.{inReach};
+ghost use Rattle.trig_rule.specs.Steps.{sineOf, cosineOf};
 
 pub struct SinCos {
     pub sin: f32,

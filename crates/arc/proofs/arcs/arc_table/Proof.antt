@@ -1,6 +1,6 @@
 -- `table_of` sums the steps. Assumes nothing.
 use borrow.Author.Needs.{needs}
-use Rattle.samples.proofs.Stepping.{table-is}
+use Rattle.table_samples.proofs.Stepping.{table-is}
 use Rattle.arc.proofs.arcs.arc_table.Statement.{statement}
 use Rattle.arc.proofs.arcs.arc_table.Tie as tie
 

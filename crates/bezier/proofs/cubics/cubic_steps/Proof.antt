@@ -2,8 +2,8 @@
 use borrow.Author.Needs.{needs}
 use mathlib.Core.Path.{_≡_, refl, ap, _∙_}
 use Prim.Native.Nat.{_-_}
-use Rattle.samples.specs.Samples.{sampleAt}
-use Rattle.samples.proofs.Stepping.{Stepping, stepping-start, stepping-more, stepping-done}
+use Rattle.table_samples.specs.Samples.{sampleAt}
+use Rattle.table_samples.proofs.Stepping.{Stepping, stepping-start, stepping-more, stepping-done}
 use Rattle.bezier.specs.Cubics.{cubicSampleOf}
 use Rattle.bezier.proofs.cubics.cubic_steps.Statement.{statement}
 use Rattle.bezier.proofs.cubics.cubic_steps.Tie as tie

@@ -1,7 +1,7 @@
 -- `decimal::inner::between` meets its contract: each side of the middle has its law, and a tie goes to the even one. Assumes nothing.
 use mathlib.Core.Path.{_≡_, ap, sym, _∙_}
-use Rattle.digits.proofs.Values.{ten-pos}
-use Rattle.middle.specs.Weighing.{orderOf}
+use Rattle.decimal_digits.proofs.Values.{ten-pos}
+use Rattle.decimal_tie.specs.Weighing.{orderOf}
 use Rattle.decimal.proofs.Sided.{bits-less, bits-greater, bits-equal}
 use borrow.Author.Needs.{needs}
 use Rattle.decimal.proofs.inner.between.Statement.{statement}

@@ -4,11 +4,11 @@ use mathlib.Core.Path.{_≡_, refl, ap, sym, _∙_, subst}
 use mathlib.Core.Logic.{_⊎_, inl, inr, ⊎-elim}
 use Prim.Native.Nat.{ℕ, _+_, _-_, _*_, _^_, _≤_, _<_}
 use native.Mathlib.Omega.{arith}
-use Rattle.digits.specs.Digits.{digitsAmong, val}
-use Rattle.digits.specs.Leading.{Leads}
-use Rattle.digits.specs.Exponent.{capped}
-use Rattle.digits.proofs.Values.{ten-pos}
-use Rattle.product.specs.Near.{Leading, Cell}
+use Rattle.decimal_digits.specs.Digits.{digitsAmong, val}
+use Rattle.decimal_digits.specs.Leading.{Leads}
+use Rattle.decimal_digits.specs.Exponent.{capped}
+use Rattle.decimal_digits.proofs.Values.{ten-pos}
+use Rattle.decimal_product.specs.Near.{Leading, Cell}
 use Rattle.decimal.specs.Bits.{Nearest}
 use Rattle.decimal.proofs.Capped.{Apart, under, past, near, capped-self}
 use Rattle.decimal.proofs.Scaled.{none-nearest, sized, placed, too-low, too-high, product-bits, product-between}

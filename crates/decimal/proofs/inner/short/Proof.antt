@@ -3,7 +3,7 @@ use borrow.Author.Needs.{needs}
 use Prim.Native.Nat.{_^_}
 use lib.Dec.{le→leb}
 use lib.Ieee.{binary32, inFloat}
-use Rattle.digits.proofs.Values.{ten-pos}
+use Rattle.decimal_digits.proofs.Values.{ten-pos}
 use Rattle.decimal.proofs.Quotients.{div-at, whole}
 use Rattle.decimal.proofs.inner.short.Statement.{statement}
 use Rattle.decimal.proofs.inner.short.Tie as tie

@@ -7,7 +7,7 @@ use native.Mathlib.Omega.{arith}
 use lib.Dec.{eqb}
 use borrow.Author.Tests.{leb-true, eqb-true}
 use lib.Ieee.{binary32, neg, ofBits}
-use Rattle.rounding.proofs.Limits.{round-neg}
+use Rattle.decimal_rounding.proofs.Limits.{round-neg}
 use Rattle.decimal.specs.Decimal.{minus, riseOf, fallOf, numerator, denominator}
 use Rattle.decimal.specs.Bits.{Nearest}
 use Rattle.decimal.proofs.Valued.{all-four, plain-bits, plain-signed, one-way, gathered, short-is, value-plain, value-negative}

@@ -1,6 +1,6 @@
 -- `kihavute_number` meets its contract: the text's length says which case holds. Assumes nothing.
 use borrow.Author.Needs.{needs}
-use Rattle.giving.proofs.Giving.{given-same}
+use Rattle.c_answer.proofs.Giving.{given-same}
 use Rattle.kihavute.proofs.NumberGiven.{text-long, text-fits}
 use Rattle.kihavute.proofs.decimals.kihavute_number.Statement.{statement}
 use Rattle.kihavute.proofs.decimals.kihavute_number.Tie as tie

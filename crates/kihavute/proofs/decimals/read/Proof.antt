@@ -1,7 +1,7 @@
 -- `kihavute::read` meets its contract: each case of what the entry below ensures is given as the definition says. Assumes nothing.
 use borrow.Author.Needs.{needs}
 use mathlib.Core.Path.{sym, _∙_}
-use Rattle.giving.proofs.Giving.{given-same}
+use Rattle.c_answer.proofs.Giving.{given-same}
 use Rattle.kihavute.proofs.NumberGiven.{read-given, read-refused}
 use Rattle.kihavute.proofs.decimals.read.Statement.{statement}
 use Rattle.kihavute.proofs.decimals.read.Tie as tie

@@ -2,7 +2,7 @@
 use borrow.Author.Needs.{needs}
 use mathlib.Core.Path.{sym, ap, _∙_}
 use Rattle.floats.specs.Floats.{bitsOf}
-use Rattle.giving.proofs.Giving.{given-same}
+use Rattle.c_answer.proofs.Giving.{given-same}
 use Rattle.kihavute.proofs.LookupsGiven.{raw-given, raw-refused}
 use Rattle.kihavute.proofs.lookups.kihavute_raw_parameter.Statement.{statement}
 use Rattle.kihavute.proofs.lookups.kihavute_raw_parameter.Tie as tie

@@ -1,7 +1,7 @@
 -- `kihavute_spot` meets its contract: each case of what the entry below ensures is given as the definition says. Assumes nothing.
 use borrow.Author.Needs.{needs}
 use mathlib.Core.Path.{sym, _∙_}
-use Rattle.giving.proofs.Giving.{given-same}
+use Rattle.c_answer.proofs.Giving.{given-same}
 use Rattle.kihavute.proofs.LookupsGiven.{spot-given, spot-none, spot-refused}
 use Rattle.kihavute.proofs.lookups.kihavute_spot.Statement.{statement}
 use Rattle.kihavute.proofs.lookups.kihavute_spot.Tie as tie

@@ -2,7 +2,7 @@
 use borrow.Author.Needs.{needs}
 use mathlib.Core.Path.{ap, _∙_}
 use lib.Ieee.{Float}
-use Rattle.sums.specs.Steps.{cosineOf}
+use Rattle.trig_rule.specs.Steps.{cosineOf}
 use Rattle.math.specs.Math.{pointOf}
 use Rattle.kihavute.specs.Pair.{pairOf}
 use Rattle.kihavute.proofs.turns.kihavute_sin_cos.Statement.{statement}

@@ -2,7 +2,7 @@
 use borrow.Author.Needs.{needs}
 use Rattle.arc.specs.declared.arcs.MadeArc.{MadeArc}
 use Rattle.arc.specs.Arcs.{arcLengthOf}
-use Rattle.giving.proofs.Giving.{given-same}
+use Rattle.c_answer.proofs.Giving.{given-same}
 use Rattle.kihavute_curves.specs.Curves.{lengthGiven}
 use Rattle.kihavute_curves.proofs.Asked.{asked-given}
 use Rattle.kihavute_curves.proofs.arcs.kihavute_arc_length.Statement.{statement}

@@ -2,8 +2,8 @@
 use borrow.Author.Needs.{needs}
 use Rattle.arc.specs.declared.arcs.MadeArc.{MadeArc}
 use Rattle.arc.specs.Arcs.{arcPlacedOf}
-use Rattle.giving.specs.Places.{placeGiven}
-use Rattle.giving.proofs.Giving.{given-same}
+use Rattle.c_answer.specs.Places.{placeGiven}
+use Rattle.c_answer.proofs.Giving.{given-same}
 use Rattle.kihavute_curves.proofs.Asked.{asked-given}
 use Rattle.kihavute_curves.proofs.arcs.kihavute_arc_position.Statement.{statement}
 use Rattle.kihavute_curves.proofs.arcs.kihavute_arc_position.Tie as tie

@@ -2,8 +2,8 @@
 use borrow.Author.Needs.{needs}
 use Rattle.arc.specs.declared.arcs.MadeArc.{MadeArc}
 use Rattle.arc.specs.Arcs.{arcTurnedOf}
-use Rattle.giving.specs.Places.{turnGiven}
-use Rattle.giving.proofs.Giving.{given-same}
+use Rattle.c_answer.specs.Places.{turnGiven}
+use Rattle.c_answer.proofs.Giving.{given-same}
 use Rattle.kihavute_curves.proofs.Asked.{asked-given}
 use Rattle.kihavute_curves.proofs.arcs.kihavute_arc_rotation_deg.Statement.{statement}
 use Rattle.kihavute_curves.proofs.arcs.kihavute_arc_rotation_deg.Tie as tie

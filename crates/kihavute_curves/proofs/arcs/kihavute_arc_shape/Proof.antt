@@ -5,8 +5,8 @@ use mathlib.Core.Path.{ap, sym, _∙_}
 use mathlib.Core.Bool.{Bool, cond}
 use mathlib.Core.List.{List, [], _∷_}
 use Rattle.arc.specs.declared.arcs.MadeArc.{MadeArc}
-use Rattle.filling.specs.Filling.{arcNumbers}
-use Rattle.filling.proofs.FilledCases.{filled-made}
+use Rattle.c_output.specs.Filling.{arcNumbers}
+use Rattle.c_output.proofs.FilledCases.{filled-made}
 use Rattle.kihavute_curves.specs.Arcs.{fellBack}
 use Rattle.kihavute_curves.proofs.arcs.kihavute_arc_shape.Statement.{statement}
 use Rattle.kihavute_curves.proofs.arcs.kihavute_arc_shape.Tie as tie

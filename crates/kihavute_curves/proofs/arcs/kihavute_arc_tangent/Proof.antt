@@ -2,8 +2,8 @@
 use borrow.Author.Needs.{needs}
 use Rattle.arc.specs.declared.arcs.MadeArc.{MadeArc}
 use Rattle.arc.specs.Arcs.{arcHeadingOf}
-use Rattle.giving.specs.Places.{placeGiven}
-use Rattle.giving.proofs.Giving.{given-same}
+use Rattle.c_answer.specs.Places.{placeGiven}
+use Rattle.c_answer.proofs.Giving.{given-same}
 use Rattle.kihavute_curves.proofs.Asked.{asked-given}
 use Rattle.kihavute_curves.proofs.arcs.kihavute_arc_tangent.Statement.{statement}
 use Rattle.kihavute_curves.proofs.arcs.kihavute_arc_tangent.Tie as tie

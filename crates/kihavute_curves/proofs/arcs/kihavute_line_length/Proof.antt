@@ -2,7 +2,7 @@
 use borrow.Author.Needs.{needs}
 use Rattle.arc.specs.declared.lines.MadeLine.{MadeLine}
 use Rattle.arc.specs.Lines.{lineLengthOf}
-use Rattle.giving.proofs.Giving.{given-same}
+use Rattle.c_answer.proofs.Giving.{given-same}
 use Rattle.kihavute_curves.specs.Curves.{lengthGiven}
 use Rattle.kihavute_curves.proofs.Asked.{asked-given}
 use Rattle.kihavute_curves.proofs.arcs.kihavute_line_length.Statement.{statement}

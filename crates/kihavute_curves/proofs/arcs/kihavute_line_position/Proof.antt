@@ -4,8 +4,8 @@ use Rattle.math.specs.declared.points.Point.{Point}
 use Rattle.bezier.specs.declared.curves.Placed.the-variants as Placed
 use Rattle.arc.specs.declared.lines.MadeLine.{MadeLine}
 use Rattle.arc.specs.Lines.{linePositionOf}
-use Rattle.giving.specs.Places.{placeGiven}
-use Rattle.giving.proofs.Giving.{given-same}
+use Rattle.c_answer.specs.Places.{placeGiven}
+use Rattle.c_answer.proofs.Giving.{given-same}
 use Rattle.kihavute_curves.proofs.Asked.{asked-given}
 use Rattle.kihavute_curves.proofs.arcs.kihavute_line_position.Statement.{statement}
 use Rattle.kihavute_curves.proofs.arcs.kihavute_line_position.Tie as tie

@@ -4,8 +4,8 @@ use lib.Ieee.{Float}
 use Rattle.bezier.specs.declared.curves.Turned.the-variants as Turned
 use Rattle.arc.specs.declared.lines.MadeLine.{MadeLine}
 use Rattle.arc.specs.Lines.{lineRotationDegOf}
-use Rattle.giving.specs.Places.{turnGiven}
-use Rattle.giving.proofs.Giving.{given-same}
+use Rattle.c_answer.specs.Places.{turnGiven}
+use Rattle.c_answer.proofs.Giving.{given-same}
 use Rattle.kihavute_curves.proofs.Asked.{asked-given}
 use Rattle.kihavute_curves.proofs.arcs.kihavute_line_rotation_deg.Statement.{statement}
 use Rattle.kihavute_curves.proofs.arcs.kihavute_line_rotation_deg.Tie as tie

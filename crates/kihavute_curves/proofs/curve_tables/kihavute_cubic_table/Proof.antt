@@ -3,8 +3,8 @@ use borrow.Author.Needs.{needs}
 use mathlib.Core.Path.{refl}
 use mathlib.Core.List.{[]}
 use Rattle.bezier.specs.declared.cubics.MadeCubic.{MadeCubic}
-use Rattle.filling.specs.Filling.{tableNumbers}
-use Rattle.filling.proofs.FilledCases.{filled-made}
+use Rattle.c_output.specs.Filling.{tableNumbers}
+use Rattle.c_output.proofs.FilledCases.{filled-made}
 use Rattle.kihavute_curves.proofs.curve_tables.kihavute_cubic_table.Statement.{statement}
 use Rattle.kihavute_curves.proofs.curve_tables.kihavute_cubic_table.Tie as tie
 

@@ -1,6 +1,6 @@
 -- `kihavute_quad_rotation_deg` meets its contract: the made curve is the one of these points, and what it answers is given. Assumes nothing.
 use borrow.Author.Needs.{needs}
-use Rattle.giving.proofs.Giving.{given-same}
+use Rattle.c_answer.proofs.Giving.{given-same}
 use Rattle.kihavute_curves.proofs.CurvesGiven.{quad-rotation-given}
 use Rattle.kihavute_curves.proofs.curves.kihavute_quad_rotation_deg.Statement.{statement}
 use Rattle.kihavute_curves.proofs.curves.kihavute_quad_rotation_deg.Tie as tie

@@ -1,7 +1,7 @@
 -- `measure` meets its contract: a curve that can be had gives the bits of its length, any other its refusal. Assumes nothing.
 use borrow.Author.Needs.{needs}
 use mathlib.Core.Path.{sym, _∙_}
-use Rattle.giving.proofs.Giving.{given-same}
+use Rattle.c_answer.proofs.Giving.{given-same}
 use Rattle.kihavute_curves.proofs.CurvesGiven.{allowed-accepted, allowed-refused, length-given}
 use Rattle.kihavute_curves.proofs.curves.measure.Statement.{statement}
 use Rattle.kihavute_curves.proofs.curves.measure.Tie as tie

@@ -1,7 +1,7 @@
 -- `place` meets its contract: a curve that can be had gives what was found, any other its refusal. Assumes nothing.
 use borrow.Author.Needs.{needs}
 use mathlib.Core.Path.{sym}
-use Rattle.giving.proofs.Giving.{given-same}
+use Rattle.c_answer.proofs.Giving.{given-same}
 use Rattle.kihavute_curves.proofs.CurvesGiven.{allowed-accepted, allowed-refused}
 use Rattle.kihavute_curves.proofs.curves.place.Statement.{statement}
 use Rattle.kihavute_curves.proofs.curves.place.Tie as tie

@@ -2,7 +2,7 @@
 use borrow.Author.Needs.{needs}
 use mathlib.Core.Path.{sym, ap}
 use Rattle.spline_table.specs.Tables.{answerOf}
-use Rattle.giving.proofs.Giving.{given-same}
+use Rattle.c_answer.proofs.Giving.{given-same}
 use Rattle.kihavute_curves.proofs.splines.give_count.Statement.{statement}
 use Rattle.kihavute_curves.proofs.splines.give_count.Tie as tie
 

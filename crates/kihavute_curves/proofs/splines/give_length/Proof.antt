@@ -1,7 +1,7 @@
 -- `give_length` meets its contract: each case of what was measured is given as the definition says. Assumes nothing.
 use borrow.Author.Needs.{needs}
 use mathlib.Core.Path.{sym, ap}
-use Rattle.giving.proofs.Giving.{given-same}
+use Rattle.c_answer.proofs.Giving.{given-same}
 use Rattle.kihavute_curves.specs.Splines.{measureGiven}
 use Rattle.kihavute_curves.proofs.SplinesGiven.{length-of-given}
 use Rattle.kihavute_curves.proofs.splines.give_length.Statement.{statement}

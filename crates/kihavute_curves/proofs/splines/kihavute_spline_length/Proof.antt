@@ -1,7 +1,7 @@
 -- `kihavute_spline_length` meets its contract: what the entry below answers is given. Assumes nothing.
 use borrow.Author.Needs.{needs}
 use mathlib.Core.Path.{ap}
-use Rattle.giving.proofs.Giving.{given-same}
+use Rattle.c_answer.proofs.Giving.{given-same}
 use Rattle.kihavute_curves.specs.Splines.{measureGiven}
 use Rattle.kihavute_curves.proofs.splines.kihavute_spline_length.Statement.{statement}
 use Rattle.kihavute_curves.proofs.splines.kihavute_spline_length.Tie as tie

@@ -1,8 +1,8 @@
 -- `kihavute_spline_rotation_deg` meets its contract: what the entry below answers is given. Assumes nothing.
 use borrow.Author.Needs.{needs}
 use mathlib.Core.Path.{ap}
-use Rattle.giving.specs.Places.{turnGiven}
-use Rattle.giving.proofs.Giving.{given-same}
+use Rattle.c_answer.specs.Places.{turnGiven}
+use Rattle.c_answer.proofs.Giving.{given-same}
 use Rattle.kihavute_curves.proofs.splines.kihavute_spline_rotation_deg.Statement.{statement}
 use Rattle.kihavute_curves.proofs.splines.kihavute_spline_rotation_deg.Tie as tie
 

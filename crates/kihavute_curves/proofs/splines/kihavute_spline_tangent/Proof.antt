@@ -1,8 +1,8 @@
 -- `kihavute_spline_tangent` meets its contract: what the entry below answers is given. Assumes nothing.
 use borrow.Author.Needs.{needs}
 use mathlib.Core.Path.{ap}
-use Rattle.giving.specs.Places.{placeGiven}
-use Rattle.giving.proofs.Giving.{given-same}
+use Rattle.c_answer.specs.Places.{placeGiven}
+use Rattle.c_answer.proofs.Giving.{given-same}
 use Rattle.kihavute_curves.proofs.splines.kihavute_spline_tangent.Statement.{statement}
 use Rattle.kihavute_curves.proofs.splines.kihavute_spline_tangent.Tie as tie
 

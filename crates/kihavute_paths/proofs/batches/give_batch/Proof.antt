@@ -1,7 +1,7 @@
 -- `give_batch` meets its contract: each case of a batch is given as the definition says. Assumes nothing.
 use borrow.Author.Needs.{needs}
 use mathlib.Core.Path.{sym}
-use Rattle.giving.proofs.Giving.{given-same}
+use Rattle.c_answer.proofs.Giving.{given-same}
 use Rattle.kihavute_paths.proofs.BatchesGiven.{batch-filled, batch-none, batch-refused}
 use Rattle.kihavute_paths.proofs.batches.give_batch.Statement.{statement}
 use Rattle.kihavute_paths.proofs.batches.give_batch.Tie as tie

@@ -1,7 +1,7 @@
 -- Each case is given as the definition says. Assumes nothing.
 use borrow.Author.Needs.{needs}
 use mathlib.Core.Path.{refl, sym, ap, _∙_}
-use Rattle.giving.proofs.Giving.{given-same}
+use Rattle.c_answer.proofs.Giving.{given-same}
 use Rattle.kihavute_paths.proofs.Putting.{bounds-bits}
 use Rattle.kihavute_paths.proofs.morphs.give_bounds.Statement.{statement}
 use Rattle.kihavute_paths.proofs.morphs.give_bounds.Tie as tie

@@ -1,7 +1,7 @@
 -- The bounds of the entry below. Assumes nothing.
 use borrow.Author.Needs.{needs}
 use mathlib.Core.Path.{refl, sym, ap, _∙_}
-use Rattle.giving.proofs.Giving.{given-same}
+use Rattle.c_answer.proofs.Giving.{given-same}
 use Rattle.kihavute_paths.specs.Morphs.{boundsGiven}
 use Rattle.kihavute_paths.proofs.morphs.kihavute_bounds.Statement.{statement}
 use Rattle.kihavute_paths.proofs.morphs.kihavute_bounds.Tie as tie

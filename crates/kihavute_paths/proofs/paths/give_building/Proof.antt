@@ -1,7 +1,7 @@
 -- `give_building` meets its contract: each case of what was built is given as the definition says. Assumes nothing.
 use borrow.Author.Needs.{needs}
 use mathlib.Core.Path.{sym}
-use Rattle.giving.proofs.Giving.{given-same}
+use Rattle.c_answer.proofs.Giving.{given-same}
 use Rattle.kihavute_paths.proofs.PathsGiven.{building-given, building-refused}
 use Rattle.kihavute_paths.proofs.paths.give_building.Statement.{statement}
 use Rattle.kihavute_paths.proofs.paths.give_building.Tie as tie

@@ -1,8 +1,8 @@
 -- `kihavute_position` meets its contract: what the entry below ensures is given. Assumes nothing.
 use borrow.Author.Needs.{needs}
 use mathlib.Core.Path.{ap}
-use Rattle.giving.specs.Places.{placeGiven}
-use Rattle.giving.proofs.Giving.{given-same}
+use Rattle.c_answer.specs.Places.{placeGiven}
+use Rattle.c_answer.proofs.Giving.{given-same}
 use Rattle.kihavute_paths.proofs.queries.kihavute_position.Statement.{statement}
 use Rattle.kihavute_paths.proofs.queries.kihavute_position.Tie as tie
 

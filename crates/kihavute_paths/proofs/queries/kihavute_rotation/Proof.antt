@@ -1,8 +1,8 @@
 -- `kihavute_rotation` meets its contract: what the entry below ensures is given. Assumes nothing.
 use borrow.Author.Needs.{needs}
 use mathlib.Core.Path.{ap}
-use Rattle.giving.specs.Places.{turnGiven}
-use Rattle.giving.proofs.Giving.{given-same}
+use Rattle.c_answer.specs.Places.{turnGiven}
+use Rattle.c_answer.proofs.Giving.{given-same}
 use Rattle.kihavute_paths.proofs.queries.kihavute_rotation.Statement.{statement}
 use Rattle.kihavute_paths.proofs.queries.kihavute_rotation.Tie as tie
 

@@ -1,5 +1,5 @@
 -- `kihavute_check` meets its contract: both ways out are cases of `checkGiven`. Assumes nothing.
-use Rattle.giving.proofs.Giving.{given-same}
+use Rattle.c_answer.proofs.Giving.{given-same}
 use Rattle.kihavute_paths.proofs.CheckGiven.{check-yes, check-no}
 use mathlib.Core.Path.{sym, _∙_}
 use borrow.Author.Needs.{needs}

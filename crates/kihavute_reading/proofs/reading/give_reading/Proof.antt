@@ -1,7 +1,7 @@
 -- `give_reading` meets its contract: each case of what was read is given as the definition says. Assumes nothing.
 use borrow.Author.Needs.{needs}
 use mathlib.Core.Path.{sym}
-use Rattle.giving.proofs.Giving.{given-same}
+use Rattle.c_answer.proofs.Giving.{given-same}
 use Rattle.kihavute_reading.proofs.ReadingGiven.{reading-given, reading-refused}
 use Rattle.kihavute_reading.proofs.reading.give_reading.Statement.{statement}
 use Rattle.kihavute_reading.proofs.reading.give_reading.Tie as tie

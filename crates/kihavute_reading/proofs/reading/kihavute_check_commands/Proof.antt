@@ -1,7 +1,7 @@
 -- `kihavute_check_commands` meets its contract: each case of the judgement is given as the definition says. Assumes nothing.
 use borrow.Author.Needs.{needs}
 use mathlib.Core.Path.{sym, _∙_}
-use Rattle.giving.proofs.Giving.{given-same}
+use Rattle.c_answer.proofs.Giving.{given-same}
 use Rattle.kihavute_reading.proofs.ReadingGiven.{check-given, check-refused}
 use Rattle.kihavute_reading.proofs.reading.kihavute_check_commands.Statement.{statement}
 use Rattle.kihavute_reading.proofs.reading.kihavute_check_commands.Tie as tie

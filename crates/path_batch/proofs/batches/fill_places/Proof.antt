@@ -9,9 +9,9 @@ use lib.Seq.{take-all}
 use lib.Ieee.{Float, nan}
 use mathlib.Core.List.{List}
 use Rattle.answers.specs.Report.{written}
-use Rattle.place.specs.declared.places.Place.{Place}
-use Rattle.place.specs.Places.{placeOf}
-use Rattle.place.proofs.Standing.{some-path, standing, place-is}
+use Rattle.path_place.specs.declared.places.Place.{Place}
+use Rattle.path_place.specs.Places.{placeOf}
+use Rattle.path_place.proofs.Standing.{some-path, standing, place-is}
 use Rattle.path_query.proofs.Seats.{some-place}
 use Rattle.path_batch.specs.Batches.{each, segmentsFor, rawsFor}
 use Rattle.path_batch.proofs.Filling.{Looking, looking-first, looking-next, among, looking-moves, each-size, each-next}

@@ -9,7 +9,7 @@ use lib.ListN.{length, take, getD}
 use lib.Seq.{take-all}
 use lib.Ieee.{Float, nan}
 use Rattle.answers.specs.Report.{written}
-use Rattle.place.proofs.Standing.{some-path}
+use Rattle.path_place.proofs.Standing.{some-path}
 use Rattle.path_query.proofs.Seats.{some-place, seated, flight-is}
 use Rattle.path_query.proofs.Answering.{flight-some}
 use Rattle.path_batch.specs.Batches.{numbersOf, numbersFor}

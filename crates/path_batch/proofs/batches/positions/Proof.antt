@@ -3,7 +3,7 @@ use borrow.Author.Needs.{needs}
 use mathlib.Core.Path.{sym, _∙_}
 use native.Mathlib.Omega.{arith}
 use Rattle.floats.proofs.Tests.{passed}
-use Rattle.stored.proofs.Rule.{stored-rule}
+use Rattle.path_stored.proofs.Rule.{stored-rule}
 use Rattle.path_query.proofs.Seats.{a-flight}
 use Rattle.path_batch.proofs.Answering.{positions-bad, positions-short, positions-filled, filled-zeros}
 use Rattle.path_batch.proofs.batches.positions.Statement.{statement}

@@ -5,7 +5,7 @@ use Prim.Native.Nat.{_<_}
 use lib.ListN.{length}
 use Rattle.table.specs.declared.tables.Spot.{Spot}
 use Rattle.table.specs.Spots.{spotOf}
-use Rattle.place.proofs.Standing.{spot-among, onward-first}
+use Rattle.path_place.proofs.Standing.{spot-among, onward-first}
 use Rattle.path_query.proofs.Seats.{some-place, seated, flight-is}
 use Rattle.path_query.proofs.inner.flown.Statement.{statement}
 use Rattle.path_query.proofs.inner.flown.Tie as tie

@@ -3,9 +3,9 @@ use borrow.Author.Needs.{needs}
 use mathlib.Core.Path.{sym, ap, _∙_, subst}
 use Prim.Native.Nat.{ℕ, _+_, _≤_}
 use lib.ListN.{length, getD, drop}
-use Rattle.segment.specs.Segments.{widthOf, segmentOf}
-use Rattle.stored.specs.Stored.{segmentIn}
-use Rattle.stored.proofs.Reading.{segment-numbers}
+use Rattle.path_segment.specs.Segments.{widthOf, segmentOf}
+use Rattle.path_stored.specs.Stored.{segmentIn}
+use Rattle.path_stored.proofs.Reading.{segment-numbers}
 use Rattle.path_query.proofs.Seats.{cursor-numbers}
 use Rattle.path_query.proofs.inner.segment_here.Statement.{statement}
 use Rattle.path_query.proofs.inner.segment_here.Tie as tie

@@ -5,7 +5,7 @@ use native.Mathlib.Omega.{arith}
 use Rattle.floats.specs.Floats.{zeroF}
 use Rattle.math.specs.Math.{originF}
 use Rattle.floats.proofs.Tests.{passed}
-use Rattle.stored.proofs.Rule.{stored-rule}
+use Rattle.path_stored.proofs.Rule.{stored-rule}
 use Rattle.path_query.proofs.Seats.{a-flight}
 use Rattle.path_query.proofs.Answering.{flew-some, flew-none, flew-bad}
 use Rattle.path_query.proofs.queries.flight.Statement.{statement}

@@ -1,7 +1,7 @@
 -- `path_text::build_from_text` meets its contract: the first pass tells what is built, the second stores it. Assumes nothing.
 use borrow.Author.Needs.{needs}
 use mathlib.Core.Path.{sym, _∙_}
-use Rattle.path.proofs.Answering.{answers-at, unbuilt, too-short, has-room, built-whole}
+use Rattle.path_build.proofs.Answering.{answers-at, unbuilt, too-short, has-room, built-whole}
 use Rattle.path_text.proofs.Entering.{too-long, short}
 use Rattle.path_text.proofs.entry.build_from_text.Statement.{statement}
 use Rattle.path_text.proofs.entry.build_from_text.Tie as tie

@@ -1,7 +1,7 @@
 -- `path_text::texts::measure` meets its contract: what the survey tells, or what judging does. Assumes nothing.
 use borrow.Author.Needs.{needs}
 use mathlib.Core.Path.{subst}
-use Rattle.path.specs.Answers.{Foretells}
+use Rattle.path_build.specs.Answers.{Foretells}
 use Rattle.path_text.proofs.texts.measure.Statement.{statement}
 use Rattle.path_text.proofs.texts.measure.Tie as tie
 

@@ -5,7 +5,7 @@ use Prim.Native.Nat.{_-_}
 use native.Mathlib.Omega.{arith}
 use lib.ListN.{length-set}
 use Rattle.floats.specs.Floats.{zeroF}
-use Rattle.samples.specs.Samples.{sampleAt}
+use Rattle.table_samples.specs.Samples.{sampleAt}
 use Rattle.spline.specs.Formula.{splineSampleOf}
 use Rattle.spline_table.proofs.Passing.{walking-start, walking-more}
 use Rattle.spline_table.proofs.Filling.{Filling, filling-start, filling-more, filling-length, filling-done}

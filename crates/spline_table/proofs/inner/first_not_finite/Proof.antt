@@ -3,7 +3,7 @@ use borrow.Author.Needs.{needs}
 use mathlib.Core.Path.{_≡_, sym, ap, _∙_}
 use Prim.Native.Nat.{_-_}
 use Rattle.floats.specs.Floats.{zeroF}
-use Rattle.samples.specs.Samples.{sampleAt}
+use Rattle.table_samples.specs.Samples.{sampleAt}
 use Rattle.spline.specs.Formula.{splineSampleOf}
 use Rattle.spline_table.proofs.Passing.{walking-start, walking-more}
 use Rattle.spline_table.proofs.Finding.{Finding, finding-start, finding-more, finding-ends, finding-none}

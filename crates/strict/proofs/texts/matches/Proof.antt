@@ -11,8 +11,8 @@ use Rattle.scan.specs.Bytes.{whiteSpace}
 use Rattle.scan.specs.Runs.{pastWhiteOf}
 use Rattle.scan.proofs.ByteLaws.{clash}
 use Rattle.scan.proofs.RunLaws.{all-onward}
-use Rattle.grammar.specs.Grammar.{Matches}
-use Rattle.grammar.specs.Words.{Goes}
+use Rattle.strict_grammar.specs.Grammar.{Matches}
+use Rattle.strict_grammar.specs.Words.{Goes}
 use Rattle.strict.specs.Commands.{Command}
 use Rattle.strict.proofs.CommandLaws.{command-grows, ends-past, missing-lacks}
 use Rattle.strict.proofs.Rests.{Rest, ended, starts, goes-forth, goes-back, no-more, at-end}

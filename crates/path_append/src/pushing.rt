@@ -1,0 +1,139 @@
+// Appending one segment.
+use crate::storing::store;
+use crate::used::is_in_use;
+use crate::used::numbers_used;
+use crate::used::tables_used;
+use answers::Refusal;
+use answers::Values;
+use arc::rotation_in_range;
+use floats::is_finite;
+use path_segment::PathSegment;
+use path_segment::has_table;
+use path_segment::kind;
+use path_segment::segment_length;
+use path_segment::width;
+use table::inner::length_before;
+ghost use mathlib.Core.Path.{_≡_};
+ghost use Prim.Native.Nat.{_*_, _≤_, _<_};
+ghost use lib.ListN.{length};
+ghost use Rattle.path_segment.specs.Segments.{tablesOf};
+ghost use Rattle.path_stored.specs.Stored.{mostSegments};
+ghost use Rattle.path_append.specs.Appending.{mayTurn, fittingOf, appendedOf, Append};
+
+// What appending answers.
+pub enum Appended {
+    // How many places of each buffer are in use now: kinds, numbers, tables, lengths.
+    Added(Values),
+    // `BadPath`, `Range`, `RotationRange`, `NotFinite` or `NoRoom`.
+    Refused(Refusal),
+}
+
+// Whether a segment's rotation may be taken. Only an arc that is no line fallback has one that may not.
+fn may_turn(segment: PathSegment) -> bool
+    ensures { λ r. ⌜ r ≡ mayTurn segment ⌝ }
+{
+    match segment {
+        PathSegment::Line(_) => true,
+        PathSegment::Quad {
+            start: _,
+            control: _,
+            end: _,
+        } => true,
+        PathSegment::Cubic {
+            start: _,
+            control1: _,
+            control2: _,
+            end: _,
+        } => true,
+        PathSegment::Arc(shape) => rotation_in_range(shape.x_axis_rotation),
+        PathSegment::Fallback(_) => true,
+    }
+}
+
+// How many places the table of a kind takes.
+fn table_width(kind: u8) -> usize
+    ensures { λ r. ⌜ r ≡ 33 * tablesOf kind ⌝ }
+{
+    if has_table(kind) {
+        return 33;
+    }
+    0
+}
+
+// Whether the buffers have room for a segment after the first `count`, or how much they need.
+fn fitting(
+    kinds: &[u8],
+    numbers: &[f32],
+    tables: &[f32],
+    lengths: &[f32],
+    count: usize,
+    segment: PathSegment,
+) -> Appended
+    requires { ⌜ count < mostSegments ⌝ }
+    requires { ⌜ count ≤ length (now kinds) ⌝ }
+    ensures { λ r. ⌜ r ≡ fittingOf (now (kinds .entry)) (now (numbers .entry)) (now (tables .entry)) (now (lengths .entry)) count segment ⌝ }
+{
+    let own = kind(segment);
+    let n = numbers_used(kinds, count) + width(own);
+    let m = tables_used(kinds, count) + table_width(own);
+    let needs = Values::Four(count + 1, n, m, count + 1);
+    if kinds.len() <= count {
+        return Appended::Refused(Refusal::NoRoom(needs));
+    }
+    if numbers.len() < n {
+        return Appended::Refused(Refusal::NoRoom(needs));
+    }
+    if tables.len() < m {
+        return Appended::Refused(Refusal::NoRoom(needs));
+    }
+    if lengths.len() <= count {
+        return Appended::Refused(Refusal::NoRoom(needs));
+    }
+    Appended::Added(needs)
+}
+
+// What appending a segment after the first `count` answers.
+fn judge(
+    kinds: &[u8],
+    numbers: &[f32],
+    tables: &[f32],
+    lengths: &[f32],
+    count: usize,
+    segment: PathSegment,
+) -> Appended
+    ensures { λ r. ⌜ r ≡ appendedOf (now (kinds .entry)) (now (numbers .entry)) (now (tables .entry)) (now (lengths .entry)) count segment ⌝ }
+{
+    if is_in_use(kinds, numbers, tables, lengths, count) {
+        if 65536 <= count {
+            return Appended::Refused(Refusal::Range(count + 1));
+        }
+        if may_turn(segment) {
+            if is_finite(length_before(lengths, count) + segment_length(segment)) {
+                return fitting(kinds, numbers, tables, lengths, count, segment);
+            }
+            return Appended::Refused(Refusal::NotFinite(count));
+        }
+        return Appended::Refused(Refusal::RotationRange(count));
+    }
+    Appended::Refused(Refusal::BadPath)
+}
+
+// Appends a segment to the path that the first `count` segments are. The tables are made anew from its numbers. Refused are, in this
+// order: what is no stored path, a count above 65,536, a rotation out of range, a running length that is not finite, too short a buffer.
+pub fn push_segment(
+    kinds: &mut [u8],
+    numbers: &mut [f32],
+    tables: &mut [f32],
+    lengths: &mut [f32],
+    count: usize,
+    segment: PathSegment,
+) -> Appended
+    ensures { λ r. ⌜ Append (now (kinds .entry)) (now (numbers .entry)) (now (tables .entry)) (now (lengths .entry)) count segment r (now (kinds .exit)) (now (numbers .exit)) (now (tables .exit)) (now (lengths .exit)) ⌝ }
+{
+    let answer = judge(kinds, numbers, tables, lengths, count, segment);
+    match answer {
+        Appended::Added(_) => store(kinds, numbers, tables, lengths, count, segment),
+        Appended::Refused(_) => {}
+    }
+    answer
+}

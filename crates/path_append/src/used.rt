@@ -1,0 +1,62 @@
+// The path in use: the first segments of four buffers.
+use path_stored::check_path;
+use path_stored::inner::numbers_before;
+use path_stored::inner::tables_before;
+ghost use mathlib.Core.Path.{_≡_};
+ghost use Prim.Native.Nat.{_≤_};
+ghost use lib.ListN.{length};
+ghost use Rattle.path_stored.specs.Stored.{mostSegments};
+ghost use Rattle.path_append.specs.Appending.{numbersUsed, tablesUsed, inUse};
+
+// How many numbers the first `count` segments have.
+pub(crate) fn numbers_used(kinds: &[u8], count: usize) -> usize
+    requires { ⌜ count ≤ length (now kinds) ⌝ }
+    requires { ⌜ count ≤ mostSegments ⌝ }
+    ensures { λ r. ⌜ r ≡ numbersUsed (now (kinds .entry)) count ⌝ }
+{
+    numbers_before(&kinds[..count], count)
+}
+
+// How many places their tables take.
+pub(crate) fn tables_used(kinds: &[u8], count: usize) -> usize
+    requires { ⌜ count ≤ length (now kinds) ⌝ }
+    requires { ⌜ count ≤ mostSegments ⌝ }
+    ensures { λ r. ⌜ r ≡ tablesUsed (now (kinds .entry)) count ⌝ }
+{
+    33 * tables_before(&kinds[..count], count)
+}
+
+// Whether the first `count` segments are a stored path: their numbers, tables and running lengths stand at the start of each buffer.
+pub(crate) fn is_in_use(
+    kinds: &[u8],
+    numbers: &[f32],
+    tables: &[f32],
+    lengths: &[f32],
+    count: usize,
+) -> bool
+    ensures { λ r. ⌜ r ≡ inUse (now (kinds .entry)) (now (numbers .entry)) (now (tables .entry)) (now (lengths .entry)) count ⌝ }
+{
+    if kinds.len() < count {
+        return false;
+    }
+    if 65536 < count {
+        return false;
+    }
+    if lengths.len() < count {
+        return false;
+    }
+    let n = numbers_used(kinds, count);
+    if numbers.len() < n {
+        return false;
+    }
+    let m = tables_used(kinds, count);
+    if tables.len() < m {
+        return false;
+    }
+    check_path(
+        &kinds[..count],
+        &numbers[..n],
+        &tables[..m],
+        &lengths[..count],
+    )
+}

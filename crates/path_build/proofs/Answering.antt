@@ -1,0 +1,121 @@
+-- What building answers, way by way, over what is built. Assumes nothing.
+use Prim.Native.Nat.{ℕ, _≤_}
+use mathlib.Core.Path.{_≡_, refl, sym, ap, subst, _∙_}
+use mathlib.Core.Bool.{Bool, true, false, _||_, cond, false≢true}
+use mathlib.Core.List.{List, [], _∷_}
+use native.Mathlib.Omega.{arith}
+use borrow.Author.Tests.{ltb-false}
+use lib.Dec.{ltb}
+use lib.Ieee.{Float}
+use lib.ListN.{length}
+use Rattle.answers.specs.Answers.{refused, accepted}
+use Rattle.answers.specs.declared.refusals.Values.the-variants.{Four}
+use Rattle.answers.specs.declared.refusals.Refusal.{Refusal}
+use Rattle.answers.specs.declared.refusals.Refusal.the-variants.{NoRoom}
+use Rattle.path_segment.specs.declared.segments.PathSegment.{PathSegment}
+use Rattle.path_stored.specs.Layout.{kindsOf, fieldsOfAll, tablesOfAll, runningOf, lengthsOfAll}
+use Rattle.path_drawing.specs.Building.{Built, path, refusal}
+use Rattle.path_storing.proofs.Layouts.{lengths-count}
+use Rattle.path_build.specs.Answers.{isShort, countsOf, values, roomed, answered, Answers, measureOf, Holding, Filled}
+use Rattle.path_build.specs.Paths.{lentOf}
+use Rattle.path_build.specs.declared.sizes.Building.{Building}
+use Rattle.path_build.specs.declared.sizes.Building.the-variants as Building
+use Rattle.path_build.specs.declared.sizes.Size.the-variants as Size
+use Rattle.path_build.specs.declared.sizes.Counts.{Counts}
+
+-- ---- the first pass's answer tells what is built
+
+measured-refused : (reason : Refusal) (built : Built) → Size.Refused reason ≡ measureOf built → built ≡ refusal reason
+unfolding measureOf
+measured-refused reason (path list) e = let z : _≡_ {A = ℕ} 0 1 = cc in absurd (omega arith)
+measured-refused reason (refusal other) e = let f : other ≡ reason = cc in ap refusal f
+
+-- the counts that a first pass gives; kinds and lengths are one a segment
+abbrev pub neededOf : ℕ → ℕ → ℕ → Counts
+neededOf s f t = record { kinds = s; fields = f; tables = t; lengths = s }
+
+record Listed (s f t : ℕ) (built : Built) : Type 0 where
+  list : List PathSegment
+  is : built ≡ path list
+  counts : countsOf list ≡ neededOf s f t
+
+measured-list : (s f t : ℕ) (built : Built) → Size.Counted s f t ≡ measureOf built → Listed s f t built
+unfolding measureOf
+measured-list s f t (path list) e =
+    let k : length (kindsOf list) ≡ s = cc in
+    let g : length (fieldsOfAll list) ≡ f = cc in
+    let u : length (tablesOfAll list) ≡ t = cc in
+    let l : length (lengthsOfAll list) ≡ s = lengths-count list ∙ k in
+    record { list = list; is = refl; counts = rw (k, g, u, l) }
+measured-list s f t (refusal reason) e = let z : _≡_ {A = ℕ} 0 1 = cc in absurd (omega arith)
+
+-- ---- no buffer is short
+
+none-short : (a b c d : Bool) → ((a || b) || c) || d ≡ false → (a ≡ false) × (b ≡ false) × (c ≡ false) × (d ≡ false)
+none-short true b c d e = absurd (false≢true (sym e))
+none-short false true c d e = absurd (false≢true (sym e))
+none-short false false true d e = absurd (false≢true (sym e))
+none-short false false false true e = absurd (false≢true (sym e))
+none-short false false false false e = (refl, refl, refl, refl)
+
+-- ---- the ways out
+
+module _ (kinds : List ℕ) (fields tables lengths : List Float) where
+  pub refuses : (reason other : Refusal) (whole : Built) → whole ≡ refusal other → refused reason ≡ refused other → Answers whole kinds fields tables lengths (Building.Refused reason) kinds fields tables lengths
+  unfolding kindsOf fieldsOfAll tablesOfAll runningOf lengthsOfAll
+  refuses reason other whole e f =
+      subst (λ (b : Built). Answers b kinds fields tables lengths (Building.Refused reason) kinds fields tables lengths) (sym e)
+      (record { answer = f; kindsAfter = refl; fieldsAfter = refl; tablesAfter = refl; lengthsAfter = refl })
+
+  -- another name of what is built
+  pub answers-at :
+      (whole other : Built) (r : Building) (kinds′ : List ℕ) (fields′ tables′ lengths′ : List Float) → whole ≡ other
+      → Answers other kinds fields tables lengths r kinds′ fields′ tables′ lengths′ → Answers whole kinds fields tables lengths r kinds′ fields′ tables′ lengths′
+  answers-at whole other r kinds′ fields′ tables′ lengths′ e a = subst (λ (b : Built). Answers b kinds fields tables lengths r kinds′ fields′ tables′ lengths′) (sym e) a
+
+  module _ (built : Built) where
+    pub unbuilt : (reason : Refusal) → Size.Refused reason ≡ measureOf built → Answers (roomed (lentOf kinds fields tables lengths) built) kinds fields tables lengths (Building.Refused reason) kinds fields tables lengths
+    unbuilt reason m = refuses reason reason (roomed (lentOf kinds fields tables lengths) built) (ap (roomed (lentOf kinds fields tables lengths)) (measured-refused reason built m)) refl
+
+    module _ (s f t : ℕ) (m : Size.Counted s f t ≡ measureOf built) where
+      l : Listed s f t built
+      l = measured-list s f t built m
+
+      roomed-is : (b : Bool) → isShort (neededOf s f t) (lentOf kinds fields tables lengths) ≡ b
+          → roomed (lentOf kinds fields tables lengths) built ≡ cond b (refusal (NoRoom (Four s f t s))) (path (l .list))
+      roomed-is b e =
+          ap (roomed (lentOf kinds fields tables lengths)) (l .is)
+          ∙ ap (λ (c : Counts). cond (isShort c (lentOf kinds fields tables lengths)) (refusal (NoRoom (Four (c .kinds) (c .fields) (c .tables) (c .lengths)))) (path (l .list))) (l .counts)
+          ∙ ap (λ (x : Bool). cond x (refusal (NoRoom (Four s f t s))) (path (l .list))) e
+
+      pub too-short :
+          isShort (neededOf s f t) (lentOf kinds fields tables lengths) ≡ true
+          → Answers (roomed (lentOf kinds fields tables lengths) built) kinds fields tables lengths (Building.Refused (NoRoom (Four s f t s))) kinds fields tables lengths
+      too-short e = refuses (NoRoom (Four s f t s)) (NoRoom (Four s f t s)) (roomed (lentOf kinds fields tables lengths) built) (roomed-is true e) refl
+
+      pub has-room : isShort (neededOf s f t) (lentOf kinds fields tables lengths) ≡ false → Holding built (length kinds) (length fields) (length tables) (length lengths)
+      has-room e =
+          let n = none-short (ltb (length kinds) s) (ltb (length fields) f) (ltb (length tables) t) (ltb (length lengths) s) e in
+          let c = l .counts in
+          subst (λ (b : Built). Holding b (length kinds) (length fields) (length tables) (length lengths)) (sym (l .is))
+          (record {
+            kindsFit = omega (arith, ltb-false (length kinds) s (n .0), ap (λ (x : Counts). x .kinds) c);
+            fieldsFit = omega (arith, ltb-false (length fields) f (n .1), ap (λ (x : Counts). x .fields) c);
+            tablesFit = omega (arith, ltb-false (length tables) t (n .2), ap (λ (x : Counts). x .tables) c);
+            lengthsFit = omega (arith, ltb-false (length lengths) s (n .3), ap (λ (x : Counts). x .lengths) c);
+          })
+
+      pub built-whole :
+          (kinds′ : List ℕ) (fields′ tables′ lengths′ : List Float) → isShort (neededOf s f t) (lentOf kinds fields tables lengths) ≡ false
+          → Filled built kinds fields tables lengths kinds′ fields′ tables′ lengths′
+          → Answers (roomed (lentOf kinds fields tables lengths) built) kinds fields tables lengths (Building.Built s f t) kinds′ fields′ tables′ lengths′
+      built-whole kinds′ fields′ tables′ lengths′ e filled =
+          let w = subst (λ (b : Built). Filled b kinds fields tables lengths kinds′ fields′ tables′ lengths′) (l .is) filled in
+          answers-at (roomed (lentOf kinds fields tables lengths) built) (path (l .list)) (Building.Built s f t) kinds′ fields′ tables′ lengths′ (roomed-is false e)
+          (record {
+            answer = ap (λ (x : Counts). accepted (values x)) (sym (l .counts));
+            kindsAfter = w .kindsAfter;
+            fieldsAfter = w .fieldsAfter;
+            tablesAfter = w .tablesAfter;
+            lengthsAfter = w .lengthsAfter;
+          })

@@ -1,0 +1,55 @@
+-- The check of the list before its path is built. Assumes nothing.
+use Prim.Native.Nat.{ℕ}
+use mathlib.Core.Path.{_≡_, refl, sym, ap, _∙_}
+use mathlib.Core.Bool.{Bool, true, false, cond}
+use mathlib.Core.List.{List, []}
+use borrow.Author.Tests.{le-ltb}
+use lib.Dec.{ltb}
+use lib.Ieee.{Float}
+use lib.ListN.{length}
+use Rattle.answers.specs.Answers.{Answer, refused, accepted}
+use Rattle.answers.specs.declared.refusals.Refusal.{Refusal}
+use Rattle.answers.specs.declared.refusals.Refusal.the-variants.{BadList, Range}
+use Rattle.answers.proofs.Settled.{refused-not-accepted}
+use Rattle.commands.specs.Listed.{Listing, wellFormed, malformed, listed}
+use Rattle.commands.specs.Checked.{answerOf as checkedOf, judged, checkCommandsOf}
+use Rattle.commands.specs.declared.checking.Checked.{Checked}
+use Rattle.commands.specs.declared.checking.Checked.the-variants as Checked
+use Rattle.path_drawing.specs.Building.{refusal}
+use Rattle.path_build.specs.Answers.{roomed}
+use Rattle.path_build.specs.Paths.{builtBy, lentOf, buildPathOf, BuildPath}
+use Rattle.path_build.specs.declared.sizes.Building.the-variants as Building
+use Rattle.path_build.specs.declared.sizes.Counts.{Counts}
+use Rattle.path_build.proofs.Lists.{formed}
+use Rattle.path_build.proofs.Answering.{refuses}
+
+module _ (letters : List ℕ) (numbers : List Float) where
+  -- a list that passes the check
+  pub entered : (lent : Counts) → checkCommandsOf letters numbers ≡ accepted [] → buildPathOf letters numbers lent ≡ roomed lent (builtBy (listed 0 letters numbers))
+  unfolding buildPathOf
+  entered lent e = rw (le-ltb 65536 (length letters) (formed letters numbers e .few))
+
+  pub well-formed : (r : Checked) → r ≡ Checked.WellFormed → checkedOf r ≡ checkCommandsOf letters numbers → checkCommandsOf letters numbers ≡ accepted []
+  well-formed r e f = sym f ∙ ap checkedOf e
+
+  -- and one that does not
+  pub not-entered :
+      (kinds : List ℕ) (fields tables lengths : List Float) (r : Checked) (reason : Refusal) → r ≡ Checked.Refused reason → checkedOf r ≡ checkCommandsOf letters numbers
+      → BuildPath letters numbers kinds fields tables lengths (Building.Refused reason) kinds fields tables lengths
+  unfolding checkCommandsOf buildPathOf
+  not-entered kinds fields tables lengths r reason e f = by-count (ltb 65536 (length letters)) refl (ap checkedOf (sym e) ∙ f)
+    where
+      lent : Counts
+      lent = lentOf kinds fields tables lengths
+
+      by-listing :
+          ltb 65536 (length letters) ≡ false → (l : Listing) → listed 0 letters numbers ≡ l → refused reason ≡ judged l
+          → BuildPath letters numbers kinds fields tables lengths (Building.Refused reason) kinds fields tables lengths
+      by-listing g (wellFormed commands) h i = absurd (refused-not-accepted reason [] i)
+      by-listing g (malformed k) h i = refuses kinds fields tables lengths reason (BadList k) (buildPathOf letters numbers lent) (rw (g, h)) i
+
+      by-count :
+          (b : Bool) → ltb 65536 (length letters) ≡ b → refused reason ≡ cond b (refused (Range (length letters))) (judged (listed 0 letters numbers))
+          → BuildPath letters numbers kinds fields tables lengths (Building.Refused reason) kinds fields tables lengths
+      by-count true g h = refuses kinds fields tables lengths reason (Range (length letters)) (buildPathOf letters numbers lent) (rw g) h
+      by-count false g h = by-listing g (listed 0 letters numbers) refl h

@@ -1,0 +1,93 @@
+-- What is answered and written where a path is built (document 01, "The answers"). Counts are of places: kinds, fields, tables, lengths. Definitions
+-- only.
+use Prim.Native.Nat.{ℕ}
+use mathlib.Core.Path.{_≡_}
+use mathlib.Core.Bool.{Bool, _||_, cond}
+use mathlib.Core.List.{List, [], _∷_}
+use lib.Dec.{ltb}
+use lib.Ieee.{Float}
+use lib.ListN.{length}
+use Rattle.answers.specs.Answers.{Answer, refused, accepted}
+use Rattle.answers.specs.Report.{written}
+use Rattle.answers.specs.declared.refusals.Values.the-variants.{Four}
+use Rattle.answers.specs.declared.refusals.Refusal.the-variants.{NoRoom}
+use Rattle.path_segment.specs.declared.segments.PathSegment.{PathSegment}
+use Rattle.path_stored.specs.Layout.{kindsOf, fieldsOfAll, tablesOfAll, lengthsOfAll}
+use Rattle.path_drawing.specs.Building.{Built, path, refusal}
+use Rattle.path_storing.specs.Sites.{Holds}
+use Rattle.path_storing.specs.declared.tallies.Outlook.{Outlook}
+use Rattle.path_storing.specs.declared.tallies.Outlook.the-variants as Outlook
+use Rattle.path_build.specs.declared.sizes.Building.{Building}
+use Rattle.path_build.specs.declared.sizes.Building.the-variants as Building
+use Rattle.path_build.specs.declared.sizes.Size.{Size}
+use Rattle.path_build.specs.declared.sizes.Size.the-variants as Size
+use Rattle.path_build.specs.declared.sizes.Counts.{Counts}
+
+-- the number and the values of each case: kinds and lengths are one a segment
+abbrev pub answerOf : Building → Answer
+answerOf (Building.Built segments fields tables) = accepted (segments ∷ fields ∷ tables ∷ segments ∷ [])
+answerOf (Building.Refused reason) = refused reason
+
+-- "a lent output is too short"
+abbrev pub isShort : Counts → Counts → Bool
+isShort needed lent = ((ltb (lent .kinds) (needed .kinds) || ltb (lent .fields) (needed .fields)) || ltb (lent .tables) (needed .tables)) || ltb (lent .lengths) (needed .lengths)
+
+-- the counts of the defined list
+abbrev pub countsOf : List PathSegment → Counts
+countsOf list = record { kinds = length (kindsOf list); fields = length (fieldsOfAll list); tables = length (tablesOfAll list); lengths = length (lengthsOfAll list) }
+
+abbrev pub values : Counts → List ℕ
+values counts = counts .kinds ∷ counts .fields ∷ counts .tables ∷ counts .lengths ∷ []
+
+-- 8: "all else is right and a lent output is too short", with "the count needed of each output, in the call's order"
+abbrev pub roomed : Counts → Built → Built
+roomed lent (path list) =
+    cond (isShort (countsOf list) lent) (refusal (NoRoom (Four (countsOf list .kinds) (countsOf list .fields) (countsOf list .tables) (countsOf list .lengths)))) (path list)
+roomed lent (refusal reason) = refusal reason
+
+-- an accepted call answers with the counts of the defined list
+abbrev pub answered : Built → Answer
+answered (path list) = accepted (values (countsOf list))
+answered (refusal reason) = refused reason
+
+-- "A refusal writes to no output. An accepted call writes the counted places from each output's start and no others."
+abbrev pub segmentsWritten : Built → List PathSegment
+segmentsWritten (path list) = list
+segmentsWritten (refusal reason) = []
+
+-- what is built is answered and written
+pub record Answers (built : Built) (kinds : List ℕ) (fields tables lengths : List Float) (r : Building) (kinds′ : List ℕ) (fields′ tables′ lengths′ : List Float) : Type 0 where
+  pub answer : answerOf r ≡ answered built
+  pub kindsAfter : kinds′ ≡ written (kindsOf (segmentsWritten built)) kinds
+  pub fieldsAfter : fields′ ≡ written (fieldsOfAll (segmentsWritten built)) fields
+  pub tablesAfter : tables′ ≡ written (tablesOfAll (segmentsWritten built)) tables
+  pub lengthsAfter : lengths′ ≡ written (lengthsOfAll (segmentsWritten built)) lengths
+
+-- ---- what the passes ask and leave
+
+-- the counts of what is built, or why it is not
+unfoldable pub measureOf : Built → Size
+measureOf (path list) = Size.Counted (length (kindsOf list)) (length (fieldsOfAll list)) (length (tablesOfAll list))
+measureOf (refusal reason) = Size.Refused reason
+
+-- what a count that measures nothing tells of what is built, where it tells anything
+abbrev pub Foretells : Built → Outlook → Type 0
+Foretells built (Outlook.Counted segments fields tables) = Size.Counted segments fields tables ≡ measureOf built
+Foretells built Outlook.Unsure = Unit {0}
+
+-- it builds, and has room in the buffers
+abbrev pub Holding : Built → ℕ → ℕ → ℕ → ℕ → Type 0
+Holding (path list) kinds fields tables lengths = Holds list kinds fields tables lengths
+Holding (refusal reason) kinds fields tables lengths = ⊥
+
+-- the segments are stored from the start of each buffer
+pub record Stores (list : List PathSegment) (kinds : List ℕ) (fields tables lengths : List Float) (kinds′ : List ℕ) (fields′ tables′ lengths′ : List Float) : Type 0 where
+  pub kindsAfter : kinds′ ≡ written (kindsOf list) kinds
+  pub fieldsAfter : fields′ ≡ written (fieldsOfAll list) fields
+  pub tablesAfter : tables′ ≡ written (tablesOfAll list) tables
+  pub lengthsAfter : lengths′ ≡ written (lengthsOfAll list) lengths
+
+-- it builds, and its segments are stored
+abbrev pub Filled : Built → List ℕ → List Float → List Float → List Float → List ℕ → List Float → List Float → List Float → Type 0
+Filled (path list) kinds fields tables lengths kinds′ fields′ tables′ lengths′ = Stores list kinds fields tables lengths kinds′ fields′ tables′ lengths′
+Filled (refusal reason) kinds fields tables lengths kinds′ fields′ tables′ lengths′ = ⊥

@@ -1,0 +1,28 @@
+// The entry over a command list.
+ghost use Rattle.path_build.specs.Paths.{BuildPath};
+use crate::inner::build_listed;
+use crate::sizes::Building;
+use commands::Checked;
+use commands::check_commands;
+
+// Builds the stored path of a command list: a kind and a running length for each segment, its numbers and its table, each from its
+// buffer's start. A refusal writes nothing, and what stands past the counted places is left as it was.
+pub fn build_path(
+    letters: &[u8],
+    numbers: &[f32],
+    kinds: &mut [u8],
+    fields: &mut [f32],
+    tables: &mut [f32],
+    lengths: &mut [f32],
+) -> Building
+    ensures { λ r. ⌜ BuildPath (now (letters .entry)) (now (numbers .entry)) (now (kinds .entry)) (now (fields .entry)) (now (tables .entry)) (now (lengths .entry)) r (now (kinds .exit)) (now (fields .exit)) (now (tables .exit)) (now (lengths .exit)) ⌝ }
+{
+    match check_commands(letters, numbers) {
+        Checked::Refused(refusal) => {
+            return Building::Refused(refusal);
+        }
+        Checked::WellFormed => {
+            return build_listed(letters, numbers, kinds, fields, tables, lengths);
+        }
+    }
+}

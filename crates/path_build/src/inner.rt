@@ -1,0 +1,65 @@
+// Building from a command list that is known to be well formed, for callers that made it; and what the entry over a text shares with it.
+ghost use mathlib.Core.Path.{_≡_};
+ghost use mathlib.Core.List.{[]};
+ghost use Rattle.answers.specs.Answers.{accepted};
+ghost use Rattle.commands.specs.Checked.{checkCommandsOf};
+ghost use Rattle.path_build.specs.Paths.{BuildPath};
+use crate::passes::fill;
+use crate::passes::measure;
+use crate::sizes::Building;
+pub use crate::sizes::Counts;
+pub use crate::sizes::Size;
+pub use crate::sizes::is_short;
+use answers::Refusal;
+use answers::Values;
+
+// Builds the path of a well-formed command list, as `build_path` does.
+pub fn build_listed(
+    letters: &[u8],
+    numbers: &[f32],
+    kinds: &mut [u8],
+    fields: &mut [f32],
+    tables: &mut [f32],
+    lengths: &mut [f32],
+) -> Building
+    requires { ⌜ checkCommandsOf (now letters) (now numbers) ≡ accepted [] ⌝ }
+    ensures { λ r. ⌜ BuildPath (now (letters .entry)) (now (numbers .entry)) (now (kinds .entry)) (now (fields .entry)) (now (tables .entry)) (now (lengths .entry)) r (now (kinds .exit)) (now (fields .exit)) (now (tables .exit)) (now (lengths .exit)) ⌝ }
+{
+    match measure(letters, numbers) {
+        Size::Refused(refusal) => {
+            return Building::Refused(refusal);
+        }
+        Size::Counted {
+            segments,
+            fields: own,
+            tables: more,
+        } => {
+            let needed = Counts {
+                kinds: segments,
+                fields: own,
+                tables: more,
+                lengths: segments,
+            };
+            let lent = Counts {
+                kinds: kinds.len(),
+                fields: fields.len(),
+                tables: tables.len(),
+                lengths: lengths.len(),
+            };
+            if is_short(needed, lent) {
+                return Building::Refused(Refusal::NoRoom(Values::Four(
+                    segments,
+                    own,
+                    more,
+                    segments,
+                )));
+            }
+            fill(letters, numbers, kinds, fields, tables, lengths);
+            return Building::Built {
+                segments,
+                fields: own,
+                tables: more,
+            };
+        }
+    }
+}

@@ -1,0 +1,141 @@
+// The two passes over a command list: the first counts, and measures only where it must, the second stores.
+ghost use mathlib.Core.Path.{_≡_};
+ghost use mathlib.Core.List.{[]};
+ghost use lib.ListN.{length};
+ghost use Rattle.answers.specs.Answers.{accepted};
+ghost use Rattle.commands.specs.Listed.{listed};
+ghost use Rattle.commands.specs.Checked.{checkCommandsOf};
+ghost use Rattle.path_build.specs.Answers.{measureOf, Foretells, Holding, Filled};
+ghost use Rattle.path_build.specs.Paths.{builtBy};
+use crate::sizes::Size;
+use answers::Refusal;
+use commands::inner::Decoded;
+use commands::inner::decode;
+use commands::width;
+use path_storing::Advanced;
+use path_storing::Outlook;
+use path_storing::Tallied;
+use path_storing::inner::advance;
+use path_storing::inner::count;
+use path_storing::inner::lay;
+use path_storing::opening;
+use path_storing::start;
+
+// What a well-formed list builds, where no length need be measured to tell.
+fn survey(letters: &[u8], numbers: &[f32]) -> Outlook
+    requires { ⌜ checkCommandsOf (now letters) (now numbers) ≡ accepted [] ⌝ }
+    ensures { λ r. ⌜ Foretells (builtBy (listed 0 (now (letters .entry)) (now (numbers .entry)))) r ⌝ }
+{
+    let size = letters.len();
+    let mut tally = opening();
+    let mut place: usize = 0;
+    let mut at: usize = 0;
+    while place < size {
+        match decode(letters[place], numbers, at) {
+            Decoded::Bad => {
+                return Outlook::Unsure;
+            }
+            Decoded::Command(command) => match count(tally, command) {
+                Tallied::Unsure => {
+                    return Outlook::Unsure;
+                }
+                Tallied::To(next) => {
+                    at += width(command);
+                    place += 1;
+                    tally = next;
+                }
+            },
+        }
+    }
+    Outlook::Counted {
+        segments: tally.segments,
+        fields: tally.fields,
+        tables: tally.tables,
+    }
+}
+
+// The same with every length measured: the places needed, or the first refusal.
+fn judge(letters: &[u8], numbers: &[f32]) -> Size
+    requires { ⌜ checkCommandsOf (now letters) (now numbers) ≡ accepted [] ⌝ }
+    ensures { λ r. ⌜ r ≡ measureOf (builtBy (listed 0 (now (letters .entry)) (now (numbers .entry)))) ⌝ }
+{
+    let count = letters.len();
+    let mut site = start();
+    let mut place: usize = 0;
+    let mut at: usize = 0;
+    while place < count {
+        match decode(letters[place], numbers, at) {
+            Decoded::Bad => {
+                return Size::Refused(Refusal::BadList(place));
+            }
+            Decoded::Command(command) => match advance(site, command) {
+                Advanced::Refused(refusal) => {
+                    return Size::Refused(refusal);
+                }
+                Advanced::To(next) => {
+                    at += width(command);
+                    place += 1;
+                    site = next;
+                }
+            },
+        }
+    }
+    Size::Counted {
+        segments: site.segments,
+        fields: site.fields,
+        tables: site.tables,
+    }
+}
+
+// What a well-formed list builds: the places needed, or its first refusal.
+pub(crate) fn measure(letters: &[u8], numbers: &[f32]) -> Size
+    requires { ⌜ checkCommandsOf (now letters) (now numbers) ≡ accepted [] ⌝ }
+    ensures { λ r. ⌜ r ≡ measureOf (builtBy (listed 0 (now (letters .entry)) (now (numbers .entry)))) ⌝ }
+{
+    match survey(letters, numbers) {
+        Outlook::Counted {
+            segments,
+            fields,
+            tables,
+        } => {
+            return Size::Counted {
+                segments,
+                fields,
+                tables,
+            };
+        }
+        Outlook::Unsure => {
+            return judge(letters, numbers);
+        }
+    }
+}
+
+// Stores the path of a well-formed list that builds, from the start of each buffer.
+pub(crate) fn fill(
+    letters: &[u8],
+    numbers: &[f32],
+    kinds: &mut [u8],
+    fields: &mut [f32],
+    tables: &mut [f32],
+    lengths: &mut [f32],
+)
+    requires { ⌜ (checkCommandsOf (now letters) (now numbers) ≡ accepted []) × Holding (builtBy (listed 0 (now letters) (now numbers))) (length (now kinds)) (length (now fields)) (length (now tables)) (length (now lengths)) ⌝ }
+    ensures { λ _. ⌜ Filled (builtBy (listed 0 (now (letters .entry)) (now (numbers .entry)))) (now (kinds .entry)) (now (fields .entry)) (now (tables .entry)) (now (lengths .entry)) (now (kinds .exit)) (now (fields .exit)) (now (tables .exit)) (now (lengths .exit)) ⌝ }
+{
+    let count = letters.len();
+    let mut site = start();
+    let mut place: usize = 0;
+    let mut at: usize = 0;
+    while place < count {
+        match decode(letters[place], numbers, at) {
+            Decoded::Bad => {
+                return;
+            }
+            Decoded::Command(command) => {
+                site = lay(site, command, kinds, fields, tables, lengths);
+                at += width(command);
+                place += 1;
+            }
+        }
+    }
+}

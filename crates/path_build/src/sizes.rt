@@ -1,0 +1,42 @@
+// The places that a path needs, and what building answers.
+ghost use mathlib.Core.Path.{_≡_};
+ghost use Rattle.path_build.specs.Answers.{isShort};
+use answers::Refusal;
+
+pub enum Building {
+    // The path is stored: this many segments, each with a kind and a running length, and this many numbers of theirs and of their tables.
+    Built {
+        segments: usize,
+        fields: usize,
+        tables: usize,
+    },
+    Refused(Refusal),
+}
+
+// The places that a path needs in each buffer; kinds and running lengths are one a segment.
+pub enum Size {
+    Counted {
+        segments: usize,
+        fields: usize,
+        tables: usize,
+    },
+    Refused(Refusal),
+}
+
+// Four counts of places, of kinds, fields, tables and lengths.
+pub struct Counts {
+    pub kinds: usize,
+    pub fields: usize,
+    pub tables: usize,
+    pub lengths: usize,
+}
+
+// Whether some buffer has fewer places than are needed.
+pub fn is_short(needed: Counts, lent: Counts) -> bool
+    ensures { λ r. ⌜ r ≡ isShort needed lent ⌝ }
+{
+    (lent.kinds < needed.kinds)
+        | (lent.fields < needed.fields)
+        | (lent.tables < needed.tables)
+        | (lent.lengths < needed.lengths)
+}

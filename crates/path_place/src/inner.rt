@@ -1,0 +1,72 @@
+// The lookups without their tests, for callers that know the path to be a stored one.
+use crate::cursors::Cursor;
+pub use crate::cursors::back;
+use crate::cursors::first_cursor;
+pub use crate::cursors::forward;
+use crate::places::Place;
+use path_segment::has_table;
+use table::Progress;
+use table::RawParameter;
+use table::inner::raw_parameter_in;
+use table::inner::spot;
+use table::straight;
+ghost use mathlib.Core.Path.{_≡_};
+ghost use lib.Dec.{T};
+ghost use Rattle.path_segment.specs.Segments.{hasTable};
+ghost use Rattle.path_place.specs.Cursors.{Moving, cursorOf};
+ghost use Rattle.path_place.specs.Places.{SomePlace, Standing, TableThere, placeOf, rawFor, rawIn, rawWithin};
+
+// The raw parameter of a local progress in the table that starts at a place.
+pub fn raw_in(tables: &[f32], place: usize, along: Progress) -> RawParameter
+    requires { ⌜ TableThere (now tables) place ⌝ }
+    ensures { λ r. ⌜ r .value ≡ rawIn (now (tables .entry)) place (along .value) ⌝ }
+{
+    let end = place + 32;
+    let total = tables[end];
+    raw_parameter_in(&tables[place..end], total, along)
+}
+
+// The raw parameter of a local progress on a segment of a kind, whose table starts at a place, if it
+// has one.
+pub fn raw_for(kind: u8, tables: &[f32], place: usize, along: Progress) -> RawParameter
+    requires { ⌜ (T (hasTable kind) → TableThere (now tables) place) ⌝ }
+    ensures { λ r. ⌜ r .value ≡ rawFor kind (now (tables .entry)) place (along .value) ⌝ }
+{
+    if has_table(kind) {
+        return raw_in(tables, place, along);
+    }
+    straight(along)
+}
+
+// The raw parameter of a local progress on the segment at which a cursor stands.
+pub fn raw_within(kinds: &[u8], tables: &[f32], at: Cursor, along: Progress) -> RawParameter
+    requires { ⌜ Standing (now kinds) (now tables) at ⌝ }
+    ensures { λ r. ⌜ r .value ≡ rawWithin (now (kinds .entry)) (now (tables .entry)) (at .segment) (along .value) ⌝ }
+{
+    let segment = at.segment;
+    raw_for(kinds[segment], tables, at.tables, along)
+}
+
+// From a cursor to a segment before or after it.
+pub fn moved(kinds: &[u8], from: Cursor, segment: usize) -> Cursor
+    requires { ⌜ Moving (now kinds) from segment ⌝ }
+    ensures { λ r. ⌜ r ≡ cursorOf (now (kinds .entry)) segment ⌝ }
+{
+    if from.segment <= segment {
+        return forward(kinds, from, segment);
+    }
+    back(kinds, from, segment)
+}
+
+// The place of a progress along a path with a segment.
+pub fn place(kinds: &[u8], tables: &[f32], lengths: &[f32], progress: Progress) -> Place
+    requires { ⌜ SomePlace (now kinds) (now tables) (now lengths) ⌝ }
+    ensures { λ r. ⌜ r ≡ placeOf (now (kinds .entry)) (now (tables .entry)) (now (lengths .entry)) (progress .value) ⌝ }
+{
+    let found = spot(lengths, progress);
+    let segment = found.segment;
+    let along = found.progress;
+    let at = forward(kinds, first_cursor(kinds), segment);
+    let raw = raw_within(kinds, tables, at, along);
+    Place { segment, raw }
+}

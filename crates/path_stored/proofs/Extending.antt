@@ -1,0 +1,249 @@
+-- What is built always passes the check: one segment more on a stored path, then a list of them. The path's total has to be a value of binary32, which holds of what
+-- a slice of f32 has. Assumes nothing.
+use Prim.Native.Nat.{ℕ, zero, suc, _+_, _*_, _≤_, _<_}
+use mathlib.Core.Path.{_≡_, refl, sym, ap, _∙_, subst}
+use mathlib.Core.Bool.{Bool, true, false, not, _&&_}
+use mathlib.Core.List.{List, [], _∷_, _++_, append-assoc, append-nil}
+use native.Mathlib.Omega.{arith}
+use lib.Dec.{T}
+use lib.Ieee.{Float, nan, binary32, add, lt, le, fits}
+use lib.Ieee.Bits.{ofBits-fits}
+use lib.Ieee.Fits.{and-i, and-l, and-r, add-fits}
+use lib.Ieee.Scale.{finite}
+use lib.ListN.{length, getD, take, drop, length-append, length-drop, List·getD-append}
+use lib.Seq.{take-append-le, drop-append-le, drop-append-seam, take-at, getD-at, getD-append-add, getD-append-seam}
+use Rattle.floats.specs.Floats.{zeroF}
+use Rattle.floats.specs.Kinds.{nonneg}
+use Rattle.floats.proofs.Between.{nonneg-from, finite-real}
+use Rattle.floats.proofs.Bounds.{add-above, finite-parts}
+use Rattle.floats.proofs.Constants.{zero-held}
+use Rattle.floats.proofs.Fractions.{nonneg-real}
+use Rattle.floats.proofs.Held.{Held}
+use Rattle.floats.proofs.Order.{not-lt→le}
+use Rattle.math.specs.declared.points.Point.{Point}
+use Rattle.table.specs.declared.tables.Table.{Table}
+use Rattle.table.specs.Lookup.{at, lastOf}
+use Rattle.table.specs.Sound.{allFinite, climbs, lengthsAreSound, tableIsSound}
+use Rattle.table.specs.Spots.{before, pathTotal}
+use Rattle.table.proofs.Lengths.{Sound, table-sound, path-sound, total-nonneg}
+use Rattle.table_samples.specs.Samples.{lengthsOf, totalOf, tableOf}
+use Rattle.table_samples.proofs.Made.{distance-not-below, made-sound, made-count}
+use Rattle.arc.specs.Lines.{lineLengthOf}
+use Rattle.path_segment.specs.declared.segments.PathSegment.{PathSegment}
+use Rattle.path_segment.specs.declared.segments.PathSegment.the-variants as Segment
+use Rattle.path_segment.specs.Segments.{kindOf, widthOf, tablesOf, hasTable, fieldsOf, tableAt, tableNumbers, tableFor, lengthFor}
+use Rattle.path_segment.proofs.Reading.{fields-width}
+use Rattle.path_stored.specs.Layout.{kindsOf, fieldsOfAll, tableStored, tablesOfAll, runningOf, lengthsOfAll}
+use Rattle.path_stored.specs.Stored.{mostSegments, isStored, Stored}
+use Rattle.path_stored.specs.Stored as Stored
+use Rattle.path_stored.proofs.Testing.{soundAt}
+use Rattle.path_stored.proofs.Rule.{rule-stored}
+
+-- ---- one running length more
+
+climbs-more : (from : Float) (xs : List Float) (y : Float) → T (climbs from xs) → T (le (at (from ∷ xs) (length xs)) y) → T (climbs from (xs ++ y ∷ []))
+unfolding climbs
+climbs-more from [] y t h = and-i (le from y) true h tt
+climbs-more from (x ∷ xs) y t h = and-i (le from x) (climbs x (xs ++ y ∷ [])) (and-l (le from x) (climbs x xs) t) (climbs-more x xs y (and-r (le from x) (climbs x xs) t) h)
+
+finite-more : (xs : List Float) (y : Float) → T (allFinite xs) → T (finite y) → T (allFinite (xs ++ y ∷ []))
+unfolding allFinite
+finite-more [] y t h = and-i (finite y) true h tt
+finite-more (x ∷ xs) y t h = and-i (finite x) (allFinite (xs ++ y ∷ [])) (and-l (finite x) (allFinite xs) t) (finite-more xs y (and-r (finite x) (allFinite xs) t) h)
+
+lengths-more : (xs : List Float) (y : Float) → T (lengthsAreSound xs) → T (finite y) → T (le (pathTotal xs) y) → T (lengthsAreSound (xs ++ y ∷ []))
+unfolding lengthsAreSound pathTotal before
+lengths-more xs y t f h =
+    and-i (allFinite (xs ++ y ∷ [])) (climbs zeroF (xs ++ y ∷ [])) (finite-more xs y (and-l (allFinite xs) (climbs zeroF xs) t) f)
+    (climbs-more zeroF xs y (and-r (allFinite xs) (climbs zeroF xs) t) h)
+
+-- the last of them is the total
+total-more : (xs : List Float) (y : Float) → pathTotal (xs ++ y ∷ []) ≡ y
+unfolding pathTotal before
+total-more xs y = go zeroF xs
+  where
+    go : (from : Float) (xs : List Float) → at (from ∷ (xs ++ y ∷ [])) (length (xs ++ y ∷ [])) ≡ y
+    go from [] = refl
+    go from (x ∷ xs) = go x xs
+
+-- ---- a segment's table, where its length is finite
+
+made-table : (formula : Float → Point) → T (finite (tableOf formula .total)) → T (tableIsSound (tableOf formula .entries) (tableOf formula .total))
+unfolding tableOf
+made-table formula h = made-sound formula 31 h
+
+made-size : (formula : Float → Point) → length (tableOf formula .entries) ≡ 32
+unfolding tableOf
+made-size formula = made-count formula 31
+
+table-nonneg : (formula : Float → Point) → T (finite (tableOf formula .total)) → T (nonneg (tableOf formula .total))
+table-nonneg formula h = total-nonneg (table-sound (tableOf formula .entries) (tableOf formula .total) (made-table formula h))
+
+line-nonneg : (a b : Point) → T (finite (lineLengthOf (record { start = a; end = b }))) → T (nonneg (lineLengthOf (record { start = a; end = b })))
+unfolding lineLengthOf
+line-nonneg a b h = nonneg-from zeroF _ (zero-held .nn) h (not-lt→le zeroF _ (nonneg-real zeroF (zero-held .nn)) (finite-real _ h) (distance-not-below a b))
+
+length-nonneg : (segment : PathSegment) → T (finite (lengthFor segment)) → T (nonneg (lengthFor segment))
+unfolding lengthFor
+length-nonneg (Segment.Line line) h = line-nonneg (line .start) (line .end) h
+length-nonneg (Segment.Quad start control end) h = table-nonneg _ h
+length-nonneg (Segment.Cubic start control1 control2 end) h = table-nonneg _ h
+length-nonneg (Segment.Arc shape) h = table-nonneg _ h
+length-nonneg (Segment.Fallback shape) h = line-nonneg (shape .start) (shape .end) h
+
+-- ---- tables in a row
+
+table-kept : (xs ys : List Float) (place : ℕ) → place + 33 ≤ length xs → tableAt (xs ++ ys) place ≡ tableAt xs place
+table-kept xs ys place room =
+    let e : take 32 (drop place (xs ++ ys)) ≡ take 32 (drop place xs) =
+    ap (take 32) (drop-append-le place xs ys (omega arith)) ∙ take-append-le 32 (drop place xs) ys (simp length-drop (omega arith)) in
+    let t = List·getD-append xs ys nan (place + 32) (omega arith) in
+    cc
+
+parts-settle : (table : Table) (entries : List Float) (total : Float) → entries ≡ table .entries → total ≡ table .total → _≡_ {A = Table} (record { entries = entries; total = total }) table
+parts-settle table entries total p q = rw (p, q)
+
+table-new : (xs : List Float) (table : Table) (place : ℕ) → length (table .entries) ≡ 32 → place ≡ length xs → tableAt (xs ++ tableNumbers table) place ≡ table
+table-new xs table place size e =
+    parts-settle table _ _
+    (ap (λ p. take 32 (drop p (xs ++ tableNumbers table))) e ∙ ap (take 32) (drop-append-seam xs (tableNumbers table)) ∙ take-at (table .entries) (table .total ∷ []) 32 size)
+    (ap (λ p. getD (xs ++ tableNumbers table) (p + 32) nan) e ∙ getD-append-add xs (tableNumbers table) 32 nan ∙ getD-at (table .entries) (table .total) [] nan 32 size)
+
+soundly : Table → Bool
+soundly table = tableIsSound (table .entries) (table .total)
+
+-- one table more, of a finite total, is sound where the tables before it fill n times 33 places
+table-more : (xs : List Float) (formula : Float → Point) (n : ℕ) → length xs ≡ 33 * n → T (finite (tableOf formula .total)) → T (soundAt (xs ++ tableNumbers (tableOf formula)) n)
+unfolding soundly
+table-more xs formula n size h = subst (λ t. T (soundly t)) (sym (table-new xs (tableOf formula) (33 * n) (made-size formula) (sym size))) (made-table formula h)
+
+-- the tables before stay sound
+table-before : (xs ys : List Float) (n count : ℕ) → length xs ≡ 33 * count → n < count → T (soundAt xs n) → T (soundAt (xs ++ ys) n)
+unfolding soundly
+table-before xs ys n count size below t = subst (λ t. T (soundly t)) (sym (table-kept xs ys (33 * n) (omega arith))) t
+
+only : (m n : ℕ) → m < n + 1 → n ≤ m → n ≡ m
+only m n h g = omega arith
+
+-- what a segment adds to the tables
+module _ (xs : List Float) (count : ℕ) (size : length xs ≡ 33 * count) where
+  added : (formula : Float → Point) (n : ℕ) → T (finite (tableOf formula .total)) → n < count + 1 → count ≤ n → T (soundAt (xs ++ tableNumbers (tableOf formula)) n)
+  added formula n h below past = subst (λ m. T (soundAt (xs ++ tableNumbers (tableOf formula)) m)) (only n count below past) (table-more xs formula count size h)
+
+  new-table : (segment : PathSegment) → T (finite (lengthFor segment)) → (n : ℕ) → n < count + tablesOf (kindOf segment) → count ≤ n → T (soundAt (xs ++ tableStored segment) n)
+  unfolding lengthFor tablesOf hasTable tableStored tableFor
+  new-table (Segment.Line line) h n below past = absurd (omega arith)
+  new-table (Segment.Quad start control end) h n below past = added _ n h below past
+  new-table (Segment.Cubic start control1 control2 end) h n below past = added _ n h below past
+  new-table (Segment.Arc shape) h n below past = added _ n h below past
+  new-table (Segment.Fallback shape) h n below past = absurd (omega arith)
+
+numbers-size : (formula : Float → Point) → length (tableNumbers (tableOf formula)) ≡ 33
+numbers-size formula = length-append (tableOf formula .entries) (tableOf formula .total ∷ []) ∙ ap (λ n. n + 1) (made-size formula)
+
+pub stored-size : (segment : PathSegment) → length (tableStored segment) ≡ 33 * tablesOf (kindOf segment)
+unfolding tablesOf hasTable tableStored tableFor
+stored-size (Segment.Line line) = refl
+stored-size (Segment.Quad start control end) = numbers-size _
+stored-size (Segment.Cubic start control1 control2 end) = numbers-size _
+stored-size (Segment.Arc shape) = numbers-size _
+stored-size (Segment.Fallback shape) = refl
+
+-- ---- one segment more
+
+pub kind-known : (segment : PathSegment) → kindOf segment < 5
+kind-known (Segment.Line line) = omega arith
+kind-known (Segment.Quad start control end) = omega arith
+kind-known (Segment.Cubic start control1 control2 end) = omega arith
+kind-known (Segment.Arc shape) = omega arith
+kind-known (Segment.Fallback shape) = omega arith
+
+-- what all have, and one more
+pub all-more : (f : ℕ → ℕ) (kinds : List ℕ) (kind : ℕ) → Stored.before f (kinds ++ kind ∷ []) (length (kinds ++ kind ∷ [])) ≡ Stored.before f kinds (length kinds) + f kind
+unfolding Stored.before
+all-more f [] kind = omega arith
+all-more f (k ∷ kinds) kind = let r = all-more f kinds kind in omega arith
+
+known-more : (kinds : List ℕ) (kind : ℕ) → ((i : ℕ) → i < length kinds → getD kinds i 0 < 5) → kind < 5 → (i : ℕ) → i < length (kinds ++ kind ∷ []) → getD (kinds ++ kind ∷ []) i 0 < 5
+known-more [] kind f h zero l = h
+known-more [] kind f h (suc i) l = absurd (omega arith)
+known-more (k ∷ kinds) kind f h zero l = f 0 (omega arith)
+known-more (k ∷ kinds) kind f h (suc i) l = known-more kinds kind (λ j g. f (suc j) (omega arith)) h i (omega arith)
+
+one-more : {A : Type 0} (xs : List A) (x : A) → length (xs ++ x ∷ []) ≡ length xs + 1
+one-more xs x = length-append xs (x ∷ [])
+
+module _ (kinds : List ℕ) (fields tables lengths : List Float) (stored : Stored kinds fields tables lengths) (value : T (fits binary32 (pathTotal lengths))) where
+  abbrev pub total-with : PathSegment → Float
+  total-with segment = add binary32 (pathTotal lengths) (lengthFor segment)
+
+  rising-more : (segment : PathSegment) → T (finite (total-with segment)) → T (lengthsAreSound (lengths ++ total-with segment ∷ []))
+  rising-more segment h =
+      let total-nn = total-nonneg (path-sound lengths (stored .rising)) in
+      lengths-more lengths (total-with segment) (stored .rising) h
+      (add-above binary32 (pathTotal lengths) (lengthFor segment) (record { fit = value; nn = total-nn }) (length-nonneg segment (finite-parts binary32 (pathTotal lengths) (lengthFor segment) h .1)))
+
+  each-more : (segment : PathSegment) → T (finite (total-with segment)) → (n : ℕ) → n < Stored.before tablesOf (kinds ++ kindOf segment ∷ []) (length (kinds ++ kindOf segment ∷ [])) → T (soundAt (tables ++ tableStored segment) n)
+  each-more segment h n l = go (native.Mathlib.Decide.decLt n (Stored.before tablesOf kinds (length kinds)))
+    where
+      go : Dec (n < Stored.before tablesOf kinds (length kinds)) → T (soundAt (tables ++ tableStored segment) n)
+      go (yes a) = table-before tables (tableStored segment) n (Stored.before tablesOf kinds (length kinds)) (stored .counted) a (stored .each n a)
+      go (no a) =
+          new-table tables (Stored.before tablesOf kinds (length kinds)) (stored .counted) segment (finite-parts binary32 (pathTotal lengths) (lengthFor segment) h .1) n
+          (subst (λ m. n < m) (all-more tablesOf kinds (kindOf segment)) l) (omega arith)
+
+  pub stored-more : (segment : PathSegment) → length kinds < mostSegments → T (finite (total-with segment))
+      → Stored (kinds ++ kindOf segment ∷ []) (fields ++ fieldsOf segment) (tables ++ tableStored segment) (lengths ++ total-with segment ∷ [])
+  stored-more segment room h = record {
+    few = rw one-more (omega arith);
+    known = known-more kinds (kindOf segment) (stored .known) (kind-known segment);
+    numbers = length-append fields (fieldsOf segment) ∙ ap (λ n. n + length (fieldsOf segment)) (stored .numbers) ∙ ap (λ n. Stored.before widthOf kinds (length kinds) + n) (fields-width segment) ∙ sym (all-more widthOf kinds (kindOf segment));
+    counted = length-append tables (tableStored segment) ∙ shares (length tables) (length (tableStored segment)) _ _ (stored .counted) (stored-size segment) ∙ ap (λ n. 33 * n) (sym (all-more tablesOf kinds (kindOf segment)));
+    each = each-more segment h;
+    one = one-more lengths (total-with segment) ∙ ap (λ n. n + 1) (stored .one) ∙ sym (one-more kinds (kindOf segment));
+    rising = rising-more segment h;
+  }
+    where
+      shares : (a b m n : ℕ) → a ≡ 33 * m → b ≡ 33 * n → a + b ≡ 33 * (m + n)
+      shares a b m n p q = omega arith
+
+-- ---- a list of segments more
+
+join : {A : Type 0} (xs ys zs : List A) → xs ++ ys ++ zs ≡ xs ++ (ys ++ zs)
+join xs ys zs = append-assoc xs ys zs
+
+pub stored-list :
+    (segments : List PathSegment) (kinds : List ℕ) (fields tables lengths : List Float)
+    → Stored kinds fields tables lengths → T (fits binary32 (pathTotal lengths))
+    → length kinds + length segments ≤ mostSegments → T (allFinite (runningOf (pathTotal lengths) segments))
+    → Stored (kinds ++ kindsOf segments) (fields ++ fieldsOfAll segments) (tables ++ tablesOfAll segments) (lengths ++ runningOf (pathTotal lengths) segments)
+unfolding kindsOf fieldsOfAll tablesOfAll runningOf allFinite
+stored-list [] kinds fields tables lengths stored value room fine = rw (append-nil kinds, append-nil fields, append-nil tables, append-nil lengths) stored
+stored-list (segment ∷ segments) kinds fields tables lengths stored value room fine =
+    let total = add binary32 (pathTotal lengths) (lengthFor segment) in
+    let now = stored-more kinds fields tables lengths stored value segment (omega arith) (and-l (finite total) (allFinite (runningOf total segments)) fine) in
+    let e : pathTotal (lengths ++ total ∷ []) ≡ total = total-more lengths total in
+    let rest = stored-list segments (kinds ++ kindOf segment ∷ []) (fields ++ fieldsOf segment) (tables ++ tableStored segment) (lengths ++ total ∷ []) now
+    (subst (λ x. T (fits binary32 x)) (sym e) (add-fits binary32 (pathTotal lengths) (lengthFor segment)))
+    (rw one-more (omega arith))
+    (subst (λ x. T (allFinite (runningOf x segments))) (sym e) (and-r (finite total) (allFinite (runningOf total segments)) fine)) in
+    rw (e, join kinds (kindOf segment ∷ []) (kindsOf segments), join fields (fieldsOf segment) (fieldsOfAll segments), join tables (tableStored segment) (tablesOfAll segments), join lengths (total ∷ []) (runningOf total segments)) at rest
+
+-- ---- from nothing
+
+pub nothing-stored : Stored [] [] [] []
+unfolding lengthsAreSound allFinite climbs Stored.before
+nothing-stored = record { few = omega arith; known = λ i h. absurd (omega arith); numbers = refl; counted = refl; each = λ n h. absurd (omega arith); one = refl; rising = tt }
+
+zero-fits : T (fits binary32 (pathTotal []))
+unfolding pathTotal before zeroF
+zero-fits = ofBits-fits binary32 0
+
+-- a list of segments with finite running lengths is laid out as a stored path
+pub laid-out :
+    (segments : List PathSegment) → length segments ≤ mostSegments → T (allFinite (lengthsOfAll segments))
+    → T (isStored (kindsOf segments) (fieldsOfAll segments) (tablesOfAll segments) (lengthsOfAll segments))
+unfolding lengthsOfAll
+laid-out segments few fine =
+    rule-stored (kindsOf segments) (fieldsOfAll segments) (tablesOfAll segments) (runningOf zeroF segments)
+    (unfold pathTotal before in stored-list segments [] [] [] [] nothing-stored zero-fits (omega arith) fine)

@@ -1,0 +1,64 @@
+-- The tests of a stored path, kind by kind and table by table, as loops make them. Assumes nothing.
+use Prim.Native.Nat.{ℕ, zero, suc, _+_, _-_, _*_, _≤_, _<_}
+use mathlib.Core.Path.{_≡_, refl, sym, ap, _∙_}
+use mathlib.Core.Bool.{Bool, true, false, _&&_}
+use mathlib.Core.List.{List, [], _∷_}
+use native.Mathlib.Numerals.{add-one}
+use native.Mathlib.Omega.{arith}
+use borrow.Author.Tests.{lt-ltb, le-ltb, eq-eqb, ne-eqb}
+use lib.Dec.{T, ltb, eqb}
+use lib.Ieee.{Float, nan}
+use lib.ListN.{length, getD, take, drop}
+use lib.Seq.{drop-cons, drop-length}
+use Rattle.table.specs.Sound.{tableIsSound}
+use Rattle.path_segment.specs.Segments.{tableAt}
+use Rattle.path_stored.specs.Stored.{areKnown, tablesAreSound}
+
+-- ---- numbers that are found equal or not
+pub differs : (a b c : ℕ) → (a ≡ b → ⊥) → b ≡ c → eqb a c ≡ false
+differs a b c d e = ne-eqb a c (λ z. d (z ∙ sym e))
+
+pub agrees : (a b c : ℕ) → a ≡ b → b ≡ c → eqb a c ≡ true
+agrees a b c d e = eq-eqb a c (d ∙ e)
+
+-- ---- kinds
+module _ (kinds : List ℕ) (i : ℕ) (inside : i < length kinds) where
+  pub known-next : getD kinds i 0 < 5 → areKnown (drop (i + 1) kinds) ≡ areKnown (drop i kinds)
+  unfolding areKnown
+  known-next h = rw (add-one, drop-cons kinds i 0 inside, lt-ltb (getD kinds i 0) 5 h)
+
+  pub known-stop : 5 ≤ getD kinds i 0 → false ≡ areKnown (drop i kinds)
+  unfolding areKnown
+  known-stop h = rw (drop-cons kinds i 0 inside, le-ltb (getD kinds i 0) 5 h)
+
+pub known-end : (kinds : List ℕ) (i : ℕ) → length kinds ≤ i → true ≡ areKnown (drop i kinds)
+unfolding areKnown
+known-end [] zero h = refl
+known-end [] (suc i) h = refl
+known-end (kind ∷ kinds) zero h = absurd (omega arith)
+known-end (kind ∷ kinds) (suc i) h = known-end kinds i (omega arith)
+
+-- ---- tables
+abbrev pub soundAt : List Float → ℕ → Bool
+soundAt tables n = tableIsSound (tableAt tables (33 * n) .entries) (tableAt tables (33 * n) .total)
+
+pub sound-next : (tables : List Float) (n : ℕ) → tablesAreSound tables n ≡ true → soundAt tables n ≡ true → tablesAreSound tables (n + 1) ≡ true
+unfolding tablesAreSound
+sound-next tables n e f = rw (add-one, e, f)
+
+unsound-on : (tables : List Float) (m n : ℕ) → m ≤ n → tablesAreSound tables m ≡ false → tablesAreSound tables n ≡ false
+unfolding tablesAreSound
+unsound-on tables m zero h e = ap (tablesAreSound tables) (let z : 0 ≡ m = omega arith in z) ∙ e
+unsound-on tables m (suc n) h e = go (native.Mathlib.Decide.decLt n m) (λ g. unsound-on tables m n g e)
+  where
+    go : Dec (n < m) → (m ≤ n → tablesAreSound tables n ≡ false) → tablesAreSound tables (suc n) ≡ false
+    go (yes a) f = ap (tablesAreSound tables) (let z : suc n ≡ m = omega arith in z) ∙ e
+    go (no a) f = rw (f (omega arith))
+
+-- an unsound table among the first n
+pub sound-stop : (tables : List Float) (m n : ℕ) → m < n → tablesAreSound tables m ≡ true → soundAt tables m ≡ false → false ≡ tablesAreSound tables n
+sound-stop tables m n h e f = sym (unsound-on tables (suc m) n h (unfold tablesAreSound in rw (e, f)))
+
+-- the part of a table's entries
+pub entries-part : (tables : List Float) (n : ℕ) → take (33 * n + 32 - 33 * n) (drop (33 * n) tables) ≡ tableAt tables (33 * n) .entries
+entries-part tables n = let z : 33 * n + 32 - 33 * n ≡ 32 = omega arith in rw z

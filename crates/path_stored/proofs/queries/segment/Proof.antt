@@ -1,0 +1,33 @@
+-- `path_stored::segment` meets its contract: each way out is a case of `partOf`. Assumes nothing.
+use Rattle.path_stored.proofs.Reading.{stored-numbered, stored-tabled}
+use Rattle.path_stored.specs.Queries.{partOf}
+use Rattle.floats.proofs.Tests.{passed}
+use borrow.Author.Tests.{lt-ltb, le-ltb}
+use mathlib.Core.Path.{sym, _∙_}
+use borrow.Author.Needs.{needs}
+use Rattle.path_stored.proofs.queries.segment.Statement.{statement}
+use Rattle.path_stored.proofs.queries.segment.Tie as tie
+
+segment-requires : tie.Need-segment-requires
+segment-requires c κs = (let a = c .before .before .before .before .before .before .before .args in stored-numbered (a .kinds .now) (a .numbers .now) (a .tables .now) (a .lengths .now) (passed (sym (c .before .before .check-path .ensures) ∙ c .before .if1 .taken)), c .if2 .taken)
+
+segment-table-requires : tie.Need-segment-table-requires
+segment-table-requires c κs = (let a = c .before .before .before .before .before .before .before .before .args in stored-tabled (a .kinds .now) (a .numbers .now) (a .tables .now) (a .lengths .now) (passed (sym (c .before .before .before .check-path .ensures) ∙ c .before .before .if1 .taken)), c .before .if2 .taken)
+
+returns : tie.Need-returns
+unfolding partOf
+returns c = let t = sym (c .before .before .before .before .check-path .ensures) ∙ c .before .before .before .if1 .taken in simp (t, lt-ltb _ _ (c .before .before .if2 .taken), c .before .segment .ensures, c .segment-table .ensures)
+
+returns-2 : tie.Need-returns-2
+unfolding partOf
+returns-2 c = let t = sym (c .before .before .before .check-path .ensures) ∙ c .before .before .if1 .taken in simp (t, le-ltb _ _ (c .before .if2 .left)) (c .nothing .ensures)
+
+returns-3 : tie.Need-returns-3
+unfolding partOf
+returns-3 c = let t = sym (c .before .before .check-path .ensures) ∙ c .before .if1 .left in simp t (c .nothing2 .ensures)
+
+pub segment-spec : {M : Type 1} → statement M
+segment-spec =
+    tie.close
+    (tie.spec (λ c κs. search needs) segment-requires segment-table-requires returns (λ c κs. search needs) returns-2
+    (λ c κs. search needs) returns-3)

@@ -1,0 +1,37 @@
+-- A list of segments in the four buffers of a stored path (document 01, "Lengths, tables and lookup"): the kinds, the numbers, the tables and the running lengths, in path units.
+-- Definitions only.
+use Prim.Native.Nat.{ℕ}
+use mathlib.Core.Bool.{cond}
+use mathlib.Core.List.{List, [], _∷_, _++_}
+use lib.Ieee.{Float, binary32, add}
+use Rattle.floats.specs.Floats.{zeroF}
+use Rattle.path_segment.specs.declared.segments.PathSegment.{PathSegment}
+use Rattle.path_segment.specs.Segments.{kindOf, fieldsOf, hasTable, tableFor, tableNumbers, lengthFor}
+
+-- a byte each
+unfoldable pub kindsOf : List PathSegment → List ℕ
+kindsOf [] = []
+kindsOf (segment ∷ segments) = kindOf segment ∷ kindsOf segments
+
+-- "exactly their numbers", segment after segment
+unfoldable pub fieldsOfAll : List PathSegment → List Float
+fieldsOfAll [] = []
+fieldsOfAll (segment ∷ segments) = fieldsOf segment ++ fieldsOfAll segments
+
+-- the 33 numbers of its table, where a segment has one
+unfoldable pub tableStored : PathSegment → List Float
+tableStored segment = cond (hasTable (kindOf segment)) (tableNumbers (tableFor segment)) []
+
+unfoldable pub tablesOfAll : List PathSegment → List Float
+unfolding tableStored
+tablesOfAll [] = []
+tablesOfAll (segment ∷ segments) = tableStored segment ++ tablesOfAll segments
+
+-- the running lengths from a start on, each sum rounded once; "0 stands before its first"
+unfoldable pub runningOf : Float → List PathSegment → List Float
+runningOf start [] = []
+runningOf start (segment ∷ segments) = add binary32 start (lengthFor segment) ∷ runningOf (add binary32 start (lengthFor segment)) segments
+
+unfoldable pub lengthsOfAll : List PathSegment → List Float
+unfolding runningOf
+lengthsOfAll segments = runningOf zeroF segments

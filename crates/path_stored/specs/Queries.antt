@@ -1,0 +1,67 @@
+-- What the entries answer of a stored path (document 01, "A path or spline query: 12 only."). Segments count from 0. Definitions only.
+use Prim.Native.Nat.{ℕ}
+use mathlib.Core.Bool.{cond}
+use mathlib.Core.List.{List, [], _∷_}
+use lib.Dec.{ltb, eqb}
+use lib.ListN.{length}
+use lib.Ieee.{Float}
+use Rattle.answers.specs.declared.refusals.Refusal.the-variants.{BadPath}
+use Rattle.answers.specs.Answers.{Answer, accepted, refused}
+use Rattle.table.specs.Spots.{pathTotal}
+use Rattle.arc.specs.Arcs.{noTable}
+use Rattle.path_stored.specs.declared.queries.Counted.{Counted}
+use Rattle.path_stored.specs.declared.queries.Counted.the-variants as Counted
+use Rattle.path_stored.specs.declared.queries.Emptiness.{Emptiness}
+use Rattle.path_stored.specs.declared.queries.Emptiness.the-variants as Emptiness
+use Rattle.path_stored.specs.declared.queries.Measured.{Measured}
+use Rattle.path_stored.specs.declared.queries.Measured.the-variants as Measured
+use Rattle.path_stored.specs.declared.queries.Found.{Found}
+use Rattle.path_stored.specs.declared.queries.Found.the-variants as Found
+use Rattle.path_stored.specs.declared.queries.Part.{Part}
+use Rattle.path_stored.specs.Stored.{isStored, segmentIn, tableIn}
+
+-- `len`
+unfoldable pub countedOf : List ℕ → List Float → List Float → List Float → Counted
+unfolding isStored
+countedOf kinds fields tables lengths = cond (isStored kinds fields tables lengths) (Counted.Segments (length kinds)) (Counted.Refused BadPath)
+
+-- `is_empty`
+unfoldable pub emptinessOf : List ℕ → List Float → List Float → List Float → Emptiness
+unfolding isStored
+emptinessOf kinds fields tables lengths = cond (isStored kinds fields tables lengths) (cond (eqb (length kinds) 0) Emptiness.Empty Emptiness.NotEmpty) (Emptiness.Refused BadPath)
+
+-- `arc_length`: "A path's total is its last running length; 0 stands before its first."
+unfoldable pub measuredOf : List ℕ → List Float → List Float → List Float → Measured
+unfolding isStored pathTotal
+measuredOf kinds fields tables lengths = cond (isStored kinds fields tables lengths) (Measured.Length (pathTotal lengths)) (Measured.Refused BadPath)
+
+-- `segments` at an index; past the last there is none
+unfoldable pub nothingOf : Found → Part
+unfolding noTable
+nothingOf found = record { found = found; table = noTable }
+
+unfoldable pub partOf : List ℕ → List Float → List Float → List Float → ℕ → Part
+unfolding isStored segmentIn tableIn nothingOf
+partOf kinds fields tables lengths i =
+    cond (isStored kinds fields tables lengths)
+    (cond (ltb i (length kinds)) (record { found = Found.Segment (segmentIn kinds fields i); table = tableIn kinds tables i }) (nothingOf Found.NoSegment))
+    (nothingOf (Found.Refused BadPath))
+
+-- ---- in document 01's terms
+abbrev pub countedAnswer : Counted → Answer
+countedAnswer (Counted.Segments count) = accepted (count ∷ [])
+countedAnswer (Counted.Refused refusal) = refused refusal
+
+abbrev pub emptinessAnswer : Emptiness → Answer
+emptinessAnswer Emptiness.Empty = accepted []
+emptinessAnswer Emptiness.NotEmpty = accepted []
+emptinessAnswer (Emptiness.Refused refusal) = refused refusal
+
+abbrev pub measuredAnswer : Measured → Answer
+measuredAnswer (Measured.Length total) = accepted []
+measuredAnswer (Measured.Refused refusal) = refused refusal
+
+abbrev pub foundAnswer : Found → Answer
+foundAnswer (Found.Segment segment) = accepted []
+foundAnswer Found.NoSegment = accepted []
+foundAnswer (Found.Refused refusal) = refused refusal

@@ -1,0 +1,81 @@
+-- "Stored path check" (document 01, "Lengths, tables and lookup"): the four buffers of a path. Segments and tables count from 0; -0 equals 0. Definitions only.
+use Prim.Native.Nat.{ℕ, zero, suc, _+_, _*_, _≤_, _<_}
+use mathlib.Core.Path.{_≡_}
+use mathlib.Core.Bool.{Bool, true, false, _&&_, cond}
+use mathlib.Core.List.{List, [], _∷_}
+use lib.Dec.{T, leb, ltb, eqb}
+use lib.ListN.{length, getD, take, drop}
+use lib.Ieee.{Float, nan}
+use Rattle.table.specs.declared.tables.Table.{Table}
+use Rattle.table.specs.Sound.{lengthsAreSound, tableIsSound}
+use Rattle.arc.specs.Arcs.{noTable}
+use Rattle.path_segment.specs.declared.segments.PathSegment.{PathSegment}
+use Rattle.path_segment.specs.Segments.{widthOf, tablesOf, hasTable, segmentOf, tableAt}
+
+-- what the segments before number i have in all; i may be their count
+unfoldable pub before : (ℕ → ℕ) → List ℕ → ℕ → ℕ
+before f [] i = 0
+before f (kind ∷ kinds) zero = 0
+before f (kind ∷ kinds) (suc i) = f kind + before f kinds i
+
+-- "at most 65,536 segments"
+abbrev pub mostSegments : ℕ
+mostSegments = 65536
+
+-- "of known kinds": 0 to 4
+unfoldable pub areKnown : List ℕ → Bool
+areKnown [] = true
+areKnown (kind ∷ kinds) = ltb kind 5 && areKnown kinds
+
+-- "each table (quad, cubic, non-fallback arc) starts at 0, is finite, never falls, and its total is its last entry": the first n of 33 numbers each
+unfoldable pub tablesAreSound : List Float → ℕ → Bool
+unfolding tableIsSound
+tablesAreSound tables zero = true
+tablesAreSound tables (suc n) = tablesAreSound tables n && tableIsSound (tableAt tables (33 * n) .entries) (tableAt tables (33 * n) .total)
+
+-- the rule as a test
+unfoldable pub isStored : List ℕ → List Float → List Float → List Float → Bool
+unfolding areKnown before tablesAreSound
+isStored kinds fields tables lengths =
+    leb (length kinds) mostSegments
+    && areKnown kinds
+    && eqb (length fields) (before widthOf kinds (length kinds))
+    && eqb (length tables) (33 * before tablesOf kinds (length kinds))
+    && tablesAreSound tables (before tablesOf kinds (length kinds))
+    && eqb (length lengths) (length kinds)
+    && lengthsAreSound lengths
+
+-- the same, to be read: "at most 65,536 segments of known kinds with exactly their numbers and tables; one running length each, finite, not below 0, never falling; each table
+-- starts at 0, is finite, never falls, and its total is its last entry"
+pub record Stored (kinds : List ℕ) (fields tables lengths : List Float) : Type 0 where
+  pub few : length kinds ≤ mostSegments
+  pub known : (i : ℕ) → i < length kinds → getD kinds i 0 < 5
+  pub numbers : length fields ≡ before widthOf kinds (length kinds)
+  pub counted : length tables ≡ 33 * before tablesOf kinds (length kinds)
+  pub each : (n : ℕ) → n < before tablesOf kinds (length kinds) → T (tableIsSound (tableAt tables (33 * n) .entries) (tableAt tables (33 * n) .total))
+  pub one : length lengths ≡ length kinds
+  pub rising : T (lengthsAreSound lengths)
+
+-- ---- what is read of a segment
+
+-- what its numbers ask of a path
+pub record Numbered (kinds : List ℕ) (fields : List Float) : Type 0 where
+  pub few : length kinds ≤ mostSegments
+  pub known : (i : ℕ) → i < length kinds → getD kinds i 0 < 5
+  pub numbers : length fields ≡ before widthOf kinds (length kinds)
+
+-- what its table asks of it
+pub record Tabled (kinds : List ℕ) (tables : List Float) : Type 0 where
+  pub few : length kinds ≤ mostSegments
+  pub counted : length tables ≡ 33 * before tablesOf kinds (length kinds)
+  pub each : (n : ℕ) → n < before tablesOf kinds (length kinds) → T (tableIsSound (tableAt tables (33 * n) .entries) (tableAt tables (33 * n) .total))
+
+-- segment i, whose numbers stand after those of the segments before it
+unfoldable pub segmentIn : List ℕ → List Float → ℕ → PathSegment
+unfolding before segmentOf
+segmentIn kinds fields i = segmentOf (getD kinds i 0) (drop (before widthOf kinds i) fields)
+
+-- its table, after those of the segments before it; `noTable`, which is not sound, for a line and a line fallback
+unfoldable pub tableIn : List ℕ → List Float → ℕ → Table
+unfolding before hasTable noTable
+tableIn kinds tables i = cond (hasTable (getD kinds i 0)) (tableAt tables (33 * before tablesOf kinds i)) noTable

@@ -1,0 +1,71 @@
+// The stored path check.
+use crate::inner::numbers_before;
+use crate::inner::tables_before;
+use table::entries_are_sound;
+use table::lengths_are_sound;
+ghost use mathlib.Core.Path.{_≡_};
+ghost use Prim.Native.Nat.{_≤_, _*_};
+ghost use lib.ListN.{length};
+ghost use Rattle.path_stored.specs.Stored.{mostSegments, areKnown, tablesAreSound, isStored};
+
+// Whether all kinds are known.
+fn are_known(kinds: &[u8]) -> bool
+    ensures { λ r. ⌜ r ≡ areKnown (now (kinds .entry)) ⌝ }
+{
+    let mut i = 0usize;
+    while i < kinds.len() {
+        if kinds[i] < 5 {
+            i += 1;
+        } else {
+            return false;
+        }
+    }
+    true
+}
+
+// Whether the n tables that stand one after the other are sound.
+fn tables_are_sound(tables: &[f32], n: usize) -> bool
+    requires { ⌜ n ≤ mostSegments ⌝ }
+    requires { ⌜ length (now tables) ≡ 33 * n ⌝ }
+    ensures { λ r. ⌜ r ≡ tablesAreSound (now (tables .entry)) n ⌝ }
+{
+    let mut j = 0usize;
+    while j < n {
+        let at = 33 * j;
+        let end = at + 32;
+        if entries_are_sound(&tables[at..end], tables[end]) {
+            j += 1;
+        } else {
+            return false;
+        }
+    }
+    true
+}
+
+// Whether four buffers hold a stored path: at most 65,536 segments of known kinds with exactly their numbers and tables, one running
+// length each, and lengths and tables that a lookup takes.
+pub fn check_path(kinds: &[u8], numbers: &[f32], tables: &[f32], lengths: &[f32]) -> bool
+    ensures { λ r. ⌜ r ≡ isStored (now (kinds .entry)) (now (numbers .entry)) (now (tables .entry)) (now (lengths .entry)) ⌝ }
+{
+    let count = kinds.len();
+    if 65536 < count {
+        return false;
+    }
+    if !are_known(kinds) {
+        return false;
+    }
+    if numbers.len() != numbers_before(kinds, count) {
+        return false;
+    }
+    let n = tables_before(kinds, count);
+    if tables.len() != 33 * n {
+        return false;
+    }
+    if !tables_are_sound(tables, n) {
+        return false;
+    }
+    if lengths.len() != count {
+        return false;
+    }
+    lengths_are_sound(lengths)
+}

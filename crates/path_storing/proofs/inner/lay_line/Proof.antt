@@ -1,0 +1,31 @@
+-- `path_storing::inner::lay_line` meets its contract: four numbers, a kind and a running length, each in its buffer. Assumes nothing.
+use mathlib.Core.Path.{ap, _∙_}
+use native.Mathlib.Omega.{arith}
+use lib.Ieee.{binary32, add}
+use Rattle.commands.proofs.Storing.{four-put}
+use Rattle.path_storing.proofs.Judged.{kind-fits, length-fits, line-fits, line-laid}
+use borrow.Author.Needs.{needs}
+use Rattle.path_storing.proofs.inner.lay_line.Statement.{statement}
+use Rattle.path_storing.proofs.inner.lay_line.Tie as tie
+
+slice-write-kinds : tie.Need-slice-write-kinds
+slice-write-kinds c = kind-fits _ _ _ _ _ _ _ (c .before .before .before .before .before .before .pre .1)
+
+put-two-requires : tie.Need-put-two-requires
+put-two-requires c κs = omega (arith, line-fits _ _ _ _ _ _ _ (c .before .before .before .before .before .before .before .pre .1))
+
+put-two-requires-2 : tie.Need-put-two-requires-2
+put-two-requires-2 c κs = omega (arith, line-fits _ _ _ _ _ _ _ (c .before .before .before .before .before .before .before .before .before .before .before .pre .1))
+
+slice-write-lengths : tie.Need-slice-write-lengths
+slice-write-lengths c = length-fits _ _ _ _ _ _ _ (c .before .before .before .before .before .before .before .before .before .before .before .before .before .before .before .before .before .pre .1)
+
+returns : tie.Need-returns
+returns c = let a = c .before .before .before .before .before .before .before .before .before .before .before .before .before .before .before .before .before .before .args in line-laid _ _ _ _ _ _ _ _ _ _ (four-put (a .fields .now) (a .site .fields) (a .site .pen .current .x) (a .site .pen .current .y) (a .end .x) (a .end .y) (c .before .before .before .before .before .before .before .before .before .before .put-two .last .0) _ (c .before .before .before .before .before .before .before .before .before .before .put-two .ensures) (c .before .before .before .before .before .before .put-two2 .ensures)) (c .before .tidy .ensures ∙ ap (add binary32 _) (c .before .before .before .line-length .ensures)) (c .drawn .ensures)
+
+pub lay-line-spec : {M : Type 1} → statement M
+lay-line-spec =
+    tie.close
+    (tie.spec slice-write-kinds put-two-requires (λ c. search needs) put-two-requires-2 (λ c κs. search needs)
+    (λ c κs. search needs) (λ c. search needs) slice-write-lengths (λ c κs. search needs) (λ c. search needs)
+    (λ c. search needs) (λ c. search needs) (λ c. search needs) (λ c. search needs) returns)

@@ -1,0 +1,100 @@
+-- One command at a site: judged, counted and stored (document 01, "The answers" and "Lengths, tables and lookup"). Segments count from 0. That the sites
+-- along a list go with what the list builds is a law. Definitions only.
+use Prim.Native.Nat.{ℕ, _+_, _*_, _≤_, _<_}
+use mathlib.Core.Path.{_≡_}
+use mathlib.Core.Bool.{cond}
+use mathlib.Core.List.{List, [], _∷_}
+use lib.Ieee.{Float}
+use lib.Ieee.Scale.{finite}
+use lib.ListN.{length}
+use lib.Seq.{sets}
+use Rattle.answers.specs.declared.refusals.Refusal.the-variants.{RotationRange, NotFinite}
+use Rattle.floats.specs.Floats.{zeroF}
+use Rattle.commands.specs.declared.command.PathCommand.{PathCommand}
+use Rattle.path_segment.specs.Segments.{fieldsOf, lengthFor}
+use Rattle.path_segment.specs.declared.segments.PathSegment.{PathSegment}
+use Rattle.path_stored.specs.Layout.{kindsOf, fieldsOfAll, tableStored, tablesOfAll, runningOf, lengthsOfAll}
+use Rattle.path_drawing.specs.Drawing.{freshOf, drawOf}
+use Rattle.path_drawing.specs.Building.{lengthAfter}
+use Rattle.path_drawing.specs.declared.pens.Pen.{Pen}
+use Rattle.path_drawing.specs.declared.strokes.Drawn.{Drawn}
+use Rattle.path_drawing.specs.declared.strokes.Drawn.the-variants.{Moved, Segment, OutOfRange}
+use Rattle.path_storing.specs.declared.sites.Site.{Site}
+use Rattle.path_storing.specs.declared.sites.Advanced.{Advanced}
+use Rattle.path_storing.specs.declared.sites.Advanced.the-variants.{To, Refused}
+
+-- nothing is drawn, and "0 stands before its first"
+unfoldable pub startOf : Site
+startOf = record { pen = freshOf; length = zeroF; segments = 0; fields = 0; tables = 0 }
+
+-- the site after a segment
+unfoldable pub afterOf : Site → PathSegment → Pen → Site
+afterOf site segment next =
+    record {
+      pen = next;
+      length = lengthAfter (site .length) segment;
+      segments = site .segments + 1;
+      fields = site .fields + length (fieldsOf segment);
+      tables = site .tables + length (tableStored segment);
+    }
+
+-- the site after a command that draws no segment
+unfoldable pub movedOf : Site → Pen → Site
+movedOf site next = record { pen = next; length = site .length; segments = site .segments; fields = site .fields; tables = site .tables }
+
+-- the site after a command that is not refused
+unfoldable pub nextOf : Site → Drawn → Site
+unfolding afterOf movedOf
+nextOf site (Moved next) = movedOf site next
+nextOf site (Segment segment next) = afterOf site segment next
+nextOf site OutOfRange = site
+
+-- "segment by segment 10 before 11"
+unfoldable pub judgedOf : Site → Drawn → Advanced
+unfolding afterOf movedOf
+judgedOf site (Moved next) = To (movedOf site next)
+judgedOf site (Segment segment next) = cond (finite (lengthAfter (site .length) segment)) (To (afterOf site segment next)) (Refused (NotFinite (site .segments)))
+judgedOf site OutOfRange = Refused (RotationRange (site .segments))
+
+unfoldable pub advanceOf : Site → PathCommand → Advanced
+unfolding judgedOf
+advanceOf site command = judgedOf site (drawOf (site .pen) command)
+
+-- the segments that a command draws: one or none
+abbrev pub drawnBy : Drawn → List PathSegment
+drawnBy (Moved next) = []
+drawnBy (Segment segment next) = segment ∷ []
+drawnBy OutOfRange = []
+
+-- there are so few segments that every count fits; a segment has at most 11 numbers, its table 33
+pub record Few (site : Site) : Type 0 where
+  pub segments : site .segments < 65536
+  pub fields : site .fields ≤ 11 * site .segments
+  pub tables : site .tables ≤ 33 * site .segments
+
+-- a table is stored, where the segment has one, and the segment's length is told
+pub record TableLaid (at : ℕ) (segment : PathSegment) (tables : List Float) (r : Float) (tables′ : List Float) : Type 0 where
+  pub lengthTold : r ≡ lengthFor segment
+  pub tablesAfter : tables′ ≡ sets tables at (tableStored segment)
+
+-- buffers of so many places have room for segments
+pub record Holds (list : List PathSegment) (kinds fields tables lengths : ℕ) : Type 0 where
+  pub kindsFit : length (kindsOf list) ≤ kinds
+  pub fieldsFit : length (fieldsOfAll list) ≤ fields
+  pub tablesFit : length (tablesOfAll list) ≤ tables
+  pub lengthsFit : length (lengthsOfAll list) ≤ lengths
+
+-- the same for what a command draws at a site
+pub record Room (site : Site) (drawn : Drawn) (kinds fields tables lengths : ℕ) : Type 0 where
+  pub kindsFit : site .segments + length (kindsOf (drawnBy drawn)) ≤ kinds
+  pub fieldsFit : site .fields + length (fieldsOfAll (drawnBy drawn)) ≤ fields
+  pub tablesFit : site .tables + length (tablesOfAll (drawnBy drawn)) ≤ tables
+  pub lengthsFit : site .segments + length (kindsOf (drawnBy drawn)) ≤ lengths
+
+-- what a command draws at a site is stored, no other place is touched, and the next site is told
+pub record Laid (site : Site) (drawn : Drawn) (kinds : List ℕ) (fields tables lengths : List Float) (r : Site) (kinds′ : List ℕ) (fields′ tables′ lengths′ : List Float) : Type 0 where
+  pub siteAfter : r ≡ nextOf site drawn
+  pub kindsAfter : kinds′ ≡ sets kinds (site .segments) (kindsOf (drawnBy drawn))
+  pub fieldsAfter : fields′ ≡ sets fields (site .fields) (fieldsOfAll (drawnBy drawn))
+  pub tablesAfter : tables′ ≡ sets tables (site .tables) (tablesOfAll (drawnBy drawn))
+  pub lengthsAfter : lengths′ ≡ sets lengths (site .segments) (runningOf (site .length) (drawnBy drawn))

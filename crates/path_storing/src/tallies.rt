@@ -1,0 +1,184 @@
+// Counting what commands store, with no length measured: where every point is calm no running length is refused, and nothing else of a
+// length is asked before anything is stored.
+ghost use mathlib.Core.Path.{_≡_};
+ghost use Prim.Native.Nat.{_≤_};
+ghost use Rattle.path_drawing.specs.Drawing.{drawOf};
+ghost use Rattle.path_storing.specs.Sites.{startOf};
+ghost use Rattle.path_storing.specs.Tallies.{Scant, tallyOf, stayedOf, grownOf, strokedOf, isBounded, countedOf, talliedOf};
+use crate::inner::table_width;
+use commands::PathCommand;
+use math::Point;
+use path_bounds::is_calm;
+use path_bounds::is_near;
+use path_drawing::Drawn;
+use path_drawing::Pen;
+use path_drawing::draw;
+use path_drawing::drawn;
+use path_drawing::fresh;
+use path_drawing::moved;
+use path_segment::PathSegment;
+use path_segment::kind;
+use path_segment::segment_length;
+use path_segment::width;
+
+// A site without its running length.
+pub struct Tally {
+    pub pen: Pen,
+    // How many segments there are so far, and how many numbers they and their tables store.
+    pub segments: usize,
+    pub fields: usize,
+    pub tables: usize,
+}
+
+// What a command comes to.
+pub enum Tallied {
+    To(Tally),
+    // A point is far away, or an arc is long or refused: only measuring tells.
+    Unsure,
+}
+
+// What all commands come to.
+pub enum Outlook {
+    // They build, and need these places: one kind and one running length a segment.
+    Counted {
+        segments: usize,
+        fields: usize,
+        tables: usize,
+    },
+    Unsure,
+}
+
+// The tally before the first command.
+pub fn opening() -> Tally
+    ensures { λ r. ⌜ r ≡ tallyOf startOf ⌝ }
+{
+    Tally {
+        pen: fresh(),
+        segments: 0,
+        fields: 0,
+        tables: 0,
+    }
+}
+
+// The tally after a command that draws no segment.
+fn stayed(so_far: Tally, pen: Pen) -> Tally
+    ensures { λ r. ⌜ r ≡ stayedOf «so_far» pen ⌝ }
+{
+    Tally {
+        pen,
+        segments: so_far.segments,
+        fields: so_far.fields,
+        tables: so_far.tables,
+    }
+}
+
+// The tally after a segment of `own` numbers and `more` in its table.
+fn grown(so_far: Tally, pen: Pen, own: usize, more: usize) -> Tally
+    requires { ⌜ Scant «so_far» × (own ≤ 11) × (more ≤ 33) ⌝ }
+    ensures { λ r. ⌜ r ≡ grownOf «so_far» pen own more ⌝ }
+{
+    Tally {
+        pen,
+        segments: so_far.segments + 1,
+        fields: so_far.fields + own,
+        tables: so_far.tables + more,
+    }
+}
+
+// A line or a curve up to a point, where all its points are calm.
+fn stroked(so_far: Tally, calm: bool, end: Point, own: usize, more: usize) -> Tallied
+    requires { ⌜ Scant «so_far» × (own ≤ 11) × (more ≤ 33) ⌝ }
+    ensures { λ r. ⌜ r ≡ strokedOf «so_far» calm end own more ⌝ }
+{
+    if calm {
+        let pen = so_far.pen;
+        let next = drawn(pen, end);
+        if pen.placed {
+            return Tallied::To(grown(so_far, next, own, more));
+        }
+        return Tallied::To(stayed(so_far, next));
+    }
+    Tallied::Unsure
+}
+
+// Whether a segment between calm points is not long: an arc is measured.
+fn is_bounded(segment: PathSegment) -> bool
+    ensures { λ r. ⌜ r ≡ isBounded segment ⌝ }
+{
+    match segment {
+        PathSegment::Line(_) => true,
+        PathSegment::Quad {
+            start: _,
+            control: _,
+            end: _,
+        } => true,
+        PathSegment::Cubic {
+            start: _,
+            control1: _,
+            control2: _,
+            end: _,
+        } => true,
+        PathSegment::Arc(_) => is_near(segment_length(segment)),
+        PathSegment::Fallback(_) => true,
+    }
+}
+
+// What any command draws, where it names calm points.
+fn count_any(so_far: Tally, command: PathCommand) -> Tallied
+    requires { ⌜ Scant «so_far» ⌝ }
+    ensures { λ r. ⌜ r ≡ countedOf «so_far» (drawOf («so_far» .pen) command) ⌝ }
+{
+    let pen = so_far.pen;
+    match draw(pen, command) {
+        Drawn::Moved(next) => Tallied::To(stayed(so_far, next)),
+        Drawn::Segment { segment, next } => {
+            if is_bounded(segment) {
+                let own = width(kind(segment));
+                let more = table_width(segment);
+                return Tallied::To(grown(so_far, next, own, more));
+            }
+            Tallied::Unsure
+        }
+        Drawn::OutOfRange => Tallied::Unsure,
+    }
+}
+
+// Counts what a command stores.
+pub fn count(so_far: Tally, command: PathCommand) -> Tallied
+    requires { ⌜ Scant «so_far» ⌝ }
+    ensures { λ r. ⌜ r ≡ talliedOf «so_far» command ⌝ }
+{
+    match command {
+        PathCommand::MoveTo(point) => {
+            if is_calm(point) {
+                return Tallied::To(stayed(so_far, moved(point)));
+            }
+            Tallied::Unsure
+        }
+        PathCommand::LineTo(end) => stroked(so_far, is_calm(end), end, 4, 0),
+        PathCommand::QuadTo { control, end } => {
+            stroked(so_far, is_calm(control) & is_calm(end), end, 6, 33)
+        }
+        PathCommand::CubicTo {
+            control1,
+            control2,
+            end,
+        } => {
+            let calm = is_calm(control1) & is_calm(control2) & is_calm(end);
+            stroked(so_far, calm, end, 8, 33)
+        }
+        PathCommand::ArcTo {
+            radii: _,
+            rotation: _,
+            large_arc: _,
+            sweep: _,
+            end,
+        } => {
+            if is_calm(end) {
+                return count_any(so_far, command);
+            }
+            Tallied::Unsure
+        }
+        PathCommand::ClosePath => count_any(so_far, command),
+    }
+}

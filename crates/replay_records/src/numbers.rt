@@ -1,0 +1,71 @@
+// Rows of a record: patterns a step apart as numbers or held against numbers, and bytes held against bytes.
+use crate::float;
+use crate::pattern;
+use floats::bits;
+ghost use Prim.Native.Nat.{_+_, _≤_};
+ghost use mathlib.Core.Path.{_≡_};
+ghost use lib.Dec.{eqb};
+ghost use lib.ListN.{length};
+ghost use Rattle.replay_records.specs.Numbers.{onwardOf, numbersOf, sameNumbers, sameBytes};
+
+// The next place of a row. Past the text's end it stays where it is, for every pattern there is 0.
+fn onward(text: &[u8], place: usize, step: u32) -> usize
+    ensures { λ r. ⌜ r ≡ onwardOf (now (text .entry)) place step ⌝ }
+{
+    if place < text.len() {
+        place + step as usize
+    } else {
+        place
+    }
+}
+
+// Puts the floats of as many patterns as there are places into out: the first from `at` on, each `step` bytes past the one before.
+pub fn read_numbers(text: &[u8], at: usize, step: u32, out: &mut [f32])
+    ensures { λ _. ⌜ now (out .exit) ≡ numbersOf (now (text .entry)) at step (length (now (out .entry))) ⌝ }
+{
+    let mut place = at;
+    let mut i = 0usize;
+    while i < out.len() {
+        out[i] = float(pattern(text, place));
+        place = onward(text, place, step);
+        i += 1;
+    }
+}
+
+// Whether numbers have the patterns from `at` on, each `step` bytes past the one before.
+pub fn same_numbers(numbers: &[f32], text: &[u8], at: usize, step: u32) -> bool
+    ensures { λ r. ⌜ r ≡ sameNumbers (now (numbers .entry)) (now (text .entry)) at step ⌝ }
+{
+    let mut place = at;
+    let mut i = 0usize;
+    while i < numbers.len() {
+        if bits(numbers[i]) != pattern(text, place) {
+            return false;
+        }
+        place = onward(text, place, step);
+        i += 1;
+    }
+    true
+}
+
+fn is_above(byte: u8, by: u8, due: u8) -> bool
+    ensures { λ r. ⌜ r ≡ eqb (byte + by) due ⌝ }
+{
+    byte as u32 + by as u32 == due as u32
+}
+
+// Whether the text has these bytes from `at` on, each raised by `by`: 0 for letters, b'0' for numbers that are recorded as digits.
+pub fn same_bytes(bytes: &[u8], by: u8, text: &[u8], at: usize) -> bool
+    requires { ⌜ at + length (now bytes) ≤ length (now text) ⌝ }
+    ensures { λ r. ⌜ r ≡ sameBytes (now (bytes .entry)) by (now (text .entry)) at ⌝ }
+{
+    let mut i = 0usize;
+    while i < bytes.len() {
+        if is_above(bytes[i], by, text[at + i]) {
+            i += 1;
+        } else {
+            return false;
+        }
+    }
+    true
+}

@@ -1,0 +1,97 @@
+-- The passes over a plan's path: what each knows between two commands, and what a step does to that. Assumes nothing.
+use Prim.Native.Nat.{ℕ, _+_, _*_, _≤_, _<_}
+use mathlib.Core.Path.{_≡_, refl, sym, ap, _∙_}
+use mathlib.Core.List.{List, [], _∷_, _++_, append-assoc, append-nil}
+use native.Mathlib.Omega.{arith}
+use lib.ListN.{length, drop, length-append}
+use Rattle.answers.specs.declared.refusals.Refusal.{Refusal}
+use Rattle.commands.specs.Stored.{lettersOf, numbersOf}
+use Rattle.commands.specs.declared.command.PathCommand.{PathCommand}
+use Rattle.svg.specs.Steps.{freshOf, readStepOf}
+use Rattle.svg.specs.Texts.{Outcome, commands, refusal, readFrom, commandsOf}
+use Rattle.svg.specs.declared.steps.Reader.{Reader}
+use Rattle.svg.specs.declared.steps.Step.{Step}
+use Rattle.svg.specs.declared.steps.Step.the-variants.{Command, Done, Refused}
+use Rattle.svg.proofs.PassLaws.{onto, Known, known-none, known-all, known-refused, known-more, Counting}
+use Rattle.text_reader.specs.Plans.{stepOf}
+use Rattle.station_lines.specs.Lines.{commandLine}
+use Rattle.station_lines.specs.Put.{Put, PutWithin}
+use Rattle.station_lines.proofs.Putting.{put-none, put-same, put-then, put-length}
+use Rattle.station_commands.specs.Passes.{sizeOf, commandLines, FewCommands, Listed}
+use Rattle.station_commands.specs.declared.sizes.Size.the-variants.{Counted, Refused as Unmeasured}
+
+-- a step of the plan is a step of its path's text
+pub step-as : (input : List ℕ) (start : ℕ) (state : Reader) (r s : Step) → r ≡ stepOf input start state → r ≡ s → readStepOf (drop start input) state ≡ s
+unfolding stepOf
+step-as input start state r s e f = sym e ∙ f
+
+-- ---- the counts
+
+module _ (text : List ℕ) (reader : Reader) (place at : ℕ) (k : Counting text reader place at) where
+  pub counted : readStepOf text reader ≡ Done → Counted place at ≡ sizeOf (commandsOf text)
+  unfolding sizeOf
+  counted e =
+      rw (known-all text reader (k .done) (k .known) e)
+      (ap (λ (n : ℕ). Counted n at) (k .letters) ∙ ap (λ (n : ℕ). Counted (length (lettersOf (k .done))) n) (k .numbers))
+
+  pub uncounted : (reason : Refusal) → readStepOf text reader ≡ Refused reason → Unmeasured reason ≡ sizeOf (commandsOf text)
+  unfolding sizeOf
+  uncounted reason e = rw (known-refused text reader (k .done) (k .known) reason e)
+
+-- ---- the lines
+
+lines-more : (done : List PathCommand) (command : PathCommand) → commandLines done ++ commandLine command ≡ commandLines (done ++ (command ∷ []))
+unfolding commandLines
+lines-more [] command = sym (append-nil (commandLine command))
+lines-more (x ∷ done) command = append-assoc (commandLine x) (commandLines done) (commandLine command) ∙ ap (λ (l : List ℕ). commandLine x ++ l) (lines-more done command)
+
+pub record Listing (text before out : List ℕ) (from : ℕ) (reader : Reader) (at : ℕ) : Type 0 where
+  pub done : List PathCommand
+  pub known : Known text reader done
+  pub put : Put (commandLines done) from before out at
+  pub within : at ≤ from + 65 * length done
+  pub few : FewCommands (commandsOf text)
+
+pub listing-none : (text before : List ℕ) (from : ℕ) → FewCommands (commandsOf text) → Listing text before before from freshOf from
+unfolding commandLines
+listing-none text before from few = record { done = []; known = known-none text; put = put-none from before; within = omega arith; few = few }
+
+-- the commands known are few, and so are those to come
+few-of : (done : List PathCommand) (whole rest : Outcome) → FewCommands whole → whole ≡ onto done rest → length done ≤ 256
+few-of done (refusal reason) rest few e = absurd few
+few-of done (commands list) (refusal reason) few e = let z : _≡_ {A = ℕ} 0 1 = cc in absurd (omega arith)
+few-of done (commands list) (commands rest) few e =
+    let f : list ≡ done ++ rest = cc in
+    omega (arith, few, ap length f ∙ length-append done rest)
+
+module _ (text before out : List ℕ) (from : ℕ) (reader : Reader) (at : ℕ) (k : Listing text before out from reader at) where
+  pub same-out : length out ≡ length before
+  same-out = put-length (k .put)
+
+  pub never-refused : (reason : Refusal) → readStepOf text reader ≡ Refused reason → ⊥
+  never-refused reason e = rw (known-refused text reader (k .done) (k .known) reason e) at (k .few)
+
+  pub listed : readStepOf text reader ≡ Done → Listed (commandsOf text) from before out at
+  listed e =
+      let w = few-of (k .done) (commandsOf text) (readFrom (k .known .steps) text reader) (k .few) (k .known .whole) in
+      let b : at ≤ from + 16640 = omega (arith, w, k .within) in
+      rw (known-all text reader (k .done) (k .known) e) (record { put = k .put; within = b })
+
+  module _ (command : PathCommand) (next : Reader) (e : readStepOf text reader ≡ Command command next) where
+    more : Known text next (k .done ++ (command ∷ []))
+    more = known-more text reader (k .done) (k .known) command next e
+
+    pub line-room : from + 16640 ≤ length before → at + 65 ≤ length out
+    line-room h =
+        let w = few-of (k .done ++ (command ∷ [])) (commandsOf text) (readFrom (more .steps) text next) (k .few) (more .whole) in
+        omega (arith, w, length-append (k .done) (command ∷ []), same-out, k .within)
+
+    pub listing-more : (out′ : List ℕ) (at′ : ℕ) → PutWithin 65 (commandLine command) at out out′ at′ → Listing text before out′ from next at′
+    listing-more out′ at′ p =
+        record {
+          done = k .done ++ (command ∷ []);
+          known = more;
+          put = put-same (put-then (k .put) (p .put)) (commandLines (k .done ++ (command ∷ []))) (lines-more (k .done) command);
+          within = omega (arith, p .within, k .within, length-append (k .done) (command ∷ []));
+          few = k .few;
+        }

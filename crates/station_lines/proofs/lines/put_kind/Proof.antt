@@ -1,0 +1,36 @@
+-- `station_lines::lines::put_kind` meets its contract. Assumes nothing.
+use borrow.Author.Needs.{needs}
+use mathlib.Core.Path.{refl}
+use native.Mathlib.Omega.{arith}
+use Rattle.station_lines.proofs.Putting.{within-as}
+use Rattle.station_lines.proofs.Fields.{kind-last}
+use Rattle.station_lines.specs.Lines.{kindName}
+use Rattle.station_lines.proofs.lines.put_kind.Statement.{statement}
+use Rattle.station_lines.proofs.lines.put_kind.Tie as tie
+
+returns : tie.Need-returns
+unfolding kindName
+returns c = rw (c .before .before .before .before .before .if1 .taken) (within-as 8 _ (c .before .before .put-word .ensures) refl (omega (arith, c .before .before .put-word .ensures .past)))
+
+returns-2 : tie.Need-returns-2
+unfolding kindName
+returns-2 c = rw (c .before .before .before .before .before .if2 .taken) (within-as 8 _ (c .before .before .put-word2 .ensures) refl (omega (arith, c .before .before .put-word2 .ensures .past)))
+
+returns-3 : tie.Need-returns-3
+unfolding kindName
+returns-3 c = rw (c .before .before .before .before .before .if3 .taken) (within-as 8 _ (c .before .before .put-word3 .ensures) refl (omega (arith, c .before .before .put-word3 .ensures .past)))
+
+returns-4 : tie.Need-returns-4
+unfolding kindName
+returns-4 c = rw (c .before .before .before .before .before .if4 .taken) (within-as 8 _ (c .before .before .put-word4 .ensures) refl (omega (arith, c .before .before .put-word4 .ensures .past)))
+
+returns-5 : tie.Need-returns-5
+returns-5 c = within-as 8 _ (c .before .before .put-word5 .ensures) (kind-last _ (c .before .before .before .before .before .before .before .before .if1 .left) (c .before .before .before .before .before .before .before .if2 .left) (c .before .before .before .before .before .before .if3 .left) (c .before .before .before .before .before .if4 .left)) (omega (arith, c .before .before .put-word5 .ensures .past))
+
+pub put-kind-spec : {M : Type 1} → statement M
+put-kind-spec =
+    tie.close
+    (tie.spec (λ c. search needs) (λ c κs. search needs) (λ c. search needs) returns (λ c. search needs)
+    (λ c κs. search needs) (λ c. search needs) returns-2 (λ c. search needs) (λ c κs. search needs)
+    (λ c. search needs) returns-3 (λ c. search needs) (λ c κs. search needs) (λ c. search needs) returns-4
+    (λ c. search needs) (λ c κs. search needs) (λ c. search needs) returns-5)

@@ -1,0 +1,17 @@
+-- `station_lines::lines::put_segment` meets its contract. Assumes nothing.
+use borrow.Author.Needs.{needs}
+use mathlib.Core.Path.{refl}
+use native.Mathlib.Omega.{arith}
+use Rattle.station_lines.proofs.Putting.{within-as, within-then, one-byte}
+use Rattle.station_lines.specs.Lines.{segmentLine}
+use Rattle.station_lines.proofs.lines.put_segment.Statement.{statement}
+use Rattle.station_lines.proofs.lines.put_segment.Tie as tie
+
+returns : tie.Need-returns
+unfolding segmentLine
+returns c = within-as 18 _ (within-then (c .before .before .before .before .before .before .before .before .before .before .put-kind .ensures) (within-then (c .before .before .before .before .before .before .put-bits .ensures) (one-byte (c .before .before .put-byte .ensures))) .put) refl (omega arith)
+
+pub put-segment-spec : {M : Type 1} → statement M
+put-segment-spec =
+    tie.close
+    (tie.spec (λ c κs. search needs) (λ c κs. search needs) (λ c κs. search needs) (λ c. search needs) returns)

@@ -1,0 +1,42 @@
+-- `station_listing::plans::answer` meets its contract: the text's length, then what it reads, then the count of its commands. Assumes nothing.
+use borrow.Author.Needs.{needs}
+use Rattle.station_listing.proofs.Telling.{short-text, too-long, not-read, no-room, numbered, flown}
+use Rattle.station_listing.proofs.plans.answer.Statement.{statement}
+use Rattle.station_listing.proofs.plans.answer.Tie as tie
+
+returns : tie.Need-returns
+returns c =
+    let a = c .before .before .before .before .before .before .before .args in
+    too-long (a .input .now) (a .start) _ _ _ _ (c .before .before .before .before .if1 .taken) (c .before .before .put-refusal .ensures)
+
+measure-requires : tie.Need-measure-requires
+measure-requires c κs =
+    let a = c .before .before .before .args in
+    short-text (a .input .now) (a .start) 0 (c .if1 .left)
+
+returns-2 : tie.Need-returns-2
+returns-2 c =
+    let a = c .before .before .before .before .before .before .before .before .before .before .before .args in
+    not-read (a .input .now) (a .start) _ _ _ _ (c .before .before .before .before .before .before .before .before .if1 .left) _ (c .before .before .before .before .before .before .before .measure .ensures) _ (c .before .before .before .before .before .refusal .given .1) (c .before .before .put-refusal2 .ensures)
+
+returns-3 : tie.Need-returns-3
+returns-3 c =
+    let a = c .before .before .before .before .before .before .before .before .before .before .before .before .args in
+    no-room (a .input .now) (a .start) _ _ _ _ (c .before .before .before .before .before .before .before .before .before .if1 .left) _ (c .before .before .before .before .before .before .before .before .measure .ensures) _ _ (c .before .before .before .before .before .before .letters .given .1) (c .before .before .before .before .if2 .taken) (c .before .before .put-refusal3 .ensures)
+
+fly-requires : tie.Need-fly-requires
+fly-requires c κs =
+    let a = c .before .before .before .before .before .before .before .before .before .args in
+    (numbered (a .input .now) (a .start) 0 _ (c .before .before .before .before .before .measure .ensures) _ _ (c .before .before .before .letters .given .1) (c .before .if2 .left), c .before .before .before .before .before .before .before .before .before .pre .1, c .before .before .before .before .before .before .before .before .before .pre .2, c .before .before .before .before .before .before .before .before .before .pre .3)
+
+returns-4 : tie.Need-returns-4
+returns-4 c =
+    let a = c .before .before .before .before .before .before .before .before .before .before .before .before .args in
+    flown (a .input .now) (a .start) _ _ _ _ (c .before .before .before .before .before .before .before .before .before .if1 .left) _ (c .before .before .before .before .before .before .before .before .measure .ensures) _ _ (c .before .before .before .before .before .before .letters .given .1) (c .before .before .before .before .if2 .left) (c .before .before .fly .ensures)
+
+pub answer-spec : {M : Type 1} → statement M
+answer-spec =
+    tie.close
+    (tie.spec (λ c. search needs) (λ c κs. search needs) (λ c. search needs) returns measure-requires
+    (λ c. search needs) (λ c κs. search needs) (λ c. search needs) returns-2 (λ c. search needs)
+    (λ c κs. search needs) (λ c. search needs) returns-3 fly-requires (λ c. search needs) returns-4)

@@ -1,0 +1,87 @@
+// A path that reads: built and listed.
+ghost use Prim.Native.Nat.{_≤_};
+ghost use lib.ListN.{length, drop};
+ghost use Rattle.svg.specs.Texts.{commandsOf};
+ghost use Rattle.station_sections.specs.Sections.{Ready};
+ghost use Rattle.station_listing.specs.Stations.{Sized, Numbered, Printed, Told};
+use path_build::Building;
+use path_build::inner::build_listed;
+use station_commands::inner::fill;
+use station_commands::inner::list;
+use station_lines::inner::put_header;
+use station_lines::inner::put_refusal;
+use station_sections::inner::put_segments;
+use station_sections::inner::put_stations;
+
+// The three sections of a built path.
+fn print(
+    out: &mut [u8],
+    input: &[u8],
+    start: usize,
+    places: usize,
+    count: usize,
+    kinds: &[u8],
+    fields: &[f32],
+    tables: &[f32],
+    lengths: &[f32],
+) -> usize
+    requires { ⌜ Sized (commandsOf (drop start (now input))) places × Ready (now kinds) (now fields) (now tables) (now lengths) count × (65536 ≤ length (now out)) ⌝ }
+    ensures { λ r. ⌜ Printed (commandsOf (drop start (now (input .entry)))) (now (kinds .entry)) (now (fields .entry)) (now (tables .entry)) (now (lengths .entry)) count (now (out .entry)) (now (out .exit)) r ⌝ }
+{
+    let past_commands = put_header(out, 0, b"commands", places);
+    let past_lines = list(input, start, out, past_commands);
+    let past_segments = put_header(out, past_lines, b"segments", kinds.len());
+    let past_kinds = put_segments(out, past_segments, kinds, lengths);
+    let past_stations = put_header(out, past_kinds, b"stations", count);
+    put_stations(out, past_stations, count, kinds, fields, tables, lengths)
+}
+
+// A path of so many commands and numbers, for which there is room: its listing, or why it is not built.
+pub fn fly(
+    out: &mut [u8],
+    input: &[u8],
+    start: usize,
+    count: usize,
+    places: usize,
+    held: usize,
+) -> usize
+    requires { ⌜ Numbered (commandsOf (drop start (now input))) places held × (2 ≤ count) × (count ≤ 1000) × (65536 ≤ length (now out)) ⌝ }
+    ensures { λ r. ⌜ Told (commandsOf (drop start (now (input .entry)))) count (now (out .entry)) (now (out .exit)) r ⌝ }
+{
+    let mut letters = [0u8; 256];
+    let mut numbers = [0.0f32; 1792];
+    fill(input, start, &mut letters, &mut numbers);
+    let mut kinds = [0u8; 256];
+    let mut fields = [0.0f32; 2816];
+    let mut tables = [0.0f32; 8448];
+    let mut lengths = [0.0f32; 256];
+    match build_listed(
+        &letters[..places],
+        &numbers[..held],
+        &mut kinds,
+        &mut fields,
+        &mut tables,
+        &mut lengths,
+    ) {
+        Building::Refused(refusal) => {
+            return put_refusal(out, 0, refusal);
+        }
+        Building::Built {
+            segments,
+            fields: own,
+            tables: more,
+        } => {
+            return print(
+                out,
+                input,
+                start,
+                places,
+                count,
+                &kinds[..segments],
+                &fields[..own],
+                &tables[..more],
+                &lengths[..segments],
+            );
+        }
+    }
+}

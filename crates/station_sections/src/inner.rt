@@ -1,0 +1,86 @@
+// The functions ask that the path is a stored one of at most 256 segments, and that their lines have room.
+ghost use mathlib.Core.Path.{_≡_};
+ghost use Prim.Native.Nat.{_+_, _≤_, _<_};
+ghost use lib.ListN.{length};
+ghost use Rattle.station_lines.specs.Put.{PutWithin};
+ghost use Rattle.station_sections.specs.Sections.{Ready, progressOf, segmentLines, stationOf, stationLines};
+use math::Point;
+use path_query::inner::flown;
+use station_lines::Found;
+use station_lines::inner::put_segment;
+use station_lines::inner::put_station;
+use table::Progress;
+use table::inner::spot;
+
+// A line for each segment.
+pub fn put_segments(out: &mut [u8], from: usize, kinds: &[u8], lengths: &[f32]) -> usize
+    requires { ⌜ (length (now lengths) ≡ length (now kinds)) × (length (now kinds) ≤ 256) × (from + 4608 ≤ length (now out)) ⌝ }
+    ensures { λ r. ⌜ PutWithin 4608 (segmentLines (now (kinds .entry)) (now (lengths .entry))) from (now (out .entry)) (now (out .exit)) r ⌝ }
+{
+    let mut at = from;
+    let mut k = 0;
+    while k < kinds.len() {
+        at = put_segment(out, at, kinds[k], lengths[k]);
+        k += 1;
+    }
+    at
+}
+
+// The progress of a station, counted from 0, of so many: the first is at 0 and the last at 1.
+fn progress(number: usize, count: usize) -> Progress
+    requires { ⌜ (number < count) × (2 ≤ count) × (count ≤ 1000) ⌝ }
+    ensures { λ r. ⌜ r .value ≡ progressOf count number ⌝ }
+{
+    let last = count - 1;
+    Progress {
+        value: number as f32 / last as f32,
+    }
+}
+
+// One station: nothing is flown on a path without segments.
+fn put_one(
+    out: &mut [u8],
+    at: usize,
+    number: usize,
+    count: usize,
+    kinds: &[u8],
+    fields: &[f32],
+    tables: &[f32],
+    lengths: &[f32],
+) -> usize
+    requires { ⌜ Ready (now kinds) (now fields) (now tables) (now lengths) count × (number < count) × (at + 44 ≤ length (now out)) ⌝ }
+    ensures { λ r. ⌜ PutWithin 44 (stationOf (now (kinds .entry)) (now (fields .entry)) (now (tables .entry)) (now (lengths .entry)) count number) at (now (out .entry)) (now (out .exit)) r ⌝ }
+{
+    if kinds.len() == 0 {
+        let origin = Point { x: 0.0, y: 0.0 };
+        return put_station(out, at, number, Found::Nothing, origin, origin);
+    }
+    let along = progress(number, count);
+    let segment = spot(lengths, along).segment;
+    let there = flown(kinds, fields, tables, lengths, along);
+    let position = there.position;
+    let tangent = there.tangent;
+    put_station(out, at, number, Found::Segment(segment), position, tangent)
+}
+
+// A line for each station.
+pub fn put_stations(
+    out: &mut [u8],
+    from: usize,
+    count: usize,
+    kinds: &[u8],
+    fields: &[f32],
+    tables: &[f32],
+    lengths: &[f32],
+) -> usize
+    requires { ⌜ Ready (now kinds) (now fields) (now tables) (now lengths) count × (from + 44000 ≤ length (now out)) ⌝ }
+    ensures { λ r. ⌜ PutWithin 44000 (stationLines (now (kinds .entry)) (now (fields .entry)) (now (tables .entry)) (now (lengths .entry)) count) from (now (out .entry)) (now (out .exit)) r ⌝ }
+{
+    let mut at = from;
+    let mut number = 0;
+    while number < count {
+        at = put_one(out, at, number, count, kinds, fields, tables, lengths);
+        number += 1;
+    }
+    at
+}

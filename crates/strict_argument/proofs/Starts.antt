@@ -1,0 +1,98 @@
+-- Every argument starts as a number does, and has a byte. Assumes nothing.
+use Prim.Native.Nat.{ℕ, _+_, _≤_, _<_}
+use mathlib.Core.Path.{_≡_, refl, sym, subst}
+use mathlib.Core.Bool.{true}
+use mathlib.Core.List.{List}
+use native.Mathlib.Omega.{arith}
+use Rattle.scan.specs.Bytes.{among, flags, numberStarts}
+use Rattle.scan.specs.Runs.{stands}
+use Rattle.strict_grammar.specs.Spans.{Span, Byte, _·_, opt}
+use Rattle.strict_grammar.specs.Grammar.{number, flag, comma-wsp, coordinate-pair, smooth-curveto-argument, curveto-argument, elliptical-arc-argument}
+use Rattle.strict_grammar.proofs.SpanLaws.{wider}
+use Rattle.strict_grammar.proofs.Numbers.{number-starts, number-grows}
+use Rattle.strict_grammar.proofs.Separators.{separator-le}
+use Rattle.strict_argument.specs.Reading.{arc-from-radius, arc-from-rotation, arc-from-large-flag, arc-from-sweep-flag, argumentOf}
+use Rattle.strict_argument.specs.declared.groups.Kind.{Kind}
+use Rattle.strict_argument.specs.declared.groups.Kind.the-variants.{Coordinate, Pair, TwoPairs, ThreePairs, Arc}
+use Rattle.strict_argument.proofs.Steps.{Starts}
+
+-- every word of P has a byte
+abbrev pub Grows : Span → Type 0
+Grows P = (i j : ℕ) → P i j → i < j
+
+module _ (text : List ℕ) where
+  -- ---- what a word starts with
+
+  pub flag-starts : Starts text (flag text)
+  unfolding among
+  flag-starts i j b = wider {l = flags} {m = numberStarts} tt b .there
+
+  pub pair-starts : Starts text (coordinate-pair text)
+  unfolding coordinate-pair
+  pair-starts i j w = number-starts text i (w .0) (w .1)
+
+  pub two-pairs-starts : Starts text (smooth-curveto-argument text)
+  two-pairs-starts i j w = pair-starts i (w .0) (w .1)
+
+  pub sweep-flag-starts : Starts text (arc-from-sweep-flag text)
+  unfolding arc-from-sweep-flag
+  sweep-flag-starts i j w = flag-starts i (w .0) (w .1)
+
+  pub large-flag-starts : Starts text (arc-from-large-flag text)
+  unfolding arc-from-large-flag
+  large-flag-starts i j w = flag-starts i (w .0) (w .1)
+
+  pub rotation-starts : Starts text (arc-from-rotation text)
+  unfolding arc-from-rotation
+  rotation-starts i j w = number-starts text i (w .0) (w .1)
+
+  pub radius-starts : Starts text (arc-from-radius text)
+  unfolding arc-from-radius
+  radius-starts i j w = number-starts text i (w .0) (w .1)
+
+  pub argument-starts : (kind : Kind) → Starts text (argumentOf text kind)
+  unfolding elliptical-arc-argument
+  argument-starts Coordinate i j w = number-starts text i j w
+  argument-starts Pair i j w = pair-starts i j w
+  argument-starts TwoPairs i j w = pair-starts i (w .0) (w .1)
+  argument-starts ThreePairs i j w = pair-starts i (w .0) (w .1)
+  argument-starts Arc i j w = number-starts text i (w .0) (w .1)
+
+  -- ---- that it has a byte
+
+  step-grows : (P Q : Span) → Grows P → Grows Q → Grows (P · opt (comma-wsp text) · Q)
+  step-grows P Q f g i j (k, p, (m, o, q)) = let x = f i k p in let y = separator-le text k m o in let z = g m j q in omega arith
+
+  flag-grows : Grows (flag text)
+  flag-grows i j b = let x = b .next in omega arith
+
+  pair-grows : Grows (coordinate-pair text)
+  unfolding coordinate-pair
+  pair-grows = step-grows (number text) (number text) (number-grows text) (number-grows text)
+
+  two-pairs-grows : Grows (smooth-curveto-argument text)
+  two-pairs-grows = step-grows (coordinate-pair text) (coordinate-pair text) pair-grows pair-grows
+
+  sweep-flag-grows : Grows (arc-from-sweep-flag text)
+  unfolding arc-from-sweep-flag
+  sweep-flag-grows = step-grows (flag text) (coordinate-pair text) flag-grows pair-grows
+
+  large-flag-grows : Grows (arc-from-large-flag text)
+  unfolding arc-from-large-flag
+  large-flag-grows = step-grows (flag text) (arc-from-sweep-flag text) flag-grows sweep-flag-grows
+
+  rotation-grows : Grows (arc-from-rotation text)
+  unfolding arc-from-rotation
+  rotation-grows = step-grows (number text) (arc-from-large-flag text) (number-grows text) large-flag-grows
+
+  radius-grows : Grows (arc-from-radius text)
+  unfolding arc-from-radius
+  radius-grows = step-grows (number text) (arc-from-rotation text) (number-grows text) rotation-grows
+
+  pub argument-grows : (kind : Kind) → Grows (argumentOf text kind)
+  unfolding elliptical-arc-argument arc-from-radius arc-from-rotation arc-from-large-flag arc-from-sweep-flag
+  argument-grows Coordinate = number-grows text
+  argument-grows Pair = pair-grows
+  argument-grows TwoPairs = two-pairs-grows
+  argument-grows ThreePairs = step-grows (coordinate-pair text) (smooth-curveto-argument text) pair-grows two-pairs-grows
+  argument-grows Arc = step-grows (number text) (arc-from-radius text) (number-grows text) radius-grows

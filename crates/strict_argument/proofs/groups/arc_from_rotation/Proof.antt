@@ -1,0 +1,20 @@
+-- `strict_argument::arc_from_rotation` meets its contract: a number and the rest, with a separator or none between them. Assumes nothing.
+use native.Mathlib.Omega.{arith}
+use borrow.Author.Needs.{needs}
+use Rattle.strict_grammar.specs.Grammar.{number}
+use Rattle.strict_argument.specs.Reading.{arc-from-large-flag, arc-from-rotation}
+use Rattle.strict_argument.proofs.Steps.{step}
+use Rattle.strict_argument.proofs.Starts.{large-flag-starts}
+use Rattle.strict_argument.proofs.groups.arc_from_rotation.Statement.{statement}
+use Rattle.strict_argument.proofs.groups.arc_from_rotation.Tie as tie
+
+returns : tie.Need-returns
+unfolding arc-from-rotation
+returns c =
+    let text = c .before .before .before .before .args .text .now in
+    step text (omega arith) (number text) (arc-from-large-flag text) (large-flag-starts text) _ _ _ _ (c .before .before .read-number .ensures) (c .before .past-separator .ensures) (c .arc-from-large-flag .ensures)
+
+pub arc-from-rotation-spec : {M : Type 1} → statement M
+arc-from-rotation-spec =
+    tie.close
+    (tie.spec (λ c κs. search needs) (λ c κs. search needs) (λ c κs. search needs) returns)

@@ -1,0 +1,86 @@
+// Arguments of several words, each the first word, a separator or none, and the rest.
+use crate::words::past_separator;
+use crate::words::read_flag;
+use crate::words::read_number;
+ghost use Rattle.strict_grammar.specs.Grammar.{coordinate-pair, smooth-curveto-argument, curveto-argument, elliptical-arc-argument};
+ghost use Rattle.strict_argument.specs.Reading.{Reads, arc-from-radius, arc-from-rotation, arc-from-large-flag, arc-from-sweep-flag, argumentOf};
+
+// What a command's sequence of arguments is made of.
+pub enum Kind {
+    Coordinate,
+    Pair,
+    TwoPairs,
+    ThreePairs,
+    Arc,
+}
+
+fn pair(text: &[u8], at: usize) -> usize
+    ensures { λ r. ⌜ Reads (coordinate-pair (now (text .entry))) at r ⌝ }
+{
+    let end = read_number(text, at);
+    read_number(text, past_separator(text, end))
+}
+
+// The argument of a smooth curve and of a quadratic one.
+fn two_pairs(text: &[u8], at: usize) -> usize
+    ensures { λ r. ⌜ Reads (smooth-curveto-argument (now (text .entry))) at r ⌝ }
+{
+    let end = pair(text, at);
+    pair(text, past_separator(text, end))
+}
+
+fn three_pairs(text: &[u8], at: usize) -> usize
+    ensures { λ r. ⌜ Reads (curveto-argument (now (text .entry))) at r ⌝ }
+{
+    let end = pair(text, at);
+    two_pairs(text, past_separator(text, end))
+}
+
+fn arc_from_sweep_flag(text: &[u8], at: usize) -> usize
+    ensures { λ r. ⌜ Reads (arc-from-sweep-flag (now (text .entry))) at r ⌝ }
+{
+    let end = read_flag(text, at);
+    pair(text, past_separator(text, end))
+}
+
+fn arc_from_large_flag(text: &[u8], at: usize) -> usize
+    ensures { λ r. ⌜ Reads (arc-from-large-flag (now (text .entry))) at r ⌝ }
+{
+    let end = read_flag(text, at);
+    arc_from_sweep_flag(text, past_separator(text, end))
+}
+
+fn arc_from_rotation(text: &[u8], at: usize) -> usize
+    ensures { λ r. ⌜ Reads (arc-from-rotation (now (text .entry))) at r ⌝ }
+{
+    let end = read_number(text, at);
+    arc_from_large_flag(text, past_separator(text, end))
+}
+
+// From the second radius.
+fn arc_from_radius(text: &[u8], at: usize) -> usize
+    ensures { λ r. ⌜ Reads (arc-from-radius (now (text .entry))) at r ⌝ }
+{
+    let end = read_number(text, at);
+    arc_from_rotation(text, past_separator(text, end))
+}
+
+fn arc(text: &[u8], at: usize) -> usize
+    ensures { λ r. ⌜ Reads (elliptical-arc-argument (now (text .entry))) at r ⌝ }
+{
+    let end = read_number(text, at);
+    arc_from_radius(text, past_separator(text, end))
+}
+
+// One argument of a kind.
+pub fn read_argument(text: &[u8], at: usize, kind: Kind) -> usize
+    ensures { λ r. ⌜ Reads (argumentOf (now (text .entry)) kind) at r ⌝ }
+{
+    match kind {
+        Kind::Coordinate => read_number(text, at),
+        Kind::Pair => pair(text, at),
+        Kind::TwoPairs => two_pairs(text, at),
+        Kind::ThreePairs => three_pairs(text, at),
+        Kind::Arc => arc(text, at),
+    }
+}

@@ -1,0 +1,195 @@
+// One group of each kind, read into a command.
+ghost use mathlib.Core.Path.{_≡_};
+ghost use Rattle.svg_group.specs.Groups.{readMoveOf, readLineOf, readHorizontalOf, readVerticalOf, readCubicOf, readQuadOf, readArcOf, readGroupOf};
+use crate::letters::Kind;
+use crate::numbers::Flags;
+use crate::numbers::Pair;
+use crate::numbers::read_flags;
+use crate::numbers::read_number;
+use crate::numbers::read_pair;
+use answers::Refusal;
+use commands::PathCommand;
+use decimal::Read;
+use math::Point;
+
+// The command and the place past its group.
+pub enum Group {
+    Taken { command: PathCommand, next: usize },
+    Refused(Refusal),
+}
+
+fn read_move(text: &[u8], at: usize, relative: bool, current: Point) -> Group
+    ensures { λ r. ⌜ r ≡ readMoveOf (now (text .entry)) at relative current ⌝ }
+{
+    match read_pair(text, at, relative, current) {
+        Pair::Refused(refusal) => Group::Refused(refusal),
+        Pair::Taken { point, next } => Group::Taken {
+            command: PathCommand::MoveTo(point),
+            next,
+        },
+    }
+}
+
+fn read_line(text: &[u8], at: usize, relative: bool, current: Point) -> Group
+    ensures { λ r. ⌜ r ≡ readLineOf (now (text .entry)) at relative current ⌝ }
+{
+    match read_pair(text, at, relative, current) {
+        Pair::Refused(refusal) => Group::Refused(refusal),
+        Pair::Taken { point, next } => Group::Taken {
+            command: PathCommand::LineTo(point),
+            next,
+        },
+    }
+}
+
+fn read_horizontal(text: &[u8], at: usize, relative: bool, current: Point) -> Group
+    ensures { λ r. ⌜ r ≡ readHorizontalOf (now (text .entry)) at relative current ⌝ }
+{
+    match read_number(text, at) {
+        Read::Refused(refusal) => Group::Refused(refusal),
+        Read::Value(value, next) => {
+            let y = current.y;
+            if relative {
+                let end = Point {
+                    x: current.x + value,
+                    y,
+                };
+                return Group::Taken {
+                    command: PathCommand::LineTo(end),
+                    next,
+                };
+            }
+            let end = Point { x: value, y };
+            Group::Taken {
+                command: PathCommand::LineTo(end),
+                next,
+            }
+        }
+    }
+}
+
+fn read_vertical(text: &[u8], at: usize, relative: bool, current: Point) -> Group
+    ensures { λ r. ⌜ r ≡ readVerticalOf (now (text .entry)) at relative current ⌝ }
+{
+    match read_number(text, at) {
+        Read::Refused(refusal) => Group::Refused(refusal),
+        Read::Value(value, next) => {
+            let x = current.x;
+            if relative {
+                let end = Point {
+                    x,
+                    y: current.y + value,
+                };
+                return Group::Taken {
+                    command: PathCommand::LineTo(end),
+                    next,
+                };
+            }
+            let end = Point { x, y: value };
+            Group::Taken {
+                command: PathCommand::LineTo(end),
+                next,
+            }
+        }
+    }
+}
+
+fn read_cubic(text: &[u8], at: usize, relative: bool, current: Point) -> Group
+    ensures { λ r. ⌜ r ≡ readCubicOf (now (text .entry)) at relative current ⌝ }
+{
+    match read_pair(text, at, relative, current) {
+        Pair::Refused(refusal) => Group::Refused(refusal),
+        Pair::Taken { point, next } => match read_pair(text, next, relative, current) {
+            Pair::Refused(refusal) => Group::Refused(refusal),
+            Pair::Taken {
+                point: second,
+                next: third,
+            } => match read_pair(text, third, relative, current) {
+                Pair::Refused(refusal) => Group::Refused(refusal),
+                Pair::Taken {
+                    point: end,
+                    next: past,
+                } => Group::Taken {
+                    command: PathCommand::CubicTo {
+                        control1: point,
+                        control2: second,
+                        end,
+                    },
+                    next: past,
+                },
+            },
+        },
+    }
+}
+
+fn read_quad(text: &[u8], at: usize, relative: bool, current: Point) -> Group
+    ensures { λ r. ⌜ r ≡ readQuadOf (now (text .entry)) at relative current ⌝ }
+{
+    match read_pair(text, at, relative, current) {
+        Pair::Refused(refusal) => Group::Refused(refusal),
+        Pair::Taken { point, next } => match read_pair(text, next, relative, current) {
+            Pair::Refused(refusal) => Group::Refused(refusal),
+            Pair::Taken {
+                point: end,
+                next: past,
+            } => Group::Taken {
+                command: PathCommand::QuadTo {
+                    control: point,
+                    end,
+                },
+                next: past,
+            },
+        },
+    }
+}
+
+// The radii are no point of the plane, and are never added to one.
+fn read_arc(text: &[u8], at: usize, relative: bool, current: Point) -> Group
+    ensures { λ r. ⌜ r ≡ readArcOf (now (text .entry)) at relative current ⌝ }
+{
+    match read_pair(text, at, false, current) {
+        Pair::Refused(refusal) => Group::Refused(refusal),
+        Pair::Taken {
+            point: radii,
+            next: second,
+        } => match read_number(text, second) {
+            Read::Refused(refusal) => Group::Refused(refusal),
+            Read::Value(rotation, third) => match read_flags(text, third) {
+                Flags::Refused(refusal) => Group::Refused(refusal),
+                Flags::Taken { large, sweep, next } => {
+                    match read_pair(text, next, relative, current) {
+                        Pair::Refused(refusal) => Group::Refused(refusal),
+                        Pair::Taken {
+                            point: end,
+                            next: past,
+                        } => Group::Taken {
+                            command: PathCommand::ArcTo {
+                                radii,
+                                rotation,
+                                large_arc: large,
+                                sweep,
+                                end,
+                            },
+                            next: past,
+                        },
+                    }
+                }
+            },
+        },
+    }
+}
+
+// One group of a kind; `relative` says that its points are added to the current one.
+pub fn read_group(text: &[u8], at: usize, kind: Kind, relative: bool, current: Point) -> Group
+    ensures { λ r. ⌜ r ≡ readGroupOf (now (text .entry)) at kind relative current ⌝ }
+{
+    match kind {
+        Kind::Move => read_move(text, at, relative, current),
+        Kind::Line => read_line(text, at, relative, current),
+        Kind::Horizontal => read_horizontal(text, at, relative, current),
+        Kind::Vertical => read_vertical(text, at, relative, current),
+        Kind::Cubic => read_cubic(text, at, relative, current),
+        Kind::Quad => read_quad(text, at, relative, current),
+        Kind::Arc => read_arc(text, at, relative, current),
+    }
+}
