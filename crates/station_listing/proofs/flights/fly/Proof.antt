@@ -9,6 +9,12 @@ use Rattle.station_listing.proofs.Lent.{places-few, held-few, room, siz
 use Rattle.station_listing.proofs.flights.fly.Statement.{statement}
 use Rattle.station_listing.proofs.flights.fly.Tie as tie
 
+slice-aggregate-fill : tie.Need-slice-aggregate-fill
+slice-aggregate-fill c = search needs
+
+slice-aggregate-fill-2 : tie.Need-slice-aggregate-fill-2
+slice-aggregate-fill-2 c = search needs
+
 fill-requires : tie.Need-fill-requires
 fill-requires c κs =
     let a = c .before .before .before .before .args in
@@ -29,6 +35,18 @@ array-share-prefix-numbers c =
 
 slice-aggregate-build-listed-2 : tie.Need-slice-aggregate-build-listed-2
 slice-aggregate-build-listed-2 c = sym (length-take-le _ _ (array-share-prefix-numbers (c .before)))
+
+slice-aggregate-build-listed-3 : tie.Need-slice-aggregate-build-listed-3
+slice-aggregate-build-listed-3 c = search needs
+
+slice-aggregate-build-listed-4 : tie.Need-slice-aggregate-build-listed-4
+slice-aggregate-build-listed-4 c = search needs
+
+slice-aggregate-build-listed-5 : tie.Need-slice-aggregate-build-listed-5
+slice-aggregate-build-listed-5 c = search needs
+
+slice-aggregate-build-listed-6 : tie.Need-slice-aggregate-build-listed-6
+slice-aggregate-build-listed-6 c = search needs
 
 build-listed-requires : tie.Need-build-listed-requires
 build-listed-requires c κs =
@@ -92,10 +110,10 @@ returns-2 c =
 pub fly-spec : {M : Type 1} → statement M
 fly-spec =
     tie.close
-    (tie.spec (λ c. search needs) (λ c. search needs) fill-requires array-share-prefix-letters
-    slice-aggregate-build-listed array-share-prefix-numbers slice-aggregate-build-listed-2 (λ c. search needs)
-    (λ c. search needs) (λ c. search needs) (λ c. search needs) build-listed-requires (λ c. search needs)
-    (λ c κs. search needs) (λ c. search needs) returns (λ c. search needs) array-share-prefix-kinds
-    slice-aggregate-print array-share-prefix-fields slice-aggregate-print-2 array-share-prefix-tables
-    slice-aggregate-print-3 array-share-prefix-lengths slice-aggregate-print-4 print-requires (λ c. search needs)
-    returns-2)
+    (tie.spec slice-aggregate-fill slice-aggregate-fill-2 fill-requires array-share-prefix-letters
+    slice-aggregate-build-listed array-share-prefix-numbers slice-aggregate-build-listed-2
+    slice-aggregate-build-listed-3 slice-aggregate-build-listed-4 slice-aggregate-build-listed-5
+    slice-aggregate-build-listed-6 build-listed-requires (λ c. search needs) (λ c κs. search needs)
+    (λ c. search needs) returns (λ c. search needs) array-share-prefix-kinds slice-aggregate-print
+    array-share-prefix-fields slice-aggregate-print-2 array-share-prefix-tables slice-aggregate-print-3
+    array-share-prefix-lengths slice-aggregate-print-4 print-requires (λ c. search needs) returns-2)
