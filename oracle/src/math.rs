@@ -69,7 +69,7 @@ const HELPERS: [Helper; 17] = [
         letter: 'm',
         count: 2,
         ours: |v| Number(kihavute::min(v[0], v[1])),
-        theirs: |v| number(if v[0] == v[1] { v[0] } else { v[0].min(v[1]) }),
+        theirs: |v| number(if v[0] == v[1] { v[0] } else { quiet(v[0]).min(quiet(v[1])) }),
         within: anywhere,
     },
     Helper {
@@ -77,7 +77,7 @@ const HELPERS: [Helper; 17] = [
         letter: 'M',
         count: 2,
         ours: |v| Number(kihavute::max(v[0], v[1])),
-        theirs: |v| number(if v[0] == v[1] { v[0] } else { v[0].max(v[1]) }),
+        theirs: |v| number(if v[0] == v[1] { v[0] } else { quiet(v[0]).max(quiet(v[1])) }),
         within: anywhere,
     },
     Helper {
@@ -227,6 +227,12 @@ pub fn point(v: [f32; 2]) -> Answer {
 /// The bits of a float, NaNs all alike.
 pub fn alike(x: f32) -> u32 {
     if x.is_nan() { 0x7FC0_0000 } else { x.to_bits() }
+}
+
+// The same number, and the quiet NaN for any NaN: aarch64's minimum of a signalling NaN is a NaN, where that of
+// x86-64, and the words of the standard library, give the other operand.
+fn quiet(x: f32) -> f32 {
+    if x.is_nan() { f32::NAN } else { x }
 }
 
 impl Helper {

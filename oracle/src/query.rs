@@ -4,7 +4,7 @@
 use crate::build;
 use crate::compare::{Input, Report};
 use crate::math::alike;
-use crate::samples::Stream;
+use crate::samples::{Stream, worked_out};
 use animato_path::bezier::PathEvaluate;
 use animato_path::poly::{CompoundPath, PathCommand};
 use kihavute::{Path, Progress};
@@ -132,7 +132,7 @@ fn progresses(stream: &mut Stream, commands: &[PathCommand]) -> Vec<f32> {
     let (lengths, total) = path.open_lengths();
     let mut all = vec![0.0, 1.0, -0.0, f32::NAN, -1.0, 2.0, f32::INFINITY, f32::NEG_INFINITY, f32::MIN_POSITIVE];
     for length in lengths {
-        let bits = (length / total).to_bits();
+        let bits = worked_out(length / total);
         all.extend([bits, bits.wrapping_sub(1), bits.wrapping_add(1)].map(f32::from_bits));
     }
     while all.len() < 100 {

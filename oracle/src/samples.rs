@@ -75,6 +75,13 @@ pub const SPECIALS: [u32; 40] = [
     0xBF00_0000, // -1/2
 ];
 
+/// The bits of a number that was worked out. Which NaN an operation gives is the processor's choice (that of x86-64
+/// has its sign set, that of aarch64 has not), so every NaN is the same one here: a seed gives the same inputs on
+/// every machine.
+pub fn worked_out(x: f32) -> u32 {
+    if x.is_nan() { 0xFFC0_0000 } else { x.to_bits() }
+}
+
 /// A way to draw operands.
 #[derive(Clone, Copy)]
 pub enum Kind {

@@ -3,7 +3,7 @@
 
 use crate::compare::{Input, Report};
 use crate::math::alike;
-use crate::samples::{SPECIALS, Stream};
+use crate::samples::{SPECIALS, Stream, worked_out};
 use crate::simple::{effort, simpler_floats};
 use animato_path::bezier::{self, CatmullRomSpline, CubicBezierCurve, QuadBezier};
 use animato_path::poly::{self, CompoundPath, LineSegment, PathSegment};
@@ -256,8 +256,8 @@ pub fn progress(lengths: &[f32], total: f32, stream: &mut Stream) -> u32 {
         0 => stream.bits(),
         1 => SPECIALS[stream.below(SPECIALS.len() as u32) as usize],
         2..4 => (stream.below(1 << 24) as f32 / 16_777_216.0).to_bits(),
-        4..7 => (any(stream) / total).to_bits().wrapping_add(stream.below(5)).wrapping_sub(2),
-        _ => ((any(stream) * 0.5 + any(stream) * 0.5) / total).to_bits(),
+        4..7 => worked_out(any(stream) / total).wrapping_add(stream.below(5)).wrapping_sub(2),
+        _ => worked_out((any(stream) * 0.5 + any(stream) * 0.5) / total),
     }
 }
 
