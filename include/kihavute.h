@@ -447,9 +447,9 @@ uint32_t kihavute_positions(const uint8_t *kinds, size_t kinds_len, const float 
  * hexadecimal digits of their bits; or, for a plan that is refused, one line: `refused`, the number and what it carries. */
 
 /* Writes the listing of a plan from the start of output: answer[0] gets how many bytes it has, and what stands past them stays.
- * A plan that is refused is accepted here: its listing says so. Refused with 8, and answer[0] is 65,536, where output has
- * fewer than 65,536 places, which every listing fits in; then nothing is written. It holds the buffers of a path on its stack:
- * call it from a thread with more than 64 KiB. */
+ * A plan that is refused is accepted here: its listing says so. Refused with 8, and answer[0] is how many bytes the listing
+ * has, where output has fewer places; then nothing is written. Every listing fits in 65,536. It holds the buffers of a path on
+ * its stack: call it from a thread with more than 64 KiB. */
 uint32_t kihavute_stations(const uint8_t *input, size_t input_len, uint8_t *output, size_t output_len,
                            uint64_t *answer, size_t answer_len);
 

@@ -24,8 +24,8 @@ pub fn listing(plan: &[u8]) -> Vec<u8> {
     out
 }
 
-/// Writes that listing from the start of a lent output: how many bytes it has. Refused with 8, which carries `LISTING`, where
-/// the output is shorter than that; it is then left as it was.
+/// Writes that listing from the start of a lent output: how many bytes it has. Refused with 8, which carries that count, where
+/// the output is shorter; it is then left as it was.
 pub fn listing_into(plan: &[u8], out: &mut [u8]) -> Result<usize, Refusal> {
     // SAFETY: each pointer is good for the length beside it, no two overlap, and the library keeps none
     let given = crate::judged(|answer, places| unsafe {
@@ -41,10 +41,14 @@ mod tests {
 
     #[test]
     fn a_short_output_is_left_as_it_was() {
-        let mut out = vec![7; LISTING - 1];
-        let refusal = listing_into(b"3\nM0 0L3 4", &mut out).expect_err("it is one byte short");
-        assert_eq!(refusal.reason(), Reason::NoRoom { needed: [LISTING as u64, 0, 0, 0] });
+        let plan = b"3\nM0 0L3 4";
+        let due = listing(plan);
+        let mut out = vec![7; due.len()];
+        let refusal = listing_into(plan, &mut out[1..]).expect_err("it is one byte short");
+        assert_eq!(refusal.reason(), Reason::NoRoom { needed: [due.len() as u64, 0, 0, 0] });
         assert!(out.iter().all(|byte| *byte == 7));
+        assert_eq!(listing_into(plan, &mut out), Ok(due.len()));
+        assert_eq!(out, due);
     }
 
     #[test]

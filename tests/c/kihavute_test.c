@@ -943,8 +943,16 @@ static void stations(void) {
     fresh();
     answered("a plan, a short answer", kihavute_stations(input, input_len, out, 65536, answer, 7), 255, 0, NULL);
     fresh();
-    answered("a plan, a short output", kihavute_stations(input, input_len, out, 65535, answer, PLACES), 8, 1, (uint64_t[]){65536});
-    same("nothing written", out[0], 9);
+    answered("a plan, no output", kihavute_stations(input, input_len, out, 0, answer, PLACES), 8, 1, (uint64_t[]){due_len});
+    fresh();
+    answered("a plan, a short output", kihavute_stations(input, input_len, out, due_len - 1, answer, PLACES), 8, 1, (uint64_t[]){due_len});
+    size_t untouched = 0;
+    while (untouched < sizeof out && out[untouched] == 9) untouched++;
+    same("nothing written", untouched, sizeof out);
+    fresh();
+    answered("01's example, just enough room", kihavute_stations(input, input_len, out, due_len, answer, PLACES), 0, 1, (uint64_t[]){due_len});
+    same("its bytes", memcmp(out, due, due_len), 0);
+    memset(out, 9, sizeof out);
     fresh();
     answered("01's example", kihavute_stations(input, input_len, out, 65536, answer, PLACES), 0, 1, (uint64_t[]){due_len});
     same("its bytes", memcmp(out, due, due_len), 0);

@@ -2,6 +2,7 @@
 use Prim.Native.Nat.{ℕ, _≤_, _<_}
 use mathlib.Core.Path.{_≡_, refl, sym, ap, _∙_}
 use mathlib.Core.List.{List, [], _∷_}
+use native.Mathlib.Omega.{arith}
 use borrow.Author.Tests.{lt-ltb, le-ltb}
 use lib.ListN.{length}
 use Rattle.answers.specs.Answers.{accepted, refused}
@@ -17,21 +18,23 @@ module _ (input output answer : List ℕ) where
   pub not-listed : length answer < 8 → PlanListed input output answer 255 output answer
   not-listed h = record { given = given-short (listingGiven input output) answer h; bytes = rw (lt-ltb (length answer) 8 h) }
 
-  module _ (answer′ : List ℕ) (returned : ℕ) (long : 8 ≤ length answer) where
-    pub no-room : length output < 65536 → Given (refused (NoRoom (One 65536))) answer returned answer′ → PlanListed input output answer returned output answer′
+  module _ (answer′ output′ : List ℕ) (r returned : ℕ) (long : 8 ≤ length answer) (p : Stations input output r output′) where
+    size : r ≡ length (stationsOf input)
+    size = p .takes .count
+
+    pub no-room : length output < r → Given (refused (NoRoom (One r))) answer returned answer′ → PlanListed input output answer returned output′ answer′
     no-room h g =
+        let less : length output < length (stationsOf input) = omega (arith, size) in
         record {
-          given = given-same _ _ (rw (lt-ltb (length output) 65536 h) refl) g;
-          bytes = rw (le-ltb (length answer) 8 long, lt-ltb (length output) 65536 h) refl;
+          given = given-same _ _ (ap (λ (n : ℕ). refused (NoRoom (One n))) size ∙ rw (lt-ltb (length output) (length (stationsOf input)) less) refl) g;
+          bytes = rw (le-ltb (length answer) 8 long) (p .bytes);
         }
 
-    pub listed :
-        (r : ℕ) (output′ : List ℕ) → 65536 ≤ length output → Stations input output r output′ → Given (accepted (r ∷ [])) answer returned answer′
-        → PlanListed input output answer returned output′ answer′
-    listed r output′ h p g =
-        let n : r ≡ length (stationsOf input) = p .count ∙ rw (le-ltb (length output) 65536 h) refl in
+    pub listed : r ≤ length output → Given (accepted (r ∷ [])) answer returned answer′ → PlanListed input output answer returned output′ answer′
+    listed h g =
+        let room : length (stationsOf input) ≤ length output = omega (arith, size) in
         record {
-          given = given-same _ _ (ap (λ (n : ℕ). accepted (n ∷ [])) n ∙ rw (le-ltb (length output) 65536 h) refl) g;
+          given = given-same _ _ (ap (λ (n : ℕ). accepted (n ∷ [])) size ∙ rw (le-ltb (length output) (length (stationsOf input)) room) refl) g;
           bytes = rw (le-ltb (length answer) 8 long) (p .bytes);
         }
 

@@ -12,11 +12,11 @@ use Rattle.station_listing.specs.Stations as Tool
 use Rattle.station_listing.specs.Stations.{stationsOf}
 use Rattle.c_answer.specs.Given.{Given}
 
--- the listing's length, or 8 with the places that every listing fits
+-- the listing's length, or 8 with that length
 abbrev pub listingGiven : List ℕ → List ℕ → Answer
-listingGiven input output = cond (Tool.short output) (refused (NoRoom (One 65536))) (accepted (length (stationsOf input) ∷ []))
+listingGiven input output = cond (Tool.short input output) (refused (NoRoom (One (length (stationsOf input))))) (accepted (length (stationsOf input) ∷ []))
 
 -- the listing is written from the output's start; with an answer or an output that is too short nothing is
 pub record PlanListed (input output answer : List ℕ) (returned : ℕ) (output′ answer′ : List ℕ) : Type 0 where
   pub given : Given (listingGiven input output) answer returned answer′
-  pub bytes : output′ ≡ cond (short answer) output (cond (Tool.short output) output (written (stationsOf input) output))
+  pub bytes : output′ ≡ cond (short answer) output (cond (Tool.short input output) output (written (stationsOf input) output))

@@ -81,10 +81,10 @@ module _ (text before out : List ℕ) (from : ℕ) (reader : Reader) (at : ℕ) 
     more : Known text next (k .done ++ (command ∷ []))
     more = known-more text reader (k .done) (k .known) command next e
 
-    pub line-room : from + 16640 ≤ length before → at + 65 ≤ length out
+    pub line-room : from + 16640 ≤ 65536 → at + 65 ≤ 65536
     line-room h =
         let w = few-of (k .done ++ (command ∷ [])) (commandsOf text) (readFrom (more .steps) text next) (k .few) (more .whole) in
-        omega (arith, w, length-append (k .done) (command ∷ []), same-out, k .within)
+        omega (arith, w, length-append (k .done) (command ∷ []), k .within)
 
     pub listing-more : (out′ : List ℕ) (at′ : ℕ) → PutWithin 65 (commandLine command) at out out′ at′ → Listing text before out′ from next at′
     listing-more out′ at′ p =

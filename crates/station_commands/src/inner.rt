@@ -1,4 +1,5 @@
-// The passes ask that the path is short and that what they write has room; the tool's work is proved to meet that.
+// The passes ask that the path is short, that what they store has room and that what they list ends within the places of a listing; the tool's
+// work is proved to meet that.
 ghost use mathlib.Core.Path.{_≡_};
 ghost use Prim.Native.Nat.{_+_, _≤_};
 ghost use lib.ListN.{length, drop};
@@ -69,7 +70,7 @@ pub fn fill(input: &[u8], start: usize, letters: &mut [u8], numbers: &mut [f32])
 
 // Puts a line for each command of a path that reads and has at most 256, from `from` on, and gives the place past them.
 pub fn list(input: &[u8], start: usize, out: &mut [u8], from: usize) -> usize
-    requires { ⌜ FewCommands (commandsOf (drop start (now input))) × (from + 16640 ≤ length (now out)) ⌝ }
+    requires { ⌜ FewCommands (commandsOf (drop start (now input))) × (from + 16640 ≤ 65536) ⌝ }
     ensures { λ r. ⌜ Listed (commandsOf (drop start (now (input .entry)))) from (now (out .entry)) (now (out .exit)) r ⌝ }
 {
     let mut reader = fresh();

@@ -1,5 +1,5 @@
 -- What is put after what is put is put together. Assumes nothing.
-use Prim.Native.Nat.{ℕ, suc, _+_, _≤_, _<_}
+use Prim.Native.Nat.{ℕ, zero, suc, _+_, _≤_, _<_}
 use mathlib.Core.Path.{_≡_, refl, sym, ap, _∙_}
 use mathlib.Core.List.{List, [], _∷_, _++_}
 use native.Mathlib.Omega.{arith}
@@ -14,6 +14,15 @@ sets-append [] ys l i = let z : i + 0 ≡ i = omega arith in ap (λ (k : ℕ). s
 sets-append (x ∷ xs) ys l i =
     let z : i + suc (length xs) ≡ suc i + length xs = omega arith in
     ap (λ (k : ℕ). sets (sets (set l i x) (suc i) xs) k ys) z ∙ sets-append xs ys (set l i x) (suc i)
+
+-- past its end a list stays
+set-past : (l : List ℕ) (i x : ℕ) → length l ≤ i → set l i x ≡ l
+set-past [] i x h = refl
+set-past (y ∷ l) zero x h = absurd (omega arith)
+set-past (y ∷ l) (suc i) x h = ap (λ (m : List ℕ). y ∷ m) (set-past l i x (omega arith))
+
+pub put-past : (byte at : ℕ) (before : List ℕ) → length before ≤ at → Put (byte ∷ []) at before before (at + 1)
+put-past byte at before h = record { memory = sym (set-past before at byte h); past = refl }
 
 pub put-none : (at : ℕ) (before : List ℕ) → Put [] at before before at
 put-none at before = record { memory = refl; past = omega arith }
@@ -50,16 +59,12 @@ put-next word i at place before now after next h p q =
 pub put-all : {word : List ℕ} {i at place : ℕ} {before now : List ℕ} → i ≤ length word → length word ≤ i → Put (take i word) at before now place → Put word at before now place
 put-all {word} {i} g h p = put-same p word (take-all i word h)
 
--- what follows has room
-pub put-room : {xs : List ℕ} {at : ℕ} {before after : List ℕ} {next : ℕ} (p : Put xs at before after next) (more : ℕ) → at + length xs + more ≤ length before → next + more ≤ length after
-put-room p more h = omega (arith, put-length p, p .past)
-
 pub word-room :
     (word : List ℕ) (i at place : ℕ) (before now : List ℕ)
-    → i < length word → Put (take i word) at before now place → at + length word ≤ length before → place < length now
+    → i < length word → Put (take i word) at before now place → at + length word ≤ 65536 → place < 65536
 word-room word i at place before now h p fits =
     let l : length (take i word) ≡ i = length-take-le i word (omega arith) in
-    omega (arith, put-length p, p .past)
+    omega (arith, p .past)
 
 -- ---- with a bound
 

@@ -1,4 +1,5 @@
--- Bytes put at a place of a buffer: they stand there, all else is as it was, and the place past them is returned. Definitions only.
+-- Bytes put at a place of a buffer: they stand there, all else is as it was, and the place past them is returned. What is past the buffer's end
+-- is left out (`sets` stores nothing there), and the place returned is the same. Definitions only.
 use Prim.Native.Nat.{ℕ, _+_, _≤_}
 use mathlib.Core.Path.{_≡_}
 use mathlib.Core.List.{List}

@@ -17,7 +17,7 @@ use commands::PathCommand;
 use math::Point;
 
 fn put_point(out: &mut [u8], at: usize, point: Point) -> usize
-    requires { ⌜ at + 18 ≤ length (now out) ⌝ }
+    requires { ⌜ at + 18 ≤ 65536 ⌝ }
     ensures { λ r. ⌜ PutWithin 18 (pointFields point) at (now (out .entry)) (now (out .exit)) r ⌝ }
 {
     let place = put_bits(out, at, point.x);
@@ -25,7 +25,7 @@ fn put_point(out: &mut [u8], at: usize, point: Point) -> usize
 }
 
 fn put_flag(out: &mut [u8], at: usize, flag: bool) -> usize
-    requires { ⌜ at + 9 ≤ length (now out) ⌝ }
+    requires { ⌜ at + 9 ≤ 65536 ⌝ }
     ensures { λ r. ⌜ PutWithin 9 (bitsField (flagOf flag)) at (now (out .entry)) (now (out .exit)) r ⌝ }
 {
     if flag {
@@ -35,7 +35,7 @@ fn put_flag(out: &mut [u8], at: usize, flag: bool) -> usize
 }
 
 fn put_quad(out: &mut [u8], at: usize, control: Point, end: Point) -> usize
-    requires { ⌜ at + 36 ≤ length (now out) ⌝ }
+    requires { ⌜ at + 36 ≤ 65536 ⌝ }
     ensures { λ r. ⌜ PutWithin 36 (argumentFields (PathCommand.QuadTo control end)) at (now (out .entry)) (now (out .exit)) r ⌝ }
 {
     let place = put_point(out, at, control);
@@ -51,7 +51,7 @@ fn put_arc(
     sweep: bool,
     end: Point,
 ) -> usize
-    requires { ⌜ at + 63 ≤ length (now out) ⌝ }
+    requires { ⌜ at + 63 ≤ 65536 ⌝ }
     ensures { λ r. ⌜ PutWithin 63 (argumentFields (PathCommand.ArcTo radii rotation «large_arc» sweep end)) at (now (out .entry)) (now (out .exit)) r ⌝ }
 {
     let past_radii = put_point(out, at, radii);
@@ -63,7 +63,7 @@ fn put_arc(
 
 // The numbers of a command.
 fn put_arguments(out: &mut [u8], at: usize, command: PathCommand) -> usize
-    requires { ⌜ at + 63 ≤ length (now out) ⌝ }
+    requires { ⌜ at + 63 ≤ 65536 ⌝ }
     ensures { λ r. ⌜ PutWithin 63 (argumentFields command) at (now (out .entry)) (now (out .exit)) r ⌝ }
 {
     match command {
@@ -101,7 +101,7 @@ fn put_arguments(out: &mut [u8], at: usize, command: PathCommand) -> usize
 
 // A command: its letter and its numbers as bits.
 pub fn put_command(out: &mut [u8], at: usize, command: PathCommand) -> usize
-    requires { ⌜ at + 65 ≤ length (now out) ⌝ }
+    requires { ⌜ at + 65 ≤ 65536 ⌝ }
     ensures { λ r. ⌜ PutWithin 65 (commandLine command) at (now (out .entry)) (now (out .exit)) r ⌝ }
 {
     let past_letter = put_byte(out, at, commands::letter(command));
@@ -111,7 +111,7 @@ pub fn put_command(out: &mut [u8], at: usize, command: PathCommand) -> usize
 
 // The name of a segment's kind.
 fn put_kind(out: &mut [u8], at: usize, kind: u8) -> usize
-    requires { ⌜ at + 8 ≤ length (now out) ⌝ }
+    requires { ⌜ at + 8 ≤ 65536 ⌝ }
     ensures { λ r. ⌜ PutWithin 8 (kindName kind) at (now (out .entry)) (now (out .exit)) r ⌝ }
 {
     if kind == 0 {
@@ -131,7 +131,7 @@ fn put_kind(out: &mut [u8], at: usize, kind: u8) -> usize
 
 // A segment: the name of its kind and its running length.
 pub fn put_segment(out: &mut [u8], at: usize, kind: u8, running: f32) -> usize
-    requires { ⌜ at + 18 ≤ length (now out) ⌝ }
+    requires { ⌜ at + 18 ≤ 65536 ⌝ }
     ensures { λ r. ⌜ PutWithin 18 (segmentLine kind running) at (now (out .entry)) (now (out .exit)) r ⌝ }
 {
     let past_kind = put_kind(out, at, kind);
@@ -141,7 +141,7 @@ pub fn put_segment(out: &mut [u8], at: usize, kind: u8, running: f32) -> usize
 
 // A section's word and its count.
 pub fn put_header(out: &mut [u8], at: usize, word: &[u8], count: usize) -> usize
-    requires { ⌜ at + (length (now word) + 22) ≤ length (now out) ⌝ }
+    requires { ⌜ at + (length (now word) + 22) ≤ 65536 ⌝ }
     ensures { λ r. ⌜ PutWithin (length (now (word .entry)) + 22) (headerLine (now (word .entry)) count) at (now (out .entry)) (now (out .exit)) r ⌝ }
 {
     let past_word = put_word(out, at, word);
@@ -156,7 +156,7 @@ pub enum Found {
 }
 
 fn put_found(out: &mut [u8], at: usize, found: Found) -> usize
-    requires { ⌜ FewSegments found × (at + 4 ≤ length (now out)) ⌝ }
+    requires { ⌜ FewSegments found × (at + 4 ≤ 65536) ⌝ }
     ensures { λ r. ⌜ PutWithin 4 (segmentField found) at (now (out .entry)) (now (out .exit)) r ⌝ }
 {
     let place = put_byte(out, at, b' ');
@@ -179,7 +179,7 @@ pub fn put_station(
     position: Point,
     tangent: Point,
 ) -> usize
-    requires { ⌜ (number < 1000) × FewSegments found × (at + 44 ≤ length (now out)) ⌝ }
+    requires { ⌜ (number < 1000) × FewSegments found × (at + 44 ≤ 65536) ⌝ }
     ensures { λ r. ⌜ PutWithin 44 (stationLine number found position tangent) at (now (out .entry)) (now (out .exit)) r ⌝ }
 {
     let past_number = put_small(out, at, number);
@@ -190,7 +190,7 @@ pub fn put_station(
 }
 
 fn put_values(out: &mut [u8], at: usize, values: Values) -> usize
-    requires { ⌜ at + 84 ≤ length (now out) ⌝ }
+    requires { ⌜ at + 84 ≤ 65536 ⌝ }
     ensures { λ r. ⌜ PutWithin 84 (valueFields (listed values)) at (now (out .entry)) (now (out .exit)) r ⌝ }
 {
     match values {
@@ -215,7 +215,7 @@ fn put_values(out: &mut [u8], at: usize, values: Values) -> usize
 
 // What a refusal carries: a letter as itself, numbers to the base 10.
 fn put_carried(out: &mut [u8], at: usize, refusal: Refusal) -> usize
-    requires { ⌜ at + 84 ≤ length (now out) ⌝ }
+    requires { ⌜ at + 84 ≤ 65536 ⌝ }
     ensures { λ r. ⌜ PutWithin 84 (carriedFields refusal) at (now (out .entry)) (now (out .exit)) r ⌝ }
 {
     if let Refusal::UnsupportedCommand(letter, place) = refusal {
@@ -228,7 +228,7 @@ fn put_carried(out: &mut [u8], at: usize, refusal: Refusal) -> usize
 
 // A refusal: its number and what it carries.
 pub fn put_refusal(out: &mut [u8], at: usize, refusal: Refusal) -> usize
-    requires { ⌜ at + 113 ≤ length (now out) ⌝ }
+    requires { ⌜ at + 113 ≤ 65536 ⌝ }
     ensures { λ r. ⌜ PutWithin 113 (refusalLine refusal) at (now (out .entry)) (now (out .exit)) r ⌝ }
 {
     let past_word = put_word(out, at, b"refused");

@@ -1,4 +1,5 @@
-// Bytes, words and numbers at a place of a buffer. Each function returns the place past what it put.
+// Bytes, words and numbers at a place of a buffer. Each function returns the place past what it put. A byte past the buffer's end is not
+// stored but counted, so that a listing's length is found without room for it; no place is past 65,536.
 ghost use Prim.Native.Nat.{_+_, _≤_, _<_};
 ghost use mathlib.Core.Path.{_≡_};
 ghost use mathlib.Core.List.{[], _∷_};
@@ -7,15 +8,18 @@ ghost use Rattle.station_lines.specs.Numbers.{hexDigit, hexDigits, decim
 ghost use Rattle.station_lines.specs.Put.{Put, PutWithin};
 
 pub(crate) fn put_byte(out: &mut [u8], at: usize, byte: u8) -> usize
-    requires { ⌜ at < length (now out) ⌝ }
+    requires { ⌜ at < 65536 ⌝ }
     ensures { λ r. ⌜ Put (byte ∷ []) at (now (out .entry)) (now (out .exit)) r ⌝ }
 {
+    if out.len() <= at {
+        return at + 1;
+    }
     out[at] = byte;
     at + 1
 }
 
 pub(crate) fn put_word(out: &mut [u8], at: usize, word: &[u8]) -> usize
-    requires { ⌜ at + length (now word) ≤ length (now out) ⌝ }
+    requires { ⌜ at + length (now word) ≤ 65536 ⌝ }
     ensures { λ r. ⌜ Put (now (word .entry)) at (now (out .entry)) (now (out .exit)) r ⌝ }
 {
     let mut place = at;
@@ -40,7 +44,7 @@ fn hex_digit(value: u32) -> u8
 
 // The last `count` digits of a number to the base 16.
 fn put_hex(out: &mut [u8], at: usize, count: usize, value: u32) -> usize
-    requires { ⌜ at + count ≤ length (now out) ⌝ }
+    requires { ⌜ at + count ≤ 65536 ⌝ }
     ensures { λ r. ⌜ Put (hexDigits count value) at (now (out .entry)) (now (out .exit)) r ⌝ }
 {
     if count == 0 {
@@ -52,7 +56,7 @@ fn put_hex(out: &mut [u8], at: usize, count: usize, value: u32) -> usize
 
 // A number to the base 10.
 fn put_decimal(out: &mut [u8], at: usize, value: usize) -> usize
-    requires { ⌜ at + length (decimalOf value) ≤ length (now out) ⌝ }
+    requires { ⌜ at + length (decimalOf value) ≤ 65536 ⌝ }
     ensures { λ r. ⌜ Put (decimalOf value) at (now (out .entry)) (now (out .exit)) r ⌝ }
 {
     if value < 10 {
@@ -64,7 +68,7 @@ fn put_decimal(out: &mut [u8], at: usize, value: usize) -> usize
 
 // A number below 1,000 to the base 10.
 pub(crate) fn put_small(out: &mut [u8], at: usize, value: usize) -> usize
-    requires { ⌜ (value < 1000) × (at + 3 ≤ length (now out)) ⌝ }
+    requires { ⌜ (value < 1000) × (at + 3 ≤ 65536) ⌝ }
     ensures { λ r. ⌜ PutWithin 3 (decimalOf value) at (now (out .entry)) (now (out .exit)) r ⌝ }
 {
     put_decimal(out, at, value)
@@ -72,7 +76,7 @@ pub(crate) fn put_small(out: &mut [u8], at: usize, value: usize) -> usize
 
 // A space and a number to the base 10.
 pub(crate) fn put_number(out: &mut [u8], at: usize, value: usize) -> usize
-    requires { ⌜ at + 21 ≤ length (now out) ⌝ }
+    requires { ⌜ at + 21 ≤ 65536 ⌝ }
     ensures { λ r. ⌜ PutWithin 21 (numberField value) at (now (out .entry)) (now (out .exit)) r ⌝ }
 {
     let place = put_byte(out, at, b' ');
@@ -81,7 +85,7 @@ pub(crate) fn put_number(out: &mut [u8], at: usize, value: usize) -> usize
 
 // A space and the bits of a number, in eight digits to the base 16.
 pub(crate) fn put_bits(out: &mut [u8], at: usize, value: f32) -> usize
-    requires { ⌜ at + 9 ≤ length (now out) ⌝ }
+    requires { ⌜ at + 9 ≤ 65536 ⌝ }
     ensures { λ r. ⌜ PutWithin 9 (bitsField value) at (now (out .entry)) (now (out .exit)) r ⌝ }
 {
     let place = put_byte(out, at, b' ');

@@ -8,7 +8,7 @@ use lib.ListN.{length}
 use Rattle.svg.specs.Texts.{Outcome, commands, refusal}
 use Rattle.station_lines.specs.Lines.{headerLine}
 use Rattle.station_lines.specs.Put.{PutWithin}
-use Rattle.station_lines.proofs.Putting.{put-length, within-as, within-then}
+use Rattle.station_lines.proofs.Putting.{within-as, within-then}
 use Rattle.station_commands.specs.Passes.{FewCommands, Listed}
 use Rattle.station_sections.specs.Sections.{segmentLines, stationLines}
 use Rattle.station_listing.specs.Stations.{commandsWord, segmentsWord, stationsWord, sectionsOf, Sized, Printed}
@@ -17,8 +17,8 @@ pub few-commands : (o : Outcome) (places : ℕ) → Sized o places → FewComman
 few-commands (commands list) places k = k .1
 few-commands (refusal reason) places k = absurd k
 
-pub listed-within : (o : Outcome) (from : ℕ) (before after : List ℕ) (next : ℕ) → Listed o from before after next → (next ≤ from + 16640) × (length after ≡ length before)
-listed-within (commands list) from before after next p = (p .within, put-length (p .put))
+pub listed-within : (o : Outcome) (from : ℕ) (before after : List ℕ) (next : ℕ) → Listed o from before after next → next ≤ from + 16640
+listed-within (commands list) from before after next p = p .within
 listed-within (refusal reason) from before after next p = absurd p
 
 pub printed :

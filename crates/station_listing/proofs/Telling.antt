@@ -21,22 +21,31 @@ use Rattle.station_lines.proofs.Putting.{within-as}
 use Rattle.station_commands.specs.Passes.{sizeOf}
 use Rattle.station_commands.specs.declared.sizes.Size.{Size}
 use Rattle.station_commands.specs.declared.sizes.Size.the-variants.{Counted, Refused as Unmeasured}
-use Rattle.station_listing.specs.Stations.{readOf, planOf, judgedOf, stationsOf, Stations, Numbered, Told}
+use Rattle.station_listing.specs.Stations.{readOf, planOf, judgedOf, stationsOf, Takes, Stations, Numbered, Told}
 
 -- ---- the output
 
--- what is put from the start is written
-put-written : (bytes before after : List ℕ) (r : ℕ) → PutWithin 65536 bytes 0 before after r → 65536 ≤ length before → after ≡ written bytes before
-put-written bytes before after r p h = p .put .memory ∙ written-more [] bytes before (omega (arith, p .put .past, p .within))
+module _ (input before after : List ℕ) (r : ℕ) where
+  pub told-count : PutWithin 65536 (stationsOf input) 0 before after r → Takes input r
+  told-count p = record { count = omega (arith, p .put .past); most = omega (arith, p .within) }
 
-pub told-whole : (input before after : List ℕ) (r : ℕ) → 65536 ≤ length before → PutWithin 65536 (stationsOf input) 0 before after r → Stations input before r after
-told-whole input before after r h p =
-    let w = put-written (stationsOf input) before after r p h in
-    let n : r ≡ length (stationsOf input) = omega (arith, p .put .past) in
-    record { count = rw (le-ltb (length before) 65536 h) n; bytes = rw (le-ltb (length before) 65536 h) w }
+  -- what is put from the start is written, where there is room
+  pub told-whole : (s : ℕ) → Takes input s → s ≤ length before → PutWithin 65536 (stationsOf input) 0 before after r → Stations input before r after
+  told-whole s n h p =
+      let room : length (stationsOf input) ≤ length before = omega (arith, n .count) in
+      record {
+        takes = told-count p;
+        bytes = rw (le-ltb (length before) (length (stationsOf input)) room) (p .put .memory ∙ written-more [] (stationsOf input) before (omega (arith, room)));
+      }
 
-pub told-short : (input before : List ℕ) → length before < 65536 → Stations input before 0 before
-told-short input before h = record { count = rw (lt-ltb (length before) 65536 h) refl; bytes = rw (lt-ltb (length before) 65536 h) refl }
+  -- 65,536 places are enough
+  pub told-long : 65536 ≤ length before → PutWithin 65536 (stationsOf input) 0 before after r → Stations input before r after
+  told-long h p = told-whole r (told-count p) (omega (arith, p .within)) p
+
+pub told-short : (input before : List ℕ) (r : ℕ) → Takes input r → length before < r → Stations input before r before
+told-short input before r n h =
+    let less : length before < length (stationsOf input) = omega (arith, n .count) in
+    record { takes = n; bytes = rw (lt-ltb (length before) (length (stationsOf input)) less) refl }
 
 -- ---- the first line
 

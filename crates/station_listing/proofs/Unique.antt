@@ -19,7 +19,7 @@ use Rattle.station_listing.specs.Stations.{sectionsOf, builtOf, readOf, 
 
 -- any two allowed results are equal
 pub stations-unique : (input before after other : List ℕ) (r s : ℕ) → Stations input before r after → Stations input before s other → (r ≡ s) × (after ≡ other)
-stations-unique input before after other r s p q = (p .count ∙ sym (q .count), p .bytes ∙ sym (q .bytes))
+stations-unique input before after other r s p q = (p .takes .count ∙ sym (q .takes .count), p .bytes ∙ sym (q .bytes))
 
 -- ---- each listing starts with a word
 
@@ -49,7 +49,6 @@ some-judged : (input : List ℕ) (line : FirstLine) → 0 < length (judgedOf inp
 some-judged input (Asked count next) = some-plan count (drop next input)
 some-judged input (Refused reason) = some-refusal reason
 
--- so that 0 tells a short output
 pub some-listing : (input : List ℕ) → 0 < length (stationsOf input)
 unfolding stationsOf
 some-listing input = some-judged input (firstLineOf input 0)

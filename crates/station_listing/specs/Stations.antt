@@ -65,13 +65,19 @@ judgedOf input (Refused reason) = refusalLine reason
 unfoldable pub stationsOf : List ℕ → List ℕ
 stationsOf input = judgedOf input (firstLineOf input 0)
 
--- the listing is written from the output's start; into a short output nothing is
-abbrev pub short : List ℕ → Bool
-short output = ltb (length output) 65536
+-- the output is shorter than the listing
+abbrev pub short : List ℕ → List ℕ → Bool
+short input output = ltb (length output) (length (stationsOf input))
 
+-- how many places the listing takes: 65,536 are enough for each
+pub record Takes (input : List ℕ) (r : ℕ) : Type 0 where
+  pub count : r ≡ length (stationsOf input)
+  pub most : r ≤ 65536
+
+-- the listing is written from the output's start; into a short output nothing is
 pub record Stations (input before : List ℕ) (r : ℕ) (after : List ℕ) : Type 0 where
-  pub count : r ≡ cond (short before) 0 (length (stationsOf input))
-  pub bytes : after ≡ cond (short before) before (written (stationsOf input) before)
+  pub takes : Takes input r
+  pub bytes : after ≡ cond (short input before) before (written (stationsOf input) before)
 
 -- ---- what the parts ask and leave
 

@@ -1,6 +1,6 @@
 // A path that reads: built and listed.
 ghost use Prim.Native.Nat.{_≤_};
-ghost use lib.ListN.{length, drop};
+ghost use lib.ListN.{drop};
 ghost use Rattle.svg.specs.Texts.{commandsOf};
 ghost use Rattle.station_sections.specs.Sections.{Ready};
 ghost use Rattle.station_listing.specs.Stations.{Sized, Numbered, Printed, Told};
@@ -25,7 +25,7 @@ fn print(
     tables: &[f32],
     lengths: &[f32],
 ) -> usize
-    requires { ⌜ Sized (commandsOf (drop start (now input))) places × Ready (now kinds) (now fields) (now tables) (now lengths) count × (65536 ≤ length (now out)) ⌝ }
+    requires { ⌜ Sized (commandsOf (drop start (now input))) places × Ready (now kinds) (now fields) (now tables) (now lengths) count ⌝ }
     ensures { λ r. ⌜ Printed (commandsOf (drop start (now (input .entry)))) (now (kinds .entry)) (now (fields .entry)) (now (tables .entry)) (now (lengths .entry)) count (now (out .entry)) (now (out .exit)) r ⌝ }
 {
     let past_commands = put_header(out, 0, b"commands", places);
@@ -45,7 +45,7 @@ pub fn fly(
     places: usize,
     held: usize,
 ) -> usize
-    requires { ⌜ Numbered (commandsOf (drop start (now input))) places held × (2 ≤ count) × (count ≤ 1000) × (65536 ≤ length (now out)) ⌝ }
+    requires { ⌜ Numbered (commandsOf (drop start (now input))) places held × (2 ≤ count) × (count ≤ 1000) ⌝ }
     ensures { λ r. ⌜ Told (commandsOf (drop start (now (input .entry)))) count (now (out .entry)) (now (out .exit)) r ⌝ }
 {
     let mut letters = [0u8; 256];

@@ -14,7 +14,7 @@ use text_reader::first_line;
 
 // The path that starts at `start`, with so many stations.
 fn answer(out: &mut [u8], input: &[u8], start: usize, count: usize) -> usize
-    requires { ⌜ (start ≤ length (now input)) × (2 ≤ count) × (count ≤ 1000) × (65536 ≤ length (now out)) ⌝ }
+    requires { ⌜ (start ≤ length (now input)) × (2 ≤ count) × (count ≤ 1000) ⌝ }
     ensures { λ r. ⌜ PutWithin 65536 (planOf count (drop start (now (input .entry)))) 0 (now (out .entry)) (now (out .exit)) r ⌝ }
 {
     if 4096 < input.len() - start {
@@ -33,8 +33,8 @@ fn answer(out: &mut [u8], input: &[u8], start: usize, count: usize) -> usize
     }
 }
 
+// Puts the listing of a plan into as many places as there are, and gives its length.
 pub fn tell(out: &mut [u8], input: &[u8]) -> usize
-    requires { ⌜ 65536 ≤ length (now out) ⌝ }
     ensures { λ r. ⌜ PutWithin 65536 (stationsOf (now (input .entry))) 0 (now (out .entry)) (now (out .exit)) r ⌝ }
 {
     match first_line(input) {

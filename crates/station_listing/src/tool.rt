@@ -1,14 +1,28 @@
 // The entry.
-ghost use Rattle.station_listing.specs.Stations.{Stations};
+ghost use mathlib.Core.Path.{_≡_};
+ghost use lib.ListN.{length};
+ghost use Rattle.station_listing.specs.Stations.{Takes, Stations};
 use crate::plans::tell;
 
-// Writes the listing of a plan, at most 65,536 bytes, from the output's start, and gives its length. An output of fewer than 65,536 places is
-// left as it was, and 0 is given: no listing is empty.
+// The length of a plan's listing, at most 65,536: no byte of it is kept.
+fn needed(input: &[u8]) -> usize
+    ensures { λ r. ⌜ Takes (now (input .entry)) r ⌝ }
+{
+    let mut nothing = [0u8; 1];
+    tell(&mut nothing, input)
+}
+
+// Writes the listing of a plan from the output's start, and gives its length, at most 65,536. An output that is shorter than the listing is
+// left as it was.
 pub fn stations(input: &[u8], output: &mut [u8]) -> usize
     ensures { λ r. ⌜ Stations (now (input .entry)) (now (output .entry)) r (now (output .exit)) ⌝ }
 {
-    if output.len() < 65536 {
-        return 0;
+    if 65536 <= output.len() {
+        return tell(output, input);
+    }
+    let places = needed(input);
+    if output.len() < places {
+        return places;
     }
     tell(output, input)
 }

@@ -1,4 +1,4 @@
-// The functions ask that the path is a stored one of at most 256 segments, and that their lines have room.
+// The functions ask that the path is a stored one of at most 256 segments, and that their lines end within the places of a listing.
 ghost use mathlib.Core.Path.{_≡_};
 ghost use Prim.Native.Nat.{_+_, _≤_, _<_};
 ghost use lib.ListN.{length};
@@ -14,7 +14,7 @@ use table::inner::spot;
 
 // A line for each segment.
 pub fn put_segments(out: &mut [u8], from: usize, kinds: &[u8], lengths: &[f32]) -> usize
-    requires { ⌜ (length (now lengths) ≡ length (now kinds)) × (length (now kinds) ≤ 256) × (from + 4608 ≤ length (now out)) ⌝ }
+    requires { ⌜ (length (now lengths) ≡ length (now kinds)) × (length (now kinds) ≤ 256) × (from + 4608 ≤ 65536) ⌝ }
     ensures { λ r. ⌜ PutWithin 4608 (segmentLines (now (kinds .entry)) (now (lengths .entry))) from (now (out .entry)) (now (out .exit)) r ⌝ }
 {
     let mut at = from;
@@ -48,7 +48,7 @@ fn put_one(
     tables: &[f32],
     lengths: &[f32],
 ) -> usize
-    requires { ⌜ Ready (now kinds) (now fields) (now tables) (now lengths) count × (number < count) × (at + 44 ≤ length (now out)) ⌝ }
+    requires { ⌜ Ready (now kinds) (now fields) (now tables) (now lengths) count × (number < count) × (at + 44 ≤ 65536) ⌝ }
     ensures { λ r. ⌜ PutWithin 44 (stationOf (now (kinds .entry)) (now (fields .entry)) (now (tables .entry)) (now (lengths .entry)) count number) at (now (out .entry)) (now (out .exit)) r ⌝ }
 {
     if kinds.len() == 0 {
@@ -73,7 +73,7 @@ pub fn put_stations(
     tables: &[f32],
     lengths: &[f32],
 ) -> usize
-    requires { ⌜ Ready (now kinds) (now fields) (now tables) (now lengths) count × (from + 44000 ≤ length (now out)) ⌝ }
+    requires { ⌜ Ready (now kinds) (now fields) (now tables) (now lengths) count × (from + 44000 ≤ 65536) ⌝ }
     ensures { λ r. ⌜ PutWithin 44000 (stationLines (now (kinds .entry)) (now (fields .entry)) (now (tables .entry)) (now (lengths .entry)) count) from (now (out .entry)) (now (out .exit)) r ⌝ }
 {
     let mut at = from;

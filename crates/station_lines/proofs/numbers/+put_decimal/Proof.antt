@@ -4,7 +4,6 @@ use Prim.Native.Nat.{ℕ, _<_}
 use borrow.Fn.Kinds.{In}
 use borrow.Fn.PlainCycle.{Measures, is, falls, and}
 use native.Mathlib.Omega.{arith}
-use lib.ListN.{length}
 use Rattle.station_lines.proofs.Putting.{put-length, put-then, put-same}
 use Rattle.station_lines.proofs.Digits.{decimal-low, decimal-high, low-room, high-room}
 use Rattle.station_lines.proofs.numbers.put_decimal.Reads as put-decimal
@@ -71,7 +70,7 @@ put-decimal-put-decimal-requires : (t : ℕ) → put-decimal-lts.Need-put-decima
   put-decimal-below t,
   put-decimal.Post,
 ) (put-decimal-at t) put-decimal.Post
-put-decimal-put-decimal-requires t c κs = let h = high-room (c .before .before .before .args .value) (c .before .before .before .args .at) (length (c .before .before .before .args .out .now)) (c .before .if1 .left) (omega arith) (c .before .before .before .pre .1) in (omega (arith, c .before .before .before .pre .0), omega arith)
+put-decimal-put-decimal-requires t c κs = let h = high-room (c .before .before .before .args .value) (c .before .before .before .args .at) 65536 (c .before .if1 .left) (omega arith) (c .before .before .before .pre .1) in (omega (arith, c .before .before .before .pre .0), omega arith)
 
 put-decimal-add-put-byte-2 : (t : ℕ) → put-decimal-lts.Need-add-put-byte-2 (
   put-byte-reads.Asked,
@@ -95,7 +94,7 @@ put-decimal-put-byte-requires-2 : (t : ℕ) → put-decimal-lts.Need-put-byte-re
   put-decimal-below t,
   put-decimal.Post,
 ) (put-decimal-at t) put-decimal.Post
-put-decimal-put-byte-requires-2 t c κs = let h = high-room (c .before .before .before .before .before .before .before .args .value) (c .before .before .before .before .before .before .before .args .at) (length (c .before .before .before .before .before .before .before .args .out .now)) (c .before .before .before .before .before .if1 .left) (omega arith) (c .before .before .before .before .before .before .before .pre .1) in omega (arith, put-length (c .before .before .before .put-decimal .ensures), c .before .before .before .put-decimal .ensures .past)
+put-decimal-put-byte-requires-2 t c κs = let h = high-room (c .before .before .before .before .before .before .before .args .value) (c .before .before .before .before .before .before .before .args .at) 65536 (c .before .before .before .before .before .if1 .left) (omega arith) (c .before .before .before .before .before .before .before .pre .1) in omega (arith, c .before .before .before .put-decimal .ensures .past)
 
 put-decimal-same-length-2 : (t : ℕ) → put-decimal-lts.Need-same-length-2 (
   put-byte-reads.Asked,

@@ -74,7 +74,7 @@ put-hex-put-byte-requires : (t : ℕ) → put-hex-lts.Need-put-byte-requires (
   put-byte-reads.Asked,
   put-byte-reads.Learnt,
 ) (put-hex-at t) put-hex.Post
-put-hex-put-byte-requires t c κs = omega (arith, put-length (c .before .before .before .before .put-hex .ensures), c .before .before .before .before .put-hex .ensures .past, hex-length (c .before .before .before .before .before .before .before .before .args .count - 1) (c .before .before .before .before .before .before .before .before .args .value / 16), c .before .before .before .before .before .before .before .before .pre)
+put-hex-put-byte-requires t c κs = omega (arith, c .before .before .before .before .put-hex .ensures .past, hex-length (c .before .before .before .before .before .before .before .before .args .count - 1) (c .before .before .before .before .before .before .before .before .args .value / 16), c .before .before .before .before .before .before .before .before .pre)
 
 put-hex-same-length : (t : ℕ) → put-hex-lts.Need-same-length (
   put-hex-below t,

@@ -99,7 +99,7 @@ print-requires c κs =
     let a = c .before .before .before .before .before .before .before .before .before .before .before .before .before .before .before .before .before .before .before .before .before .before .before .before .before .before .args in
     let k = lent-of (commandsOf (drop (a .start) (a .input .now))) (a .places) (a .held) (c .before .before .before .before .before .before .before .before .before .before .before .before .before .before .before .before .before .before .before .before .before .before .before .before .before .before .pre .0) _ _ _ _ (c .before .before .before .before .before .before .before .before .before .before .before .before .before .before .before .before .before .before .before .before .before .fill .ensures) in
     let s = c .before .before .before .before .before .before .before .before .before .before .before .before .before .before .before .before .before .before .before .before .before .before .before .before .before .before .pre in
-    (sized (commandsOf (drop (a .start) (a .input .now))) (a .places) (a .held) (s .0), ready _ _ _ k _ _ _ _ (flight _ _ _ k _ _ _ _ _ _ _ _ _ (c .before .before .before .before .before .before .before .before .before .before .before .before .build-listed .ensures) (slice-aggregate-build-listed-3 (c .before .before .before .before .before .before .before .before .before .before .before .before .before .before .before .before)) (slice-aggregate-build-listed-4 (c .before .before .before .before .before .before .before .before .before .before .before .before .before .before .before)) (slice-aggregate-build-listed-5 (c .before .before .before .before .before .before .before .before .before .before .before .before .before .before)) (slice-aggregate-build-listed-6 (c .before .before .before .before .before .before .before .before .before .before .before .before .before)) _ _ _ (c .before .before .before .before .before .before .segments .given .1)) (a .count) (s .1) (s .2), omega (arith, s .3))
+    (sized (commandsOf (drop (a .start) (a .input .now))) (a .places) (a .held) (s .0), ready _ _ _ k _ _ _ _ (flight _ _ _ k _ _ _ _ _ _ _ _ _ (c .before .before .before .before .before .before .before .before .before .before .before .before .build-listed .ensures) (slice-aggregate-build-listed-3 (c .before .before .before .before .before .before .before .before .before .before .before .before .before .before .before .before)) (slice-aggregate-build-listed-4 (c .before .before .before .before .before .before .before .before .before .before .before .before .before .before .before)) (slice-aggregate-build-listed-5 (c .before .before .before .before .before .before .before .before .before .before .before .before .before .before)) (slice-aggregate-build-listed-6 (c .before .before .before .before .before .before .before .before .before .before .before .before .before)) _ _ _ (c .before .before .before .before .before .before .segments .given .1)) (a .count) (s .1) (s .2))
 
 returns-2 : tie.Need-returns-2
 returns-2 c =
@@ -111,9 +111,9 @@ pub fly-spec : {M : Type 1} → statement M
 fly-spec =
     tie.close
     (tie.spec slice-aggregate-fill slice-aggregate-fill-2 fill-requires array-share-prefix-letters
-    slice-aggregate-build-listed array-share-prefix-numbers slice-aggregate-build-listed-2
-    slice-aggregate-build-listed-3 slice-aggregate-build-listed-4 slice-aggregate-build-listed-5
-    slice-aggregate-build-listed-6 build-listed-requires (λ c. search needs) (λ c κs. search needs)
-    (λ c. search needs) returns (λ c. search needs) array-share-prefix-kinds slice-aggregate-print
-    array-share-prefix-fields slice-aggregate-print-2 array-share-prefix-tables slice-aggregate-print-3
-    array-share-prefix-lengths slice-aggregate-print-4 print-requires (λ c. search needs) returns-2)
+    slice-aggregate-build-listed array-share-prefix-numbers slice-aggregate-build-listed-2 slice-aggregate-build-listed-3
+    slice-aggregate-build-listed-4 slice-aggregate-build-listed-5 slice-aggregate-build-listed-6 build-listed-requires (λ c. search needs)
+    (λ c κs. search needs) (λ c. search needs) returns (λ c. search needs) array-share-prefix-kinds
+    slice-aggregate-print array-share-prefix-fields slice-aggregate-print-2 array-share-prefix-tables
+    slice-aggregate-print-3 array-share-prefix-lengths slice-aggregate-print-4 print-requires (λ c. search needs)
+    returns-2)

@@ -2,7 +2,6 @@
 use borrow.Author.Needs.{needs}
 use native.Mathlib.Omega.{arith}
 use lib.ListN.{drop}
-use Rattle.station_lines.proofs.Putting.{put-length}
 use Rattle.svg.specs.Texts.{commandsOf}
 use Rattle.station_listing.proofs.Printing.{few-commands, listed-within, printed}
 use Rattle.station_listing.proofs.flights.print.Statement.{statement}
@@ -11,32 +10,32 @@ use Rattle.station_listing.proofs.flights.print.Tie as tie
 list-requires : tie.Need-list-requires
 list-requires c κs =
     let a = c .before .before .before .before .before .before .before .before .before .before .before .before .args in
-    (few-commands (commandsOf (drop (a .start) (a .input .now))) (a .places) (c .before .before .before .before .before .before .before .before .before .before .before .before .pre .0), omega (arith, c .before .before .before .put-header .ensures .within, put-length (c .before .before .before .put-header .ensures .put), c .before .before .before .before .before .before .before .before .before .before .before .before .pre .2))
+    (few-commands (commandsOf (drop (a .start) (a .input .now))) (a .places) (c .before .before .before .before .before .before .before .before .before .before .before .before .pre .0), omega (arith, c .before .before .before .put-header .ensures .within))
 
 put-header-requires-2 : tie.Need-put-header-requires-2
 put-header-requires-2 c κs =
     let a = c .before .before .before .before .before .before .before .before .before .before .before .before .before .before .before .before .before .args in
     let w = listed-within (commandsOf (drop (a .start) (a .input .now))) _ _ _ _ (c .before .before .before .before .list .ensures) in
-    omega (arith, w, c .before .before .before .before .before .before .before .before .put-header .ensures .within, put-length (c .before .before .before .before .before .before .before .before .put-header .ensures .put), c .before .before .before .before .before .before .before .before .before .before .before .before .before .before .before .before .before .pre .2)
+    omega (arith, w, c .before .before .before .before .before .before .before .before .put-header .ensures .within)
 
 put-segments-requires : tie.Need-put-segments-requires
 put-segments-requires c κs =
     let a = c .before .before .before .before .before .before .before .before .before .before .before .before .before .before .before .before .before .before .before .before .before .args in
     let w = listed-within (commandsOf (drop (a .start) (a .input .now))) _ _ _ _ (c .before .before .before .before .before .before .before .before .list .ensures) in
     let ready = c .before .before .before .before .before .before .before .before .before .before .before .before .before .before .before .before .before .before .before .before .before .pre .1 in
-    (ready .stored .one, ready .few, omega (arith, w, c .before .before .before .put-header2 .ensures .within, put-length (c .before .before .before .put-header2 .ensures .put), c .before .before .before .before .before .before .before .before .before .before .before .before .put-header .ensures .within, put-length (c .before .before .before .before .before .before .before .before .before .before .before .before .put-header .ensures .put), c .before .before .before .before .before .before .before .before .before .before .before .before .before .before .before .before .before .before .before .before .before .pre .2))
+    (ready .stored .one, ready .few, omega (arith, w, c .before .before .before .put-header2 .ensures .within, c .before .before .before .before .before .before .before .before .before .before .before .before .put-header .ensures .within))
 
 put-header-requires-3 : tie.Need-put-header-requires-3
 put-header-requires-3 c κs =
     let a = c .before .before .before .before .before .before .before .before .before .before .before .before .before .before .before .before .before .before .before .before .before .before .before .before .before .before .args in
     let w = listed-within (commandsOf (drop (a .start) (a .input .now))) _ _ _ _ (c .before .before .before .before .before .before .before .before .before .before .before .before .before .list .ensures) in
-    omega (arith, w, c .before .before .before .before .put-segments .ensures .within, put-length (c .before .before .before .before .put-segments .ensures .put), c .before .before .before .before .before .before .before .before .put-header2 .ensures .within, put-length (c .before .before .before .before .before .before .before .before .put-header2 .ensures .put), c .before .before .before .before .before .before .before .before .before .before .before .before .before .before .before .before .before .put-header .ensures .within, put-length (c .before .before .before .before .before .before .before .before .before .before .before .before .before .before .before .before .before .put-header .ensures .put), c .before .before .before .before .before .before .before .before .before .before .before .before .before .before .before .before .before .before .before .before .before .before .before .before .before .before .pre .2)
+    omega (arith, w, c .before .before .before .before .put-segments .ensures .within, c .before .before .before .before .before .before .before .before .put-header2 .ensures .within, c .before .before .before .before .before .before .before .before .before .before .before .before .before .before .before .before .before .put-header .ensures .within)
 
 put-stations-requires : tie.Need-put-stations-requires
 put-stations-requires c κs =
     let a = c .before .before .before .before .before .before .before .before .before .before .before .before .before .before .before .before .before .before .before .before .before .before .before .before .before .before .before .before .before .before .args in
     let w = listed-within (commandsOf (drop (a .start) (a .input .now))) _ _ _ _ (c .before .before .before .before .before .before .before .before .before .before .before .before .before .before .before .before .before .list .ensures) in
-    (c .before .before .before .before .before .before .before .before .before .before .before .before .before .before .before .before .before .before .before .before .before .before .before .before .before .before .before .before .before .before .pre .1, omega (arith, w, c .before .before .before .put-header3 .ensures .within, put-length (c .before .before .before .put-header3 .ensures .put), c .before .before .before .before .before .before .before .before .put-segments .ensures .within, put-length (c .before .before .before .before .before .before .before .before .put-segments .ensures .put), c .before .before .before .before .before .before .before .before .before .before .before .before .put-header2 .ensures .within, put-length (c .before .before .before .before .before .before .before .before .before .before .before .before .put-header2 .ensures .put), c .before .before .before .before .before .before .before .before .before .before .before .before .before .before .before .before .before .before .before .before .before .put-header .ensures .within, put-length (c .before .before .before .before .before .before .before .before .before .before .before .before .before .before .before .before .before .before .before .before .before .put-header .ensures .put), c .before .before .before .before .before .before .before .before .before .before .before .before .before .before .before .before .before .before .before .before .before .before .before .before .before .before .before .before .before .before .pre .2))
+    (c .before .before .before .before .before .before .before .before .before .before .before .before .before .before .before .before .before .before .before .before .before .before .before .before .before .before .before .before .before .before .pre .1, omega (arith, w, c .before .before .before .put-header3 .ensures .within, c .before .before .before .before .before .before .before .before .put-segments .ensures .within, c .before .before .before .before .before .before .before .before .before .before .before .before .put-header2 .ensures .within, c .before .before .before .before .before .before .before .before .before .before .before .before .before .before .before .before .before .before .before .before .before .put-header .ensures .within))
 
 returns : tie.Need-returns
 returns c =

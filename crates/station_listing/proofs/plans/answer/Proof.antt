@@ -27,7 +27,7 @@ returns-3 c =
 fly-requires : tie.Need-fly-requires
 fly-requires c κs =
     let a = c .before .before .before .before .before .before .before .before .before .args in
-    (numbered (a .input .now) (a .start) 0 _ (c .before .before .before .before .before .measure .ensures) _ _ (c .before .before .before .letters .given .1) (c .before .if2 .left), c .before .before .before .before .before .before .before .before .before .pre .1, c .before .before .before .before .before .before .before .before .before .pre .2, c .before .before .before .before .before .before .before .before .before .pre .3)
+    (numbered (a .input .now) (a .start) 0 _ (c .before .before .before .before .before .measure .ensures) _ _ (c .before .before .before .letters .given .1) (c .before .if2 .left), c .before .before .before .before .before .before .before .before .before .pre .1, c .before .before .before .before .before .before .before .before .before .pre .2)
 
 returns-4 : tie.Need-returns-4
 returns-4 c =

@@ -12,7 +12,7 @@ returns c = line-refused _ _ _ _ _ (c .before .before .before .before .before .b
 answer-requires : tie.Need-answer-requires
 answer-requires c κs =
     let a = asked _ _ _ 0 (sym (c .before .before .before .before .first-line .ensures) ∙ c .before .before .count .given .1) in
-    (a .inside, a .least, a .most, c .before .before .before .before .before .before .before .pre)
+    (a .inside, a .least, a .most)
 
 returns-2 : tie.Need-returns-2
 returns-2 c = line-asked _ _ _ _ _ (c .before .before .before .before .before .before .before .first-line .ensures) _ _ (c .before .before .before .before .before .count .given .1) (c .before .before .answer .ensures)

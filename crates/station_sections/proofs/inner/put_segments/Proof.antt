@@ -20,7 +20,7 @@ loop-holds : tie.Need-loop-holds Inv-loop μ-loop
 loop-holds c = (omega arith, to-none _ _ _ _)
 
 put-segment-requires : tie.Need-put-segment-requires Inv-loop μ-loop
-put-segment-requires c κs = omega (arith, to-length _ _ _ _ _ _ _ (c .before .before .before .before .loop .inv .1), c .before .before .before .before .loop .inv .1 .within, c .before .before .before .before .before .before .before .before .pre)
+put-segment-requires c κs = omega (arith, c .before .before .before .before .loop .inv .1 .within, c .before .before .before .before .before .before .before .before .pre)
 
 loop-again : tie.Need-loop-again Inv-loop μ-loop
 loop-again c = (omega arith, to-more _ _ _ _ _ _ _ (c .before .before .before .before .before .before .before .loop .inv .1) _ _ (c .before .before .put-segment .ensures))

@@ -18,7 +18,7 @@ loop-holds c = (omega arith, to-none _ _ _ _)
 
 put-one-requires : tie.Need-put-one-requires Inv-loop μ-loop
 put-one-requires c κs =
-    (c .before .before .before .before .before .before .before .before .pre .0, c .before .loop-test .taken, omega (arith, to-length _ _ _ _ _ _ _ (c .before .before .loop .inv .1), c .before .before .loop .inv .1 .within, c .before .before .before .before .before .before .before .before .pre .0 .most, c .before .before .before .before .before .before .before .before .pre .1))
+    (c .before .before .before .before .before .before .before .before .pre .0, c .before .loop-test .taken, omega (arith, c .before .before .loop .inv .1 .within, c .before .before .before .before .before .before .before .before .pre .0 .most, c .before .before .before .before .before .before .before .before .pre .1))
 
 loop-again : tie.Need-loop-again Inv-loop μ-loop
 loop-again c = (omega arith, to-more _ _ _ _ _ _ _ (c .before .before .before .before .before .loop .inv .1) _ _ (c .before .before .put-one .ensures))
