@@ -306,7 +306,7 @@ fn lookup() {
     let tables: Vec<([f32; 32], f32)> = curves.iter().map(QuadBezier::open_table).collect();
     let inputs: Vec<(usize, f32)> =
         bits.iter().map(|bits| (*bits as usize % 64, (bits >> 8) as f32 / 16_777_216.0)).collect();
-    let ours = |(k, t): (usize, f32)| kihavute::raw_parameter(&tables[k].0, tables[k].1, t).unwrap_or(0);
+    let ours = |(k, t): (usize, f32)| kihavute::raw_parameter(&tables[k].0, tables[k].1, Progress(t)).map_or(0, |raw| raw.value().to_bits());
     row("lookup in a table of 32", throughput(&inputs, ours, |(k, t)| original_raw_t(&curves[k], t).to_bits()));
 }
 
@@ -323,7 +323,7 @@ fn spot() {
     let line = PathSegment::Line(LineSegment::new([0.0, 0.0], [1.0, 0.0]));
     let path = CompoundPath::open_from_parts(vec![line; 40], lengths.clone(), total);
     let inputs: Vec<f32> = patterns().map(|bits| (bits >> 8) as f32 / 16_777_216.0).collect();
-    let ours = |t: f32| kihavute::spot(&lengths, t).ok().flatten().map_or(0, |(_, local)| local);
+    let ours = |t: f32| kihavute::spot(&lengths, Progress(t)).ok().flatten().map_or(0, |(_, local)| local.0.to_bits());
     row("segment of a path of 40", throughput(&inputs, ours, |t| original_segment_at(&path, t).to_bits()));
 }
 
@@ -365,10 +365,10 @@ fn splines() {
         let asked: Vec<(usize, f32)> =
             patterns().map(|bits| (bits as usize % 64, (bits >> 8) as f32 / 16_777_216.0)).collect();
         let table = |k: usize| splines[k].open_table().0;
-        let ours = |(k, t): (usize, f32)| kihavute::spline_position(own(starts[k]), table(k), t).map_or(0, |p| p[0]);
+        let ours = |(k, t): (usize, f32)| kihavute::spline_position(own(starts[k]), table(k), Progress(t)).map_or(0, |p| p[0]);
         let theirs = |(k, t): (usize, f32)| original_position(&splines[k], t)[0].to_bits();
         row(&format!("place on {} spans", points - 1), throughput(&asked, ours, theirs));
-        let ours = |(k, t): (usize, f32)| kihavute::spline_tangent(own(starts[k]), table(k), t).map_or(0, |p| p[0]);
+        let ours = |(k, t): (usize, f32)| kihavute::spline_tangent(own(starts[k]), table(k), Progress(t)).map_or(0, |p| p[0]);
         let theirs = |(k, t): (usize, f32)| original_tangent(&splines[k], t)[0].to_bits();
         row(&format!("direction on {} spans", points - 1), throughput(&asked, ours, theirs));
     }
@@ -387,13 +387,13 @@ fn curves() {
     row("a quad, built", slow(&points, ours, |p| original_quad(&three(p)).arc_length().to_bits()));
     let ours = |p| kihavute::cubic_length(&p).unwrap_or(0);
     row("a cubic, built", slow(&points, ours, |p| original_cubic(&p).arc_length().to_bits()));
-    let ours = |p| first(kihavute::quad_position(&three(p), 0.3));
+    let ours = |p| first(kihavute::quad_position(&three(p), Progress(0.3)));
     row("a quad, built, position", slow(&points, ours, |p| original_quad(&three(p)).position(0.3)[0].to_bits()));
-    let ours = |p| first(kihavute::quad_tangent(&three(p), 0.3));
+    let ours = |p| first(kihavute::quad_tangent(&three(p), Progress(0.3)));
     row("a quad, built, tangent", slow(&points, ours, |p| original_quad(&three(p)).tangent(0.3)[0].to_bits()));
-    let ours = |p| first(kihavute::cubic_position(&p, 0.3));
+    let ours = |p| first(kihavute::cubic_position(&p, Progress(0.3)));
     row("a cubic, built, position", slow(&points, ours, |p| original_cubic(&p).position(0.3)[0].to_bits()));
-    let ours = |p| first(kihavute::cubic_tangent(&p, 0.3));
+    let ours = |p| first(kihavute::cubic_tangent(&p, Progress(0.3)));
     row("a cubic, built, tangent", slow(&points, ours, |p| original_cubic(&p).tangent(0.3)[0].to_bits()));
     let chords: Vec<Chord> = points
         .iter()
@@ -409,7 +409,7 @@ fn curves() {
         .collect();
     let ours = |c| kihavute::arc_length(&c).unwrap_or(0);
     row("an arc, built", slow(&chords, ours, |c| original_arc(&c).arc_length().to_bits()));
-    let ours = |c| first(kihavute::arc_position(&c, 0.3));
+    let ours = |c| first(kihavute::arc_position(&c, Progress(0.3)));
     row("an arc, built, position", slow(&chords, ours, |c| original_arc(&c).position(0.3)[0].to_bits()));
     let inputs: Vec<f32> = points.iter().map(|p| p[0][0] + 1.0).collect();
     let roots = |root: fn(f32) -> f32| move |x: f32| (0..31).fold(0.0, |sum, k| sum + root(x + k as f32)).to_bits();

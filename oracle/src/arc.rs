@@ -36,7 +36,7 @@ impl Line {
     fn ours_or_refusal(&self) -> Result<Drawn, kihavute::Refusal> {
         let ends = self.ends.map(|point| point.map(f32::from_bits));
         Ok(Drawn::Known {
-            position: kihavute::line_position(&ends, f32::from_bits(self.progress))?,
+            position: kihavute::line_position(&ends, kihavute::Progress(f32::from_bits(self.progress)))?,
             tangent: kihavute::line_tangent(&ends)?,
             rotation_deg: kihavute::line_rotation_deg(&ends)?,
             length: kihavute::line_length(&ends)?,
@@ -121,7 +121,7 @@ impl Arc {
 
     fn ours_or_refusal(&self) -> Result<Answer, kihavute::Refusal> {
         let chord = self.chord();
-        let t = f32::from_bits(self.progress);
+        let t = kihavute::Progress(f32::from_bits(self.progress));
         let (shape, fell_back) = kihavute::arc_shape(&chord)?;
         Ok(Known {
             shape,

@@ -51,7 +51,7 @@ impl Asked {
     }
 
     fn ours_or_refusal(&self) -> Result<Answer, kihavute::Refusal> {
-        let t = f32::from_bits(self.progress);
+        let t = kihavute::Progress(f32::from_bits(self.progress));
         Ok(match self.curve {
             Curve::Quad => {
                 let points = self.three();

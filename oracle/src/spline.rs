@@ -72,7 +72,7 @@ fn pairs(numbers: &[f32]) -> Vec<[f32; 2]> {
 
 /// What the proved library tells of a stored spline at a progress.
 pub fn ours_told(numbers: &[f32], table: &[f32], progress: u32) -> Result<Told, Why> {
-    let t = f32::from_bits(progress);
+    let t = kihavute::Progress(f32::from_bits(progress));
     let [x, y] = kihavute::spline_position(numbers, table, t)?;
     let [u, v] = kihavute::spline_tangent(numbers, table, t)?;
     Ok([x, y, u, v, kihavute::spline_rotation_deg(numbers, table, t)?, kihavute::spline_length(numbers, table)?])

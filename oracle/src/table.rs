@@ -51,16 +51,16 @@ const QUERIES: [(Query, &str); 4] = [
 
 impl Query {
     pub fn ours(self, input: &Lookup) -> Answer {
-        let progress = f32::from_bits(input.progress);
+        let progress = kihavute::Progress(f32::from_bits(input.progress));
         if self == Query::Path {
             return match kihavute::spot(&input.lengths, progress) {
-                Ok(Some((segment, local))) => Spot(segment, local),
+                Ok(Some((segment, local))) => Spot(segment, local.0.to_bits()),
                 Ok(None) => NoSegment,
                 Err(refusal) => Refused(refusal.number),
             };
         }
         match kihavute::raw_parameter(&input.lengths, input.total, progress) {
-            Ok(raw) => Raw(raw),
+            Ok(raw) => Raw(raw.value().to_bits()),
             Err(refusal) => Refused(refusal.number),
         }
     }

@@ -277,21 +277,21 @@ pub fn angle_between(u: [f32; 2], v: [f32; 2]) -> Bits {
 
 /// The raw parameter of a curve with this table at a progress.
 #[inline]
-pub fn raw_parameter(entries: &[f32], total: f32, progress: f32) -> Result<Bits, Refusal> {
+pub fn raw_parameter(entries: &[f32], total: f32, progress: Progress) -> Result<RawParameter, Refusal> {
     // SAFETY: both slices are whole, and the answer is the call's own
     let given = judged(|answer, places| unsafe {
-        kihavute_raw_parameter(entries.as_ptr(), entries.len(), total, progress, answer, places)
+        kihavute_raw_parameter(entries.as_ptr(), entries.len(), total, progress.0, answer, places)
     })?;
-    Ok(given[0] as Bits)
+    Ok(RawParameter::of_bits(given[0] as Bits))
 }
 
 /// The segment of a path with these running lengths at a progress, and the progress on it; `None` without segments.
 #[inline]
-pub fn spot(lengths: &[f32], progress: f32) -> Result<Option<(usize, Bits)>, Refusal> {
+pub fn spot(lengths: &[f32], progress: Progress) -> Result<Option<(usize, Progress)>, Refusal> {
     // SAFETY: both slices are whole, and the answer is the call's own
     let given =
-        judged(|answer, places| unsafe { kihavute_spot(lengths.as_ptr(), lengths.len(), progress, answer, places) })?;
-    Ok((!lengths.is_empty()).then_some((given[0] as usize, given[1] as Bits)))
+        judged(|answer, places| unsafe { kihavute_spot(lengths.as_ptr(), lengths.len(), progress.0, answer, places) })?;
+    Ok((!lengths.is_empty()).then_some((given[0] as usize, Progress(f32::from_bits(given[1] as Bits)))))
 }
 
 /// So many points, evenly spaced along the line through these, from the output's start; how many numbers that is.
@@ -445,30 +445,30 @@ pub fn build_text(
 
 /// Where the quad of a start, a control and an end is at a progress.
 #[inline]
-pub fn quad_position(p: &[[f32; 2]; 3], progress: f32) -> Result<[Bits; 2], Refusal> {
+pub fn quad_position(p: &[[f32; 2]; 3], progress: Progress) -> Result<[Bits; 2], Refusal> {
     // SAFETY: the answer is the call's own
     let given = judged(|answer, places| unsafe {
-        kihavute_quad_position(p[0][0], p[0][1], p[1][0], p[1][1], p[2][0], p[2][1], progress, answer, places)
+        kihavute_quad_position(p[0][0], p[0][1], p[1][0], p[1][1], p[2][0], p[2][1], progress.0, answer, places)
     })?;
     Ok([given[0] as Bits, given[1] as Bits])
 }
 
 /// Where the quad of these points heads at a progress, with the length 1.
 #[inline]
-pub fn quad_tangent(p: &[[f32; 2]; 3], progress: f32) -> Result<[Bits; 2], Refusal> {
+pub fn quad_tangent(p: &[[f32; 2]; 3], progress: Progress) -> Result<[Bits; 2], Refusal> {
     // SAFETY: the answer is the call's own
     let given = judged(|answer, places| unsafe {
-        kihavute_quad_tangent(p[0][0], p[0][1], p[1][0], p[1][1], p[2][0], p[2][1], progress, answer, places)
+        kihavute_quad_tangent(p[0][0], p[0][1], p[1][0], p[1][1], p[2][0], p[2][1], progress.0, answer, places)
     })?;
     Ok([given[0] as Bits, given[1] as Bits])
 }
 
 /// Where the quad of these points heads at a progress, in degrees.
 #[inline]
-pub fn quad_rotation_deg(p: &[[f32; 2]; 3], progress: f32) -> Result<Bits, Refusal> {
+pub fn quad_rotation_deg(p: &[[f32; 2]; 3], progress: Progress) -> Result<Bits, Refusal> {
     // SAFETY: the answer is the call's own
     let given = judged(|answer, places| unsafe {
-        kihavute_quad_rotation_deg(p[0][0], p[0][1], p[1][0], p[1][1], p[2][0], p[2][1], progress, answer, places)
+        kihavute_quad_rotation_deg(p[0][0], p[0][1], p[1][0], p[1][1], p[2][0], p[2][1], progress.0, answer, places)
     })?;
     Ok(given[0] as Bits)
 }
@@ -485,11 +485,11 @@ pub fn quad_length(p: &[[f32; 2]; 3]) -> Result<Bits, Refusal> {
 
 /// Where the cubic of a start, two controls and an end is at a progress.
 #[inline]
-pub fn cubic_position(p: &[[f32; 2]; 4], progress: f32) -> Result<[Bits; 2], Refusal> {
+pub fn cubic_position(p: &[[f32; 2]; 4], progress: Progress) -> Result<[Bits; 2], Refusal> {
     // SAFETY: the answer is the call's own
     let given = judged(|answer, places| unsafe {
         kihavute_cubic_position(
-            p[0][0], p[0][1], p[1][0], p[1][1], p[2][0], p[2][1], p[3][0], p[3][1], progress, answer, places,
+            p[0][0], p[0][1], p[1][0], p[1][1], p[2][0], p[2][1], p[3][0], p[3][1], progress.0, answer, places,
         )
     })?;
     Ok([given[0] as Bits, given[1] as Bits])
@@ -497,11 +497,11 @@ pub fn cubic_position(p: &[[f32; 2]; 4], progress: f32) -> Result<[Bits; 2], Ref
 
 /// Where the cubic of these points heads at a progress, with the length 1.
 #[inline]
-pub fn cubic_tangent(p: &[[f32; 2]; 4], progress: f32) -> Result<[Bits; 2], Refusal> {
+pub fn cubic_tangent(p: &[[f32; 2]; 4], progress: Progress) -> Result<[Bits; 2], Refusal> {
     // SAFETY: the answer is the call's own
     let given = judged(|answer, places| unsafe {
         kihavute_cubic_tangent(
-            p[0][0], p[0][1], p[1][0], p[1][1], p[2][0], p[2][1], p[3][0], p[3][1], progress, answer, places,
+            p[0][0], p[0][1], p[1][0], p[1][1], p[2][0], p[2][1], p[3][0], p[3][1], progress.0, answer, places,
         )
     })?;
     Ok([given[0] as Bits, given[1] as Bits])
@@ -509,11 +509,11 @@ pub fn cubic_tangent(p: &[[f32; 2]; 4], progress: f32) -> Result<[Bits; 2], Refu
 
 /// Where the cubic of these points heads at a progress, in degrees.
 #[inline]
-pub fn cubic_rotation_deg(p: &[[f32; 2]; 4], progress: f32) -> Result<Bits, Refusal> {
+pub fn cubic_rotation_deg(p: &[[f32; 2]; 4], progress: Progress) -> Result<Bits, Refusal> {
     // SAFETY: the answer is the call's own
     let given = judged(|answer, places| unsafe {
         kihavute_cubic_rotation_deg(
-            p[0][0], p[0][1], p[1][0], p[1][1], p[2][0], p[2][1], p[3][0], p[3][1], progress, answer, places,
+            p[0][0], p[0][1], p[1][0], p[1][1], p[2][0], p[2][1], p[3][0], p[3][1], progress.0, answer, places,
         )
     })?;
     Ok(given[0] as Bits)
@@ -541,31 +541,31 @@ pub fn spline_table(points: &[f32], table: &mut [f32]) -> Result<usize, Refusal>
 
 /// Where the spline through these points with this table is at a progress.
 #[inline]
-pub fn spline_position(points: &[f32], table: &[f32], progress: f32) -> Result<[Bits; 2], Refusal> {
+pub fn spline_position(points: &[f32], table: &[f32], progress: Progress) -> Result<[Bits; 2], Refusal> {
     // SAFETY: the slices are whole, and the answer is the call's own
     let given = judged(|answer, places| unsafe {
-        kihavute_spline_position(points.as_ptr(), points.len(), table.as_ptr(), table.len(), progress, answer, places)
+        kihavute_spline_position(points.as_ptr(), points.len(), table.as_ptr(), table.len(), progress.0, answer, places)
     })?;
     Ok([given[0] as Bits, given[1] as Bits])
 }
 
 /// Where the spline heads at a progress, with the length 1.
 #[inline]
-pub fn spline_tangent(points: &[f32], table: &[f32], progress: f32) -> Result<[Bits; 2], Refusal> {
+pub fn spline_tangent(points: &[f32], table: &[f32], progress: Progress) -> Result<[Bits; 2], Refusal> {
     // SAFETY: the slices are whole, and the answer is the call's own
     let given = judged(|answer, places| unsafe {
-        kihavute_spline_tangent(points.as_ptr(), points.len(), table.as_ptr(), table.len(), progress, answer, places)
+        kihavute_spline_tangent(points.as_ptr(), points.len(), table.as_ptr(), table.len(), progress.0, answer, places)
     })?;
     Ok([given[0] as Bits, given[1] as Bits])
 }
 
 /// Where the spline heads at a progress, in degrees.
 #[inline]
-pub fn spline_rotation_deg(points: &[f32], table: &[f32], progress: f32) -> Result<Bits, Refusal> {
+pub fn spline_rotation_deg(points: &[f32], table: &[f32], progress: Progress) -> Result<Bits, Refusal> {
     // SAFETY: the slices are whole, and the answer is the call's own
     let given = judged(|answer, places| unsafe {
         let (points_len, table_len) = (points.len(), table.len());
-        kihavute_spline_rotation_deg(points.as_ptr(), points_len, table.as_ptr(), table_len, progress, answer, places)
+        kihavute_spline_rotation_deg(points.as_ptr(), points_len, table.as_ptr(), table_len, progress.0, answer, places)
     })?;
     Ok(given[0] as Bits)
 }
@@ -640,10 +640,10 @@ pub fn cubic_table(p: &[[f32; 2]; 4]) -> Result<TableBits, Refusal> {
 
 /// Where the line from the first point to the second is at a progress.
 #[inline]
-pub fn line_position(p: &[[f32; 2]; 2], progress: f32) -> Result<[Bits; 2], Refusal> {
+pub fn line_position(p: &[[f32; 2]; 2], progress: Progress) -> Result<[Bits; 2], Refusal> {
     // SAFETY: the answer is the call's own
     let given = judged(|answer, places| unsafe {
-        kihavute_line_position(p[0][0], p[0][1], p[1][0], p[1][1], progress, answer, places)
+        kihavute_line_position(p[0][0], p[0][1], p[1][0], p[1][1], progress.0, answer, places)
     })?;
     Ok([given[0] as Bits, given[1] as Bits])
 }
@@ -689,7 +689,7 @@ pub struct Chord {
 
 /// Where an arc is at a progress.
 #[inline]
-pub fn arc_position(c: &Chord, progress: f32) -> Result<[Bits; 2], Refusal> {
+pub fn arc_position(c: &Chord, progress: Progress) -> Result<[Bits; 2], Refusal> {
     // SAFETY: the answer is the call's own
     let given = judged(|answer, places| unsafe {
         kihavute_arc_position(
@@ -702,7 +702,7 @@ pub fn arc_position(c: &Chord, progress: f32) -> Result<[Bits; 2], Refusal> {
             c.sweep.into(),
             c.end[0],
             c.end[1],
-            progress,
+            progress.0,
             answer,
             places,
         )
@@ -712,7 +712,7 @@ pub fn arc_position(c: &Chord, progress: f32) -> Result<[Bits; 2], Refusal> {
 
 /// Where an arc heads at a progress, with the length 1.
 #[inline]
-pub fn arc_tangent(c: &Chord, progress: f32) -> Result<[Bits; 2], Refusal> {
+pub fn arc_tangent(c: &Chord, progress: Progress) -> Result<[Bits; 2], Refusal> {
     // SAFETY: the answer is the call's own
     let given = judged(|answer, places| unsafe {
         kihavute_arc_tangent(
@@ -725,7 +725,7 @@ pub fn arc_tangent(c: &Chord, progress: f32) -> Result<[Bits; 2], Refusal> {
             c.sweep.into(),
             c.end[0],
             c.end[1],
-            progress,
+            progress.0,
             answer,
             places,
         )
@@ -735,7 +735,7 @@ pub fn arc_tangent(c: &Chord, progress: f32) -> Result<[Bits; 2], Refusal> {
 
 /// Where an arc heads at a progress, in degrees.
 #[inline]
-pub fn arc_rotation_deg(c: &Chord, progress: f32) -> Result<Bits, Refusal> {
+pub fn arc_rotation_deg(c: &Chord, progress: Progress) -> Result<Bits, Refusal> {
     // SAFETY: the answer is the call's own
     let given = judged(|answer, places| unsafe {
         kihavute_arc_rotation_deg(
@@ -748,7 +748,7 @@ pub fn arc_rotation_deg(c: &Chord, progress: f32) -> Result<Bits, Refusal> {
             c.sweep.into(),
             c.end[0],
             c.end[1],
-            progress,
+            progress.0,
             answer,
             places,
         )
@@ -1018,13 +1018,13 @@ mod tests {
     #[test]
     fn lookups() {
         let entries: [f32; 32] = std::array::from_fn(|i| i as f32);
-        assert_eq!(raw_parameter(&entries, 31.0, 0.0), Ok(0));
-        assert_eq!(raw_parameter(&entries, 31.0, 0.5), Ok(0.5f32.to_bits()));
-        assert_eq!(raw_parameter(&entries, 31.0, 2.0), Ok(1.0f32.to_bits()));
-        assert_eq!(raw_parameter(&entries, 30.0, 0.5), Err(Refusal { number: 12, carried: [0; 8] }));
-        assert_eq!(spot(&[2.0, 2.0, 4.0], 0.75), Ok(Some((2, 0.5f32.to_bits()))));
-        assert_eq!(spot(&[], 0.5), Ok(None));
-        assert_eq!(spot(&[2.0, 1.0], 0.5), Err(Refusal { number: 12, carried: [0; 8] }));
+        assert_eq!(raw_parameter(&entries, 31.0, Progress(0.0)), Ok(RawParameter::of_bits(0)));
+        assert_eq!(raw_parameter(&entries, 31.0, Progress(0.5)), Ok(RawParameter::of_bits(0.5f32.to_bits())));
+        assert_eq!(raw_parameter(&entries, 31.0, Progress(2.0)), Ok(RawParameter::of_bits(1.0f32.to_bits())));
+        assert_eq!(raw_parameter(&entries, 30.0, Progress(0.5)), Err(Refusal { number: 12, carried: [0; 8] }));
+        assert_eq!(spot(&[2.0, 2.0, 4.0], Progress(0.75)), Ok(Some((2, Progress(0.5)))));
+        assert_eq!(spot(&[], Progress(0.5)), Ok(None));
+        assert_eq!(spot(&[2.0, 1.0], Progress(0.5)), Err(Refusal { number: 12, carried: [0; 8] }));
     }
 
     #[test]
@@ -1055,15 +1055,15 @@ mod tests {
     fn curves() {
         let refused = Refusal { number: 11, carried: [0; 8] };
         let straight = [[0.0, 0.0], [1.0, 0.0], [2.0, 0.0]];
-        assert_eq!(quad_position(&straight, 0.5), Ok(bits([1.0, 0.0])));
-        assert_eq!(quad_tangent(&straight, f32::NAN), Ok(bits([1.0, 0.0])));
-        assert_eq!(quad_rotation_deg(&[[0.0, 0.0], [0.0, 1.0], [0.0, 2.0]], 0.5), Ok(90.0f32.to_bits()));
+        assert_eq!(quad_position(&straight, Progress(0.5)), Ok(bits([1.0, 0.0])));
+        assert_eq!(quad_tangent(&straight, Progress(f32::NAN)), Ok(bits([1.0, 0.0])));
+        assert_eq!(quad_rotation_deg(&[[0.0, 0.0], [0.0, 1.0], [0.0, 2.0]], Progress(0.5)), Ok(90.0f32.to_bits()));
         assert_eq!(quad_length(&[[1.0, 2.0]; 3]), Ok(0));
         assert_eq!(quad_length(&[[0.0, 0.0], [1e30, 0.0], [2e30, 0.0]]), Err(refused));
         let straight = [[0.0, 0.0], [0.0, 1.0], [0.0, 2.0], [0.0, 3.0]];
-        assert_eq!(cubic_position(&straight, 2.0), Ok(bits([0.0, 3.0])));
-        assert_eq!(cubic_tangent(&straight, 0.25), Ok(bits([0.0, 1.0])));
-        assert_eq!(cubic_rotation_deg(&straight, 0.25), Ok(90.0f32.to_bits()));
+        assert_eq!(cubic_position(&straight, Progress(2.0)), Ok(bits([0.0, 3.0])));
+        assert_eq!(cubic_tangent(&straight, Progress(0.25)), Ok(bits([0.0, 1.0])));
+        assert_eq!(cubic_rotation_deg(&straight, Progress(0.25)), Ok(90.0f32.to_bits()));
         assert_eq!(cubic_length(&[[1.0, 2.0]; 4]), Ok(0));
         assert_eq!(cubic_length(&[[f32::NAN; 2]; 4]), Err(refused));
     }
@@ -1084,7 +1084,7 @@ mod tests {
     fn lines() {
         let refused = Refusal { number: 11, carried: [0; 8] };
         let line = [[1.0, 2.0], [4.0, 6.0]];
-        assert_eq!(line_position(&line, 0.5), Ok(bits([2.5, 4.0])));
+        assert_eq!(line_position(&line, Progress(0.5)), Ok(bits([2.5, 4.0])));
         assert_eq!(line_tangent(&line), Ok(bits([0.6, 0.8])));
         assert_eq!(line_rotation_deg(&[[0.0, 0.0], [0.0, 2.0]]), Ok(90.0f32.to_bits()));
         assert_eq!(line_length(&line), Ok(5.0f32.to_bits()));
@@ -1107,13 +1107,13 @@ mod tests {
         let table = arc_table(&half).expect("half a circle is an arc").expect("and has a table");
         assert_eq!(Ok(table[32]), arc_length(&half));
         assert!(
-            arc_position(&half, 0.5).is_ok() && arc_tangent(&half, 0.5).is_ok() && arc_rotation_deg(&half, 0.5).is_ok()
+            arc_position(&half, Progress(0.5)).is_ok() && arc_tangent(&half, Progress(0.5)).is_ok() && arc_rotation_deg(&half, Progress(0.5)).is_ok()
         );
         let line = Chord { radii: [0.0, 1.0], x_axis_rotation: f32::NAN, ..half };
         assert_eq!(arc_shape(&line).map(|(_, fell_back)| fell_back), Ok(true));
         assert_eq!(arc_table(&line), Ok(None));
-        assert_eq!(arc_position(&line, 0.5), Ok(bits([1.0, 0.0])));
-        assert_eq!(arc_rotation_deg(&line, 0.5), Ok(0));
+        assert_eq!(arc_position(&line, Progress(0.5)), Ok(bits([1.0, 0.0])));
+        assert_eq!(arc_rotation_deg(&line, Progress(0.5)), Ok(0));
         assert_eq!(arc_length(&line), Ok(2.0f32.to_bits()));
         assert!(arc_length(&Chord { x_axis_rotation: 3600.0, ..half }).is_ok());
         assert_eq!(arc_length(&Chord { x_axis_rotation: f32::from_bits(0x4561_0001), ..half }), Err(refused(10)));
@@ -1129,12 +1129,12 @@ mod tests {
         assert_eq!(table, [-77.0; 34]);
         assert_eq!(spline_table(&points, &mut table), Ok(33));
         assert_eq!(table[33], -77.0);
-        assert_eq!(spline_position(&points, &table[..33], 0.5), Ok(bits([1.0, 0.0])));
-        assert_eq!(spline_tangent(&points, &table[..33], 0.5), Ok(bits([1.0, 0.0])));
-        assert_eq!(spline_rotation_deg(&points, &table[..33], 0.5), Ok(0));
+        assert_eq!(spline_position(&points, &table[..33], Progress(0.5)), Ok(bits([1.0, 0.0])));
+        assert_eq!(spline_tangent(&points, &table[..33], Progress(0.5)), Ok(bits([1.0, 0.0])));
+        assert_eq!(spline_rotation_deg(&points, &table[..33], Progress(0.5)), Ok(0));
         assert_eq!(spline_length(&points, &table[..33]), Ok(2.0f32.to_bits()));
         assert_eq!(spline_length(&points, &table), Err(Refusal { number: 12, carried: [0; 8] }));
-        assert_eq!(spline_position(&[], &[0.0], 0.5), Ok([0, 0]));
+        assert_eq!(spline_position(&[], &[0.0], Progress(0.5)), Ok([0, 0]));
     }
 
     #[test]

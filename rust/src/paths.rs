@@ -42,11 +42,29 @@ macro_rules! ask {
 #[repr(transparent)]
 pub struct Progress(pub f32);
 
-/// The parameter of a segment's own formula, from 0 to 1. Only a lookup makes one.
+/// The parameter of a segment's own formula, from 0 to 1. Only a lookup makes one, and no call takes it, or a bare number, for a
+/// progress:
+///
+/// ```compile_fail,E0308
+/// let raw = kihavute::raw_parameter(&[0.0, 1.0], 1.0, kihavute::Progress(0.5)).unwrap();
+/// kihavute::line_position(&[[0.0, 0.0], [1.0, 0.0]], raw);
+/// ```
+///
+/// ```compile_fail,E0308
+/// kihavute::spot(&[1.0], 0.5);
+/// ```
+///
+/// ```compile_fail,E0423
+/// let raw = kihavute::RawParameter(0.5);
+/// ```
 #[derive(Clone, Copy, Debug, PartialEq, PartialOrd)]
 pub struct RawParameter(f32);
 
 impl RawParameter {
+    pub(crate) fn of_bits(bits: u32) -> Self {
+        Self(f32::from_bits(bits))
+    }
+
     /// The number that the segment's formula takes.
     pub fn value(self) -> f32 {
         self.0
@@ -137,7 +155,7 @@ impl Path {
     /// in each single query: [`places`](Path::places) and [`positions`](Path::positions) check it once for many progresses.
     pub fn place(&self, progress: Progress) -> Result<Option<Place>, Refusal> {
         let given = ask!(self, kihavute_place(progress.0))?;
-        let place = Place { segment: given[0] as usize, raw: RawParameter(f32::from_bits(given[1] as u32)) };
+        let place = Place { segment: given[0] as usize, raw: RawParameter::of_bits(given[1] as u32) };
         Ok((!self.is_empty()).then_some(place))
     }
 
