@@ -34,3 +34,15 @@ module _ (points before : List Float) (answer : List ℕ) where
   stored-given h r after returned answer′ t g =
       let s : short answer ≡ false = le-ltb (length answer) 8 h in
       record { given = given-same (answerOf r) (answered (splineTableOf points (length before))) (t .answer) g; table = rw s (t .places) }
+
+  -- any two allowed results are equal
+  pub spline-table-given-unique :
+      (r s : ℕ) (after other : List Float) (answer₁ answer₂ : List ℕ)
+      → SplineTableGiven points before answer r after answer₁
+      → SplineTableGiven points before answer s other answer₂
+      → (r ≡ s) × (after ≡ other) × (answer₁ ≡ answer₂)
+  spline-table-given-unique r s after other answer₁ answer₂ p q = (
+    p .given .code ∙ sym (q .given .code),
+    p .table ∙ sym (q .table),
+    p .given .places ∙ sym (q .given .places),
+  )

@@ -57,3 +57,23 @@ module _ (answer answer′ : List ℕ) (returned : ℕ) (long : 8 ≤ length ans
 pub bounds-bits : (bounds : Bounds) {a b c d : ℕ} → a ≡ bitsOf (bounds .«min_x») → b ≡ bitsOf (bounds .«min_y») → c ≡ bitsOf (bounds .«max_x») → d ≡ bitsOf (bounds .«max_y»)
     → accepted (a ∷ b ∷ c ∷ d ∷ []) ≡ boundsGiven (Within bounds)
 bounds-bits bounds p q r s = rw (p, q, r, s) refl
+
+-- ---- any two allowed results are equal
+pub shape-given-unique :
+    {outcome : Outcome} {before : List Float} {answer : List ℕ} {r s : ℕ} {after other : List Float} {answer₁ answer₂ : List ℕ}
+    → Put outcome before answer r after answer₁
+    → Put outcome before answer s other answer₂
+    → (r ≡ s) × (after ≡ other) × (answer₁ ≡ answer₂)
+shape-given-unique p q = (p .given .code ∙ sym (q .given .code), p .output ∙ sym (q .output), p .given .places ∙ sym (q .given .places))
+
+pub shapes-given-unique :
+    {outcome : Outcomes} {one other : List Float} {answer : List ℕ} {r s : ℕ} {one₁ one₂ other₁ other₂ : List Float} {answer₁ answer₂ : List ℕ}
+    → PutTwo outcome one other answer r one₁ other₁ answer₁
+    → PutTwo outcome one other answer s one₂ other₂ answer₂
+    → (r ≡ s) × (one₁ ≡ one₂) × (other₁ ≡ other₂) × (answer₁ ≡ answer₂)
+shapes-given-unique p q = (
+  p .given .code ∙ sym (q .given .code),
+  p .first ∙ sym (q .first),
+  p .second ∙ sym (q .second),
+  p .given .places ∙ sym (q .given .places),
+)
