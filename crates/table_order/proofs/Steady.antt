@@ -39,10 +39,15 @@ pub record Between (a b t : Float) : Type 0 where
   pub from : T (le a t)
   pub upto : T (le t b)
 
-pub record Shares (share : Float → Float → Float → Float) : Type 0 where
-  pub low : (a b t : Float) → Between a b t → T (le zeroF (share a b t))
-  pub high : (a b t : Float) → Between a b t → T (le (share a b t) oneF)
-  pub grows : (a b t u : Float) → Between a b t → Between a b u → T (le t u) → T (le (share a b t) (share a b u))
+-- What a share reads, s, may be the target itself or say more: `target s` is the target of s, and `count s` what s counts for. The shares of a target read the target; the one that
+-- compilers make (Contraction.antt) reads the progress, whose target is total * progress rounded.
+pub record SharesOf (target count : Float → Float) (share : Float → Float → Float → Float) : Type 0 where
+  pub low : (a b s : Float) → Between a b (target s) → T (le zeroF (share a b s))
+  pub high : (a b s : Float) → Between a b (target s) → T (le (share a b s) oneF)
+  pub grows : (a b s r : Float) → Between a b (target s) → Between a b (target r) → T (le (count s) (count r)) → T (le (share a b s) (share a b r))
+
+abbrev pub Shares : (Float → Float → Float → Float) → Type 0
+Shares share = SharesOf (λ t. t) (λ t. t) share
 
 -- a share
 pub record Part (x : Float) : Type 0 where
@@ -56,13 +61,16 @@ pub record Joins (n : ℕ) (join : ℕ → Float → Float) : Type 0 where
   pub grows : (k : ℕ) (x y : Float) → k < n → Part x → Part y → T (le x y) → T (le (join k x) (join k y))
   pub meets : (k : ℕ) → suc k < n → T (le (join k oneF) (join (suc k) zeroF))
 
--- ---- the parameter of a target in the part that ends at the entry i
+-- ---- the parameter of what is read, in the part that ends at the entry i
 abbrev pub inPart : (Float → Float → Float → Float) → (ℕ → Float → Float) → List Float → Float → ℕ → Float
-inPart share join xs t i = join (i - 1) (share (at xs (i - 1)) (at xs i) t)
+inPart share join xs s i = join (i - 1) (share (at xs (i - 1)) (at xs i) s)
 
--- the whole way: at or below 0 it is 0, at or above the total 1
+-- the whole way: a target at or below 0 gives 0, one at or above the total 1
+abbrev pub byWayOf : (Float → Float) → (Float → ℕ) → (Float → Float → Float → Float) → (ℕ → Float → Float) → List Float → Float → Float → Float
+byWayOf target pick share join xs total s = cond (le (target s) zeroF) zeroF (cond (le total (target s)) oneF (inPart share join xs s (pick (target s))))
+
 abbrev pub byWay : (Float → ℕ) → (Float → Float → Float → Float) → (ℕ → Float → Float) → List Float → Float → Float → Float
-byWay pick share join xs total t = cond (le t zeroF) zeroF (cond (le total t) oneF (inPart share join xs t (pick t)))
+byWay pick share join xs total t = byWayOf (λ t. t) pick share join xs total t
 
 -- ---- the parts of a table, one after the other
 pub none-is-part : Part zeroF
@@ -97,102 +105,120 @@ module _ {xs : List Float} {total : Float} (f : F32Table xs total) where
   total-held = record { fit = f .total-value; nn = total-nonneg sound-of }
 
 -- ---- the whole table
-module _ {xs : List Float} {total : Float} (f : F32Table xs total) {pick : Float → ℕ} (P : Picks xs total pick) {share : Float → Float → Float → Float} (S : Shares share) {join : ℕ → Float → Float} (J : Joins (lastOf xs) join) where
+module _ {xs : List Float} {total : Float} (f : F32Table xs total) {pick : Float → ℕ} (P : Picks xs total pick) {target count : Float → Float} {share : Float → Float → Float → Float} (S : SharesOf target count share) where
   above : (t : Float) → Held binary32 t → T (not (le t zeroF)) → T (lt zeroF t)
   above t H h = not-le→lt t zeroF (nonneg-real t (H .nn)) (nonneg-real zeroF (zero-held .nn)) h
 
   below : (t : Float) → Held binary32 t → T (not (le total t)) → T (lt t total)
   below t H h = not-le→lt total t (nonneg-real total (total-held f .nn)) (nonneg-real t (H .nn)) h
 
-  abbrev own : Float → Float
-  own t = inPart share join xs t (pick t)
+  abbrev entry : Float → ℕ
+  entry s = pick (target s)
 
   abbrev ownShare : Float → Float
-  ownShare t = share (at xs (pick t - 1)) (at xs (pick t)) t
+  ownShare s = share (at xs (entry s - 1)) (at xs (entry s)) s
 
-  module _ (t : Float) (H : Held binary32 t) (a : T (lt zeroF t)) (b : T (lt t total)) where
-    picked : Between (at xs (pick t - 1)) (at xs (pick t)) t
+  module _ (s : Float) (H : Held binary32 (target s)) (a : T (lt zeroF (target s))) (b : T (lt (target s) total)) where
+    pub picked : Between (at xs (entry s - 1)) (at xs (entry s)) (target s)
     picked = record {
-      start = entry-held f (pick t - 1) (under (pick t) (lastOf xs) (P .upto t a b)) .nn;
-      end = entry-held f (pick t) (P .upto t a b);
+      start = entry-held f (entry s - 1) (under (entry s) (lastOf xs) (P .upto (target s) a b)) .nn;
+      end = entry-held f (entry s) (P .upto (target s) a b);
       target = H;
-      from = P .lower t a b;
-      upto = P .upper t a b;
+      from = P .lower (target s) a b;
+      upto = P .upper (target s) a b;
     }
       where
         under : (i n : ℕ) → i ≤ n → i - 1 ≤ n
         under i n h = omega arith
 
-    is-part : Part (ownShare t)
-    is-part = record { low = S .low (at xs (pick t - 1)) (at xs (pick t)) t picked; high = S .high (at xs (pick t - 1)) (at xs (pick t)) t picked }
+    pub is-part : Part (ownShare s)
+    is-part = record { low = S .low (at xs (entry s - 1)) (at xs (entry s)) s picked; high = S .high (at xs (entry s - 1)) (at xs (entry s)) s picked }
 
-    part-inside : pick t - 1 < lastOf xs
-    part-inside = less (pick t) (lastOf xs) (P .from t a b) (P .upto t a b)
+    pub part-inside : entry s - 1 < lastOf xs
+    part-inside = less (entry s) (lastOf xs) (P .from (target s) a b) (P .upto (target s) a b)
       where
         less : (i n : ℕ) → 1 ≤ i → i ≤ n → i - 1 < n
         less i n h k = omega arith
 
-  -- two targets inside: in one part by the share, in two by the ends and starts of the parts between
-  own-grows : (t u : Float) → Held binary32 t → Held binary32 u → T (lt zeroF t) → T (lt t total) → T (lt zeroF u) → T (lt u total) → T (le t u) → T (le (own t) (own u))
-  own-grows t u H K a b c d h =
-      let i = pick t in
-      let j = pick u in
-      elim (decide (ltb i j)) [
-        | inl l ↦ apart (part-inside t H a b) (part-inside u K c d) (ltb→lt i j l) (P .from t a b)
-        | inr g ↦ together (same i j (P .grows t u h) (nltb→le i j g))
-      ]
-    where
-      same : (i j : ℕ) → i ≤ j → j ≤ i → i ≡ j
-      same i j h k = omega arith
+  module _ {join : ℕ → Float → Float} (J : Joins (lastOf xs) join) where
+    abbrev own : Float → Float
+    own s = inPart share join xs s (entry s)
 
-      gap : (i j : ℕ) → 1 ≤ i → i < j → suc (i - 1 + (j - 1 - i)) ≡ j - 1
-      gap i j h l = omega arith
+    -- two targets inside: in one part by the share, in two by the ends and starts of the parts between
+    own-grows : (s r : Float) → Held binary32 (target s) → Held binary32 (target r) → T (lt zeroF (target s)) → T (lt (target s) total) → T (lt zeroF (target r)) → T (lt (target r) total)
+        → T (le (target s) (target r)) → T (le (count s) (count r)) → T (le (own s) (own r))
+    own-grows s r H K a b c d h g =
+        let i = entry s in
+        let j = entry r in
+        elim (decide (ltb i j)) [
+          | inl l ↦ apart (part-inside s H a b) (part-inside r K c d) (ltb→lt i j l) (P .from (target s) a b)
+          | inr l ↦ together (same i j (P .grows (target s) (target r) h) (nltb→le i j l))
+        ]
+      where
+        same : (i j : ℕ) → i ≤ j → j ≤ i → i ≡ j
+        same i j h k = omega arith
 
-      apart : pick t - 1 < lastOf xs → pick u - 1 < lastOf xs → pick t < pick u → 1 ≤ pick t → T (le (own t) (own u))
-      apart p q l from =
-          let k = pick t - 1 in
-          let m = pick u - 1 in
-          let e : suc (k + (m - pick t)) ≡ m = gap (pick t) (pick u) from l in
-          le-le-trans (own t) (join k oneF) (own u) (J .grows k (ownShare t) oneF p (is-part t H a b) all-is-part (is-part t H a b .high))
-          (le-le-trans (join k oneF) (join m zeroF) (own u) (subst (λ (i : ℕ). T (le (join k oneF) (join i zeroF))) e (joins-meet J k (m - pick t) (subst (λ (i : ℕ). i < lastOf xs) (sym e) q)))
-          (J .grows m zeroF (ownShare u) q none-is-part (is-part u K c d) (is-part u K c d .low)))
+        gap : (i j : ℕ) → 1 ≤ i → i < j → suc (i - 1 + (j - 1 - i)) ≡ j - 1
+        gap i j h l = omega arith
 
-      together : pick t ≡ pick u → T (le (own t) (own u))
-      together e =
-          let i = pick t in
-          let B : Between (at xs (i - 1)) (at xs i) u = subst (λ (k : ℕ). Between (at xs (k - 1)) (at xs k) u) (sym e) (picked u K c d) in
-          let y = share (at xs (i - 1)) (at xs i) u in
-          subst (λ (k : ℕ). T (le (own t) (inPart share join xs u k))) e
-          (J .grows (i - 1) (ownShare t) y (part-inside t H a b) (is-part t H a b) (record { low = S .low (at xs (i - 1)) (at xs i) u B; high = S .high (at xs (i - 1)) (at xs i) u B })
-          (S .grows (at xs (i - 1)) (at xs i) t u (picked t H a b) B h))
+        apart : entry s - 1 < lastOf xs → entry r - 1 < lastOf xs → entry s < entry r → 1 ≤ entry s → T (le (own s) (own r))
+        apart p q l from =
+            let k = entry s - 1 in
+            let m = entry r - 1 in
+            let e : suc (k + (m - entry s)) ≡ m = gap (entry s) (entry r) from l in
+            le-le-trans (own s) (join k oneF) (own r) (J .grows k (ownShare s) oneF p (is-part s H a b) all-is-part (is-part s H a b .high))
+            (le-le-trans (join k oneF) (join m zeroF) (own r) (subst (λ (i : ℕ). T (le (join k oneF) (join i zeroF))) e (joins-meet J k (m - entry s) (subst (λ (i : ℕ). i < lastOf xs) (sym e) q)))
+            (J .grows m zeroF (ownShare r) q none-is-part (is-part r K c d) (is-part r K c d .low)))
 
-  pub way-at-least : (t : Float) → Held binary32 t → T (le zeroF (byWay pick share join xs total t))
-  way-at-least t H = go (le t zeroF) (le total t) (λ n. n) (λ n. n)
-    where
-      go : (a b : Bool) → (T (not a) → T (not (le t zeroF))) → (T (not b) → T (not (le total t))) → T (le zeroF (cond a zeroF (cond b oneF (own t))))
-      go true b past short = le-self zeroF (nonneg-real zeroF (zero-held .nn))
-      go false true past short = zero-le-one
-      go false false past short = J .low (pick t - 1) (ownShare t) (part-inside t H (above t H (past tt)) (below t H (short tt))) (is-part t H (above t H (past tt)) (below t H (short tt)))
+        together : entry s ≡ entry r → T (le (own s) (own r))
+        together e =
+            let i = entry s in
+            let B : Between (at xs (i - 1)) (at xs i) (target r) = subst (λ (k : ℕ). Between (at xs (k - 1)) (at xs k) (target r)) (sym e) (picked r K c d) in
+            let y = share (at xs (i - 1)) (at xs i) r in
+            subst (λ (k : ℕ). T (le (own s) (inPart share join xs r k))) e
+            (J .grows (i - 1) (ownShare s) y (part-inside s H a b) (is-part s H a b) (record { low = S .low (at xs (i - 1)) (at xs i) r B; high = S .high (at xs (i - 1)) (at xs i) r B })
+            (S .grows (at xs (i - 1)) (at xs i) s r (picked s H a b) B g))
 
-  pub way-at-most : (t : Float) → Held binary32 t → T (le (byWay pick share join xs total t) oneF)
-  way-at-most t H = go (le t zeroF) (le total t) (λ n. n) (λ n. n)
-    where
-      go : (a b : Bool) → (T (not a) → T (not (le t zeroF))) → (T (not b) → T (not (le total t))) → T (le (cond a zeroF (cond b oneF (own t))) oneF)
-      go true b past short = zero-le-one
-      go false true past short = le-self oneF (nonneg-real oneF (one-held .nn))
-      go false false past short = J .high (pick t - 1) (ownShare t) (part-inside t H (above t H (past tt)) (below t H (short tt))) (is-part t H (above t H (past tt)) (below t H (short tt)))
+    pub way-at-least : (s : Float) → Held binary32 (target s) → T (le zeroF (byWayOf target pick share join xs total s))
+    way-at-least s H = go (le (target s) zeroF) (le total (target s)) (λ n. n) (λ n. n)
+      where
+        go : (a b : Bool) → (T (not a) → T (not (le (target s) zeroF))) → (T (not b) → T (not (le total (target s)))) → T (le zeroF (cond a zeroF (cond b oneF (own s))))
+        go true b past short = le-self zeroF (nonneg-real zeroF (zero-held .nn))
+        go false true past short = zero-le-one
+        go false false past short =
+            let inside = above (target s) H (past tt) in
+            let short = below (target s) H (short tt) in
+            J .low (entry s - 1) (ownShare s) (part-inside s H inside short) (is-part s H inside short)
 
-  -- No way with the three properties steps back.
-  pub never-back : (t u : Float) → Held binary32 t → Held binary32 u → T (le t u) → T (le (byWay pick share join xs total t) (byWay pick share join xs total u))
-  never-back t u H K h =
-      go (le t zeroF) (le total t) (le u zeroF) (le total u) (λ n. n) (λ n. n) (λ n. n) (λ n. n) (λ n. n) (λ n. n) (way-at-least u K) (way-at-most t H)
-    where
-      go : (a b c d : Bool) → (T (not a) → T (not (le t zeroF))) → (T b → T (le total t)) → (T (not b) → T (not (le total t))) → (T c → T (le u zeroF)) → (T (not c) → T (not (le u zeroF)))
-          → (T (not d) → T (not (le total u))) → T (le zeroF (cond c zeroF (cond d oneF (own u)))) → T (le (cond a zeroF (cond b oneF (own t))) oneF)
-          → T (le (cond a zeroF (cond b oneF (own t))) (cond c zeroF (cond d oneF (own u))))
-      go true b c d t-past t-ended t-short u-none u-past u-short low high = low
-      go false b true d t-past t-ended t-short u-none u-past u-short low high = absurd (clashing (le t zeroF) (le-le-trans t u zeroF h (u-none tt)) (t-past tt))
-      go false b false true t-past t-ended t-short u-none u-past u-short low high = high
-      go false true false false t-past t-ended t-short u-none u-past u-short low high = absurd (clashing (le total u) (le-le-trans total t u (t-ended tt) h) (u-short tt))
-      go false false false false t-past t-ended t-short u-none u-past u-short low high =
-          own-grows t u H K (above t H (t-past tt)) (below t H (t-short tt)) (above u K (u-past tt)) (below u K (u-short tt)) h
+    pub way-at-most : (s : Float) → Held binary32 (target s) → T (le (byWayOf target pick share join xs total s) oneF)
+    way-at-most s H = go (le (target s) zeroF) (le total (target s)) (λ n. n) (λ n. n)
+      where
+        go : (a b : Bool) → (T (not a) → T (not (le (target s) zeroF))) → (T (not b) → T (not (le total (target s)))) → T (le (cond a zeroF (cond b oneF (own s))) oneF)
+        go true b past short = zero-le-one
+        go false true past short = le-self oneF (nonneg-real oneF (one-held .nn))
+        go false false past short =
+            let inside = above (target s) H (past tt) in
+            let short = below (target s) H (short tt) in
+            J .high (entry s - 1) (ownShare s) (part-inside s H inside short) (is-part s H inside short)
+
+    -- No way with the three properties steps back.
+    pub never-back : (s r : Float) → Held binary32 (target s) → Held binary32 (target r) → T (le (target s) (target r)) → T (le (count s) (count r))
+        → T (le (byWayOf target pick share join xs total s) (byWayOf target pick share join xs total r))
+    never-back s r H K h g =
+        go (le t zeroF) (le total t) (le u zeroF) (le total u) (λ n. n) (λ n. n) (λ n. n) (λ n. n) (λ n. n) (λ n. n) (way-at-least r K) (way-at-most s H)
+      where
+        t : Float
+        t = target s
+
+        u : Float
+        u = target r
+
+        go : (a b c d : Bool) → (T (not a) → T (not (le t zeroF))) → (T b → T (le total t)) → (T (not b) → T (not (le total t))) → (T c → T (le u zeroF)) → (T (not c) → T (not (le u zeroF)))
+            → (T (not d) → T (not (le total u))) → T (le zeroF (cond c zeroF (cond d oneF (own r)))) → T (le (cond a zeroF (cond b oneF (own s))) oneF)
+            → T (le (cond a zeroF (cond b oneF (own s))) (cond c zeroF (cond d oneF (own r))))
+        go true b c d t-past t-ended t-short u-none u-past u-short low high = low
+        go false b true d t-past t-ended t-short u-none u-past u-short low high = absurd (clashing (le t zeroF) (le-le-trans t u zeroF h (u-none tt)) (t-past tt))
+        go false b false true t-past t-ended t-short u-none u-past u-short low high = high
+        go false true false false t-past t-ended t-short u-none u-past u-short low high = absurd (clashing (le total u) (le-le-trans total t u (t-ended tt) h) (u-short tt))
+        go false false false false t-past t-ended t-short u-none u-past u-short low high =
+            own-grows s r H K (above t H (t-past tt)) (below t H (t-short tt)) (above u K (u-past tt)) (below u K (u-short tt)) h g

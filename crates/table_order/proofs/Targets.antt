@@ -64,4 +64,4 @@ module _ {xs : List Float} {total : Float} (f : F32Table xs total) (some : 1 ≤
   raw-at-most t H = rw (is-way t) (way-at-most f (first-picks f) division-shares (division-joins (lastOf xs) some (f .table .counted)) t H)
 
   pub raw-at-mono : (t u : Float) → Held binary32 t → Held binary32 u → T (le t u) → T (le (rawAt xs total t) (rawAt xs total u))
-  raw-at-mono t u H K h = rw (is-way t, is-way u) (never-back f (first-picks f) division-shares (division-joins (lastOf xs) some (f .table .counted)) t u H K h)
+  raw-at-mono t u H K h = rw (is-way t, is-way u) (never-back f (first-picks f) division-shares (division-joins (lastOf xs) some (f .table .counted)) t u H K h h)

@@ -366,4 +366,4 @@ way-order {xs} {total} f {pick} P {share} S {join} J p q h = go (le total epsilo
   where
     go : (b : Bool) → T (le (cond b (clamp01Of p) (byWay pick share join xs total (targetOf total p))) (cond b (clamp01Of q) (byWay pick share join xs total (targetOf total q))))
     go true = h
-    go false = never-back f P S J (targetOf total p) (targetOf total q) (target-held total (total-held f) p) (target-held total (total-held f) q) (target-mono total (total-held f) p q h)
+    go false = never-back f P S J (targetOf total p) (targetOf total q) (target-held total (total-held f) p) (target-held total (total-held f) q) (target-mono total (total-held f) p q h) (target-mono total (total-held f) p q h)
