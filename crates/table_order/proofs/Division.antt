@@ -1,7 +1,6 @@
 -- The way of document 01 has the three properties: the first entry that is not below the target is picked; the share is a clamped quotient, and lies between 0 and 1 and grows with
--- the target; the sum of the number of the entry
--- before and the share is divided by the number of the last entry, so that each part ends and the next starts at the place of the entry between. Assumes nothing.
-use mathlib.Core.Path.{sym, _∙_, subst}
+-- the target; the sum of the number of the entry before and the share is divided by the number of the last entry, so that each part ends and the next starts at the place of the entry between. Assumes nothing.
+use mathlib.Core.Path.{_≡_, sym, _∙_, subst}
 use mathlib.Core.Logic.{inl, inr}
 use Prim.Native.Nat.{ℕ, suc, _*_, _-_, _≤_, _<_}
 use native.Mathlib.Nat.{le-trans, le-refl, mul-one, mul-pos}
@@ -25,12 +24,12 @@ use Rattle.floats.proofs.Between.{nonneg-between}
 use Rattle.floats.proofs.Constants.{zero-held, zero-num, one-held, one-num, epsilon-held, zero-le-one, zero-lt-epsilon}
 use Rattle.floats.proofs.Clamping.{clamp-at-least, clamp-at-most, clamp-mono, at-most-one}
 use Rattle.floats.proofs.Extremes.{max-right, max-nonneg}
-use Rattle.table.specs.Lookup.{at, firstNotBelow, shareOf, markOf}
+use Rattle.table.specs.Lookup.{at, lastOf, firstNotBelow, shareOf, markOf}
 use Rattle.table.specs.Sound.{countable}
 use Rattle.table.proofs.Search.{first-is}
 use Rattle.table.proofs.Enclosure.{enclosed}
 use Rattle.table_order.specs.Stated.{F32Table}
-use Rattle.table_order.proofs.Steady.{Between, Picks, Shares, Part, Joins, none-is-part, all-is-part, sound-of}
+use Rattle.table_order.proofs.Steady.{Between, Picks, SharesOf, Shares, Part, Joins, inPart, none-is-part, all-is-part, sound-of, part-inside, is-part}
 
 -- ---- the entry: a larger target is found no earlier
 pub first-mono : (xs : List Float) (t u : Float) → T (le t u) → firstNotBelow t xs ≤ firstNotBelow u xs
@@ -172,3 +171,28 @@ module _ (n : ℕ) (some : 1 ≤ n) (counted : n ≤ countable) where
 
   pub division-joins : Joins n (quotientOf n)
   division-joins = record { low = quotient-at-least; high = quotient-at-most; grows = quotient-grows; meets = quotient-meets }
+
+-- ---- with any share that is one, the parameter lies between the places of the two entries that enclose the target
+module _ {xs : List Float} {total : Float} (f : F32Table xs total) (some : 1 ≤ lastOf xs) {target count : Float → Float} {share : Float → Float → Float → Float} (S : SharesOf target count share) (s : Float) (H : Held binary32 (target s)) (above : T (lt zeroF (target s))) (below : T (lt (target s) total)) where
+  abbrev entry : ℕ
+  entry = firstNotBelow (target s) xs
+
+  abbrev own : Float
+  own = share (at xs (entry - 1)) (at xs entry) s
+
+  inside : entry - 1 < lastOf xs
+  inside = part-inside f (first-picks f) S s H above below
+
+  is-own : Part own
+  is-own = is-part f (first-picks f) S s H above below
+
+  pub placed-from : T (le (markOf (lastOf xs) (entry - 1)) (inPart share (quotientOf (lastOf xs)) xs s entry))
+  placed-from = quotient-from (lastOf xs) some (f .table .counted) (entry - 1) own inside is-own
+
+  pub placed-upto : T (le (inPart share (quotientOf (lastOf xs)) xs s entry) (markOf (lastOf xs) entry))
+  placed-upto =
+      subst (λ (k : ℕ). T (le (quotientOf (lastOf xs) (entry - 1) own) (markOf (lastOf xs) k))) (one-more entry (first-picks f .from (target s) above below))
+      (quotient-upto (lastOf xs) some (f .table .counted) (entry - 1) own inside is-own)
+    where
+      one-more : (i : ℕ) → 1 ≤ i → suc (i - 1) ≡ i
+      one-more i h = omega arith

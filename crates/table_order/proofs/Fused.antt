@@ -1,24 +1,27 @@
 -- A fused multiply-add, which the language cannot write: x * y + z rounded once. It is here to be ruled out, and to be judged where it does no harm. Assumes nothing.
 use mathlib.Core.Path.{_≡_, refl, sym, ap, _∙_, subst}
+use mathlib.Core.Logic.{_⊎_, inl, inr}
 use Prim.Native.Nat.{ℕ, zero-le, _+_, _-_, _*_, _^_, _≤_, _<_}
-use native.Mathlib.Nat.{le-trans, le-of-eq, mul-pos, zero-mul, mul-comm, mul-le-mul-right, mul-mul-mul-comm}
+use native.Mathlib.Nat.{le-trans, le-of-eq, le-of-lt, mul-pos, zero-mul, mul-comm, mul-assoc, mul-left-comm, mul-sub, mul-le-mul-right, le-of-mul-le-mul-right, mul-mul-mul-comm}
 use native.Mathlib.Omega.{arith}
 use mathlib.Core.Bool.{Bool, true, false, not, cond, true≢false}
-use lib.Dec.{T, ltb, eqb, ltb→lt, nltb→le}
+use lib.Dec.{T, ltb, leb, eqb, ltb→lt, nltb→le, leb→le, nleb→lt, eqb→eq}
 use lib.IntN.{ℤ, pos}
-use lib.Ieee.{Float, ofBits, nan, inf, fin, binary32, prec, emax, low, up, down, unlike, odd, units, round, sum, neg, lt, le, eq}
+use lib.Ieee.{Float, ofBits, nan, inf, fin, binary32, prec, emax, low, up, down, unlike, odd, units, round, sum, neg, div, lt, le, eq}
 use lib.Ieee.Fits.{down-pos, round-is}
 use lib.Ieee.Exact.{HasValue, odd-sign}
 use lib.Ieee.Order.{drop, kept}
-use lib.Ieee.Positive.{num, den}
+use lib.Ieee.Positive.{num, den, den-pos}
 use Rattle.floats.specs.Floats.{zeroF}
-use Rattle.floats.specs.Kinds.{nonneg}
+use Rattle.floats.specs.Kinds.{real, nonneg}
+use Rattle.floats.proofs.Tests.{decide}
+use Rattle.floats.proofs.Order.{le-le-trans, le-self, le-real-l}
 use Rattle.floats.proofs.Signs.{signed→le}
-use Rattle.floats.proofs.Fractions.{zero-size, le→cross}
-use Rattle.floats.proofs.Rounded.{Rounds, rounds-mono}
-use Rattle.floats.proofs.Monotone.{cross-add}
-use Rattle.floats.proofs.Held.{held-above}
-use Rattle.floats.proofs.Constants.{zero-held}
+use Rattle.floats.proofs.Fractions.{zero-size, nonneg-real, le→cross}
+use Rattle.floats.proofs.Rounded.{Rounds, rounds-mono, div-rounds}
+use Rattle.floats.proofs.Monotone.{cross-add, div-mono}
+use Rattle.floats.proofs.Held.{held-above, rounds-real}
+use Rattle.floats.proofs.Constants.{zero-held, zero-num}
 
 -- The product and the sum are exact, and the sum is rounded. Only a finite product is asked for here.
 unfoldable pub fusedOf : Float → Float → Float → Float
@@ -101,6 +104,34 @@ downward-low (fin false m e) h = absurd h
 
 none-low : (z : Float) (a c : ℕ) → a ≡ 0 → Rounds binary32 z a c → T (le z zeroF)
 none-low z a c e r = held-above binary32 zeroF z a c zero-held r (le-trans (le-of-eq (ap (λ (n : ℕ). n * den zeroF) e ∙ zero-mul (den zeroF))) zero-le)
+
+not-above : (n u : ℕ) → n ≡ 0 → 0 < n * u → ⊥
+not-above n u e o = no (n * u) o (ap (λ (k : ℕ). k * u) e ∙ zero-mul u)
+  where
+    no : (k : ℕ) → 0 < k → k ≡ 0 → ⊥
+    no k h e = omega arith
+
+-- what is at most 0, divided by what is above 0, is at most 0
+pub div-low : (x y : Float) → T (le x zeroF) → T (nonneg y) → 0 < num y → T (le (div binary32 x y) zeroF)
+unfolding div zeroF ofBits le lt eq
+div-low nan y h q o = absurd h
+div-low (inf false) y h q o = absurd h
+div-low (inf true) nan h q o = absurd q
+div-low (inf true) (inf t) h q o = absurd q
+div-low (inf true) (fin true n d) h q o = absurd (not-above n (up d) (eqb→eq n 0 q) o)
+div-low (inf true) (fin false n d) h q o = tt
+div-low (fin true m e) nan h q o = absurd q
+div-low (fin true m e) (inf t) h q o = absurd q
+div-low (fin true m e) (fin true n d) h q o = absurd (not-above n (up d) (eqb→eq n 0 q) o)
+div-low (fin true m e) (fin false n d) h q o = go (eqb n 0) (eqb→eq n 0)
+  where
+    go : (b : Bool) → (T b → n ≡ 0) → T (le (cond b (cond (eqb m 0) nan (inf true)) (round binary32 true (m * up e * down d) (n * up d * down e))) zeroF)
+    go true k = absurd (not-above n (up d) (k tt) o)
+    go false k = downward-low (round binary32 true (m * up e * down d) (n * up d * down e)) (round-downward (m * up e * down d) (n * up d * down e))
+div-low (fin false m e) y h q o =
+    let x = fin false m e in
+    le-le-trans (div binary32 x y) (div binary32 zeroF y) zeroF (div-mono binary32 x zeroF y y tt (zero-held .nn) q q o o h (le-self y (nonneg-real y q)))
+    (none-low (div binary32 zeroF y) (num zeroF * den y) (num y * den zeroF) (ap (λ (n : ℕ). n * den y) zero-num ∙ zero-mul (den y)) (div-rounds binary32 zeroF y (zero-held .nn) q o))
 
 -- the second is taken away: rounded where it is no larger, at most 0 where it is no smaller
 pub record Taken (z : Float) (a b c : ℕ) : Type 0 where
@@ -206,3 +237,91 @@ fused-mono x w y z v p q r m n h k =
     rounds-mono binary32 (fusedOf x y z) (fusedOf w y v) (num x * num y * den z + num z * (den x * den y)) (den x * den y * den z) (num w * num y * den v + num v * (den w * den y)) (den w * den y * den v)
     (fused-rounds x y z p r m) (fused-rounds w y v q r n)
     (cross-add (num x * num y) (den x * den y) (num w * num y) (den w * den y) (num z) (den z) (num v) (den v) (products x w y p q r h) (le→cross z v m n k))
+
+-- ---- x * y - c: at most 0, or a rounded fraction; and it keeps the order of x
+
+-- the factors may be exchanged
+pub fused-swap : (x y z : Float) → T (nonneg x) → T (nonneg y) → fusedOf x y z ≡ fusedOf y x z
+unfolding fusedOf
+fused-swap nan y z p q = absurd p
+fused-swap (inf s) y z p q = absurd p
+fused-swap (fin s m e) nan z p q = absurd q
+fused-swap (fin s m e) (inf t) z p q = absurd q
+fused-swap (fin s m e) (fin t n d) nan p q = refl
+fused-swap (fin s m e) (fin t n d) (inf u) p q = refl
+fused-swap (fin s m e) (fin t n d) (fin u o g) p q = rw (unlike-swap s t, mul-comm (m * up e) (n * up d), mul-comm (down e) (down d)) refl
+  where
+    unlike-swap : (s t : Bool) → unlike s t ≡ unlike t s
+    unlike-swap false false = refl
+    unlike-swap false true = refl
+    unlike-swap true false = refl
+    unlike-swap true true = refl
+
+-- the exact difference of x * y and c is `over` / `scale`
+abbrev pub over : Float → Float → Float → ℕ
+over x y c = num x * num y * den c - num c * (den x * den y)
+
+abbrev pub scale : Float → Float → Float → ℕ
+scale x y c = den x * den y * den c
+
+pub fused-sorted : (x y c : Float) → T (nonneg x) → T (nonneg y) → T (nonneg c) → T (le (fusedOf x y (neg c)) zeroF) ⊎ Rounds binary32 (fusedOf x y (neg c)) (over x y c) (scale x y c)
+fused-sorted x y c p q r =
+    let a = num x * num y * den c in
+    let b = num c * (den x * den y) in
+    elim (decide (leb a b)) [
+      | inl k ↦ inl (fused-taken x y c p q r .low (leb→le a b k))
+      | inr k ↦ inr (fused-taken x y c p q r .rounds (le-of-lt (nleb→lt a b k)))
+    ]
+
+pub fused-real : (x y c : Float) → T (nonneg x) → T (nonneg y) → T (nonneg c) → T (real (fusedOf x y (neg c)))
+fused-real x y c p q r = elim (fused-sorted x y c p q r) [
+  | inl k ↦ le-real-l (fusedOf x y (neg c)) zeroF k
+  | inr k ↦ rounds-real binary32 (fusedOf x y (neg c)) (over x y c) (scale x y c) k
+]
+
+-- two that are rounded fractions, in order
+pub record Risen (t u y c : Float) : Type 0 where
+  pub first : Rounds binary32 (fusedOf t y (neg c)) (over t y c) (scale t y c)
+  pub second : Rounds binary32 (fusedOf u y (neg c)) (over u y c) (scale u y c)
+  pub order : T (le (fusedOf t y (neg c)) (fusedOf u y (neg c)))
+
+module _ (t u y c : Float) (p : T (nonneg t)) (q : T (nonneg u)) (r : T (nonneg y)) (s : T (nonneg c)) (h : T (le t u)) where
+  abbrev A : Float → ℕ
+  A x = num x * num y * den c
+
+  abbrev B : Float → ℕ
+  B x = num c * (den x * den y)
+
+  abbrev C : Float → ℕ
+  C x = scale x y c
+
+  C-above : (x : Float) → 0 < C x
+  C-above x = mul-pos (mul-pos (den-pos x) (den-pos y)) (den-pos c)
+
+  -- what is taken away is one fraction
+  offsets : B t * C u ≡ B u * C t
+  offsets = simp (mul-assoc, mul-comm, mul-left-comm)
+
+  grown : A t * C u ≤ A u * C t
+  grown = simp (mul-assoc, mul-comm, mul-left-comm) (simp (mul-assoc, mul-comm, mul-left-comm) at (mul-le-mul-right (num y * den c * (den y * den c)) (le→cross t u p q h)))
+
+  past : B t ≤ A t → B u ≤ A u
+  past k = le-of-mul-le-mul-right (le-trans (le-of-eq (sym offsets)) (le-trans (mul-le-mul-right (C u) k) grown)) (C-above t)
+
+  differences : (A t - B t) * C u ≤ (A u - B u) * C t
+  differences =
+      le-trans (le-of-eq (mul-comm (A t - B t) (C u) ∙ mul-sub (C u) (A t) (B t)))
+      (le-trans (less (C u * A t) (C u * B t) (C t * A u) (C t * B u) (le-trans (le-of-eq (mul-comm (C u) (A t))) (le-trans grown (le-of-eq (mul-comm (A u) (C t))))) (mul-comm (C u) (B t) ∙ offsets ∙ mul-comm (B u) (C t)))
+      (le-of-eq (sym (mul-comm (A u - B u) (C t) ∙ mul-sub (C t) (A u) (B u)))))
+    where
+      less : (w x y z : ℕ) → w ≤ y → x ≡ z → w - x ≤ y - z
+      less w x y z h e = omega arith
+
+  pub fused-rise : T (le (fusedOf t y (neg c)) zeroF) ⊎ Risen t u y c
+  fused-rise = elim (decide (leb (A t) (B t))) [
+    | inl k ↦ inl (fused-taken t y c p r s .low (leb→le (A t) (B t) k))
+    | inr k ↦
+        let first = fused-taken t y c p r s .rounds (le-of-lt (nleb→lt (A t) (B t) k)) in
+        let second = fused-taken u y c q r s .rounds (past (le-of-lt (nleb→lt (A t) (B t) k))) in
+        inr (record { first = first; second = second; order = rounds-mono binary32 (fusedOf t y (neg c)) (fusedOf u y (neg c)) (A t - B t) (C t) (A u - B u) (C u) first second differences })
+  ]

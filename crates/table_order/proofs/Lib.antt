@@ -9,4 +9,5 @@ pub mod Theorems
 pub mod Fused
 pub mod Above
 pub mod Variants
+pub mod Contraction
 mod Witnesses

@@ -1,4 +1,5 @@
--- The spot of a target on a path: a larger target lies in a later segment, or in the same one with a share that is no smaller. Assumes nothing.
+-- The spot of a progress on a path, for any way to pick the segment and to work out the share: a progress that counts for no less lies in a later segment, or in the same one with a share
+-- that is no smaller. Assumes nothing.
 use mathlib.Core.Path.{_≡_, refl, sym, subst}
 use mathlib.Core.Logic.{inl, inr}
 use Prim.Native.Nat.{ℕ, suc, zero-le, _≤_, _<_}
@@ -7,22 +8,24 @@ use mathlib.Core.Bool.{Bool, true, false, not, cond}
 use mathlib.Core.List.{List, _∷_}
 use lib.Dec.{T, ltb, ltb→lt, nltb→le}
 use lib.ListN.{length}
-use lib.Ieee.{Float, binary32, le, fits}
-use Rattle.floats.specs.Floats.{zeroF, oneF}
+use lib.Ieee.{Float, binary32, lt, le, fits}
+use Rattle.floats.specs.Floats.{zeroF, oneF, epsilonF, clamp01Of}
 use Rattle.floats.specs.Kinds.{nonneg}
 use Rattle.floats.proofs.Tests.{decide, clashing}
-use Rattle.floats.proofs.Order.{le-le-trans, le-self, lt→le}
+use Rattle.floats.proofs.Order.{le-le-trans, le-self, lt→le, not-le→lt}
 use Rattle.floats.proofs.Fractions.{nonneg-real}
 use Rattle.floats.proofs.Held.{Held}
 use Rattle.floats.proofs.Constants.{zero-held, one-held, zero-le-one}
-use Rattle.table.specs.Lookup.{at, lastOf, firstNotBelow, shareOf}
-use Rattle.table.specs.Spots.{before, pathTotal, spotted, spotWithin, spotAt}
+use Rattle.table.specs.declared.tables.Spot.{Spot}
+use Rattle.table.specs.Lookup.{at, lastOf, firstNotBelow, targetOf}
+use Rattle.table.specs.Spots.{before, pathTotal, spotted}
 use Rattle.table.proofs.Lengths.{Sound, path-sound, entry-nonneg, total-nonneg}
 use Rattle.table.proofs.Before.{path-total}
-use Rattle.table.proofs.Enclosure.{Within, path-within}
+use Rattle.table.proofs.Enclosure.{path-encloses}
 use Rattle.table_order.specs.Stated.{F32Path, NoStepBack}
-use Rattle.table_order.proofs.Steady.{Between}
-use Rattle.table_order.proofs.Division.{first-mono, division-shares}
+use Rattle.table_order.proofs.Steady.{Between, SharesOf, Shares}
+use Rattle.table_order.proofs.Division.{first-mono}
+use Rattle.table_order.proofs.Targets.{target-held, target-mono, along-progress}
 
 -- a segment no earlier, and within one segment a share no smaller
 pub no-step-back : (i j : ℕ) (x y : Float) → i ≤ j → (i ≡ j → T (le x y)) → NoStepBack i x j y
@@ -30,6 +33,31 @@ no-step-back i j x y h k = elim (decide (ltb i j)) [ inl l ↦ inl (ltb→lt i j
   where
     same : (i j : ℕ) → i ≤ j → j ≤ i → i ≡ j
     same i j h k = omega arith
+
+-- ---- the parts of a way on a path
+
+-- the segment picked for a target above 0 and below the total: the running lengths before and at it stand to both sides, and a larger target picks no earlier one
+pub record PicksSegment (xs : List Float) (pick : Float → ℕ) : Type 0 where
+  pub inside : (t : Float) → T (lt zeroF t) → T (lt t (pathTotal xs)) → pick t < length xs
+  pub lower : (t : Float) → T (lt zeroF t) → T (lt t (pathTotal xs)) → T (le (before xs (pick t)) t)
+  pub upper : (t : Float) → T (lt zeroF t) → T (lt t (pathTotal xs)) → T (le t (at xs (pick t)))
+  pub grows : (t u : Float) → T (le t u) → pick t ≤ pick u
+
+-- the spot of what is read, as Steady.antt has it for a table
+abbrev pub spotBy : (Float → Float) → (Float → ℕ) → (Float → Float → Float → Float) → List Float → Float → Spot
+spotBy target pick share xs s =
+    let i = pick (target s) in
+    cond (le (target s) zeroF) (spotted 0 zeroF) (cond (le (pathTotal xs) (target s)) (spotted (lastOf xs) oneF) (spotted i (share (before xs i) (at xs i) s)))
+
+-- the whole lookup, from a progress: with a share that reads the progress, or one that reads the target
+abbrev pub spotAlong : (Float → ℕ) → (Float → Float → Float → Float) → List Float → Float → Spot
+spotAlong pick share xs p = cond (le (pathTotal xs) epsilonF) (spotted (lastOf xs) oneF) (spotBy (targetOf (pathTotal xs)) pick share xs p)
+
+abbrev pub spotWay : (Float → ℕ) → (Float → Float → Float → Float) → List Float → Float → Spot
+spotWay pick share xs p = spotAlong pick (λ a b p. share a b (targetOf (pathTotal xs) p)) xs p
+
+abbrev pub Forward : Spot → Spot → Type 0
+Forward a b = NoStepBack (a .segment) (a .progress .value) (b .segment) (b .progress .value)
 
 module _ {xs : List Float} (f : F32Path xs) where
   -- ---- the ends of the segment i
@@ -43,79 +71,102 @@ module _ {xs : List Float} (f : F32Path xs) where
   end-held : (i : ℕ) → i < length xs → Held binary32 (at xs i)
   end-held i h = record { fit = f .values i; nn = entry-nonneg sound-of (suc i) h }
 
-  segment-rises : (i : ℕ) → i < length xs → T (le (before xs i) (at xs i))
-  unfolding before
-  segment-rises i h = sound-of .rises i h
-
   pub path-total-held : Held binary32 (pathTotal xs)
   path-total-held = record { fit = subst (λ (x : Float). T (fits binary32 x)) (path-total xs (f .path .some)) (f .values (lastOf xs)); nn = total-nonneg sound-of }
 
-  -- ---- a target between 0 and the total
-  inside : (t : Float) → Held binary32 t → T (not (le t zeroF)) → T (not (le (pathTotal xs) t)) → Within xs t (firstNotBelow t xs)
-  inside t H above short = path-within xs t (f .path .sound) (nonneg-real t (H .nn)) above short
+  -- the first running length that is not below the target
+  pub first-segments : PicksSegment xs (λ t. firstNotBelow t xs)
+  first-segments = record {
+    inside = λ t a b. path-encloses xs (f .path .sound) t a b .inside;
+    lower = λ t a b. lt→le (before xs (firstNotBelow t xs)) t (path-encloses xs (f .path .sound) t a b .lower);
+    upper = λ t a b. path-encloses xs (f .path .sound) t a b .upper;
+    grows = first-mono xs;
+  }
 
-  abbrev shareIn : Float → ℕ → Float
-  shareIn t i = shareOf (before xs i) (at xs i) t
+  module _ {pick : Float → ℕ} (P : PicksSegment xs pick) {target count : Float → Float} {share : Float → Float → Float → Float} (S : SharesOf target count share) where
+    abbrev segmentOf : Float → ℕ
+    segmentOf s = pick (target s)
 
-  module _ (t : Float) (H : Held binary32 t) (w : Within xs t (firstNotBelow t xs)) where
-    abbrev own : ℕ
-    own = firstNotBelow t xs
+    abbrev shareIn : Float → ℕ → Float
+    shareIn s i = share (before xs i) (at xs i) s
 
-    segment : (u : Float) → Held binary32 u → T (le t u) → T (le u (at xs own)) → Between (before xs own) (at xs own) u
-    segment u K on upto = record {
-      start = start-nonneg own (w .inside);
-      end = end-held own (w .inside);
-      target = K;
-      from = le-le-trans (before xs own) t u (lt→le (before xs own) t (w .lower)) on;
-      upto = upto;
-    }
+    -- ---- a target between 0 and the total
+    module _ (s : Float) (H : Held binary32 (target s)) (past : T (not (le (target s) zeroF))) (short : T (not (le (pathTotal xs) (target s)))) where
+      above : T (lt zeroF (target s))
+      above = not-le→lt (target s) zeroF (nonneg-real (target s) (H .nn)) (nonneg-real zeroF (zero-held .nn)) past
 
-    here : Between (before xs own) (at xs own) t
-    here = segment t H (le-self t (nonneg-real t (H .nn))) (w .upper)
+      below : T (lt (target s) (pathTotal xs))
+      below = not-le→lt (pathTotal xs) (target s) (nonneg-real (pathTotal xs) (path-total-held .nn)) (nonneg-real (target s) (H .nn)) short
 
-    own-at-least : T (le zeroF (shareIn t own))
-    own-at-least = division-shares .low (before xs own) (at xs own) t here
+      inside : segmentOf s < length xs
+      inside = P .inside (target s) above below
 
-    own-at-most : T (le (shareIn t own) oneF)
-    own-at-most = division-shares .high (before xs own) (at xs own) t here
+      here : Between (before xs (segmentOf s)) (at xs (segmentOf s)) (target s)
+      here = record { start = start-nonneg (segmentOf s) inside; end = end-held (segmentOf s) inside; target = H; from = P .lower (target s) above below; upto = P .upper (target s) above below }
 
-    own-mono : (u : Float) → Held binary32 u → T (le t u) → T (le u (at xs own)) → T (le (shareIn t own) (shareIn u own))
-    own-mono u K order upto = division-shares .grows (before xs own) (at xs own) t u here (segment u K order upto) order
+      own-at-least : T (le zeroF (shareIn s (segmentOf s)))
+      own-at-least = S .low (before xs (segmentOf s)) (at xs (segmentOf s)) s here
 
-  -- ---- any two targets
-  pub spot-at-mono : (t u : Float) → Held binary32 t → Held binary32 u → T (le t u)
-      → NoStepBack (spotAt xs t .segment) (spotAt xs t .progress .value) (spotAt xs u .segment) (spotAt xs u .progress .value)
-  unfolding spotAt
-  spot-at-mono t u H K h = go (le t zeroF) (le (pathTotal xs) t) (le u zeroF) (le (pathTotal xs) u) (λ n. n) (λ n. n) (λ n. n) (λ n. n) (λ n. n) (λ n. n)
+      own-at-most : T (le (shareIn s (segmentOf s)) oneF)
+      own-at-most = S .high (before xs (segmentOf s)) (at xs (segmentOf s)) s here
+
+    -- ---- any two targets
+    spot-forward : (s r : Float) → Held binary32 (target s) → Held binary32 (target r) → T (le (target s) (target r)) → T (le (count s) (count r))
+        → Forward (spotBy target pick share xs s) (spotBy target pick share xs r)
+    spot-forward s r H K h g = go (le t zeroF) (le (pathTotal xs) t) (le u zeroF) (le (pathTotal xs) u) (λ n. n) (λ n. n) (λ n. n) (λ n. n) (λ n. n) (λ n. n)
+      where
+        t : Float
+        t = target s
+
+        u : Float
+        u = target r
+
+        i : ℕ
+        i = segmentOf s
+
+        j : ℕ
+        j = segmentOf r
+
+        some : 0 < length xs
+        some = f .path .some
+
+        within-last : (k : ℕ) → k < length xs → k ≤ lastOf xs
+        within-last k l = omega arith
+
+        spot : Bool → Bool → Float → ℕ → Spot
+        spot past ended s i = cond past (spotted 0 zeroF) (cond ended (spotted (lastOf xs) oneF) (spotted i (shareIn s i)))
+
+        go : (a b c d : Bool) → (T (not a) → T (not (le t zeroF))) → (T b → T (le (pathTotal xs) t)) → (T (not b) → T (not (le (pathTotal xs) t))) → (T c → T (le u zeroF))
+            → (T (not c) → T (not (le u zeroF))) → (T (not d) → T (not (le (pathTotal xs) u))) → Forward (spot a b s i) (spot c d r j)
+        go true b true d t-above t-ended t-short u-none u-above u-short = inr (refl, le-self zeroF (nonneg-real zeroF (zero-held .nn)))
+        go true b false true t-above t-ended t-short u-none u-above u-short = no-step-back 0 (lastOf xs) zeroF oneF zero-le (λ e. zero-le-one)
+        go true b false false t-above t-ended t-short u-none u-above u-short = no-step-back 0 j zeroF (shareIn r j) zero-le (λ e. own-at-least r K (u-above tt) (u-short tt))
+        go false b true d t-above t-ended t-short u-none u-above u-short = absurd (clashing (le t zeroF) (le-le-trans t u zeroF h (u-none tt)) (t-above tt))
+        go false true false true t-above t-ended t-short u-none u-above u-short = inr (refl, le-self oneF (nonneg-real oneF (one-held .nn)))
+        go false false false true t-above t-ended t-short u-none u-above u-short =
+            no-step-back i (lastOf xs) (shareIn s i) oneF (within-last i (inside s H (t-above tt) (t-short tt))) (λ e. own-at-most s H (t-above tt) (t-short tt))
+        go false true false false t-above t-ended t-short u-none u-above u-short = absurd (clashing (le (pathTotal xs) u) (le-le-trans (pathTotal xs) t u (t-ended tt) h) (u-short tt))
+        go false false false false t-above t-ended t-short u-none u-above u-short =
+            no-step-back i j (shareIn s i) (shareIn r j) (P .grows t u h)
+            (λ e.
+            let B : Between (before xs i) (at xs i) u = subst (λ (k : ℕ). Between (before xs k) (at xs k) u) (sym e) (here r K (u-above tt) (u-short tt)) in
+            subst (λ (k : ℕ). T (le (shareIn s i) (shareIn r k))) e (S .grows (before xs i) (at xs i) s r (here s H (t-above tt) (t-short tt)) B g))
+
+  -- ---- any two progresses: whatever picks and shares as above, the pair of segment and share never steps back
+  pub spot-along-order : {pick : Float → ℕ} → PicksSegment xs pick → {share : Float → Float → Float → Float} → SharesOf (targetOf (pathTotal xs)) clamp01Of share
+      → (p q : Float) → T (le (clamp01Of p) (clamp01Of q)) → Forward (spotAlong pick share xs p) (spotAlong pick share xs q)
+  spot-along-order {pick} P {share} S p q h = go (le (pathTotal xs) epsilonF)
     where
-      some : 0 < length xs
-      some = f .path .some
+      total : Float
+      total = pathTotal xs
 
-      i : ℕ
-      i = firstNotBelow t xs
+      H : Held binary32 (pathTotal xs)
+      H = path-total-held
 
-      j : ℕ
-      j = firstNotBelow u xs
+      go : (b : Bool) → Forward (cond b (spotted (lastOf xs) oneF) (spotBy (targetOf total) pick share xs p)) (cond b (spotted (lastOf xs) oneF) (spotBy (targetOf total) pick share xs q))
+      go true = inr (refl, le-self oneF (nonneg-real oneF (one-held .nn)))
+      go false = spot-forward P S p q (target-held total H p) (target-held total H q) (target-mono total H p q h) h
 
-      within-last : (k : ℕ) → k < length xs → k ≤ lastOf xs
-      within-last k l = omega arith
-
-      go : (a b c d : Bool) → (T (not a) → T (not (le t zeroF))) → (T b → T (le (pathTotal xs) t)) → (T (not b) → T (not (le (pathTotal xs) t))) → (T c → T (le u zeroF))
-          → (T (not c) → T (not (le u zeroF))) → (T (not d) → T (not (le (pathTotal xs) u)))
-          → NoStepBack (cond a (spotted 0 zeroF) (cond b (spotted (lastOf xs) oneF) (spotWithin xs t i)) .segment) (cond a (spotted 0 zeroF) (cond b (spotted (lastOf xs) oneF) (spotWithin xs t i)) .progress .value)
-          (cond c (spotted 0 zeroF) (cond d (spotted (lastOf xs) oneF) (spotWithin xs u j)) .segment) (cond c (spotted 0 zeroF) (cond d (spotted (lastOf xs) oneF) (spotWithin xs u j)) .progress .value)
-      go true b true d t-above t-ended t-short u-none u-above u-short = inr (refl, le-self zeroF (nonneg-real zeroF (zero-held .nn)))
-      go true b false true t-above t-ended t-short u-none u-above u-short = no-step-back 0 (lastOf xs) zeroF oneF zero-le (λ e. zero-le-one)
-      go true b false false t-above t-ended t-short u-none u-above u-short =
-          no-step-back 0 j zeroF (shareIn u j) zero-le (λ e. own-at-least u K (inside u K (u-above tt) (u-short tt)))
-      go false b true d t-above t-ended t-short u-none u-above u-short = absurd (clashing (le t zeroF) (le-le-trans t u zeroF h (u-none tt)) (t-above tt))
-      go false true false true t-above t-ended t-short u-none u-above u-short = inr (refl, le-self oneF (nonneg-real oneF (one-held .nn)))
-      go false false false true t-above t-ended t-short u-none u-above u-short =
-          let w = inside t H (t-above tt) (t-short tt) in
-          no-step-back i (lastOf xs) (shareIn t i) oneF (within-last i (w .inside)) (λ e. own-at-most t H w)
-      go false true false false t-above t-ended t-short u-none u-above u-short = absurd (clashing (le (pathTotal xs) u) (le-le-trans (pathTotal xs) t u (t-ended tt) h) (u-short tt))
-      go false false false false t-above t-ended t-short u-none u-above u-short =
-          no-step-back i j (shareIn t i) (shareIn u j) (first-mono xs t u h)
-          (λ e.
-          subst (λ (k : ℕ). T (le (shareIn t i) (shareIn u k))) e
-          (own-mono t H (inside t H (t-above tt) (t-short tt)) u K h (subst (λ (k : ℕ). T (le u (at xs k))) (sym e) (inside u K (u-above tt) (u-short tt) .upper))))
+  pub spot-way-order : {pick : Float → ℕ} → PicksSegment xs pick → {share : Float → Float → Float → Float} → Shares share
+      → (p q : Float) → T (le (clamp01Of p) (clamp01Of q)) → Forward (spotWay pick share xs p) (spotWay pick share xs q)
+  spot-way-order P S = spot-along-order P (along-progress (pathTotal xs) path-total-held S)

@@ -21,7 +21,7 @@ use Rattle.floats.proofs.Clamping.{clamp01-at-most, clamp01-nonneg, at-most-one
 use Rattle.table.specs.Lookup.{at, lastOf, firstNotBelow, targetOf, shareOf, placeOf, rawAt}
 use Rattle.table.proofs.Lengths.{start-at-most, total-at-most}
 use Rattle.table_order.specs.Stated.{F32Table}
-use Rattle.table_order.proofs.Steady.{byWay, sound-of, way-at-least, way-at-most, never-back}
+use Rattle.table_order.proofs.Steady.{SharesOf, Shares, byWay, sound-of, way-at-least, way-at-most, never-back}
 use Rattle.table_order.proofs.Division.{quotientOf, first-picks, division-shares, division-joins}
 
 -- ---- the target of a progress is held, and grows with the clamped progress
@@ -40,6 +40,14 @@ module _ (total : Float) (H : Held binary32 total) where
   pub target-mono : (p q : Float) → T (le (clamp01Of p) (clamp01Of q)) → T (le (targetOf total p) (targetOf total q))
   unfolding targetOf
   target-mono p q h = mul-mono binary32 total total (clamp01Of p) (clamp01Of q) (H .nn) (H .nn) (clamp01-nonneg p) (clamp01-nonneg q) (le-self total (nonneg-real total (H .nn))) h
+
+  -- a share of the target is a share of the progress
+  pub along-progress : {share : Float → Float → Float → Float} → Shares share → SharesOf (targetOf total) clamp01Of (λ a b p. share a b (targetOf total p))
+  along-progress S = record {
+    low = λ a b p B. S .low a b (targetOf total p) B;
+    high = λ a b p B. S .high a b (targetOf total p) B;
+    grows = λ a b p q B C h. S .grows a b (targetOf total p) (targetOf total q) B C (target-mono p q h);
+  }
 
 -- ---- a table longer than 2 ^ -23 has a part: with one entry its total would be 0
 pub long-parts : {xs : List Float} {total : Float} → F32Table xs total → T (not (le total epsilonF)) → 1 ≤ lastOf xs

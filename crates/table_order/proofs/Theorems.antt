@@ -2,8 +2,7 @@
 -- clamped, so `clamp01Of p` is the progress that counts. Assumes nothing.
 use mathlib.Core.Path.{_≡_, refl, sym, _∙_, subst}
 use mathlib.Core.Logic.{inl, inr}
-use Prim.Native.Nat.{ℕ, suc, _-_, _≤_, _<_}
-use native.Mathlib.Omega.{arith}
+use Prim.Native.Nat.{ℕ, _-_}
 use mathlib.Core.Bool.{Bool, true, false, not, cond}
 use mathlib.Core.List.{List}
 use lib.Dec.{T}
@@ -11,20 +10,18 @@ use lib.Ieee.{Float, lt, le}
 use lib.Ieee.Bits.{cond-no}
 use Rattle.floats.specs.Floats.{zeroF, oneF, epsilonF, clamp01Of}
 use Rattle.floats.proofs.Tests.{cond-yes}
-use Rattle.floats.proofs.Order.{le-self, lt→le, lt→not-le}
-use Rattle.floats.proofs.Fractions.{nonneg-real}
-use Rattle.floats.proofs.Constants.{one-held}
+use Rattle.floats.proofs.Order.{lt→not-le}
 use Rattle.floats.proofs.Clamping.{clamp01-at-least, clamp01-at-most}
 use Rattle.table.specs.declared.tables.Spot.{Spot}
-use Rattle.table.specs.Lookup.{at, lastOf, firstNotBelow, targetOf, shareOf, markOf, placeOf, rawAt, rawOf}
+use Rattle.table.specs.Lookup.{lastOf, firstNotBelow, targetOf, markOf, placeOf, rawAt, rawOf}
 use Rattle.table.specs.Spots.{pathTotal, spotted, spotWithin, spotAt, spotOf}
 use Rattle.table.proofs.Enclosure.{Encloses, Within, enclosed, path-encloses}
 use Rattle.table_order.specs.Stated.{F32Table, F32Path, NoStepBack}
-use Rattle.table_order.proofs.Steady.{Between, Part, sound-of, entry-held, total-held}
-use Rattle.table_order.proofs.Division.{quotientOf, division-shares, quotient-from, quotient-upto}
+use Rattle.table_order.proofs.Steady.{sound-of, total-held}
+use Rattle.table_order.proofs.Division.{division-shares, placed-from, placed-upto}
 use Rattle.table_order.proofs.Targets.{target-held, target-mono, long-parts, raw-at-least, raw-at-most, raw-at-mono}
 use Rattle.table_order.proofs.Ends.{clamped-zero, clamped-one, target-of-zero, target-of-one, target-of-one-above}
-use Rattle.table_order.proofs.Spots.{path-total-held, spot-at-mono}
+use Rattle.table_order.proofs.Spots.{path-total-held, first-segments, spot-way-order}
 
 -- what theorem 4 says of a progress
 pub record Placed (xs : List Float) (total p : Float) : Type 0 where
@@ -105,31 +102,15 @@ module _ {xs : List Float} {total : Float} (f : F32Table xs total) where
   pub raw-placed : (p : Float) → T (lt epsilonF total) → T (lt zeroF (targetOf total p)) → T (lt (targetOf total p) total) → Placed xs total p
   raw-placed p long above below =
       let t = targetOf total p in
-      let i = firstNotBelow t xs in
-      let e = target-enclosed p above below in
-      let B : Between (at xs (i - 1)) (at xs i) t =
-      record { start = entry-held f (i - 1) (under i (lastOf xs) (e .upto)) .nn; end = entry-held f i (e .upto); target = target-held total (total-held f) p; from = lt→le (at xs (i - 1)) t (e .lower); upto = e .upper } in
-      let x = shareOf (at xs (i - 1)) (at xs i) t in
-      let P : Part x = record { low = division-shares .low (at xs (i - 1)) (at xs i) t B; high = division-shares .high (at xs (i - 1)) (at xs i) t B } in
       let some = long-parts f (lt→not-le total epsilonF long) in
-      let inside : i - 1 < lastOf xs = less i (lastOf xs) (e .from) (e .upto) in
+      let H = target-held total (total-held f) p in
       record {
-        enclosing = e;
+        enclosing = target-enclosed p above below;
         same = is;
-        from = subst (λ (r : Float). T (le (markOf (lastOf xs) (i - 1)) r)) (sym is) (unfold placeOf in (quotient-from (lastOf xs) some (f .table .counted) (i - 1) x inside P));
-        upto = subst (λ (r : Float). T (le r (markOf (lastOf xs) i))) (sym is)
-            (unfold placeOf in (subst (λ (k : ℕ). T (le (quotientOf (lastOf xs) (i - 1) x) (markOf (lastOf xs) k))) (one-more i (e .from)) (quotient-upto (lastOf xs) some (f .table .counted) (i - 1) x inside P)));
+        from = subst (λ (r : Float). T (le (markOf (lastOf xs) (firstNotBelow t xs - 1)) r)) (sym is) (unfold placeOf in (placed-from f some division-shares t H above below));
+        upto = subst (λ (r : Float). T (le r (markOf (lastOf xs) (firstNotBelow t xs)))) (sym is) (unfold placeOf in (placed-upto f some division-shares t H above below));
       }
     where
-      under : (i n : ℕ) → i ≤ n → i - 1 ≤ n
-      under i n h = omega arith
-
-      less : (i n : ℕ) → 1 ≤ i → i ≤ n → i - 1 < n
-      less i n h k = omega arith
-
-      one-more : (i : ℕ) → 1 ≤ i → suc (i - 1) ≡ i
-      one-more i h = omega arith
-
       is : rawOf xs total p ≡ placeOf xs (targetOf total p) (firstNotBelow (targetOf total p) xs)
       is =
           let t = targetOf total p in
@@ -145,18 +126,8 @@ module _ {xs : List Float} (f : F32Path xs) where
   -- On every sound path with a segment, also one whose total is at most 2^-23, the pair of segment and local progress never steps back.
   pub path-order : (p q : Float) → T (le (clamp01Of p) (clamp01Of q))
       → NoStepBack (spotOf xs p .segment) (spotOf xs p .progress .value) (spotOf xs q .segment) (spotOf xs q .progress .value)
-  unfolding spotOf
-  path-order p q h = go (le total epsilonF)
-    where
-      total : Float
-      total = pathTotal xs
-
-      go : (b : Bool) → NoStepBack (cond b (spotted (lastOf xs) oneF) (spotAt xs (targetOf total p)) .segment) (cond b (spotted (lastOf xs) oneF) (spotAt xs (targetOf total p)) .progress .value)
-          (cond b (spotted (lastOf xs) oneF) (spotAt xs (targetOf total q)) .segment) (cond b (spotted (lastOf xs) oneF) (spotAt xs (targetOf total q)) .progress .value)
-      go true = inr (refl, le-self oneF (nonneg-real oneF (one-held .nn)))
-      go false =
-          let H = path-total-held f in
-          spot-at-mono f (targetOf total p) (targetOf total q) (target-held total H p) (target-held total H q) (target-mono total H p q h)
+  unfolding spotOf spotAt
+  path-order p q h = spot-way-order f (first-segments f) division-shares p q h
 
   -- It starts at the first segment's 0, where the total exceeds 2^-23,
   pub path-starts : T (lt epsilonF (pathTotal xs)) → spotOf xs zeroF ≡ spotted 0 zeroF

@@ -1,36 +1,36 @@
 -- The variants of the lookup that do not step back, each as one of the three parts of a way (Steady.antt); Witnesses.antt has those that do. R is 1/31 rounded, `inverse` the
 -- rounded reciprocal of the span. Assumes nothing.
-use mathlib.Core.Path.{_≡_, refl, sym, _∙_, subst}
+use mathlib.Core.Path.{_≡_, refl, sym, ap, subst}
 use mathlib.Core.Logic.{_⊎_, inl, inr}
 use Prim.Native.Nat.{ℕ, zero, suc, _+_, _-_, _*_, _≤_, _<_}
-use native.Mathlib.Nat.{le-trans, le-of-eq, le-of-lt, mul-comm, mul-assoc, mul-left-comm, mul-sub, mul-le-mul-right, le-of-mul-le-mul-right, mul-pos, not-suc-le-zero}
+use native.Mathlib.Nat.{not-suc-le-zero}
 use native.Mathlib.Omega.{arith}
 use mathlib.Core.Bool.{Bool, true, false, not, _&&_, cond}
 use mathlib.Core.List.{List}
-use lib.Dec.{T, leb, leb→le, nleb→lt, ltb, ltb→lt, nltb→le}
+use lib.Dec.{T, ltb, ltb→lt, nltb→le}
 use lib.Ieee.{Float, nan, inf, fin, binary32, add, sub, mul, div, neg, lt, le, eq, isNan, ofInt, ofBits, sum, round}
 use lib.Ieee.Fits.{and-l, and-r}
-use lib.Ieee.Positive.{num, den, den-pos}
+use lib.Ieee.Positive.{num, den}
 use Rattle.floats.specs.Floats.{zeroF, oneF, epsilonF, clampOf, clamp01Of}
 use Rattle.floats.specs.Kinds.{real, nonneg}
 use Rattle.floats.proofs.Tests.{decide}
-use Rattle.floats.proofs.Order.{le-le-trans, le-self, le-real-l}
-use Rattle.floats.proofs.Fractions.{nonneg-real, le→cross}
-use Rattle.floats.proofs.Rounded.{rounds-mono, mul-rounds, div-rounds}
+use Rattle.floats.proofs.Order.{le-le-trans, le-self, not-le→lt}
+use Rattle.floats.proofs.Fractions.{nonneg-real}
+use Rattle.floats.proofs.Rounded.{mul-rounds, div-rounds}
 use Rattle.floats.proofs.Monotone.{add-mono, mul-mono, div-mono, sub-mono}
-use Rattle.floats.proofs.Held.{rounds-under, rounds-real, rounds-kind}
+use Rattle.floats.proofs.Held.{Held, rounds-under, rounds-real, rounds-kind}
 use Rattle.floats.proofs.Bounds.{div-under, zero-under}
 use Rattle.floats.proofs.Whole.{whole-mono}
 use Rattle.floats.proofs.Constants.{zero-held, zero-num, one-held, one-num, epsilon-held, zero-le-one}
 use Rattle.floats.proofs.Clamping.{clamp-at-least, clamp-at-most, clamp-mono, clamp-same}
 use Rattle.floats.proofs.Extremes.{max-left, max-right}
-use Rattle.table.specs.Lookup.{lastOf, targetOf}
+use Rattle.table.specs.Lookup.{at, lastOf, firstNotBelow, targetOf, shareOf, placeOf, rawAt, rawOf}
 use Rattle.table.specs.Sound.{countable}
 use Rattle.table_order.specs.Stated.{F32Table}
-use Rattle.table_order.proofs.Fused.{fusedOf, fused-rounds, fused-taken, fused-mono}
-use Rattle.table_order.proofs.Steady.{Between, Picks, Shares, Part, Joins, all-is-part, byWay, total-held, never-back}
-use Rattle.table_order.proofs.Targets.{target-held, target-mono}
-use Rattle.table_order.proofs.Division.{whole, part-nonneg, whole-nonneg, sum-nonneg, spanOf, difference-nonneg, way-nonneg, way-mono, span-nonneg, span-above}
+use Rattle.table_order.proofs.Fused.{fusedOf, fused-rounds, fused-mono, fused-real, fused-rise}
+use Rattle.table_order.proofs.Steady.{Between, Picks, SharesOf, Shares, Part, Joins, all-is-part, byWayOf, total-held, picked, never-back}
+use Rattle.table_order.proofs.Targets.{target-held, target-mono, along-progress}
+use Rattle.table_order.proofs.Division.{whole, quotientOf, first-picks, part-nonneg, whole-nonneg, sum-nonneg, spanOf, difference-nonneg, way-nonneg, way-mono, span-nonneg, span-above}
 
 -- ---- by the span, without the clamp: the quotient lies between 0 and 1 by itself
 abbrev pub bareShare : Float → Float → Float → Float
@@ -54,6 +54,11 @@ bare-shares = record {
       div-mono binary32 (sub binary32 t a) (sub binary32 u a) (spanOf a b) (spanOf a b) (way-nonneg a b t B) (way-nonneg a b u C) (span-nonneg a b t B) (span-nonneg a b t B) (span-above a b t B) (span-above a b t B)
       (way-mono a b t u B C h) (le-self (spanOf a b) (nonneg-real (spanOf a b) (span-nonneg a b t B)));
 }
+
+-- so it is the clamped one, bit for bit,
+pub bare-is-share : (a b t : Float) → Between a b t → bareShare a b t ≡ shareOf a b t
+unfolding shareOf
+bare-is-share a b t B = sym (clamp-same zeroF oneF (bareShare a b t) (bare-shares .low a b t B) (bare-shares .high a b t B))
 
 -- ---- by the span, a multiplication by its reciprocal, clamped
 abbrev pub inverse : Float → Float → Float
@@ -87,6 +92,14 @@ clamped-shares value number grows = record {
   grows = grows;
 }
 
+-- of two numbers clamped to a share the first is no larger, where it is at most the second or at most 0
+pub clamped-rise : (z w : Float) → T (real w) → T (le z zeroF) ⊎ T (le z w) → T (le (clampOf z zeroF oneF) (clampOf w zeroF oneF))
+clamped-rise z w number (inr h) = clamp-mono zeroF oneF zero-le-one z w h
+clamped-rise z w number (inl h) =
+    le-le-trans (clampOf z zeroF oneF) (clampOf zeroF zeroF oneF) (clampOf w zeroF oneF) (clamp-mono zeroF oneF zero-le-one z zeroF h)
+    (subst (λ (x : Float). T (le x (clampOf w zeroF oneF))) (sym (clamp-same zeroF oneF zeroF (le-self zeroF (nonneg-real zeroF (zero-held .nn))) zero-le-one))
+    (clamp-at-least zeroF oneF zero-le-one w number))
+
 abbrev pub reciprocalShare : Float → Float → Float → Float
 reciprocalShare a b t = clampOf (mul binary32 (sub binary32 t a) (inverse a b)) zeroF oneF
 
@@ -103,66 +116,6 @@ reciprocal-shares = clamped-shares (λ a b t. mul binary32 (sub binary32 t a) (i
 -- ---- by the span, a fused multiply-add, clamped: target * inverse - offset, whatever the offset is, if it is no NaN and not below 0
 abbrev pub fusedShare : (Float → Float → Float) → Float → Float → Float → Float
 fusedShare offset a b t = clampOf (fusedOf t (inverse a b) (neg (offset a b))) zeroF oneF
-
--- two targets, one factor and one offset
-module _ (t u y c : Float) (p : T (nonneg t)) (q : T (nonneg u)) (r : T (nonneg y)) (s : T (nonneg c)) (h : T (le t u)) where
-  abbrev A : Float → ℕ
-  A x = num x * num y * den c
-
-  abbrev B : Float → ℕ
-  B x = num c * (den x * den y)
-
-  abbrev C : Float → ℕ
-  C x = den x * den y * den c
-
-  C-above : (x : Float) → 0 < C x
-  C-above x = mul-pos (mul-pos (den-pos x) (den-pos y)) (den-pos c)
-
-  -- the offsets are one fraction
-  offsets : B t * C u ≡ B u * C t
-  offsets = simp (mul-assoc, mul-comm, mul-left-comm)
-
-  products : A t * C u ≤ A u * C t
-  products = simp (mul-assoc, mul-comm, mul-left-comm) (simp (mul-assoc, mul-comm, mul-left-comm) at (mul-le-mul-right (num y * den c * (den y * den c)) (le→cross t u p q h)))
-
-  past : B t ≤ A t → B u ≤ A u
-  past k = le-of-mul-le-mul-right (le-trans (le-of-eq (sym offsets)) (le-trans (mul-le-mul-right (C u) k) products)) (C-above t)
-
-  differences : (A t - B t) * C u ≤ (A u - B u) * C t
-  differences =
-      le-trans (le-of-eq (mul-comm (A t - B t) (C u) ∙ mul-sub (C u) (A t) (B t)))
-      (le-trans (less (C u * A t) (C u * B t) (C t * A u) (C t * B u) (le-trans (le-of-eq (mul-comm (C u) (A t))) (le-trans products (le-of-eq (mul-comm (A u) (C t))))) (mul-comm (C u) (B t) ∙ offsets ∙ mul-comm (B u) (C t)))
-      (le-of-eq (sym (mul-comm (A u - B u) (C t) ∙ mul-sub (C t) (A u) (B u)))))
-    where
-      less : (w x y z : ℕ) → w ≤ y → x ≡ z → w - x ≤ y - z
-      less w x y z h e = omega arith
-
-  -- a number in either case
-  fused-real : (x : Float) → T (nonneg x) → T (real (fusedOf x y (neg c)))
-  fused-real x n =
-      let d = fused-taken x y c n r s in
-      elim (decide (leb (A x) (B x))) [
-        | inl k ↦ le-real-l (fusedOf x y (neg c)) zeroF (d .low (leb→le (A x) (B x) k))
-        | inr k ↦ rounds-real binary32 (fusedOf x y (neg c)) (A x - B x) (C x) (d .rounds (over (A x) (B x) k))
-      ]
-    where
-      over : (a b : ℕ) → T (not (leb a b)) → b ≤ a
-      over a b k = le-of-lt (nleb→lt a b k)
-
-  fused-clamped : T (le (clampOf (fusedOf t y (neg c)) zeroF oneF) (clampOf (fusedOf u y (neg c)) zeroF oneF))
-  fused-clamped =
-      let d = fused-taken t y c p r s in
-      let e = fused-taken u y c q r s in
-      elim (decide (leb (A t) (B t))) [
-        | inl k ↦
-            le-le-trans (clampOf (fusedOf t y (neg c)) zeroF oneF) (clampOf zeroF zeroF oneF) (clampOf (fusedOf u y (neg c)) zeroF oneF) (clamp-mono zeroF oneF zero-le-one (fusedOf t y (neg c)) zeroF (d .low (leb→le (A t) (B t) k)))
-            (subst (λ (x : Float). T (le x (clampOf (fusedOf u y (neg c)) zeroF oneF))) (sym (clamp-same zeroF oneF zeroF (le-self zeroF (nonneg-real zeroF (zero-held .nn))) zero-le-one))
-            (clamp-at-least zeroF oneF zero-le-one (fusedOf u y (neg c)) (fused-real u q)))
-        | inr k ↦
-            let l : B t ≤ A t = le-of-lt (nleb→lt (A t) (B t) k) in
-            clamp-mono zeroF oneF zero-le-one (fusedOf t y (neg c)) (fusedOf u y (neg c))
-            (rounds-mono binary32 (fusedOf t y (neg c)) (fusedOf u y (neg c)) (A t - B t) (C t) (A u - B u) (C u) (d .rounds l) (e .rounds (past l)) differences)
-      ]
 
 -- an offset that overflowed takes every target below 0
 abbrev Offset : Float → Type 0
@@ -184,7 +137,7 @@ module _ (offset : Float → Float → Float) (kind : (a b t : Float) → Betwee
       y = inverse a b
 
       go : (c : Float) → Offset c → T (real (fusedOf t y (neg c)))
-      go c (inl s) = fused-real t t y c (B .target .nn) (B .target .nn) (inverse-nonneg a b t B) s (le-self t (nonneg-real t (B .target .nn))) t (B .target .nn)
+      go c (inl s) = fused-real t y c (B .target .nn) (inverse-nonneg a b t B) s
       go c (inr e) = subst (λ (x : Float). T (real (fusedOf t y (neg x)))) (sym e) (subst (λ (x : Float). T (real x)) (sym (infinite-offset t y (B .target .nn) (inverse-nonneg a b t B))) (unfold isNan in tt))
 
   pub fused-shares : Shares (fusedShare offset)
@@ -197,7 +150,9 @@ module _ (offset : Float → Float → Float) (kind : (a b t : Float) → Betwee
           y = inverse a b
 
           go : (c : Float) → Offset c → T (le (clampOf (fusedOf t y (neg c)) zeroF oneF) (clampOf (fusedOf u y (neg c)) zeroF oneF))
-          go c (inl s) = fused-clamped t u y c (B .target .nn) (C .target .nn) (inverse-nonneg a b t B) s h
+          go c (inl s) =
+              clamped-rise (fusedOf t y (neg c)) (fusedOf u y (neg c)) (fused-real u y c (C .target .nn) (inverse-nonneg a b t B) s)
+              (elim (fused-rise t u y c (B .target .nn) (C .target .nn) (inverse-nonneg a b t B) s h) [ inl k ↦ inl k | inr k ↦ inr (k .order) ])
           go c (inr e) =
               subst (λ (x : Float). T (le (clampOf (fusedOf t y (neg x)) zeroF oneF) (clampOf (fusedOf u y (neg x)) zeroF oneF))) (sym e)
               (rw (infinite-offset t y (B .target .nn) (inverse-nonneg a b t B), infinite-offset u y (C .target .nn) (inverse-nonneg a b t B))
@@ -355,15 +310,59 @@ fused-number-joins = tested-joins (fusedNumberJoin 31) (λ k x l P. fused-low (w
     tested = unfold fusedOf mul add sum div oneF zeroF ofBits ofInt round le lt eq in tt
 
 -- ---- the whole lookup by a way, from a progress
-abbrev pub wayOf : (Float → ℕ) → (Float → Float → Float → Float) → (ℕ → Float → Float) → List Float → Float → Float → Float
-wayOf pick share join xs total p = cond (le total epsilonF) (clamp01Of p) (byWay pick share join xs total (targetOf total p))
 
--- Whatever picks, shares and joins as above does not step back. So none of these does, in any sound table of 32 entries: with the first length that is not below the target or the first above
--- it; with the quotient bare, the clamped product by the reciprocal, or the clamped fused multiply-add; joined by the division, by the product with R, or by either fused form of two products.
-pub way-order : {xs : List Float} {total : Float} → F32Table xs total → {pick : Float → ℕ} → Picks xs total pick → {share : Float → Float → Float → Float} → Shares share → {join : ℕ → Float → Float} → Joins (lastOf xs) join
-    → (p q : Float) → T (le (clamp01Of p) (clamp01Of q)) → T (le (wayOf pick share join xs total p) (wayOf pick share join xs total q))
-way-order {xs} {total} f {pick} P {share} S {join} J p q h = go (le total epsilonF)
-  where
-    go : (b : Bool) → T (le (cond b (clamp01Of p) (byWay pick share join xs total (targetOf total p))) (cond b (clamp01Of q) (byWay pick share join xs total (targetOf total q))))
-    go true = h
-    go false = never-back f P S J (targetOf total p) (targetOf total q) (target-held total (total-held f) p) (target-held total (total-held f) q) (target-mono total (total-held f) p q h) (target-mono total (total-held f) p q h)
+-- with a share that reads the progress,
+abbrev pub wayAlong : (Float → ℕ) → (Float → Float → Float → Float) → (ℕ → Float → Float) → List Float → Float → Float → Float
+wayAlong pick share join xs total p = cond (le total epsilonF) (clamp01Of p) (byWayOf (targetOf total) pick share join xs total p)
+
+-- or one that reads the target
+abbrev pub wayOf : (Float → ℕ) → (Float → Float → Float → Float) → (ℕ → Float → Float) → List Float → Float → Float → Float
+wayOf pick share join xs total p = wayAlong pick (λ a b p. share a b (targetOf total p)) join xs total p
+
+module _ {xs : List Float} {total : Float} (f : F32Table xs total) where
+  -- Whatever picks, shares and joins as above does not step back. So none of these does, in any sound table of 32 entries: with the first length that is not below the target or the first above
+  -- it; with the quotient bare, the clamped product by the reciprocal, the clamped fused multiply-add, or the clamped contraction; joined by the division, by the product with R, or by either fused
+  -- form of two products.
+  pub way-along-order : {pick : Float → ℕ} → Picks xs total pick → {share : Float → Float → Float → Float} → SharesOf (targetOf total) clamp01Of share → {join : ℕ → Float → Float} → Joins (lastOf xs) join
+      → (p q : Float) → T (le (clamp01Of p) (clamp01Of q)) → T (le (wayAlong pick share join xs total p) (wayAlong pick share join xs total q))
+  way-along-order {pick} P {share} S {join} J p q h = go (le total epsilonF)
+    where
+      H : Held binary32 total
+      H = total-held f
+
+      go : (b : Bool) → T (le (cond b (clamp01Of p) (byWayOf (targetOf total) pick share join xs total p)) (cond b (clamp01Of q) (byWayOf (targetOf total) pick share join xs total q)))
+      go true = h
+      go false = never-back f P S J p q (target-held total H p) (target-held total H q) (target-mono total H p q h) h
+
+  pub way-order : {pick : Float → ℕ} → Picks xs total pick → {share : Float → Float → Float → Float} → Shares share → {join : ℕ → Float → Float} → Joins (lastOf xs) join
+      → (p q : Float) → T (le (clamp01Of p) (clamp01Of q)) → T (le (wayOf pick share join xs total p) (wayOf pick share join xs total q))
+  way-order P S J = way-along-order P (along-progress total (total-held f) S) J
+
+  -- The quotient without its clamp is the lookup, bit for bit, at every progress.
+  pub bare-is-lookup : (p : Float) → wayOf (λ t. firstNotBelow t xs) bareShare (quotientOf (lastOf xs)) xs total p ≡ rawOf xs total p
+  unfolding rawOf rawAt placeOf
+  bare-is-lookup p = ap (cond (le total epsilonF) (clamp01Of p)) (go (le t zeroF) (le total t) (λ n. n) (λ n. n))
+    where
+      t : Float
+      t = targetOf total p
+
+      H : Held binary32 t
+      H = target-held total (total-held f) p
+
+      i : ℕ
+      i = firstNotBelow t xs
+
+      a : Float
+      a = at xs (i - 1)
+
+      b : Float
+      b = at xs i
+
+      go : (past ended : Bool) → (T (not past) → T (not (le t zeroF))) → (T (not ended) → T (not (le total t)))
+          → cond past zeroF (cond ended oneF (quotientOf (lastOf xs) (i - 1) (bareShare a b t))) ≡ cond past zeroF (cond ended oneF (quotientOf (lastOf xs) (i - 1) (shareOf a b t)))
+      go true ended m n = refl
+      go false true m n = refl
+      go false false m n =
+          ap (quotientOf (lastOf xs) (i - 1))
+          (bare-is-share a b t
+          (picked f (first-picks f) bare-shares t H (not-le→lt t zeroF (nonneg-real t (H .nn)) (nonneg-real zeroF (zero-held .nn)) (m tt)) (not-le→lt total t (nonneg-real total (total-held f .nn)) (nonneg-real t (H .nn)) (n tt))))
