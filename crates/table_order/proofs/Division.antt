@@ -173,26 +173,27 @@ module _ (n : ℕ) (some : 1 ≤ n) (counted : n ≤ countable) where
   division-joins = record { low = quotient-at-least; high = quotient-at-most; grows = quotient-grows; meets = quotient-meets }
 
 -- ---- with any share that is one, the parameter lies between the places of the two entries that enclose the target
-module _ {xs : List Float} {total : Float} (f : F32Table xs total) (some : 1 ≤ lastOf xs) {target count : Float → Float} {share : Float → Float → Float → Float} (S : SharesOf target count share) (s : Float) (H : Held binary32 (target s)) (above : T (lt zeroF (target s))) (below : T (lt (target s) total)) where
-  abbrev entry : ℕ
-  entry = firstNotBelow (target s) xs
+module _ {xs : List Float} {total : Float} (f : F32Table xs total) (some : 1 ≤ lastOf xs) {target count : Float → Float} {share : Float → Float → Float → Float} (S : SharesOf target count share) where
+  module _ (s : Float) (H : Held binary32 (target s)) (above : T (lt zeroF (target s))) (below : T (lt (target s) total)) where
+    abbrev entry : ℕ
+    entry = firstNotBelow (target s) xs
 
-  abbrev own : Float
-  own = share (at xs (entry - 1)) (at xs entry) s
+    abbrev own : Float
+    own = share (at xs (entry - 1)) (at xs entry) s
 
-  inside : entry - 1 < lastOf xs
-  inside = part-inside f (first-picks f) S s H above below
+    inside : entry - 1 < lastOf xs
+    inside = part-inside f (first-picks f) S s H above below
 
-  is-own : Part own
-  is-own = is-part f (first-picks f) S s H above below
+    is-own : Part own
+    is-own = is-part f (first-picks f) S s H above below
 
-  pub placed-from : T (le (markOf (lastOf xs) (entry - 1)) (inPart share (quotientOf (lastOf xs)) xs s entry))
-  placed-from = quotient-from (lastOf xs) some (f .table .counted) (entry - 1) own inside is-own
+    pub placed-from : T (le (markOf (lastOf xs) (entry - 1)) (inPart share (quotientOf (lastOf xs)) xs s entry))
+    placed-from = quotient-from (lastOf xs) some (f .table .counted) (entry - 1) own inside is-own
 
-  pub placed-upto : T (le (inPart share (quotientOf (lastOf xs)) xs s entry) (markOf (lastOf xs) entry))
-  placed-upto =
-      subst (λ (k : ℕ). T (le (quotientOf (lastOf xs) (entry - 1) own) (markOf (lastOf xs) k))) (one-more entry (first-picks f .from (target s) above below))
-      (quotient-upto (lastOf xs) some (f .table .counted) (entry - 1) own inside is-own)
-    where
-      one-more : (i : ℕ) → 1 ≤ i → suc (i - 1) ≡ i
-      one-more i h = omega arith
+    pub placed-upto : T (le (inPart share (quotientOf (lastOf xs)) xs s entry) (markOf (lastOf xs) entry))
+    placed-upto =
+        subst (λ (k : ℕ). T (le (quotientOf (lastOf xs) (entry - 1) own) (markOf (lastOf xs) k))) (one-more entry (first-picks f .from (target s) above below))
+        (quotient-upto (lastOf xs) some (f .table .counted) (entry - 1) own inside is-own)
+      where
+        one-more : (i : ℕ) → 1 ≤ i → suc (i - 1) ≡ i
+        one-more i h = omega arith
