@@ -1,5 +1,5 @@
 -- Demand 3 for quads and cubics: the raw parameter at which `position` samples never steps back, starts at 0, ends at 1, and lies between the places of the two entries that enclose
--- the target. It holds of every curve with a sound table, and a made curve that was accepted has one. Assumes nothing.
+-- the target (`Steady` of table_order/specs/Swept.antt). It holds of every curve with a sound table of f32 values, and a made curve that was accepted has one of 32 entries. Assumes nothing.
 use mathlib.Core.Path.{_≡_, refl, sym, ap, _∙_, subst}
 use mathlib.Core.Bool.{Bool, true, false, cond}
 use Prim.Native.Nat.{ℕ, _-_, _≤_}
@@ -7,15 +7,14 @@ use native.Mathlib.Omega.{arith}
 use mathlib.Core.List.{List}
 use lib.Dec.{T}
 use lib.ListN.{length}
-use lib.Ieee.{Float, binary32, lt, le}
+use lib.Ieee.{Float}
 use lib.Ieee.Scale.{finite}
 use Rattle.answers.specs.declared.refusals.Refusal.the-variants.{NotFinite}
-use Rattle.floats.specs.Floats.{zeroF, oneF, epsilonF, clamp01Of}
 use Rattle.math.specs.declared.points.Point.{Point}
-use Rattle.table.specs.Lookup.{targetOf, rawOf}
-use Rattle.table.specs.Sound.{SoundTable}
+use Rattle.table.specs.Lookup.{lastOf, rawOf}
 use Rattle.table_order.specs.Stated.{F32Table}
-use Rattle.table_order.proofs.Theorems.{Placed, raw-order, raw-starts, raw-ends, raw-placed}
+use Rattle.table_order.specs.Swept.{Steady}
+use Rattle.table_order.proofs.Swept.{steady}
 use Rattle.table_samples.specs.Samples.{totalOf, lengthsOf, tableOf}
 use Rattle.table_samples.proofs.Made.{made-sound, made-fits, made-total-fits, made-count}
 use Rattle.bezier.specs.declared.curves.Verdict.{Verdict}
@@ -25,16 +24,6 @@ use Rattle.bezier.specs.declared.cubics.CubicBezierCurve.{CubicBezierCur
 use Rattle.bezier.specs.Curves.{verdictOf}
 use Rattle.bezier.specs.Quads.{quadSampleOf, quadOf, madeQuadOf, quadRaw, quadPositionOf}
 use Rattle.bezier.specs.Cubics.{cubicSampleOf, cubicOf, madeCubicOf, cubicRaw, cubicPositionOf}
-
--- ---- what demand 3 asks of the raw parameter of a table with these entries
-pub record Steady (entries : List Float) (total : Float) (raw : Float → Float) : Type 0 where
-  pub order : (p q : Float) → T (le (clamp01Of p) (clamp01Of q)) → T (le (raw p) (raw q))
-  pub starts : raw zeroF ≡ zeroF
-  pub ends : raw oneF ≡ oneF
-  pub placed : (p : Float) → T (lt epsilonF total) → T (lt zeroF (targetOf total p)) → T (lt (targetOf total p) total) → Placed entries total p
-
-pub steady : {entries : List Float} {total : Float} → F32Table entries total → Steady entries total (rawOf entries total)
-steady f = record { order = raw-order f; starts = raw-starts f; ends = raw-ends f; placed = raw-placed f }
 
 -- ---- a made table
 abbrev pub Made : (Float → Point) → Type 0
@@ -63,8 +52,20 @@ accepted-finite total = go (finite total)
 pub accepted-table : (formula : Float → Point) → verdictOf (tableOf formula .total) ≡ Verdict.Accepted → Made formula
 accepted-table formula e = made-table formula (unfold tableOf in accepted-finite (tableOf formula .total) e)
 
+-- sample i is taken at i/31: the last entry of a made table is number 31
+pub made-last : (formula : Float → Point) → lastOf (tableOf formula .entries) ≡ 31
+unfolding tableOf
+made-last formula = let h = made-count formula 31 in omega arith
+
+pub accepted-steady : (formula : Float → Point) → verdictOf (tableOf formula .total) ≡ Verdict.Accepted
+    → let table = tableOf formula in Steady 31 (table .entries) (table .total) (rawOf (table .entries) (table .total))
+accepted-steady formula e =
+    let table = tableOf formula in
+    subst (λ (n : ℕ). Steady n (table .entries) (table .total) (rawOf (table .entries) (table .total))) (made-last formula) (steady (accepted-table formula e))
+
 -- ---- quads and cubics, stored and made
-pub quad-steady : (curve : QuadBezier) → F32Table (curve .table .entries) (curve .table .total) → Steady (curve .table .entries) (curve .table .total) (quadRaw curve)
+pub quad-steady : (curve : QuadBezier) → F32Table (curve .table .entries) (curve .table .total)
+    → Steady (lastOf (curve .table .entries)) (curve .table .entries) (curve .table .total) (quadRaw curve)
 quad-steady curve f = steady f
 
 pub quad-at-raw : (curve : QuadBezier) (p : Float) → quadPositionOf curve p ≡ quadSampleOf (curve .start) (curve .control) (curve .end) (quadRaw curve p)
@@ -72,11 +73,12 @@ unfolding quadPositionOf
 quad-at-raw curve p = refl
 
 pub made-quad-steady : (start control end : Point) → madeQuadOf start control end .verdict ≡ Verdict.Accepted
-    → let curve = madeQuadOf start control end .curve in Steady (curve .table .entries) (curve .table .total) (quadRaw curve)
+    → let curve = madeQuadOf start control end .curve in Steady 31 (curve .table .entries) (curve .table .total) (quadRaw curve)
 unfolding madeQuadOf quadOf
-made-quad-steady start control end e = steady (accepted-table (quadSampleOf start control end) e)
+made-quad-steady start control end e = accepted-steady (quadSampleOf start control end) e
 
-pub cubic-steady : (curve : CubicBezierCurve) → F32Table (curve .table .entries) (curve .table .total) → Steady (curve .table .entries) (curve .table .total) (cubicRaw curve)
+pub cubic-steady : (curve : CubicBezierCurve) → F32Table (curve .table .entries) (curve .table .total)
+    → Steady (lastOf (curve .table .entries)) (curve .table .entries) (curve .table .total) (cubicRaw curve)
 cubic-steady curve f = steady f
 
 pub cubic-at-raw : (curve : CubicBezierCurve) (p : Float) → cubicPositionOf curve p ≡ cubicSampleOf (curve .start) (curve .control1) (curve .control2) (curve .end) (cubicRaw curve p)
@@ -84,6 +86,6 @@ unfolding cubicPositionOf
 cubic-at-raw curve p = refl
 
 pub made-cubic-steady : (start control1 control2 end : Point) → madeCubicOf start control1 control2 end .verdict ≡ Verdict.Accepted
-    → let curve = madeCubicOf start control1 control2 end .curve in Steady (curve .table .entries) (curve .table .total) (cubicRaw curve)
+    → let curve = madeCubicOf start control1 control2 end .curve in Steady 31 (curve .table .entries) (curve .table .total) (cubicRaw curve)
 unfolding madeCubicOf cubicOf
-made-cubic-steady start control1 control2 end e = steady (accepted-table (cubicSampleOf start control1 control2 end) e)
+made-cubic-steady start control1 control2 end e = accepted-steady (cubicSampleOf start control1 control2 end) e

@@ -2,3 +2,4 @@
 pub mod LookupsGiven
 pub mod NumberGiven
 pub mod StrictGiven
+pub mod Keeping

@@ -3,11 +3,13 @@ ghost use mathlib.Core.Path.{_≡_};
 ghost use Rattle.floats.specs.Floats.{bitsOf, minOf, maxOf, clampOf, clamp01Of};
 ghost use Rattle.root.specs.Root.{sqrtOf};
 ghost use Rattle.math.specs.Math.{lerpOf, degToRadOf, radToDegOf};
+ghost use Rattle.kihavute.specs.Kept.{RootKept};
 
 // The nearest float to the exact root, ties to even.
 #[no_mangle]
 pub extern "C" fn kihavute_sqrt(x: f32) -> f32
     ensures { λ r. ⌜ r ≡ sqrtOf x ⌝ }
+    ensures { λ r. ⌜ RootKept x r ⌝ }
 {
     floats::tidy(root::sqrt(x))
 }

@@ -7,11 +7,13 @@ ghost use Rattle.atan2_rule.specs.Steps.{atan2Of};
 ghost use Rattle.math.specs.Math.{pointOf};
 ghost use Rattle.angles.specs.Angles.{rotationDegOf, angleBetweenOf};
 ghost use Rattle.kihavute.specs.Pair.{pairOf};
+ghost use Rattle.kihavute.specs.Kept.{Atan2Kept, CosineKept, SineKept};
 
 // The sine of an angle in radians of at most 64 in size, and NaN for any other.
 #[no_mangle]
 pub extern "C" fn kihavute_sin(angle: f32) -> f32
     ensures { λ r. ⌜ r ≡ sineOf angle ⌝ }
+    ensures { λ r. ⌜ SineKept angle r ⌝ }
 {
     floats::tidy(trig::sin(angle))
 }
@@ -20,6 +22,7 @@ pub extern "C" fn kihavute_sin(angle: f32) -> f32
 #[no_mangle]
 pub extern "C" fn kihavute_cos(angle: f32) -> f32
     ensures { λ r. ⌜ r ≡ cosineOf angle ⌝ }
+    ensures { λ r. ⌜ CosineKept angle r ⌝ }
 {
     floats::tidy(trig::cos(angle))
 }
@@ -28,6 +31,7 @@ pub extern "C" fn kihavute_cos(angle: f32) -> f32
 #[no_mangle]
 pub extern "C" fn kihavute_sin_cos(angle: f32) -> u64
     ensures { λ r. ⌜ r ≡ pairOf (pointOf (cosineOf angle) (sineOf angle)) ⌝ }
+    ensures { λ _. ⌜ SineKept angle (sineOf angle) × CosineKept angle (cosineOf angle) ⌝ }
 {
     let both = trig::sin_cos(angle);
     crate::points::pair(Point {
@@ -40,6 +44,7 @@ pub extern "C" fn kihavute_sin_cos(angle: f32) -> u64
 #[no_mangle]
 pub extern "C" fn kihavute_atan2(y: f32, x: f32) -> f32
     ensures { λ r. ⌜ r ≡ atan2Of y x ⌝ }
+    ensures { λ r. ⌜ Atan2Kept y x r ⌝ }
 {
     floats::tidy(atan2::atan2(y, x))
 }

@@ -4,30 +4,31 @@ use arc::chord_line;
 use arc::line_point;
 use bezier::cubic_sample;
 use bezier::quad_sample;
+use bezier::tidied;
 use math::Point;
 use path_segment::PathSegment;
 use table::RawParameter;
 ghost use mathlib.Core.Path.{_≡_};
 ghost use Rattle.path_heading.specs.Headings.{sampleOf};
 
-// The point of a segment at its raw parameter.
+// The point of a segment at its raw parameter. Compiled, a NaN of it is 7FC00000.
 pub fn sample(segment: PathSegment, raw: RawParameter) -> Point
     ensures { λ r. ⌜ r ≡ sampleOf segment (raw .value) ⌝ }
 {
     match segment {
-        PathSegment::Line(line) => line_point(line, raw),
+        PathSegment::Line(line) => tidied(line_point(line, raw)),
         PathSegment::Quad {
             start,
             control,
             end,
-        } => quad_sample(start, control, end, raw),
+        } => tidied(quad_sample(start, control, end, raw)),
         PathSegment::Cubic {
             start,
             control1,
             control2,
             end,
-        } => cubic_sample(start, control1, control2, end, raw),
-        PathSegment::Arc(shape) => arc_sample(shape, raw),
-        PathSegment::Fallback(shape) => line_point(chord_line(shape), raw),
+        } => tidied(cubic_sample(start, control1, control2, end, raw)),
+        PathSegment::Arc(shape) => tidied(arc_sample(shape, raw)),
+        PathSegment::Fallback(shape) => tidied(line_point(chord_line(shape), raw)),
     }
 }

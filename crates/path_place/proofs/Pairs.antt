@@ -6,31 +6,32 @@ use mathlib.Core.List.{List, [], _∷_}
 use lib.Dec.{T}
 use lib.ListN.{length, take, drop}
 use lib.Seq.{getD-drop}
-use lib.Ieee.{Float, nan, binary32, fits, lt, le}
+use lib.Ieee.{Float, nan, binary32, lt, le}
 use lib.Ieee.Bits.{cond-no}
 use lib.Ieee.Fits.{nan-fits}
 use Rattle.floats.specs.Floats.{zeroF, oneF, epsilonF, clamp01Of}
 use Rattle.floats.proofs.Clamping.{clamp01-mono}
 use Rattle.floats.proofs.Order.{lt→not-le}
-use Rattle.table.specs.Lookup.{at, firstNotBelow, targetOf, rawOf}
+use Rattle.table.specs.Lookup.{firstNotBelow, targetOf, rawOf}
 use Rattle.table.specs.Spots.{pathTotal, spotWithin, spotAt, spotOf}
 use Rattle.table_order.specs.Stated.{F32Table}
 use Rattle.table_order.proofs.Theorems.{raw-order, raw-starts, raw-ends}
 use Rattle.table_order.proofs.Ends.{clamped-zero, clamped-one}
 use Rattle.path_segment.specs.Segments.{hasTable, tableAt}
+use Rattle.path_stored.proofs.Values.{F32s}
 use Rattle.path_place.specs.Places.{rawIn, rawFor, TableThere}
 use Rattle.path_place.proofs.Tables.{there-sound}
 
 -- ---- one table among the tables
 
 -- what is taken from f32 values are f32 values
-take-fits : (n : ℕ) (xs : List Float) → ((k : ℕ) → T (fits binary32 (at xs k))) → (k : ℕ) → T (fits binary32 (at (take n xs) k))
+take-fits : (n : ℕ) (xs : List Float) → F32s xs → F32s (take n xs)
 take-fits zero xs values k = nan-fits binary32
 take-fits (suc n) [] values k = nan-fits binary32
 take-fits (suc n) (x ∷ xs) values zero = values 0
 take-fits (suc n) (x ∷ xs) values (suc k) = take-fits n xs (λ i. values (suc i)) k
 
-module _ {tables : List Float} (values : (k : ℕ) → T (fits binary32 (at tables k))) where
+module _ {tables : List Float} (values : F32s tables) where
   pub table-held : {place : ℕ} → TableThere tables place → F32Table (tableAt tables place .entries) (tableAt tables place .total)
   table-held {place} there =
       record {

@@ -4,3 +4,4 @@ pub mod Testing
 pub mod Rule
 pub mod Reading
 pub mod Extending
+pub mod Values

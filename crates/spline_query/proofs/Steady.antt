@@ -10,10 +10,10 @@ use lib.ListN.{length}
 use lib.Ieee.{Float, binary32, fits}
 use lib.Ieee.Fits.{and-i}
 use denote.Floats.{passes}
-use Rattle.table.specs.Lookup.{at}
-use Rattle.table_order.specs.Stated.{F32Table}
+use Rattle.table.specs.Lookup.{at, lastOf}
 use Rattle.table.specs.Sound.{tableIsSound}
-use Rattle.bezier.proofs.Steady.{Steady, steady}
+use Rattle.table_order.specs.Swept.{Steady}
+use Rattle.table_order.proofs.Swept.{steady}
 use Rattle.polyline.specs.Points.{countOf}
 use Rattle.polyline.specs.Judging.{isOdd}
 use Rattle.spline.specs.Formula.{splineSampleOf}
@@ -23,7 +23,8 @@ use Rattle.spline_query.specs.Queries.{splineTotal, splineIsSound, splin
 use Rattle.spline_query.proofs.Checking.{sound-spline, sound-table}
 
 -- ---- a stored spline, each entry an f32
-pub spline-steady : (points table : List Float) → T (splineIsSound points table) → ((k : ℕ) → T (fits binary32 (at table k))) → Steady table (splineTotal table) (splineRaw table)
+pub spline-steady : (points table : List Float) → T (splineIsSound points table) → ((k : ℕ) → T (fits binary32 (at table k)))
+    → Steady (lastOf table) table (splineTotal table) (splineRaw table)
 spline-steady points table h values = steady (record { table = sound-table (sound-spline points table h); values = values; total-value = values _ })
 
 pub spline-at-raw : (points table : List Float) (p : Float) → splinePositionOf points table p ≡ splineSampleOf points (splineRaw table p)
@@ -32,7 +33,7 @@ spline-at-raw points table p = refl
 
 -- ---- a made spline: what `spline_table` stored passes the check, and is steady
 module _ (points : List Float) (room : ℕ) (stored : List Float) (made : splineTableOf points room ≡ entries stored) where
-  pub made-steady : Steady stored (splineTotal stored) (splineRaw stored)
+  pub made-steady : Steady (lastOf stored) stored (splineTotal stored) (splineRaw stored)
   made-steady = steady (made-table points room stored made)
 
   pub made-sound : T (splineIsSound points stored)

@@ -6,3 +6,4 @@ pub mod Lent
 pub mod Printing
 pub mod Telling
 pub mod Unique
+pub mod Ordering

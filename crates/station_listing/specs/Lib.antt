@@ -1,2 +1,3 @@
 -- What the contracts of this crate cite. Definitions only.
 pub mod Stations
+pub mod Ordered

@@ -1,2 +1,3 @@
 -- What the contracts of this crate cite. Definitions only.
 pub mod Sections
+pub mod Ordered

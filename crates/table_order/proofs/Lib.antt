@@ -6,6 +6,7 @@ pub mod Targets
 pub mod Ends
 pub mod Spots
 pub mod Theorems
+pub mod Swept
 pub mod Fused
 pub mod Above
 pub mod Variants

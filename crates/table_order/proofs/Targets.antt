@@ -18,7 +18,7 @@ use Rattle.floats.proofs.Held.{Held, rounds-under}
 use Rattle.floats.proofs.Bounds.{mul-under}
 use Rattle.floats.proofs.Constants.{zero-lt-epsilon}
 use Rattle.floats.proofs.Clamping.{clamp01-at-most, clamp01-nonneg, at-most-one}
-use Rattle.table.specs.Lookup.{at, lastOf, firstNotBelow, targetOf, shareOf, placeOf, rawAt}
+use Rattle.table.specs.Lookup.{at, lastOf, firstNotBelow, targetOf, shareOf, rawInPart, rawAt}
 use Rattle.table.proofs.Lengths.{start-at-most, total-at-most}
 use Rattle.table_order.specs.Stated.{F32Table}
 use Rattle.table_order.proofs.Steady.{SharesOf, Shares, byWay, sound-of, way-at-least, way-at-most, never-back}
@@ -62,7 +62,7 @@ long-parts {xs} {total} f long = go (lastOf xs) (total-at-most (sound-of f))
 module _ {xs : List Float} {total : Float} (f : F32Table xs total) (some : 1 ≤ lastOf xs) where
   -- the lookup is this way, by its definition
   is-way : (t : Float) → rawAt xs total t ≡ byWay (λ t. firstNotBelow t xs) shareOf (quotientOf (lastOf xs)) xs total t
-  unfolding rawAt placeOf
+  unfolding rawAt rawInPart
   is-way t = refl
 
   pub raw-at-least : (t : Float) → Held binary32 t → T (le zeroF (rawAt xs total t))

@@ -13,7 +13,7 @@ use Rattle.floats.proofs.Tests.{cond-yes}
 use Rattle.floats.proofs.Order.{lt→not-le}
 use Rattle.floats.proofs.Clamping.{clamp01-at-least, clamp01-at-most}
 use Rattle.table.specs.declared.tables.Spot.{Spot}
-use Rattle.table.specs.Lookup.{lastOf, firstNotBelow, targetOf, markOf, placeOf, rawAt, rawOf}
+use Rattle.table.specs.Lookup.{lastOf, firstNotBelow, targetOf, markOf, rawInPart, rawAt, rawOf}
 use Rattle.table.specs.Spots.{pathTotal, spotted, spotWithin, spotAt, spotOf}
 use Rattle.table.proofs.Enclosure.{Encloses, Within, enclosed, path-encloses}
 use Rattle.table_order.specs.Stated.{F32Table, F32Path, NoStepBack}
@@ -26,7 +26,7 @@ use Rattle.table_order.proofs.Spots.{path-total-held, first-segments, s
 -- what theorem 4 says of a progress
 pub record Placed (xs : List Float) (total p : Float) : Type 0 where
   pub enclosing : Encloses (lastOf xs) xs (targetOf total p) (firstNotBelow (targetOf total p) xs)
-  pub same : rawOf xs total p ≡ placeOf xs (targetOf total p) (firstNotBelow (targetOf total p) xs)
+  pub same : rawOf xs total p ≡ rawInPart xs (targetOf total p) (firstNotBelow (targetOf total p) xs)
   pub from : T (le (markOf (lastOf xs) (firstNotBelow (targetOf total p) xs - 1)) (rawOf xs total p))
   pub upto : T (le (rawOf xs total p) (markOf (lastOf xs) (firstNotBelow (targetOf total p) xs)))
 
@@ -69,7 +69,7 @@ module _ {xs : List Float} {total : Float} (f : F32Table xs total) where
       t = targetOf total zeroF
 
       rest : Float
-      rest = cond (le total t) oneF (placeOf xs t (firstNotBelow t xs))
+      rest = cond (le total t) oneF (rawInPart xs t (firstNotBelow t xs))
 
       go : (b : Bool) → cond b (clamp01Of zeroF) (cond (le t zeroF) zeroF rest) ≡ zeroF
       go true = clamped-zero
@@ -83,7 +83,7 @@ module _ {xs : List Float} {total : Float} (f : F32Table xs total) where
       t = targetOf total oneF
 
       place : Float
-      place = placeOf xs t (firstNotBelow t xs)
+      place = rawInPart xs t (firstNotBelow t xs)
 
       go : (b : Bool) → (T (not b) → T (not (le total epsilonF))) → cond b (clamp01Of oneF) (cond (le t zeroF) zeroF (cond (le total t) oneF place)) ≡ oneF
       go true long = clamped-one
@@ -107,14 +107,14 @@ module _ {xs : List Float} {total : Float} (f : F32Table xs total) where
       record {
         enclosing = target-enclosed p above below;
         same = is;
-        from = subst (λ (r : Float). T (le (markOf (lastOf xs) (firstNotBelow t xs - 1)) r)) (sym is) (unfold placeOf in (placed-from f some division-shares t H above below));
-        upto = subst (λ (r : Float). T (le r (markOf (lastOf xs) (firstNotBelow t xs)))) (sym is) (unfold placeOf in (placed-upto f some division-shares t H above below));
+        from = subst (λ (r : Float). T (le (markOf (lastOf xs) (firstNotBelow t xs - 1)) r)) (sym is) (unfold rawInPart in (placed-from f some division-shares t H above below));
+        upto = subst (λ (r : Float). T (le r (markOf (lastOf xs) (firstNotBelow t xs)))) (sym is) (unfold rawInPart in (placed-upto f some division-shares t H above below));
       }
     where
-      is : rawOf xs total p ≡ placeOf xs (targetOf total p) (firstNotBelow (targetOf total p) xs)
+      is : rawOf xs total p ≡ rawInPart xs (targetOf total p) (firstNotBelow (targetOf total p) xs)
       is =
           let t = targetOf total p in
-          let place = placeOf xs t (firstNotBelow t xs) in
+          let place = rawInPart xs t (firstNotBelow t xs) in
           unfold rawOf rawAt in
           (cond-no (le total epsilonF) (clamp01Of p) (rawAt xs total t) (lt→not-le total epsilonF long)
           ∙ cond-no (le t zeroF) zeroF (cond (le total t) oneF place) (lt→not-le t zeroF above)

@@ -24,7 +24,7 @@ use Rattle.floats.proofs.Whole.{whole-mono}
 use Rattle.floats.proofs.Constants.{zero-held, zero-num, one-held, one-num, epsilon-held, zero-le-one}
 use Rattle.floats.proofs.Clamping.{clamp-at-least, clamp-at-most, clamp-mono, clamp-same}
 use Rattle.floats.proofs.Extremes.{max-left, max-right}
-use Rattle.table.specs.Lookup.{at, lastOf, firstNotBelow, targetOf, shareOf, placeOf, rawAt, rawOf}
+use Rattle.table.specs.Lookup.{at, lastOf, firstNotBelow, targetOf, shareOf, rawInPart, rawAt, rawOf}
 use Rattle.table.specs.Sound.{countable}
 use Rattle.table_order.specs.Stated.{F32Table}
 use Rattle.table_order.proofs.Fused.{fusedOf, fused-rounds, fused-mono, fused-real, fused-rise}
@@ -340,7 +340,7 @@ module _ {xs : List Float} {total : Float} (f : F32Table xs total) where
 
   -- The quotient without its clamp is the lookup, bit for bit, at every progress.
   pub bare-is-lookup : (p : Float) → wayOf (λ t. firstNotBelow t xs) bareShare (quotientOf (lastOf xs)) xs total p ≡ rawOf xs total p
-  unfolding rawOf rawAt placeOf
+  unfolding rawOf rawAt rawInPart
   bare-is-lookup p = ap (cond (le total epsilonF) (clamp01Of p)) (go (le t zeroF) (le total t) (λ n. n) (λ n. n))
     where
       t : Float

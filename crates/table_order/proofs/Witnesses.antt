@@ -8,7 +8,7 @@ use lib.ListN.{replicate}
 use lib.Dec.{T}
 use lib.Ieee.{Float, binary32, ofBits, add, sub, mul, div, neg, lt, le, eq, ne, ofInt, sum, round}
 use Rattle.floats.specs.Floats.{zeroF, oneF, epsilonF, maxOf, clampOf, clamp01Of}
-use Rattle.table.specs.Lookup.{at, lastOf, firstNotBelow, targetOf, shareOf, markOf, placeOf, rawAt, rawOf}
+use Rattle.table.specs.Lookup.{at, lastOf, firstNotBelow, targetOf, shareOf, markOf, rawInPart, rawAt, rawOf}
 use Rattle.table.specs.Sound.{allFinite, climbs, lengthsAreSound, startsAtZero, tableIsSound}
 use Rattle.table.specs.Spots.{before, pathTotal, spotted, spotAt, spotOf}
 use Rattle.table_order.proofs.Fused.{fusedOf}
@@ -120,7 +120,7 @@ fused-division-entries = refl
 
 -- where the lookup itself stays
 lookup-stays : (rawOf (standing 18 13) two half ≡ bits 0x3f14_a529) × (rawOf (standing 18 13) two afterHalf ≡ bits 0x3f14_a529)
-unfolding rawOf rawAt placeOf sum round targetOf clamp01Of clampOf zeroF oneF epsilonF ofBits le lt eq ne mul firstNotBelow shareOf sub maxOf div ofInt add neg
+unfolding rawOf rawAt rawInPart sum round targetOf clamp01Of clampOf zeroF oneF epsilonF ofBits le lt eq ne mul firstNotBelow shareOf sub maxOf div ofInt add neg
 lookup-stays = (refl, refl)
 
 -- ---- the division by n replaced: share * R + lower * R, fused. With 32 entries it does not step back; with the 49 of a spline through four points it does
@@ -190,7 +190,7 @@ clamped-other-bits :
     × OtherBits (byShare (fusedShare productOffset)) threeFive (bits 0x40a0_0000) half (bits 0x3cdc_370d) (bits 0x3cdc_370e)
     × OtherBits (byShare (fusedShare quotientOffset)) threeFive (bits 0x40a0_0000) half (bits 0x3cdc_370d) (bits 0x3cdc_370e)
     × OtherBits (byContraction contractedClamped) short three (bits 0x3eaa_aaad) (bits 0x3d84_2108) (bits 0x3d77_bdef)
-unfolding tableIsSound startsAtZero lengthsAreSound allFinite climbs fusedOf sum round targetOf clamp01Of clampOf zeroF oneF epsilonF ofBits le lt eq ne mul firstNotBelow shareOf sub maxOf div ofInt add neg rawOf rawAt placeOf
+unfolding tableIsSound startsAtZero lengthsAreSound allFinite climbs fusedOf sum round targetOf clamp01Of clampOf zeroF oneF epsilonF ofBits le lt eq ne mul firstNotBelow shareOf sub maxOf div ofInt add neg rawOf rawAt rawInPart
 clamped-other-bits = (
   record { sound = tt; lookup = refl; other = refl; apart = tt },
   record { sound = tt; lookup = refl; other = refl; apart = tt },
@@ -213,7 +213,7 @@ abbrev paused : List Float
 paused = zeroF ∷ oneF ∷ oneF ∷ oneF ∷ replicate 28 two
 
 above-skips-equal-lengths : OtherBits byAbove paused two half (bits 0x3d04_2108) (bits 0x3dc6_318c) × (markOf 31 1 ≡ bits 0x3d04_2108) × (markOf 31 3 ≡ bits 0x3dc6_318c)
-unfolding tableIsSound startsAtZero lengthsAreSound allFinite climbs sum round targetOf clamp01Of clampOf zeroF oneF epsilonF ofBits le lt eq ne mul firstNotBelow shareOf sub maxOf div ofInt add neg rawOf rawAt placeOf firstAbove markOf
+unfolding tableIsSound startsAtZero lengthsAreSound allFinite climbs sum round targetOf clamp01Of clampOf zeroF oneF epsilonF ofBits le lt eq ne mul firstNotBelow shareOf sub maxOf div ofInt add neg rawOf rawAt rawInPart firstAbove markOf
 above-skips-equal-lengths = (record { sound = tt; lookup = refl; other = refl; apart = tt }, refl, refl)
 
 -- Over a path: running lengths 1, 1, 2, so that the middle segment has no length. At the half the target is 1. The strict search gives the end of segment 0, the other the start of segment 2,

@@ -1,11 +1,13 @@
--- `kihavute_cos` meets its contract: what the entry below ensures, which `tidy` keeps. Assumes nothing.
+-- `kihavute_cos` meets its contract: what the entry below ensures, which `tidy` keeps; and the law of it, since what is passed is an f32 value. Assumes nothing.
 use borrow.Author.Needs.{needs}
 use mathlib.Core.Path.{_∙_}
+use denote.Floats.{passes}
+use Rattle.kihavute.proofs.Keeping.{cosine-kept}
 use Rattle.kihavute.proofs.turns.kihavute_cos.Statement.{statement}
 use Rattle.kihavute.proofs.turns.kihavute_cos.Tie as tie
 
 returns : tie.Need-returns
-returns c = c .tidy .ensures ∙ c .before .cos .ensures
+returns c = let same = c .tidy .ensures ∙ c .before .cos .ensures in (same, cosine-kept _ (passes _ (c .before .before .good .0 .1)) same)
 
 pub kihavute-cos-spec : {M : Type 1} → statement M
 kihavute-cos-spec =
