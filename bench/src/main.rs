@@ -533,7 +533,7 @@ impl Flown {
             commands.push(command);
         }
         let room = kihavute::build(&letters, &numbers, &mut [], &mut [], &mut [], &mut []);
-        let stored = room.expect_err("there is no room").carried[..4].iter().sum();
+        let stored = room.expect_err("there is no room").carried()[..4].iter().sum();
         let ours = Path::from_commands(&letters, &numbers).expect("it builds");
         Flown { count, ours, theirs: CompoundPath::from_commands(&commands), stored }
     }

@@ -30,7 +30,7 @@ pub enum Drawn {
 
 impl Line {
     pub fn ours(&self) -> Drawn {
-        self.ours_or_refusal().unwrap_or_else(|refusal| Drawn::Refused(refusal.number, refusal.carried[0]))
+        self.ours_or_refusal().unwrap_or_else(|refusal| Drawn::Refused(refusal.number(), refusal.carried()[0]))
     }
 
     fn ours_or_refusal(&self) -> Result<Drawn, kihavute::Refusal> {
@@ -116,7 +116,7 @@ impl Arc {
     }
 
     pub fn ours(&self) -> Answer {
-        self.ours_or_refusal().unwrap_or_else(|refusal| Refused(refusal.number, refusal.carried[0]))
+        self.ours_or_refusal().unwrap_or_else(|refusal| Refused(refusal.number(), refusal.carried()[0]))
     }
 
     fn ours_or_refusal(&self) -> Result<Answer, kihavute::Refusal> {

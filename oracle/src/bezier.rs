@@ -47,7 +47,7 @@ impl Asked {
     }
 
     pub fn ours(&self) -> Answer {
-        self.ours_or_refusal().unwrap_or_else(|refusal| Refused(refusal.number, refusal.carried[0]))
+        self.ours_or_refusal().unwrap_or_else(|refusal| Refused(refusal.number(), refusal.carried()[0]))
     }
 
     fn ours_or_refusal(&self) -> Result<Answer, kihavute::Refusal> {

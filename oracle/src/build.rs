@@ -181,10 +181,10 @@ impl Asked {
                 .all(|(buffer, count)| buffer.iter().skip(*count).all(|x| x.to_bits() == FLOAT));
         match given {
             _ if !untouched => Overwritten,
-            Err(refusal) if (2..=7).contains(&refusal.number) => Unread,
+            Err(refusal) if (2..=7).contains(&refusal.number()) => Unread,
             Err(refusal) => {
-                let [a, b, c, d, ..] = refusal.carried;
-                Refused(refusal.number, [a, b, c, d])
+                let [a, b, c, d, ..] = refusal.carried();
+                Refused(refusal.number(), [a, b, c, d])
             }
             Ok(counts) => {
                 let bits = |buffer: &[f32], count: usize| buffer[..count].iter().map(|x| x.to_bits()).collect();
@@ -412,7 +412,7 @@ fn compare_known(report: &mut Report) {
         let [fields, tables, lengths] = &mut numbers;
         let given = kihavute::build_text(text.as_bytes(), &mut kinds, fields, tables, lengths)
             .map(|counts| counts[0])
-            .map_err(|refusal| (refusal.number, refusal.carried[0]));
+            .map_err(|refusal| (refusal.number(), refusal.carried()[0]));
         if given != expected {
             println!("  DIFFERENT in the cases known: {text:?}: ours {given:?}, expected {expected:?}");
             equal = false;

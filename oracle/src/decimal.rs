@@ -32,7 +32,7 @@ impl fmt::Display for Answer {
 pub fn ours(text: &Text) -> Answer {
     match kihavute::number(&text.0) {
         Ok((bits, taken)) => Value(bits, taken),
-        Err(refusal) => Refused(refusal.number, refusal.carried[0]),
+        Err(refusal) => Refused(refusal.number(), refusal.carried()[0]),
     }
 }
 

@@ -79,7 +79,7 @@ impl Asked {
         let outputs = outputs.map(|output| output.iter().map(|x| x.to_bits()).collect());
         match given {
             Ok(values) => Answer { number: 0, values, outputs },
-            Err(refusal) => Answer { number: refusal.number, values: four(&refusal.carried), outputs },
+            Err(refusal) => Answer { number: refusal.number(), values: four(&refusal.carried()), outputs },
         }
     }
 

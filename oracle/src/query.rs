@@ -52,7 +52,7 @@ impl Asked {
         let (letters, numbers) = build::stored(&self.commands);
         let path = match Path::from_commands(&letters, &numbers) {
             Ok(path) => path,
-            Err(refusal) => return Refused(refusal.number),
+            Err(refusal) => return Refused(refusal.number()),
         };
         let at = |t: f32| {
             let t = Progress(t);
@@ -66,7 +66,7 @@ impl Asked {
         match asked {
             Ok(single) if self.is_batch(&path, &single) => Flown(single),
             Ok(_) => Apart,
-            Err(refusal) => Refused(refusal.number),
+            Err(refusal) => Refused(refusal.number()),
         }
     }
 

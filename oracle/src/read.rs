@@ -7,7 +7,6 @@ use crate::strict::Text;
 use crate::words;
 use animato_path::poly::PathCommand;
 use animato_path::svg::{SvgPathError, SvgPathParser};
-use kihavute::Refusal;
 use std::fmt;
 
 /// What a reader says of a text; a NaN's bits are 7FC00000.
@@ -49,11 +48,15 @@ fn carries(number: u32) -> usize {
     if number == 6 || number == 8 { 2 } else { 1 }
 }
 
+// a refusal's number, and what it carries
+type Refused = (u32, [u64; 8]);
+
 // reads into buffers of so many places; the buffers afterwards
-fn read_into(text: &[u8], letters: usize, numbers: usize) -> (Result<(usize, usize), Refusal>, Vec<u8>, Vec<u32>) {
+fn read_into(text: &[u8], letters: usize, numbers: usize) -> (Result<(usize, usize), Refused>, Vec<u8>, Vec<u32>) {
     let mut letters = vec![LETTER; letters];
     let mut numbers = vec![f32::from_bits(NUMBER); numbers];
     let found = kihavute::read_into(text, &mut letters, &mut numbers);
+    let found = found.map_err(|refusal| (refusal.number(), refusal.carried()));
     (found, letters, numbers.into_iter().map(f32::to_bits).collect())
 }
 
@@ -67,21 +70,21 @@ pub fn ours(text: &[u8]) -> Said {
     let (sizes, _, _) = read_into(text, 0, 0);
     let (places, count) = match sizes {
         Ok(counts) => counts,
-        Err(Refusal { number: 8, carried }) => (carried[0] as usize, carried[1] as usize),
-        Err(refusal) => {
+        Err((8, carried)) => (carried[0] as usize, carried[1] as usize),
+        Err((number, carried)) => {
             let (again, letters, numbers) = read_into(text, 9, 9);
-            return if again != Err(refusal) {
+            return if again != Err((number, carried)) {
                 Said::Wrong("another refusal with more room")
             } else if !untouched(&letters, &numbers) {
                 Said::Wrong("a refusal wrote")
             } else {
-                Said::Refused { number: refusal.number, carried: refusal.carried[..carries(refusal.number)].to_vec() }
+                Said::Refused { number, carried: carried[..carries(number)].to_vec() }
             };
         }
     };
     let mut needs = [0; 8];
     needs[..2].copy_from_slice(&[places as u64, count as u64]);
-    let no_room = Err(Refusal { number: 8, carried: needs });
+    let no_room = Err((8, needs));
     let (found, letters, numbers) = read_into(text, places, count);
     if found != Ok((places, count)) {
         return Said::Wrong("other counts with just the room that was asked for");
@@ -476,7 +479,7 @@ fn checked(list: &List) -> Said {
     let numbers: Vec<f32> = list.numbers.iter().map(|bits| f32::from_bits(*bits)).collect();
     match kihavute::check_commands(&list.letters, &numbers) {
         Ok(()) => Said::Read { letters: vec![], numbers: vec![] },
-        Err(refusal) => Said::Refused { number: refusal.number, carried: refusal.carried[..1].to_vec() },
+        Err(refusal) => Said::Refused { number: refusal.number(), carried: refusal.carried()[..1].to_vec() },
     }
 }
 

@@ -31,7 +31,7 @@ use Why::{Broken, Refused};
 
 impl From<kihavute::Refusal> for Why {
     fn from(refusal: kihavute::Refusal) -> Why {
-        Refused(refusal.number, refusal.carried[0])
+        Refused(refusal.number(), refusal.carried()[0])
     }
 }
 
@@ -109,7 +109,7 @@ impl Points {
         // one place short: the count needed, and nothing written
         let mut short = vec![LEFT; count - 1];
         match kihavute::spline_table(&numbers, &mut short) {
-            Err(refusal) if (refusal.number, refusal.carried[0]) == (8, count as u64) && is_left(&short) => {}
+            Err(refusal) if (refusal.number(), refusal.carried()[0]) == (8, count as u64) && is_left(&short) => {}
             _ => return Err(Broken("one place short")),
         }
         let told = self.progresses.iter().map(|progress| ours_told(&numbers, &table[..count], *progress));

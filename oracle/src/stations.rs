@@ -139,7 +139,7 @@ fn ours(plan: &[u8]) -> Vec<u8> {
     let mut needed = [0; 8];
     needed[0] = size as u64;
     let short = kihavute::listing_into(plan, &mut least[1..]);
-    if short != Err(kihavute::Refusal { number: 8, carried: needed }) || least.iter().any(|byte| *byte != BYTE) {
+    if short.map_err(|refusal| (refusal.number(), refusal.carried())) != Err((8, needed)) || least.iter().any(|byte| *byte != BYTE) {
         return b"a short output is not refused with the listing's count, or written".to_vec();
     }
     if kihavute::listing_into(plan, &mut least) != Ok(size) || least != out {
@@ -148,18 +148,14 @@ fn ours(plan: &[u8]) -> Vec<u8> {
     out
 }
 
-// what the compiled program prints; elsewhere than on x86-64 through an emulator
+// what the compiled program prints on this machine
 fn printed(plan: &[u8]) -> Vec<u8> {
-    let program = "target/bin/station";
-    let mut command = if cfg!(target_arch = "x86_64") { Command::new(program) } else { Command::new("qemu-x86_64") };
-    if !cfg!(target_arch = "x86_64") {
-        command.arg(program);
-    }
-    let mut run = command
+    let program = "tools/station";
+    let mut run = Command::new(program)
         .stdin(Stdio::piped())
         .stdout(Stdio::piped())
         .spawn()
-        .unwrap_or_else(|error| panic!("{program}: {error}; rt check station makes it"));
+        .unwrap_or_else(|error| panic!("{program}: {error}"));
     let mut input = run.stdin.take().expect("the program has an input");
     // the program may be done before it has taken all of a long plan
     let _ = input.write_all(plan);

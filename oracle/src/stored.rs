@@ -56,7 +56,7 @@ impl Buffers {
     fn ours(&self) -> bool {
         match kihavute::check(&self.kinds, &self.fields, &self.tables, &self.lengths) {
             Ok(count) => count == self.kinds.len(),
-            Err(refusal) => refusal.number != 12 || refusal.carried != [0; 8],
+            Err(refusal) => refusal.number() != 12 || refusal.carried() != [0; 8],
         }
     }
 

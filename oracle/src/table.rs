@@ -56,12 +56,12 @@ impl Query {
             return match kihavute::spot(&input.lengths, progress) {
                 Ok(Some((segment, local))) => Spot(segment, local.0.to_bits()),
                 Ok(None) => NoSegment,
-                Err(refusal) => Refused(refusal.number),
+                Err(refusal) => Refused(refusal.number()),
             };
         }
         match kihavute::raw_parameter(&input.lengths, input.total, progress) {
             Ok(raw) => Raw(raw.value().to_bits()),
-            Err(refusal) => Refused(refusal.number),
+            Err(refusal) => Refused(refusal.number()),
         }
     }
 

@@ -128,7 +128,7 @@ fn judged(call: impl FnOnce(*mut u64, usize) -> u32) -> Result<[u64; 8], Refusal
     let mut answer = [0; 8];
     match call(answer.as_mut_ptr(), answer.len()) {
         0 => Ok(answer),
-        number => Err(Refusal { number, carried: answer }),
+        number => Err(Refusal::answered(number, answer)),
     }
 }
 
@@ -857,6 +857,14 @@ pub struct Commands {
 }
 
 /// Why a text is no path. Offsets count bytes of the text.
+///
+/// ```
+/// fn flown(text: &[u8]) -> Result<usize, Box<dyn std::error::Error>> {
+///     Ok(kihavute::read(text)?.letters.len())
+/// }
+/// let why = flown(b"M0 0S1 2 3 4").unwrap_err();
+/// assert_eq!(why.to_string(), "the command S at byte 4 is not known; use M, L, H, V, C, Q, A or Z");
+/// ```
 #[derive(Clone, Copy, Debug, PartialEq, Eq)]
 pub enum ReadError {
     /// The text has this many bytes, more than 65,536.
@@ -875,14 +883,36 @@ pub enum ReadError {
     MissingMoveTo(usize),
 }
 
+impl From<ReadError> for Reason {
+    fn from(error: ReadError) -> Self {
+        match error {
+            ReadError::TooLong(length) => Reason::TooLong { length: length as u64 },
+            ReadError::UnexpectedEnd(at) => Reason::UnexpectedEnd { offset: at as u64 },
+            ReadError::ExpectedNumber(at) => Reason::ExpectedNumber { offset: at as u64 },
+            ReadError::InvalidNumber(at) => Reason::InvalidNumber { offset: at as u64 },
+            ReadError::ExpectedFlag(at) => Reason::ExpectedFlag { offset: at as u64 },
+            ReadError::UnsupportedCommand(letter, at) => Reason::UnsupportedCommand { letter, offset: at as u64 },
+            ReadError::MissingMoveTo(at) => Reason::MissingMoveTo { offset: at as u64 },
+        }
+    }
+}
+
+impl std::fmt::Display for ReadError {
+    fn fmt(&self, f: &mut std::fmt::Formatter<'_>) -> std::fmt::Result {
+        Reason::from(*self).fmt(f)
+    }
+}
+
+impl std::error::Error for ReadError {}
+
 /// Reads path data of any bytes: its commands, with absolute coordinates.
 pub fn read(text: &[u8]) -> Result<Commands, ReadError> {
     // one byte in three starts a number or a command in most texts; where this is too little, the call tells the counts
     let mut commands = Commands { letters: vec![0; text.len() / 4 + 1], numbers: vec![0.0; text.len() / 2 + 2] };
     let mut found = read_into(text, &mut commands.letters, &mut commands.numbers);
-    if let Err(Refusal { number: 8, carried }) = found {
-        commands.letters.resize(carried[0] as usize, 0);
-        commands.numbers.resize(carried[1] as usize, 0.0);
+    if let Err(Reason::NoRoom { needed: [letters, numbers, ..] }) = found.map_err(|refusal| refusal.reason()) {
+        commands.letters.resize(letters as usize, 0);
+        commands.numbers.resize(numbers as usize, 0.0);
         found = read_into(text, &mut commands.letters, &mut commands.numbers);
     }
     let refusal = match found {
@@ -893,16 +923,15 @@ pub fn read(text: &[u8]) -> Result<Commands, ReadError> {
         }
         Err(refusal) => refusal,
     };
-    let at = refusal.carried[0] as usize;
-    Err(match refusal.number {
-        1 => ReadError::TooLong(at),
-        2 => ReadError::UnexpectedEnd(at),
-        3 => ReadError::ExpectedNumber(at),
-        4 => ReadError::InvalidNumber(at),
-        5 => ReadError::ExpectedFlag(at),
-        6 => ReadError::UnsupportedCommand(at as u8, refusal.carried[1] as usize),
-        7 => ReadError::MissingMoveTo(at),
-        number => unreachable!("the reader refuses with {number}"),
+    Err(match refusal.reason() {
+        Reason::TooLong { length } => ReadError::TooLong(length as usize),
+        Reason::UnexpectedEnd { offset } => ReadError::UnexpectedEnd(offset as usize),
+        Reason::ExpectedNumber { offset } => ReadError::ExpectedNumber(offset as usize),
+        Reason::InvalidNumber { offset } => ReadError::InvalidNumber(offset as usize),
+        Reason::ExpectedFlag { offset } => ReadError::ExpectedFlag(offset as usize),
+        Reason::UnsupportedCommand { letter, offset } => ReadError::UnsupportedCommand(letter, offset as usize),
+        Reason::MissingMoveTo { offset } => ReadError::MissingMoveTo(offset as usize),
+        other => unreachable!("the reader refuses otherwise: {other}"),
     })
 }
 
@@ -1008,7 +1037,7 @@ mod tests {
 
     #[test]
     fn decimals() {
-        let refused = |number, at| Err(Refusal { number, carried: [at, 0, 0, 0, 0, 0, 0, 0] });
+        let refused = |number, at| Err(Refusal::answered(number, [at, 0, 0, 0, 0, 0, 0, 0]));
         assert_eq!(number(b"-12.5e1,7"), Ok(((-125.0f32).to_bits(), 7)));
         assert_eq!(number(b"-.e1"), refused(3, 0));
         assert_eq!(number(b"1e 2"), refused(4, 1));
@@ -1021,10 +1050,10 @@ mod tests {
         assert_eq!(raw_parameter(&entries, 31.0, Progress(0.0)), Ok(RawParameter::of_bits(0)));
         assert_eq!(raw_parameter(&entries, 31.0, Progress(0.5)), Ok(RawParameter::of_bits(0.5f32.to_bits())));
         assert_eq!(raw_parameter(&entries, 31.0, Progress(2.0)), Ok(RawParameter::of_bits(1.0f32.to_bits())));
-        assert_eq!(raw_parameter(&entries, 30.0, Progress(0.5)), Err(Refusal { number: 12, carried: [0; 8] }));
+        assert_eq!(raw_parameter(&entries, 30.0, Progress(0.5)), Err(Refusal::answered(12, [0; 8])));
         assert_eq!(spot(&[2.0, 2.0, 4.0], Progress(0.75)), Ok(Some((2, Progress(0.5)))));
         assert_eq!(spot(&[], Progress(0.5)), Ok(None));
-        assert_eq!(spot(&[2.0, 1.0], Progress(0.5)), Err(Refusal { number: 12, carried: [0; 8] }));
+        assert_eq!(spot(&[2.0, 1.0], Progress(0.5)), Err(Refusal::answered(12, [0; 8])));
     }
 
     #[test]
@@ -1032,7 +1061,7 @@ mod tests {
         let refused = |number, carried: &[u64]| {
             let mut all = [0; 8];
             all[..carried.len()].copy_from_slice(carried);
-            Refusal { number, carried: all }
+            Refusal::answered(number, all)
         };
         let line = [0.0, 0.0, 2.0, 0.0, 2.0, 2.0];
         let mut out = [9.0; 12];
@@ -1053,7 +1082,7 @@ mod tests {
 
     #[test]
     fn curves() {
-        let refused = Refusal { number: 11, carried: [0; 8] };
+        let refused = Refusal::answered(11, [0; 8]);
         let straight = [[0.0, 0.0], [1.0, 0.0], [2.0, 0.0]];
         assert_eq!(quad_position(&straight, Progress(0.5)), Ok(bits([1.0, 0.0])));
         assert_eq!(quad_tangent(&straight, Progress(f32::NAN)), Ok(bits([1.0, 0.0])));
@@ -1070,7 +1099,7 @@ mod tests {
 
     #[test]
     fn tables() {
-        let refused = Refusal { number: 11, carried: [0; 8] };
+        let refused = Refusal::answered(11, [0; 8]);
         let straight = [[0.0, 0.0], [15.5, 0.0], [31.0, 0.0]];
         let table = quad_table(&straight).expect("a quad of length 31 has a table");
         assert_eq!((table[0], table[31] == table[32]), (0, true));
@@ -1082,7 +1111,7 @@ mod tests {
 
     #[test]
     fn lines() {
-        let refused = Refusal { number: 11, carried: [0; 8] };
+        let refused = Refusal::answered(11, [0; 8]);
         let line = [[1.0, 2.0], [4.0, 6.0]];
         assert_eq!(line_position(&line, Progress(0.5)), Ok(bits([2.5, 4.0])));
         assert_eq!(line_tangent(&line), Ok(bits([0.6, 0.8])));
@@ -1093,7 +1122,7 @@ mod tests {
 
     #[test]
     fn arcs() {
-        let refused = |number| Refusal { number, carried: [0; 8] };
+        let refused = |number| Refusal::answered(number, [0; 8]);
         let half = Chord {
             start: [0.0, 0.0],
             radii: [1.0, 1.0],
@@ -1125,7 +1154,7 @@ mod tests {
     fn splines() {
         let points = [0.0, 0.0, 1.0, 0.0, 2.0, 0.0];
         let mut table = [-77.0; 34];
-        assert_eq!(spline_table(&points, &mut table[..32]).map_err(|refusal| refusal.carried[0]), Err(33));
+        assert_eq!(spline_table(&points, &mut table[..32]).map_err(|refusal| refusal.carried()[0]), Err(33));
         assert_eq!(table, [-77.0; 34]);
         assert_eq!(spline_table(&points, &mut table), Ok(33));
         assert_eq!(table[33], -77.0);
@@ -1133,13 +1162,13 @@ mod tests {
         assert_eq!(spline_tangent(&points, &table[..33], Progress(0.5)), Ok(bits([1.0, 0.0])));
         assert_eq!(spline_rotation_deg(&points, &table[..33], Progress(0.5)), Ok(0));
         assert_eq!(spline_length(&points, &table[..33]), Ok(2.0f32.to_bits()));
-        assert_eq!(spline_length(&points, &table), Err(Refusal { number: 12, carried: [0; 8] }));
+        assert_eq!(spline_length(&points, &table), Err(Refusal::answered(12, [0; 8])));
         assert_eq!(spline_position(&[], &[0.0], Progress(0.5)), Ok([0, 0]));
     }
 
     #[test]
     fn stored_paths() {
-        let refused = Err(Refusal { number: 12, carried: [0; 8] });
+        let refused = Err(Refusal::answered(12, [0; 8]));
         assert_eq!(check(&[], &[], &[], &[]), Ok(0));
         assert_eq!(check(&[0], &[0.0, 0.0, 3.0, 4.0], &[], &[5.0]), Ok(1));
         assert_eq!(check(&[5], &[], &[], &[5.0]), refused);
@@ -1174,11 +1203,16 @@ mod tests {
         assert_eq!(read(b"M0 0A1 1 0 2 0 3 4"), Err(ReadError::ExpectedFlag(11)));
         assert_eq!(read(b"M0 0S1 2 3 4"), Err(ReadError::UnsupportedCommand(b'S', 4)));
         assert_eq!(read(b"M1 2Z3 4"), Err(ReadError::MissingMoveTo(5)));
+        // in words as the refusal that read_into gives
+        for text in [&b"M1"[..], b"M", b"M1e 2", b"M0 0A1 1 0 2 0 3 4", b"M0 0S1 2 3 4", b"M1 2Z3 4", &[b' '; 65_537]] {
+            let error: Box<dyn std::error::Error> = Box::new(read(text).unwrap_err());
+            assert_eq!(error.to_string(), read_into(text, &mut [], &mut []).unwrap_err().to_string());
+        }
     }
 
     #[test]
     fn lists() {
-        let refused = |number, at| Err(Refusal { number, carried: [at, 0, 0, 0, 0, 0, 0, 0] });
+        let refused = |number, at| Err(Refusal::answered(number, [at, 0, 0, 0, 0, 0, 0, 0]));
         assert_eq!(check_commands(b"ML", &[1.0, 2.0, 4.0, 6.0]), Ok(()));
         assert_eq!(check_commands(b"ML", &[1.0, 2.0, 4.0]), refused(9, 1));
         assert_eq!(check_commands(b"MZ", &[1.0, 2.0, 4.0]), refused(9, 2));

@@ -2,11 +2,23 @@
 
 use core::fmt;
 
-/// A refusal: its number in the table of `include/kihavute.h`, and the values that it carries, zeros after them.
+/// A refusal of the library: its number in the table of `include/kihavute.h`, and the values that it carries. Only a call makes
+/// one, so that each says what is the case.
+///
+/// ```
+/// let refusal = kihavute::number(b"1e").unwrap_err();
+/// assert_eq!((refusal.number(), refusal.carried()[0]), (4, 1));
+/// assert_eq!(refusal.reason(), kihavute::Reason::InvalidNumber { offset: 1 });
+/// assert_eq!(refusal.to_string(), "the exponent at byte 1 has no digit; give it one or remove the e");
+/// ```
+///
+/// ```compile_fail,E0451
+/// let refusal = kihavute::Refusal::answered(77, [0; 8]);
+/// ```
 #[derive(Clone, Copy, Debug, PartialEq, Eq)]
 pub struct Refusal {
-    pub number: u32,
-    pub carried: [u64; 8],
+    number: u32,
+    carried: [u64; 8],
 }
 
 /// A refusal by its name. Offsets count bytes of the text; commands, segments, points and entries count from 0.
@@ -52,9 +64,28 @@ pub enum Reason {
         found: u64,
     },
     ShortAnswer,
+    /// A number that this wrapper does not know: the library is of another version.
+    Unknown {
+        number: u32,
+    },
 }
 
 impl Refusal {
+    /// What a call of the library answered.
+    pub(crate) fn answered(number: u32, carried: [u64; 8]) -> Self {
+        Self { number, carried }
+    }
+
+    /// Its number.
+    pub fn number(&self) -> u32 {
+        self.number
+    }
+
+    /// The values that it carries, zeros after them.
+    pub fn carried(&self) -> [u64; 8] {
+        self.carried
+    }
+
     /// The refusal's name with its values.
     pub fn reason(&self) -> Reason {
         let [first, second, third, fourth, ..] = self.carried;
@@ -72,7 +103,8 @@ impl Refusal {
             11 => Reason::NotFinite { place: first },
             12 => Reason::BadPath,
             13 => Reason::Range { found: first },
-            _ => Reason::ShortAnswer,
+            255 => Reason::ShortAnswer,
+            number => Reason::Unknown { number },
         }
     }
 }
@@ -129,6 +161,9 @@ impl fmt::Display for Reason {
             Reason::BadPath => write!(f, "the stored path fails its check; build it anew from its plan"),
             Reason::Range { found } => write!(f, "the count {found} is out of range; see the limits of the call"),
             Reason::ShortAnswer => write!(f, "the answer has fewer than 8 places; lend it 8"),
+            Reason::Unknown { number } => {
+                write!(f, "the library refuses with {number}, which is not known here; use both of one version")
+            }
         }
     }
 }
@@ -137,19 +172,28 @@ impl fmt::Display for Reason {
 mod tests {
     use super::*;
 
-    fn said(number: u32, carried: &[u64]) -> String {
+    fn refusal(number: u32, carried: &[u64]) -> Refusal {
         let mut all = [0; 8];
         all[..carried.len()].copy_from_slice(carried);
-        Refusal { number, carried: all }.to_string()
+        Refusal::answered(number, all)
     }
 
     #[test]
     fn every_refusal_says_what_to_do() {
-        for number in (1..=13).chain([255]) {
-            assert!(said(number, &[7, 9]).contains(';'), "refusal {number}");
+        for number in (1..=13).chain([255, 77]) {
+            assert!(refusal(number, &[7, 9]).to_string().contains(';'), "refusal {number}");
         }
-        assert!(said(6, &[83, 4]).contains("command S at byte 4"));
-        assert!(said(8, &[2, 4]).ends_with("2, 4"));
-        assert!(said(8, &[0]).ends_with(": 0"));
+        assert!(refusal(6, &[83, 4]).to_string().contains("command S at byte 4"));
+        assert!(refusal(8, &[2, 4]).to_string().ends_with("2, 4"));
+        assert!(refusal(8, &[0]).to_string().ends_with(": 0"));
+    }
+
+    #[test]
+    fn a_number_that_is_not_known_is_not_another_one() {
+        for number in [14, 77, 254, 256, u32::MAX] {
+            assert_eq!(refusal(number, &[]).reason(), Reason::Unknown { number });
+        }
+        assert_eq!(refusal(255, &[]).reason(), Reason::ShortAnswer);
+        assert!(refusal(77, &[]).to_string().contains("refuses with 77, which is not known"));
     }
 }
