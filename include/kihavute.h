@@ -9,14 +9,18 @@
  *         and 2 to 1,000 stations of a plan; angles of 64 radians for sine and cosine, rotations of 3,600 degrees.
  *         What lies beyond is refused, or a NaN where that is said.
  * Units:  coordinates and lengths are in the unit of the path, times t are pure numbers, angles say theirs.
+ * Sizes:  a coordinate is a float of 24 bits, so the larger it is, the further apart its neighbours are: 2^-10 (0.00098) from 8,192 to
+ *         16,384, 2^-9 from there, 1/32 from 262,144, 1/2 from 4,194,304, and twice as much at each doubling. A northing of
+ *         6672100.75 is held as 6672101. Shift the origin: subtract a whole number from every x and another from every y, in double,
+ *         before the text or the list is made, and add them again, in double, to the points that come out.
  * Bits:   a function that returns uint32_t gives the bits of a float, as IEEE 754 binary32 lays them out. A NaN is
  *         always 0x7FC00000 there, whatever NaN went in. A function that returns uint64_t gives two such
  *         patterns: x in the low half, y in the high half.
  * Answer: a function that ends in `answer, answer_len` returns 0 where it accepts, else the number of a refusal in the
  *         table below. What it gives, or what the refusal carries, is written to the first places of answer, and to
  *         no other place: lend it 8 places. Into fewer nothing is written, and 255 is returned.
- * Slices: a pointer, which is never null, and the count of elements behind it, which may be 0. An answer or an output
- *         overlaps nothing else that the call is lent.
+ * Slices: a pointer and the count of elements behind it. Nothing is read or written past the count, so with a count of 0 the pointer
+ *         may be null, as that of C++'s empty vector is. An answer or an output overlaps nothing else that the call is lent.
  * Order:  each operation rounds once, to nearest with ties to even, in the order written beside each name. No
  *         multiplication is fused with an addition.
  *
@@ -157,8 +161,8 @@ uint32_t kihavute_raw_parameter(const float *entries, size_t entries_len, float 
 
 /* The segment of a path at this progress, counted from 0, and how far along it: answer[0] gets the segment, answer[1]
  * the bits of the progress on it. lengths has the path's running length at the end of each segment. Refused with 12
- * where one is below 0, below the one before it, or not finite. A path without segments (lengths_len is 0) is accepted
- * and writes nothing: it has no segment to give. A total of at most 2^-23 gives the last segment at 1. */
+ * where one is below 0, below the one before it, or not finite. A path without segments (lengths_len is 0) has no segment to
+ * give: 0 is returned and answer stays as it was. A total of at most 2^-23 gives the last segment at 1. */
 uint32_t kihavute_spot(const float *lengths, size_t lengths_len, float progress, uint64_t *answer, size_t answer_len);
 
 /* ---- Quads and cubics ----
@@ -322,9 +326,9 @@ uint32_t kihavute_bounds(const float *from, size_t from_len, const float *to, si
                          size_t answer_len);
 
 /* ---- Texts ----
- * A text is a pointer to its bytes, which is never null, and their count. It may hold any bytes and needs no end
- * mark. A function that can refuse returns the refusal's number, 0 where it accepts, and writes what goes with
- * that to the start of answer, an array of at least 8 places. Into a shorter one it writes nothing and returns 255. */
+ * A text is a pointer to its bytes and their count. It may hold any bytes and needs no end mark. A function that can refuse
+ * returns the refusal's number, 0 where it accepts, and writes what goes with that to the start of answer, an array of at least 8
+ * places. Into a shorter one it writes nothing and returns 255. */
 
 /* The decimal number that a text starts with: an optional sign, digits, an optional point and digits, at least one digit
  * in all, an optional exponent, the longest text. answer[0] gets the bits of the float nearest to its exact value, ties to
@@ -403,7 +407,8 @@ uint32_t kihavute_build_text(const uint8_t *text, size_t text_len, uint8_t *kind
  * progresses and ask by kihavute_places or kihavute_positions, which check the path once for all of them. */
 
 /* The segment at this progress, counted from 0, and its raw parameter: answer[0] gets the segment, answer[1] the bits of
- * the raw parameter. A path without segments is accepted and writes nothing. */
+ * the raw parameter. A path without segments (kinds_len is 0) has no place: 0 is returned and answer stays as it was, so look at
+ * kinds_len before you read it. */
 uint32_t kihavute_place(const uint8_t *kinds, size_t kinds_len, const float *fields, size_t fields_len, const float *tables,
                         size_t tables_len, const float *lengths, size_t lengths_len, float progress, uint64_t *answer,
                         size_t answer_len);
@@ -424,9 +429,10 @@ uint32_t kihavute_rotation(const uint8_t *kinds, size_t kinds_len, const float *
                            uint64_t *answer, size_t answer_len);
 
 /* The segment at each of many progresses, and its raw parameter, in the order of the progresses: segments and raws get one place
- * for each, from their starts, as kihavute_place gives them. answer[0] gets the count of progresses. A path without segments is
- * accepted, gives nothing and writes to neither output. Refused, with nothing written, with 12, then with 8 and the two counts
- * needed. Progresses in rising order pass over the path once; in another order each one walks from the segment before. */
+ * for each, from their starts, as kihavute_place gives them. answer[0] gets the count of progresses. A path without segments
+ * (kinds_len is 0) has no places: 0 is returned, and both outputs and answer stay as they were. Refused, with nothing written,
+ * with 12, then with 8 and the two counts needed. Progresses in rising order pass over the path once; in another order each one
+ * walks from the segment before. */
 uint32_t kihavute_places(const uint8_t *kinds, size_t kinds_len, const float *fields, size_t fields_len, const float *tables,
                          size_t tables_len, const float *lengths, size_t lengths_len, const float *progresses,
                          size_t progresses_len, uint32_t *segments, size_t segments_len, float *raws, size_t raws_len,

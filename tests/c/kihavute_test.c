@@ -969,6 +969,159 @@ static void stations(void) {
     same("what it says", memcmp(out, "refused 6 S 4\n", 14), 0);
 }
 
+/* Every slice of every entry as C++'s empty vector lends it: a null pointer with a count of 0. The answer is that of any empty slice. */
+static void nulls(void) {
+    static uint8_t listing[65536];
+    const uint8_t *text = (const uint8_t *)"M0 0L3 4", kinds[] = {0};
+    const float fields[] = {0, 0, 3, 4}, lengths[] = {5}, zero[] = {0};
+    const float half = 0.5f;
+
+    fresh();
+    answered("null entries", kihavute_raw_parameter(NULL, 0, 0, half, answer, PLACES), 12, 0, NULL);
+    fresh();
+    answered("null lengths", kihavute_spot(NULL, 0, half, answer, PLACES), 0, 0, NULL);
+    fresh();
+    answered("a quad's table into null", kihavute_quad_table(0, 0, 1, 1, 2, 0, NULL, 0, answer, PLACES), 8, 1, (uint64_t[]){33});
+    fresh();
+    answered("a cubic's table into null", kihavute_cubic_table(0, 0, 1, 1, 2, 1, 3, 0, NULL, 0, answer, PLACES), 8, 1, (uint64_t[]){33});
+    fresh();
+    answered("an arc's shape into null", kihavute_arc_shape(0, 0, 1, 1, 0, 0, 1, 2, 0, NULL, 0, answer, PLACES), 8, 1, (uint64_t[]){11});
+    fresh();
+    answered("an arc's table into null", kihavute_arc_table(0, 0, 1, 1, 0, 0, 1, 2, 0, NULL, 0, answer, PLACES), 8, 1, (uint64_t[]){33});
+    fresh();
+    answered("a spline's table of null into null", kihavute_spline_table(NULL, 0, NULL, 0, answer, PLACES), 8, 1, (uint64_t[]){1});
+    fresh();
+    answered("null points", kihavute_spline_position(NULL, 0, zero, 1, half, answer, PLACES), 0, 2, (uint64_t[]){0, 0});
+    fresh();
+    answered("a null table", kihavute_spline_position(NULL, 0, NULL, 0, half, answer, PLACES), 12, 0, NULL);
+    fresh();
+    answered("null points, their tangent", kihavute_spline_tangent(NULL, 0, zero, 1, half, answer, PLACES), 0, 2, (uint64_t[]){0, 0});
+    fresh();
+    answered("a null table, its tangent", kihavute_spline_tangent(NULL, 0, NULL, 0, half, answer, PLACES), 12, 0, NULL);
+    fresh();
+    answered("null points, their heading", kihavute_spline_rotation_deg(NULL, 0, zero, 1, half, answer, PLACES), 0, 1, (uint64_t[]){0});
+    fresh();
+    answered("a null table, its heading", kihavute_spline_rotation_deg(NULL, 0, NULL, 0, half, answer, PLACES), 12, 0, NULL);
+    fresh();
+    answered("null points, their length", kihavute_spline_length(NULL, 0, zero, 1, answer, PLACES), 0, 1, (uint64_t[]){0});
+    fresh();
+    answered("a null table, its length", kihavute_spline_length(NULL, 0, NULL, 0, answer, PLACES), 12, 0, NULL);
+
+    fresh();
+    answered("null points into null", kihavute_resample(NULL, 0, 5, NULL, 0, answer, PLACES), 0, 1, (uint64_t[]){0});
+    fresh();
+    answered("points into null", kihavute_resample(fields, 4, 5, NULL, 0, answer, PLACES), 8, 1, (uint64_t[]){10});
+    fresh();
+    answered("a morph of nulls", kihavute_morph(NULL, 0, NULL, 0, 5, NULL, 0, NULL, 0, answer, PLACES), 0, 2, (uint64_t[]){0, 0});
+    fresh();
+    answered("a morph into nulls", kihavute_morph(fields, 4, NULL, 0, 5, NULL, 0, NULL, 0, answer, PLACES), 8, 2, (uint64_t[]){10, 0});
+    fresh();
+    answered("a default morph of nulls", kihavute_morph_default(NULL, 0, NULL, 0, NULL, 0, NULL, 0, answer, PLACES), 0, 2, (uint64_t[]){0, 0});
+    fresh();
+    answered("between nulls", kihavute_evaluate(NULL, 0, NULL, 0, half, NULL, 0, answer, PLACES), 0, 1, (uint64_t[]){0});
+    fresh();
+    answered("into null", kihavute_evaluate(fields, 4, fields, 4, half, NULL, 0, answer, PLACES), 8, 1, (uint64_t[]){4});
+    fresh();
+    answered("bounds of nulls", kihavute_bounds(NULL, 0, NULL, 0, half, answer, PLACES), 0, 4, (uint64_t[]){0, 0, 0, 0});
+
+    fresh();
+    answered("a number of a null text", kihavute_number(NULL, 0, answer, PLACES), 3, 1, (uint64_t[]){0});
+    fresh();
+    answered("a null text, strictly", kihavute_strict(NULL, 0, answer, PLACES), 0, 1, (uint64_t[]){1});
+    fresh();
+    answered("a null text into nulls", kihavute_read(NULL, 0, NULL, 0, NULL, 0, answer, PLACES), 0, 2, (uint64_t[]){0, 0});
+    fresh();
+    answered("a text into nulls", kihavute_read(text, 8, NULL, 0, NULL, 0, answer, PLACES), 8, 2, (uint64_t[]){2, 4});
+    fresh();
+    answered("a list of nulls", kihavute_check_commands(NULL, 0, NULL, 0, answer, PLACES), 0, 0, NULL);
+
+    fresh();
+    answered("a path of nulls", kihavute_check(NULL, 0, NULL, 0, NULL, 0, NULL, 0, answer, PLACES), 0, 1, (uint64_t[]){0});
+    fresh();
+    answered("a null list into nulls", kihavute_build(NULL, 0, NULL, 0, NULL, 0, NULL, 0, NULL, 0, NULL, 0, answer, PLACES), 0, 4, (uint64_t[]){0, 0, 0, 0});
+    fresh();
+    answered("a list into nulls", kihavute_build((const uint8_t *)"ML", 2, fields, 4, NULL, 0, NULL, 0, NULL, 0, NULL, 0, answer, PLACES), 8, 4, (uint64_t[]){1, 4, 0, 1});
+    fresh();
+    answered("a null text built into nulls", kihavute_build_text(NULL, 0, NULL, 0, NULL, 0, NULL, 0, NULL, 0, answer, PLACES), 0, 4, (uint64_t[]){0, 0, 0, 0});
+    fresh();
+    answered("a text built into nulls", kihavute_build_text(text, 8, NULL, 0, NULL, 0, NULL, 0, NULL, 0, answer, PLACES), 8, 4, (uint64_t[]){1, 4, 0, 1});
+    fresh();
+    answered("a place on nulls", kihavute_place(NULL, 0, NULL, 0, NULL, 0, NULL, 0, half, answer, PLACES), 0, 0, NULL);
+    fresh();
+    answered("a position on nulls", kihavute_position(NULL, 0, NULL, 0, NULL, 0, NULL, 0, half, answer, PLACES), 0, 2, (uint64_t[]){0, 0});
+    fresh();
+    answered("a tangent on nulls", kihavute_tangent(NULL, 0, NULL, 0, NULL, 0, NULL, 0, half, answer, PLACES), 0, 2, (uint64_t[]){0, 0});
+    fresh();
+    answered("a rotation on nulls", kihavute_rotation(NULL, 0, NULL, 0, NULL, 0, NULL, 0, half, answer, PLACES), 0, 1, (uint64_t[]){0});
+    fresh();
+    answered("places on nulls", kihavute_places(NULL, 0, NULL, 0, NULL, 0, NULL, 0, NULL, 0, NULL, 0, NULL, 0, answer, PLACES), 0, 0, NULL);
+    fresh();
+    answered("places of null progresses", kihavute_places(kinds, 1, fields, 4, NULL, 0, lengths, 1, NULL, 0, NULL, 0, NULL, 0, answer, PLACES), 0, 1, (uint64_t[]){0});
+    fresh();
+    answered("places into nulls", kihavute_places(kinds, 1, fields, 4, NULL, 0, lengths, 1, &half, 1, NULL, 0, NULL, 0, answer, PLACES), 8, 2, (uint64_t[]){1, 1});
+    fresh();
+    answered("positions on nulls", kihavute_positions(NULL, 0, NULL, 0, NULL, 0, NULL, 0, NULL, 0, NULL, 0, answer, PLACES), 0, 1, (uint64_t[]){0});
+    fresh();
+    answered("positions into null", kihavute_positions(kinds, 1, fields, 4, NULL, 0, lengths, 1, &half, 1, NULL, 0, answer, PLACES), 8, 1, (uint64_t[]){4});
+    fresh();
+    answered("a null plan", kihavute_stations(NULL, 0, listing, sizeof listing, answer, PLACES), 0, 1, (uint64_t[]){13});
+    same("what it says", memcmp(listing, "refused 13 0\n", 13), 0);
+    fresh();
+    answered("a plan into null", kihavute_stations(text, 8, NULL, 0, answer, PLACES), 8, 1, (uint64_t[]){65536});
+
+    /* a null answer has fewer than 8 places, which is judged first */
+    const uint32_t found[] = {
+        kihavute_raw_parameter(lengths, 1, 5, half, NULL, 0),
+        kihavute_spot(lengths, 1, half, NULL, 0),
+        kihavute_quad_position(0, 0, 1, 1, 2, 0, half, NULL, 0),
+        kihavute_cubic_position(0, 0, 1, 1, 2, 1, 3, 0, half, NULL, 0),
+        kihavute_quad_tangent(0, 0, 1, 1, 2, 0, half, NULL, 0),
+        kihavute_cubic_tangent(0, 0, 1, 1, 2, 1, 3, 0, half, NULL, 0),
+        kihavute_quad_rotation_deg(0, 0, 1, 1, 2, 0, half, NULL, 0),
+        kihavute_cubic_rotation_deg(0, 0, 1, 1, 2, 1, 3, 0, half, NULL, 0),
+        kihavute_quad_length(0, 0, 1, 1, 2, 0, NULL, 0),
+        kihavute_cubic_length(0, 0, 1, 1, 2, 1, 3, 0, NULL, 0),
+        kihavute_quad_table(0, 0, 1, 1, 2, 0, NULL, 0, NULL, 0),
+        kihavute_cubic_table(0, 0, 1, 1, 2, 1, 3, 0, NULL, 0, NULL, 0),
+        kihavute_line_position(0, 0, 3, 4, half, NULL, 0),
+        kihavute_line_tangent(0, 0, 3, 4, NULL, 0),
+        kihavute_line_rotation_deg(0, 0, 3, 4, NULL, 0),
+        kihavute_line_length(0, 0, 3, 4, NULL, 0),
+        kihavute_arc_position(0, 0, 1, 1, 0, 0, 1, 2, 0, half, NULL, 0),
+        kihavute_arc_tangent(0, 0, 1, 1, 0, 0, 1, 2, 0, half, NULL, 0),
+        kihavute_arc_rotation_deg(0, 0, 1, 1, 0, 0, 1, 2, 0, half, NULL, 0),
+        kihavute_arc_length(0, 0, 1, 1, 0, 0, 1, 2, 0, NULL, 0),
+        kihavute_arc_shape(0, 0, 1, 1, 0, 0, 1, 2, 0, NULL, 0, NULL, 0),
+        kihavute_arc_table(0, 0, 1, 1, 0, 0, 1, 2, 0, NULL, 0, NULL, 0),
+        kihavute_spline_table(NULL, 0, NULL, 0, NULL, 0),
+        kihavute_spline_position(NULL, 0, zero, 1, half, NULL, 0),
+        kihavute_spline_tangent(NULL, 0, zero, 1, half, NULL, 0),
+        kihavute_spline_rotation_deg(NULL, 0, zero, 1, half, NULL, 0),
+        kihavute_spline_length(NULL, 0, zero, 1, NULL, 0),
+        kihavute_resample(NULL, 0, 5, NULL, 0, NULL, 0),
+        kihavute_morph(NULL, 0, NULL, 0, 5, NULL, 0, NULL, 0, NULL, 0),
+        kihavute_morph_default(NULL, 0, NULL, 0, NULL, 0, NULL, 0, NULL, 0),
+        kihavute_evaluate(NULL, 0, NULL, 0, half, NULL, 0, NULL, 0),
+        kihavute_bounds(NULL, 0, NULL, 0, half, NULL, 0),
+        kihavute_number(NULL, 0, NULL, 0),
+        kihavute_strict(NULL, 0, NULL, 0),
+        kihavute_read(NULL, 0, NULL, 0, NULL, 0, NULL, 0),
+        kihavute_check_commands(NULL, 0, NULL, 0, NULL, 0),
+        kihavute_check(NULL, 0, NULL, 0, NULL, 0, NULL, 0, NULL, 0),
+        kihavute_build(NULL, 0, NULL, 0, NULL, 0, NULL, 0, NULL, 0, NULL, 0, NULL, 0),
+        kihavute_build_text(NULL, 0, NULL, 0, NULL, 0, NULL, 0, NULL, 0, NULL, 0),
+        kihavute_place(NULL, 0, NULL, 0, NULL, 0, NULL, 0, half, NULL, 0),
+        kihavute_position(NULL, 0, NULL, 0, NULL, 0, NULL, 0, half, NULL, 0),
+        kihavute_tangent(NULL, 0, NULL, 0, NULL, 0, NULL, 0, half, NULL, 0),
+        kihavute_rotation(NULL, 0, NULL, 0, NULL, 0, NULL, 0, half, NULL, 0),
+        kihavute_places(NULL, 0, NULL, 0, NULL, 0, NULL, 0, NULL, 0, NULL, 0, NULL, 0, NULL, 0),
+        kihavute_positions(NULL, 0, NULL, 0, NULL, 0, NULL, 0, NULL, 0, NULL, 0, NULL, 0),
+        kihavute_stations(NULL, 0, NULL, 0, NULL, 0),
+    };
+    for (size_t i = 0; i < sizeof found / sizeof *found; i++) same("a null answer", found[i], 255);
+    same("the entries with an answer", sizeof found / sizeof *found, 46);
+}
+
 int main(void) {
     roots();
     angles();
@@ -987,6 +1140,7 @@ int main(void) {
     reading();
     lists();
     stations();
+    nulls();
     printf("%d passed, %d failed\n", passed, failed);
     return failed != 0;
 }
