@@ -240,6 +240,15 @@ impl Checked {
 
 const DRAWN: &str = "A witness that somebody drew";
 
+// What `search` finds by looking at each progress of the drawn curve, and at each number of entries.
+fn each_progress(steps: usize, progresses: u32) -> String {
+    format!("of the curve's {progresses} steps from one progress to the next, {steps} goes back (`oracle/order search` takes each)")
+}
+
+fn each_count(overlapping: &[usize]) -> String {
+    format!("(lower + share)·R overlaps at {} of them, share·R + lower/n at {}, share·R + (lower·R) at {}, lower·R + (share·R) at {}", overlapping[1], overlapping[2], overlapping[3], overlapping[4])
+}
+
 fn drawn_section(check: &mut Checked) -> String {
     let entries = drawn((0.0, 0.0), (0.0, 0.0), (1.0, 0.0));
     let fused = Way { join: Join::FusedDivision, ..LOOKUP };
@@ -261,12 +270,13 @@ fn drawn_section(check: &mut Checked) -> String {
         text += &format!("| {} | {entry} | {} | {} | {} |\n", hex(p), hex(share), hex(raw(LOOKUP, &entries, p)), hex(raw(fused, &entries, p)));
     }
     text += &format!(
-        "\nFrom {} to {} the fused form steps back, {} to {}; the lookup gives {} twice. A packet of the later pulse is filed before one of the earlier.\n\n",
+        "\nFrom {} to {} the fused form steps back, {} to {}; the lookup gives {} twice. A packet of the later pulse is filed before one of the earlier; {}.\n\n",
         hex(first),
         hex(after(first)),
         hex(raw(fused, &entries, first)),
         hex(raw(fused, &entries, after(first))),
-        hex(raw(LOOKUP, &entries, first))
+        hex(raw(LOOKUP, &entries, first)),
+        each_progress(1, 1.0f32.to_bits())
     );
     text += "How it is computed: by `oracle/order` alone, which builds the table by the f32 operations of `crates/bezier/specs/Quads.antt` and `crates/table_samples/specs/Samples.antt`. No theorem has these bits: a change in how a length is rounded moves them, and `oracle/order` then says so. That the form steps back at all is `fused-division-back`, witness A, on a table that nobody measures.\n";
     text
@@ -339,7 +349,7 @@ fn witnesses_section(check: &mut Checked) -> String {
     let steep = table(&[(0.0, 17), (1.0, 1), (far, 14)]);
     let tiny = f32::from_bits(0x00400001);
     let x = raw(joined(Join::FusedNumber), &steep, tiny);
-    check.theorem("fused-number-out-of-place", &[far, tiny, x]);
+    check.theorem("fused-number-out-of-place", &[tiny, x]);
     check.holds("C: below its place, once more", part(LOOKUP, &steep, tiny).0 == 18 && x < mark(17) && part(LOOKUP, &steep, tiny).1 * r == 0.0);
     text += &format!(
         " lower·R + (share·R), fused, needs a share whose product with R rounds to 0, since any other lifts the tie (`fused-number-out-of-place`): the curve is 1 long at entry 17 and 2^127 from there on; at progress {} it gives {}.\n\n",
@@ -468,15 +478,17 @@ fn steps_back(way: Way, entries: &[f32]) -> Option<(f32, f32)> {
     None
 }
 
-fn search() {
+fn search(check: &mut Checked) {
+    let page = read_to_string(PAGE).unwrap();
     let entries = drawn((0.0, 0.0), (0.0, 0.0), (1.0, 0.0));
     let fused = Way { join: Join::FusedDivision, ..LOOKUP };
     let one = 1.0f32.to_bits();
-    let found: Vec<u32> = (0..one).filter(|bits| raw(fused, &entries, f32::from_bits(bits + 1)) < raw(fused, &entries, f32::from_bits(*bits))).collect();
-    println!("M0 0Q0 0 1 0, share·R + lower/31 fused: of {} progresses, {} step back to the next: {found:08X?}", one, found.len());
-    for (kind, name) in JOINS {
-        let counts = (1..4096).filter(|spans| !overlaps(kind, 16 * spans).is_empty() || join(kind, 16 * spans, 16 * spans - 1, 1.0) > 1.0).count();
-        println!("{name}: 32 entries overlap at {:?}; of the 4095 counts of a spline's entries, 17 to 65521, {counts} overlap or pass 1", overlaps(kind, 31));
+    let back = |bits: &u32| raw(fused, &entries, f32::from_bits(bits + 1)) < raw(fused, &entries, f32::from_bits(*bits));
+    let found = (0..one).filter(back).count();
+    let overlapping = JOINS.map(|(kind, _)| (1..4096).map(|spans| 16 * spans).filter(|n| !overlaps(kind, *n).is_empty() || join(kind, *n, n - 1, 1.0) > 1.0).count());
+    for sentence in [each_progress(found, one), each_count(&overlapping)] {
+        println!("{sentence}");
+        check.holds("and the page has this sentence", page.contains(&sentence));
     }
     for (share, form) in SHARES {
         for clamped in [true, false] {
@@ -497,7 +509,7 @@ fn search() {
                 let bound = if clamped { "clamped" } else { "bare" };
                 match found {
                     Some((k, a, b, p, q)) => println!("{form}, {bound}; {name}: {k} entries of 0, then {a}, {b}, {}: from {p:?} to {q:?}", 2 * b),
-                    None => println!("{form}, {bound}; {name}: none found"),
+                    None => println!("{form}, {bound}; {name}: none found in these tables"),
                 }
             }
         }
@@ -506,13 +518,12 @@ fn search() {
 
 fn main() {
     let asked = std::env::args().nth(1);
-    if asked.as_deref() == Some("search") {
-        return search();
-    }
     let mut check = Checked { theorems: read_to_string(THEOREMS).unwrap(), right: true };
     let (drawn, witnesses) = (drawn_section(&mut check), witnesses_section(&mut check));
     if asked.as_deref() == Some("page") {
         print!("{drawn}\n{witnesses}");
+    } else if asked.as_deref() == Some("search") {
+        search(&mut check);
     } else {
         check.section(DRAWN, &drawn);
         check.section(WITNESSES, &witnesses);
