@@ -161,8 +161,9 @@ uint32_t kihavute_raw_parameter(const float *entries, size_t entries_len, float 
 
 /* The segment of a path at this progress, counted from 0, and how far along it: answer[0] gets the segment, answer[1]
  * the bits of the progress on it. lengths has the path's running length at the end of each segment. Refused with 12
- * where one is below 0, below the one before it, or not finite. A path without segments (lengths_len is 0) has no segment to
- * give: 0 is returned and answer stays as it was. A total of at most 2^-23 gives the last segment at 1. */
+ * where one is below 0, below the one before it, or not finite, or where there are more than 65,536. A path without
+ * segments (lengths_len is 0) has no segment to give: 0 is returned and answer stays as it was. A total of at most 2^-23
+ * gives the last segment at 1. */
 uint32_t kihavute_spot(const float *lengths, size_t lengths_len, float progress, uint64_t *answer, size_t answer_len);
 
 /* ---- Quads and cubics ----

@@ -213,6 +213,12 @@ static void lookups(void) {
     lengths[2] = infinite;
     fresh();
     answered("spot, not finite", kihavute_spot(lengths, 3, 0.5f, answer, PLACES), 12, 0, NULL);
+    static float many[65537];
+    many[65535] = many[65536] = 1;
+    fresh();
+    answered("spot, as many lengths as a path has", kihavute_spot(many, 65536, 1, answer, PLACES), 0, 2, (uint64_t[]){65535, bits(1)});
+    fresh();
+    answered("spot, one more", kihavute_spot(many, 65537, 1, answer, PLACES), 12, 0, NULL);
 }
 
 static void queries(void) {

@@ -25,7 +25,6 @@ use table::Progress;
 use table::RawParameter;
 use table::Table;
 use table::inner::mark;
-use table::number_of;
 use table::table_is_sound;
 use table::table_of;
 ghost use mathlib.Core.Path.{_≡_};
@@ -74,14 +73,14 @@ pub fn rotation_in_range(x_axis_rotation: f32) -> bool
 pub fn arc_sample(shape: Arc, raw: RawParameter) -> Point
     ensures { λ r. ⌜ r ≡ pointOn shape (raw .value) ⌝ }
 {
-    tidied(point(shape, number_of(raw)))
+    tidied(point(shape, raw))
 }
 
 // The direction at a raw parameter, with the length 1, or (0, 0) where the derivative is too short.
 pub fn arc_heading(shape: Arc, raw: RawParameter) -> Point
     ensures { λ r. ⌜ r ≡ directionOn shape (raw .value) ⌝ }
 {
-    tidied(direction(shape, number_of(raw)))
+    tidied(direction(shape, raw))
 }
 
 // The distances from each of the 32 samples to the next.

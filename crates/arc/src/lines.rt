@@ -11,8 +11,8 @@ use math::normalize;
 use math::sub;
 use table::Progress;
 use table::RawParameter;
+use table::inner::straight;
 use table::number_of;
-use table::straight;
 ghost use mathlib.Core.Path.{_≡_};
 ghost use Rattle.arc.specs.Lines.{lineLengthOf, linePointOf, linePositionOf, lineTangentOf, lineRotationDegOf, madeLineOf};
 

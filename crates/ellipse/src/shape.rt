@@ -3,6 +3,8 @@ ghost use mathlib.Core.Path.{_≡_};
 ghost use Rattle.ellipse.specs.Shape.{onEllipse, slopeOf, pointOn, directionOn};
 use crate::ends::Arc;
 use math::Point;
+use table::RawParameter;
+use table::number_of;
 use trig::SinCos;
 
 // The point of the ellipse at an angle, F.6.3, from the sines and cosines of rotation and angle.
@@ -25,24 +27,24 @@ fn slope(delta: f32, radii: Point, turn: SinCos, angle: SinCos) -> Point
     }
 }
 
-// The point where a share t of the turn is done: at the angle start_angle + delta_angle·t. t is
+// The point where a share t of the turn is done, the raw parameter: at the angle start_angle + delta_angle·t. t is
 // clamped, a NaN is 0.
-pub fn point(arc: Arc, t: f32) -> Point
-    ensures { λ r. ⌜ r ≡ pointOn arc t ⌝ }
+pub fn point(arc: Arc, raw: RawParameter) -> Point
+    ensures { λ r. ⌜ r ≡ pointOn arc (raw .value) ⌝ }
 {
     let center = arc.center;
     let radii = arc.radii;
-    let angle = trig::sin_cos(arc.start_angle + arc.delta_angle * floats::clamp01(t));
+    let angle = trig::sin_cos(arc.start_angle + arc.delta_angle * floats::clamp01(number_of(raw)));
     let turn = trig::sin_cos(math::deg_to_rad(arc.x_axis_rotation));
     on_ellipse(center, radii, turn, angle)
 }
 
 // The direction there: the derivative in t, normalized. t is taken as it is.
-pub fn direction(arc: Arc, t: f32) -> Point
-    ensures { λ r. ⌜ r ≡ directionOn arc t ⌝ }
+pub fn direction(arc: Arc, raw: RawParameter) -> Point
+    ensures { λ r. ⌜ r ≡ directionOn arc (raw .value) ⌝ }
 {
     let radii = arc.radii;
-    let angle = trig::sin_cos(arc.start_angle + arc.delta_angle * t);
+    let angle = trig::sin_cos(arc.start_angle + arc.delta_angle * number_of(raw));
     let turn = trig::sin_cos(math::deg_to_rad(arc.x_axis_rotation));
     math::normalize(slope(arc.delta_angle, radii, turn, angle))
 }

@@ -9,7 +9,7 @@ use table::Progress;
 use table::RawParameter;
 use table::inner::raw_parameter_in;
 use table::inner::spot;
-use table::straight;
+use table::inner::straight;
 ghost use mathlib.Core.Path.{_≡_};
 ghost use lib.Dec.{T};
 ghost use Rattle.path_segment.specs.Segments.{hasTable};

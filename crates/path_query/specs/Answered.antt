@@ -4,7 +4,6 @@ use mathlib.Core.Bool.{cond}
 use mathlib.Core.List.{List, [], _∷_}
 use lib.Ieee.{Float}
 use Rattle.answers.specs.declared.refusals.Refusal.the-variants.{BadPath}
-use Rattle.answers.specs.Answers.{Answer, accepted, refused}
 use Rattle.angles.specs.Angles.{rotationDegOf}
 use Rattle.bezier.specs.declared.curves.Placed.{Placed}
 use Rattle.bezier.specs.declared.curves.Placed.the-variants as Placed
@@ -54,13 +53,3 @@ headedOf kinds fields tables lengths progress = tangentFrom (flewOf kinds fields
 unfoldable pub turnedOf : List ℕ → List Float → List Float → List Float → Float → Turned
 unfolding flewOf
 turnedOf kinds fields tables lengths progress = turnFrom (flewOf kinds fields tables lengths progress)
-
--- ---- in document 01's terms
-abbrev pub locatedAnswer : Located → Answer
-locatedAnswer (Located.At place) = accepted []
-locatedAnswer Located.NoSegment = accepted []
-locatedAnswer (Located.Refused refusal) = refused refusal
-
-abbrev pub flightAnswer : Flight → Answer
-flightAnswer (Flight.At flown) = accepted []
-flightAnswer (Flight.Refused refusal) = refused refusal

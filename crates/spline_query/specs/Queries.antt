@@ -7,7 +7,6 @@ use mathlib.Core.List.{List, []}
 use lib.Dec.{T, leb, eqb}
 use lib.ListN.{length}
 use lib.Ieee.{Float}
-use Rattle.answers.specs.Answers.{Answer, refused, accepted}
 use Rattle.answers.specs.declared.refusals.Refusal.the-variants.{BadPath}
 use Rattle.math.specs.declared.points.Point.{Point}
 use Rattle.angles.specs.Angles.{rotationDegOf}
@@ -69,11 +68,6 @@ splineTurnedOf points table progress = cond (splineIsSound points table) (Turned
 -- `arc_length`
 unfoldable pub splineMeasuredOf : List Float → List Float → Measured
 splineMeasuredOf points table = cond (splineIsSound points table) (Measured.Length (splineTotal table)) (Measured.Refused BadPath)
-
--- ---- in document 01's terms
-abbrev pub measuredAnswer : Measured → Answer
-measuredAnswer (Measured.Length length) = accepted []
-measuredAnswer (Measured.Refused refusal) = refused refusal
 
 -- ---- what the queries of `inner` ask
 pub record SoundSpline (points table : List Float) : Type 0 where

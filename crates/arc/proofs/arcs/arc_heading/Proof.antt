@@ -1,14 +1,13 @@
 -- `tidied` keeps the direction. Assumes nothing.
 use borrow.Author.Needs.{needs}
-use mathlib.Core.Path.{ap, _∙_}
-use Rattle.ellipse.specs.Shape.{directionOn}
+use mathlib.Core.Path.{_∙_}
 use Rattle.arc.proofs.arcs.arc_heading.Statement.{statement}
 use Rattle.arc.proofs.arcs.arc_heading.Tie as tie
 
 returns : tie.Need-returns
-returns c = c .tidied .ensures ∙ c .before .direction .ensures ∙ ap (directionOn _) (c .before .before .number-of .ensures)
+returns c = c .tidied .ensures ∙ c .before .direction .ensures
 
 pub arc-heading-spec : {M : Type 1} → statement M
 arc-heading-spec =
     tie.close
-    (tie.spec (λ c κs. search needs) (λ c κs. search needs) (λ c κs. search needs) returns)
+    (tie.spec (λ c κs. search needs) (λ c κs. search needs) returns)
