@@ -5,7 +5,7 @@
 
 use std::collections::HashMap;
 
-/// The published productions, with document 01's reading of an arc's argument.
+/// The published productions. A number takes the longest text, with a sign or without.
 pub const PATH: &str = r#"
 svg-path = wsp* moveto-drawto-command-groups? wsp*
 moveto-drawto-command-groups = moveto-drawto-command-group | moveto-drawto-command-group wsp* moveto-drawto-command-groups
@@ -34,9 +34,10 @@ smooth-quadratic-bezier-curveto = ( "T" | "t" ) wsp* smooth-quadratic-bezier-cur
 smooth-quadratic-bezier-curveto-argument-sequence = coordinate-pair | coordinate-pair comma-wsp? smooth-quadratic-bezier-curveto-argument-sequence
 elliptical-arc = ( "A" | "a" ) wsp* elliptical-arc-argument-sequence
 elliptical-arc-argument-sequence = elliptical-arc-argument | elliptical-arc-argument comma-wsp? elliptical-arc-argument-sequence
-elliptical-arc-argument = number comma-wsp? number comma-wsp? number comma-wsp? flag comma-wsp? flag comma-wsp? coordinate-pair
+elliptical-arc-argument = nonnegative-number comma-wsp? nonnegative-number comma-wsp? number comma-wsp flag comma-wsp? flag comma-wsp? coordinate-pair
 coordinate-pair = coordinate comma-wsp? coordinate
 coordinate = number
+nonnegative-number ! = integer-constant | floating-point-constant
 number ! = sign? integer-constant | sign? floating-point-constant
 flag = "0" | "1"
 comma-wsp = ( wsp+ comma? wsp* ) | ( comma wsp* )

@@ -117,7 +117,8 @@ impl Work<'_> {
     fn fill(&mut self, place: usize, name: usize) -> bool {
         let mut complete = false;
         let mut index = 0;
-        let mut found = None;
+        // what was found of each name that takes the longest text
+        let mut longest: Vec<(usize, Found)> = Vec::new();
         while let Some(item) = self.sets[place - self.from].get(index).copied() {
             index += 1;
             let passed = Item { passed: item.passed + 1, ..item };
@@ -135,7 +136,11 @@ impl Work<'_> {
                     }
                 }
                 Some(Symbol::Name(due)) if self.recogniser.grammar.longest[due] => {
-                    let found = *found.get_or_insert_with(|| self.recogniser.run(due, self.text, place));
+                    let known = longest.iter().find(|(name, _)| *name == due).map(|(_, found)| *found);
+                    let found = known.unwrap_or_else(|| self.recogniser.run(due, self.text, place));
+                    if known.is_none() {
+                        longest.push((due, found));
+                    }
                     self.open |= found.open;
                     if let Some(end) = found.longest {
                         self.add(end, passed);

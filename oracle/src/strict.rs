@@ -84,10 +84,11 @@ impl<'a> Paths<'a> {
 // bytes at which a wrong class, a wrong end or a wrong order shows
 const TELLING: [u8; 16] = *b"MmLZH012.-+e, \x0C\n";
 
-// compares all texts that start with `text` and have up to `more` further bytes
+// compares all texts that start with `text`, have up to `more` further bytes and then `end`
 struct Walk<'a, 'b> {
     paths: &'b Paths<'a>,
     text: Vec<u8>,
+    end: &'b [u8],
     calls: u64,
     yes: u64,
     different: Option<Text>,
@@ -96,8 +97,9 @@ struct Walk<'a, 'b> {
 impl Walk<'_, '_> {
     fn all(&mut self, more: usize) {
         let found = self.paths.run(&self.text);
-        let said = found.longest == Some(self.text.len());
-        self.see(said);
+        let whole = self.whole();
+        let said = if self.end.is_empty() { Said(found.longest == Some(whole.len())) } else { self.paths.says(&whole) };
+        self.see(whole, said);
         if more == 0 {
             return;
         }
@@ -114,7 +116,7 @@ impl Walk<'_, '_> {
     }
 
     fn none(&mut self, more: usize) {
-        self.see(false);
+        self.see(self.whole(), Said(false));
         if more > 0 {
             for byte in TELLING {
                 self.text.push(byte);
@@ -124,19 +126,24 @@ impl Walk<'_, '_> {
         }
     }
 
-    fn see(&mut self, said: bool) {
+    fn whole(&self) -> Vec<u8> {
+        [&self.text, self.end].concat()
+    }
+
+    fn see(&mut self, whole: Vec<u8>, said: Said) {
         self.calls += 1;
-        self.yes += u64::from(said);
-        if self.different.is_none() && ours(&self.text) != Said(said) {
-            self.different = Some(Text(self.text.clone()));
+        self.yes += u64::from(said.0);
+        if self.different.is_none() && ours(&whole) != said {
+            self.different = Some(Text(whole));
         }
     }
 }
 
-fn all_texts(report: &mut Report, paths: &Paths, name: &str, starts: &[String], more: usize) {
+fn all_texts(report: &mut Report, paths: &Paths, name: &str, about: &[(String, &str)], more: usize) {
     let (mut calls, mut yes, mut equal) = (0, 0, true);
-    for start in starts {
-        let mut walk = Walk { paths, text: start.clone().into_bytes(), calls: 0, yes: 0, different: None };
+    for (start, end) in about {
+        let text = start.clone().into_bytes();
+        let mut walk = Walk { paths, text, end: end.as_bytes(), calls: 0, yes: 0, different: None };
         walk.all(more);
         calls += walk.calls;
         yes += walk.yes;
@@ -321,7 +328,7 @@ pub fn compare_some(report: &mut Report, seed: u64) {
     derivations(report, &grammar, &paths, seed, 50_000);
 }
 
-/// All texts of up to 6 telling bytes, and all tails of up to 5 of them in an arc and after every letter.
+/// All texts of up to 6 telling bytes, and all tails of up to 5 of them in an arc and after every letter, with up to 4 within an arc.
 pub fn compare_all(report: &mut Report) {
     let grammar = Grammar::read(PATH);
     let paths = Paths::new(&grammar);
@@ -336,12 +343,24 @@ pub fn compare_derivations(report: &mut Report, seed: u64, count: u64) {
 }
 
 fn short_texts(report: &mut Report, paths: &Paths, bytes: usize) {
-    all_texts(report, paths, &format!("all texts of up to {bytes} of 16 bytes"), &[String::new()], bytes);
+    all_texts(report, paths, &format!("all texts of up to {bytes} of 16 bytes"), &[(String::new(), "")], bytes);
 }
 
+// an arc before and after what is made: its first radius, its second one, its rotation, the separator before the first flag,
+// and how a second group begins
+const WITHIN: [(&str, &str); 5] = [
+    ("M0 0A", " 1 0 0 1 3 4"),
+    ("M0 0A1", " 0 0 1 3 4"),
+    ("M0 0A1 1", "0 1 3 4"),
+    ("M0 0A1 1 0", "0 1 3 4"),
+    ("M0 0A1 1 0 0 1 3 4", "1 1 0 0 1 3 4"),
+];
+
 fn tails(report: &mut Report, paths: &Paths, bytes: usize) {
-    let arcs = ["M0 0A1 1 0".to_owned(), "M0 0A1 1 0 0".to_owned()];
+    let arcs = ["M0 0A1 1 0", "M0 0A1 1 0 0"].map(|start| (start.to_owned(), ""));
     all_texts(report, paths, &format!("all tails of up to {bytes} in an arc"), &arcs, bytes);
-    let letters: Vec<String> = "MmZzLlHhVvCcSsQqTtAa".chars().map(|letter| format!("M0 0{letter}")).collect();
+    let letters: Vec<_> = "MmZzLlHhVvCcSsQqTtAa".chars().map(|letter| (format!("M0 0{letter}"), "")).collect();
     all_texts(report, paths, &format!("all tails of up to {bytes} after a letter"), &letters, bytes);
+    let within = WITHIN.map(|(start, end)| (start.to_owned(), end));
+    all_texts(report, paths, &format!("all of up to {} within an arc", bytes - 1), &within, bytes - 1);
 }

@@ -7,10 +7,10 @@ use native.Mathlib.Omega.{arith}
 use Rattle.scan.specs.Bytes.{among, flags, numberStarts}
 use Rattle.scan.specs.Runs.{stands}
 use Rattle.strict_grammar.specs.Spans.{Span, Byte, _·_, opt}
-use Rattle.strict_grammar.specs.Grammar.{number, flag, comma-wsp, coordinate-pair, smooth-curveto-argument, curveto-argument, elliptical-arc-argument}
+use Rattle.strict_grammar.specs.Grammar.{nonnegative-number, number, flag, comma-wsp, coordinate-pair, smooth-curveto-argument, curveto-argument, elliptical-arc-argument}
 use Rattle.strict_grammar.proofs.SpanLaws.{wider}
-use Rattle.strict_grammar.proofs.Numbers.{number-starts, number-grows}
-use Rattle.strict_grammar.proofs.Separators.{separator-le}
+use Rattle.strict_grammar.proofs.Numbers.{number-starts, number-grows, nonnegative-is}
+use Rattle.strict_grammar.proofs.Separators.{comma-grows, separator-le}
 use Rattle.strict_argument.specs.Reading.{arc-from-radius, arc-from-rotation, arc-from-large-flag, arc-from-sweep-flag, argumentOf}
 use Rattle.strict_argument.specs.declared.groups.Kind.{Kind}
 use Rattle.strict_argument.specs.declared.groups.Kind.the-variants.{Coordinate, Pair, TwoPairs, ThreePairs, Arc}
@@ -26,6 +26,9 @@ module _ (text : List ℕ) where
   pub flag-starts : Starts text (flag text)
   unfolding among
   flag-starts i j b = wider {l = flags} {m = numberStarts} tt b .there
+
+  radius-starts : Starts text (nonnegative-number text)
+  radius-starts i j n = number-starts text i j (nonnegative-is text i j n)
 
   pub pair-starts : Starts text (coordinate-pair text)
   unfolding coordinate-pair
@@ -46,9 +49,9 @@ module _ (text : List ℕ) where
   unfolding arc-from-rotation
   rotation-starts i j w = number-starts text i (w .0) (w .1)
 
-  pub radius-starts : Starts text (arc-from-radius text)
+  pub second-radius-starts : Starts text (arc-from-radius text)
   unfolding arc-from-radius
-  radius-starts i j w = number-starts text i (w .0) (w .1)
+  second-radius-starts i j w = radius-starts i (w .0) (w .1)
 
   pub argument-starts : (kind : Kind) → Starts text (argumentOf text kind)
   unfolding elliptical-arc-argument
@@ -56,12 +59,15 @@ module _ (text : List ℕ) where
   argument-starts Pair i j w = pair-starts i j w
   argument-starts TwoPairs i j w = pair-starts i (w .0) (w .1)
   argument-starts ThreePairs i j w = pair-starts i (w .0) (w .1)
-  argument-starts Arc i j w = number-starts text i (w .0) (w .1)
+  argument-starts Arc i j w = radius-starts i (w .0) (w .1)
 
   -- ---- that it has a byte
 
   step-grows : (P Q : Span) → Grows P → Grows Q → Grows (P · opt (comma-wsp text) · Q)
   step-grows P Q f g i j (k, p, (m, o, q)) = let x = f i k p in let y = separator-le text k m o in let z = g m j q in omega arith
+
+  radius-grows : Grows (nonnegative-number text)
+  radius-grows i j n = number-grows text i j (nonnegative-is text i j n)
 
   flag-grows : Grows (flag text)
   flag-grows i j b = let x = b .next in omega arith
@@ -83,11 +89,11 @@ module _ (text : List ℕ) where
 
   rotation-grows : Grows (arc-from-rotation text)
   unfolding arc-from-rotation
-  rotation-grows = step-grows (number text) (arc-from-large-flag text) (number-grows text) large-flag-grows
+  rotation-grows i j (k, n, (m, c, w)) = let x = number-grows text i k n in let y = comma-grows text k m c in let z = large-flag-grows m j w in omega arith
 
-  radius-grows : Grows (arc-from-radius text)
+  second-radius-grows : Grows (arc-from-radius text)
   unfolding arc-from-radius
-  radius-grows = step-grows (number text) (arc-from-rotation text) (number-grows text) rotation-grows
+  second-radius-grows = step-grows (nonnegative-number text) (arc-from-rotation text) radius-grows rotation-grows
 
   pub argument-grows : (kind : Kind) → Grows (argumentOf text kind)
   unfolding elliptical-arc-argument arc-from-radius arc-from-rotation arc-from-large-flag arc-from-sweep-flag
@@ -95,4 +101,4 @@ module _ (text : List ℕ) where
   argument-grows Pair = pair-grows
   argument-grows TwoPairs = two-pairs-grows
   argument-grows ThreePairs = step-grows (coordinate-pair text) (smooth-curveto-argument text) pair-grows two-pairs-grows
-  argument-grows Arc = step-grows (number text) (arc-from-radius text) (number-grows text) radius-grows
+  argument-grows Arc = step-grows (nonnegative-number text) (arc-from-radius text) radius-grows second-radius-grows

@@ -5,21 +5,25 @@ use mathlib.Core.Bool.{true, false}
 use mathlib.Core.List.{List}
 use mathlib.Core.Logic.{_⊎_, inl, inr, ⊎-elim}
 use native.Mathlib.Omega.{arith}
-use lib.ListN.{length}
-use Rattle.scan.specs.Bytes.{flags, numberStarts}
-use Rattle.scan.specs.Runs.{stands}
+use lib.Dec.{ltb}
+use borrow.Author.Tests.{ltb-true, ltb-false}
+use lib.ListN.{length, List·getD-eq-default}
+use Rattle.scan.specs.Bytes.{among, signs, flags, numberStarts}
+use Rattle.scan.specs.Runs.{stands, byteAtOf}
 use Rattle.scan.specs.Numbers.{placesOf, endOf, markOf, noExponentDigit, scanNumberOf}
 use Rattle.scan.specs.declared.numbers.Places.{Places}
 use Rattle.scan.specs.declared.numbers.Number.{Number}
 use Rattle.scan.specs.declared.numbers.Number.the-variants.{Scanned, NoDigit, NoExponentDigit}
 use Rattle.scan.proofs.NumberLaws.{scanned-places, scanned-flags, scanned-number, bare-flags, none-flags, mark-before}
-use Rattle.scan.proofs.RunLaws.{stands-within}
+use Rattle.scan.proofs.ByteLaws.{clash, either-way}
+use Rattle.scan.proofs.RunLaws.{stands-inside, stands-past, stands-within}
 use Rattle.strict_grammar.specs.Spans.{Span, Byte, _·_, opt}
-use Rattle.strict_grammar.specs.Grammar.{number, flag, comma-wsp}
+use Rattle.strict_grammar.specs.Grammar.{nonnegative-number, number, flag, comma-wsp}
 use Rattle.strict_grammar.specs.Words.{Only, Lacks, numberEnd, pastSeparatorOf}
 use Rattle.strict_grammar.proofs.SpanLaws.{standing, not-byte}
-use Rattle.strict_grammar.proofs.Numbers.{number-only, number-lacks, ends-whole, ends-bare}
+use Rattle.strict_grammar.proofs.Numbers.{number-only, number-lacks, ends-whole, ends-bare, nonnegative-no-sign, nonnegative-is, nonnegative-of}
 use Rattle.strict_grammar.proofs.Separators.{separator-past, separator-forced, separator-end}
+use Rattle.strict_grammar.proofs.Theorems.{flag-separated}
 use Rattle.strict_argument.specs.Reading.{Reads, ends, missing, nowhere}
 
 -- every word of P starts as a number does
@@ -32,6 +36,11 @@ reads-settled P i r s (ends _ p) (ends _ q) = q .1 r (p .0)
 reads-settled P i r s (ends _ p) (missing _ q) = absurd (q r (p .0))
 reads-settled P i r s (missing _ p) (ends _ q) = absurd (p s (q .0))
 reads-settled P i r s (missing e _) (missing f _) = e ∙ sym f
+
+-- an answer is right for another production with the same words
+pub reads-same : (P Q : Span) (i r : ℕ) → ((q : ℕ) → P i q → Q i q) → ((q : ℕ) → Q i q → P i q) → Reads P i r → Reads Q i r
+reads-same P Q i r to of (ends lt p) = ends lt (to r (p .0), λ q w. p .1 q (of q w))
+reads-same P Q i r to of (missing e p) = missing e (λ q w. p q (of q w))
 
 -- ---- the first word and the rest
 
@@ -59,7 +68,14 @@ module _ (text : List ℕ) (room : length text < nowhere) (P Q : Span) (starts :
           ends lt ((j, p .0, (k, subst (λ (z : ℕ). opt (comma-wsp text) j z) (sym s) (separator-past text j .0), q .0)), λ n v. q .1 n (to-k n v))
       go (missing e q) = missing e (λ n v. q n (to-k n v))
 
--- ---- numbers and flags
+-- where a flag follows a number, a separator that may stand between them does
+pub must-separate :
+    (text : List ℕ) (Q : Span) (i r : ℕ) → Reads (number text · opt (comma-wsp text) · flag text · Q) i r → Reads (number text · comma-wsp text · flag text · Q) i r
+must-separate text Q i r w =
+    reads-same (number text · opt (comma-wsp text) · flag text · Q) (number text · comma-wsp text · flag text · Q) i r
+    (λ q v. flag-separated text Q i q v) (λ q v. (v .0, v .1, (v .2 .0, inl (v .2 .1), v .2 .2))) w
+
+-- ---- numbers, radii and flags
 
 module _ (text : List ℕ) (room : length text < nowhere) (at : ℕ) where
   pub scanned-reads : (p : Places) → scanNumberOf text at ≡ Scanned p → Reads (number text) at (p .end)
@@ -76,6 +92,24 @@ module _ (text : List ℕ) (room : length text < nowhere) (at : ℕ) where
 
   pub none-reads : (i : ℕ) → scanNumberOf text at ≡ NoDigit i → Reads (number text) at nowhere
   none-reads i e = missing refl (number-lacks text at (none-flags text at i e .0))
+
+  -- past the text the byte is 0, which is no sign
+  sign-stands : stands text at signs ≡ among (byteAtOf text at) signs
+  unfolding among
+  sign-stands =
+      ⊎-elim (λ h. stands-inside signs text at (ltb-true at (length text) h)) (λ h. past (ltb-false at (length text) h)) (either-way (ltb at (length text)))
+    where
+      past : length text ≤ at → stands text at signs ≡ among (byteAtOf text at) signs
+      past h = stands-past signs text at h ∙ sym (ap (λ (b : ℕ). among b signs) (List·getD-eq-default text 0 h))
+
+  -- no radius starts with a sign
+  pub radius-left : among (byteAtOf text at) signs ≡ true → Reads (nonnegative-number text) at nowhere
+  radius-left h = missing refl (λ q n. clash (sign-stands ∙ h) (nonnegative-no-sign text at q n))
+
+  -- without one it is the number
+  pub radius-taken : (r : ℕ) → among (byteAtOf text at) signs ≡ false → Reads (number text) at r → Reads (nonnegative-number text) at r
+  radius-taken r h w =
+      reads-same (number text) (nonnegative-number text) at r (λ q n. nonnegative-of text at q (sign-stands ∙ h) n) (λ q n. nonnegative-is text at q n) w
 
   pub flag-taken : stands text at flags ≡ true → Reads (flag text) at (at + 1)
   flag-taken h = let w = stands-within flags text at h in ends (omega arith) (standing flags at h, λ q f. f .next)

@@ -3,7 +3,7 @@ use Prim.Native.Nat.{ℕ, _<_}
 use mathlib.Core.Path.{_≡_}
 use mathlib.Core.List.{List}
 use Rattle.strict_grammar.specs.Spans.{Span, _·_, opt}
-use Rattle.strict_grammar.specs.Grammar.{number, flag, comma-wsp, coordinate, coordinate-pair, smooth-curveto-argument, curveto-argument, elliptical-arc-argument}
+use Rattle.strict_grammar.specs.Grammar.{nonnegative-number, number, flag, comma-wsp, coordinate, coordinate-pair, smooth-curveto-argument, curveto-argument, elliptical-arc-argument}
 use Rattle.strict_grammar.specs.Words.{Only, Lacks}
 use Rattle.strict_argument.specs.declared.groups.Kind.{Kind}
 use Rattle.strict_argument.specs.declared.groups.Kind.the-variants.{Coordinate, Pair, TwoPairs, ThreePairs, Arc}
@@ -28,11 +28,11 @@ module _ (text : List ℕ) where
 
   unfoldable pub arc-from-rotation : Span
   unfolding arc-from-large-flag
-  arc-from-rotation = number text · opt (comma-wsp text) · arc-from-large-flag
+  arc-from-rotation = number text · comma-wsp text · arc-from-large-flag
 
   unfoldable pub arc-from-radius : Span
   unfolding arc-from-rotation
-  arc-from-radius = number text · opt (comma-wsp text) · arc-from-rotation
+  arc-from-radius = nonnegative-number text · opt (comma-wsp text) · arc-from-rotation
 
   -- the argument of each kind of sequence; that of a quadratic curve is that of a smooth one
   abbrev pub argumentOf : Kind → Span

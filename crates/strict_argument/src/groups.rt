@@ -2,6 +2,7 @@
 use crate::words::past_separator;
 use crate::words::read_flag;
 use crate::words::read_number;
+use crate::words::read_radius;
 ghost use Rattle.strict_grammar.specs.Grammar.{coordinate-pair, smooth-curveto-argument, curveto-argument, elliptical-arc-argument};
 ghost use Rattle.strict_argument.specs.Reading.{Reads, arc-from-radius, arc-from-rotation, arc-from-large-flag, arc-from-sweep-flag, argumentOf};
 
@@ -50,6 +51,8 @@ fn arc_from_large_flag(text: &[u8], at: usize) -> usize
     arc_from_sweep_flag(text, past_separator(text, end))
 }
 
+// The separator before the first flag must stand there, and no test says so: the longest number
+// leaves no digit behind it, so no flag can stand there at once.
 fn arc_from_rotation(text: &[u8], at: usize) -> usize
     ensures { λ r. ⌜ Reads (arc-from-rotation (now (text .entry))) at r ⌝ }
 {
@@ -61,14 +64,14 @@ fn arc_from_rotation(text: &[u8], at: usize) -> usize
 fn arc_from_radius(text: &[u8], at: usize) -> usize
     ensures { λ r. ⌜ Reads (arc-from-radius (now (text .entry))) at r ⌝ }
 {
-    let end = read_number(text, at);
+    let end = read_radius(text, at);
     arc_from_rotation(text, past_separator(text, end))
 }
 
 fn arc(text: &[u8], at: usize) -> usize
     ensures { λ r. ⌜ Reads (elliptical-arc-argument (now (text .entry))) at r ⌝ }
 {
-    let end = read_number(text, at);
+    let end = read_radius(text, at);
     arc_from_radius(text, past_separator(text, end))
 }
 

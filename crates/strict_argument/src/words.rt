@@ -1,11 +1,14 @@
-// The words that arguments are made of: a number, a flag, and the separator between two of them.
+// The words that arguments are made of: a number, a radius, a flag, and the separator between two of
+// them.
 use scan::Number;
+use scan::byte_at;
 use scan::is_flag;
+use scan::is_sign;
 use scan::past_comma;
 use scan::past_white;
 use scan::scan_number;
 ghost use mathlib.Core.Path.{_≡_};
-ghost use Rattle.strict_grammar.specs.Grammar.{number, flag};
+ghost use Rattle.strict_grammar.specs.Grammar.{number, nonnegative-number, flag};
 ghost use Rattle.strict_grammar.specs.Words.{pastSeparatorOf};
 ghost use Rattle.strict_argument.specs.Reading.{Reads};
 
@@ -29,6 +32,16 @@ pub fn read_number(text: &[u8], at: usize) -> usize
         Number::NoExponentDigit(mark) => mark,
         Number::NoDigit(_) => NOWHERE,
     }
+}
+
+// A radius: a number before which no sign stands. Its exponent may have one.
+pub fn read_radius(text: &[u8], at: usize) -> usize
+    ensures { λ r. ⌜ Reads (nonnegative-number (now (text .entry))) at r ⌝ }
+{
+    if is_sign(byte_at(text, at)) {
+        return NOWHERE;
+    }
+    read_number(text, at)
 }
 
 // A flag, which is one byte: of `10` it is the 1.

@@ -1,5 +1,6 @@
 -- The grammar's number and the one that crate `scan` finds are the same: where its places hold a digit, the number ends at `numberEnd` and nowhere
--- else; where they hold none, there is no number. Assumes nothing.
+-- else; where they hold none, there is no number. No digit stands where a number ends, and a nonnegative-number is a number at whose place no sign
+-- stands. Assumes nothing.
 use Prim.Native.Nat.{ℕ, zero, suc, _+_, _≤_, _<_}
 use mathlib.Core.Path.{_≡_, refl, sym, subst, _∙_, ap}
 use mathlib.Core.Bool.{Bool, true, false, _&&_, cond}
@@ -15,7 +16,7 @@ use Rattle.scan.proofs.ByteLaws.{apartb, clash, either-way}
 use Rattle.scan.proofs.RunLaws.{one-step, all-stopped}
 use Rattle.scan.proofs.NumberLaws.{whole-onward, point-onward, fraction-onward, mark-onward, exponent-onward, end-onward, digit-in-all, digit-in-none, exponent-in-all, exponent-in-none}
 use Rattle.strict_grammar.specs.Spans.{Span, Byte, _·_, _∥_, opt, star, none, more, plus, longest}
-use Rattle.strict_grammar.specs.Grammar.{digit, sign, digit-sequence, exponent, fractional-constant, floating-point-constant, integer-constant, number}
+use Rattle.strict_grammar.specs.Grammar.{digit, sign, digit-sequence, exponent, fractional-constant, floating-point-constant, integer-constant, nonnegative-number, number}
 use Rattle.strict_grammar.specs.Words.{Only, Lacks, numberEnd}
 use Rattle.strict_grammar.proofs.SpanLaws.{standing, not-byte, not-both, other, wider, longest-same, star-le, star-stops, plus-lt, plus-star, star-plus, star-or, run-same, run-found}
 
@@ -386,3 +387,48 @@ module _ (text : List ℕ) (at : ℕ) where
           let y = plus-lt p in
           omega (arith, digit-in-none text at h .1, after-point text at g)
       none-of k (trailing g y z) = omega (arith, digit-in-none text at h .0)
+
+  -- ---- what stands where a number ends
+
+  end-stops : stands text (numberEnd text at) digits ≡ false
+  unfolding markOf endOf
+  end-stops =
+      ⊎-elim (λ h. stopped (fractionOf text at) (ends-bare h)) (λ h. stopped (exponentOf text at) (ends-whole h)) (either-way (noExponentDigit text at))
+    where
+      stopped : (from : ℕ) → numberEnd text at ≡ pastDigitsOf text from → stands text (numberEnd text at) digits ≡ false
+      stopped from e = subst (λ (y : ℕ). stands text y digits ≡ false) (sym e) (all-stopped digits text from)
+
+  -- the longest number leaves no digit behind it
+  pub number-stops : (j : ℕ) → number text at j → stands text j digits ≡ false
+  number-stops j n = ⊎-elim (λ h. absurd (number-lacks h j n)) found (either-way (noDigit text at))
+    where
+      found : noDigit text at ≡ false → stands text j digits ≡ false
+      found some = subst (λ (y : ℕ). stands text y digits ≡ false) (sym (number-only some .1 j n)) end-stops
+
+  -- ---- a number without a sign
+
+  -- where no sign stands, the sign that a number may have is left out
+  signless : (k : ℕ) → stands text at signs ≡ false → Signed text at k → Unsigned text at k
+  signless k h (inl (t, inl b, u)) = absurd (not-byte h b)
+  signless k h (inl (t, inr z, u)) = inl (subst (λ (y : ℕ). integer-constant text y k) (sym z) u)
+  signless k h (inr (t, inl b, u)) = absurd (not-byte h b)
+  signless k h (inr (t, inr z, u)) = inr (subst (λ (y : ℕ). floating-point-constant text y k) (sym z) u)
+
+  with-sign : (k : ℕ) → Unsigned text at k → Signed text at k
+  with-sign k (inl u) = inl (at, inr refl, u)
+  with-sign k (inr u) = inr (at, inr refl, u)
+
+  -- no sign stands where a nonnegative-number does
+  pub nonnegative-no-sign : (j : ℕ) → nonnegative-number text at j → stands text at signs ≡ false
+  unfolding nonnegative-number among
+  nonnegative-no-sign j n = other {l = unsignedStarts} signs tt (standing unsignedStarts at (unsigned-starts text at j (n .0)))
+
+  -- it is a number there, also the longest
+  pub nonnegative-is : (j : ℕ) → nonnegative-number text at j → number text at j
+  unfolding nonnegative-number number
+  nonnegative-is j n = (with-sign j (n .0), λ k s. n .1 k (signless k (nonnegative-no-sign j n) s))
+
+  -- and a number at whose place no sign stands is a nonnegative-number
+  pub nonnegative-of : (j : ℕ) → stands text at signs ≡ false → number text at j → nonnegative-number text at j
+  unfolding nonnegative-number number
+  nonnegative-of j h n = (signless j h (n .0), λ k u. n .1 k (with-sign k u))

@@ -1,4 +1,5 @@
--- What document 01 says of whole texts, as theorems about the grammar: "white space .. alone is a yes; a comma at the end is a no." Assumes nothing.
+-- What the documents say of whole texts and of arcs, as theorems about the grammar: "white space .. alone is a yes; a comma at the end is a no";
+-- an arc's radii have no sign, and what its words lost by that is the sign alone. Assumes nothing.
 use Prim.Native.Nat.{ℕ, zero, suc, _+_, _≤_, _<_}
 use mathlib.Core.Path.{_≡_, refl, sym, subst, _∙_, ap}
 use mathlib.Core.Bool.{Bool, true, false}
@@ -7,13 +8,14 @@ use mathlib.Core.Logic.{_⊎_, inl, inr, ⊎-elim}
 use native.Mathlib.Omega.{arith}
 use lib.Dec.{T}
 use lib.ListN.{length, getD}
-use Rattle.scan.specs.Bytes.{among, digits, points, commas, whiteSpace, flags}
+use Rattle.scan.specs.Bytes.{among, digits, signs, points, commas, whiteSpace, flags}
 use Rattle.scan.specs.Runs.{stands}
-use Rattle.scan.proofs.ByteLaws.{apartb, alone-is}
+use Rattle.scan.proofs.ByteLaws.{apartb, clash, alone-is}
 use Rattle.scan.proofs.RunLaws.{stands-inside}
 use Rattle.strict_grammar.specs.Spans.{Span, Byte, _·_, _∥_, opt, star, none, more, plus, longest, sequence, last, then}
-use Rattle.strict_grammar.specs.Grammar.{wsp, digit, flag, comma, letter, digit-sequence, exponent, fractional-constant, floating-point-constant, number, comma-wsp, coordinate-pair, elliptical-arc-argument, moveto-argument-sequence, moveto, closepath, lineto, horizontal-lineto, vertical-lineto, curveto, smooth-curveto, quadratic-bezier-curveto, smooth-quadratic-bezier-curveto, elliptical-arc, drawto-command, drawto-commands, moveto-drawto-command-group, moveto-drawto-command-groups, svg-path, Matches}
-use Rattle.strict_grammar.proofs.SpanLaws.{standing, not-both, run-between}
+use Rattle.strict_grammar.specs.Grammar.{wsp, digit, flag, comma, letter, digit-sequence, exponent, fractional-constant, floating-point-constant, nonnegative-number, number, comma-wsp, coordinate-pair, elliptical-arc-argument, moveto-argument-sequence, moveto, closepath, lineto, horizontal-lineto, vertical-lineto, curveto, smooth-curveto, quadratic-bezier-curveto, smooth-quadratic-bezier-curveto, elliptical-arc, drawto-command, drawto-commands, moveto-drawto-command-group, moveto-drawto-command-groups, svg-path, Matches}
+use Rattle.strict_grammar.proofs.SpanLaws.{standing, not-both, wider, run-between}
+use Rattle.strict_grammar.proofs.Numbers.{number-stops, nonnegative-no-sign, nonnegative-is, nonnegative-of}
 
 -- ---- white space alone
 
@@ -184,3 +186,42 @@ module _ (text : List ℕ) where
       let h : stands text n commas ≡ true = stands-inside commas text n (omega arith) ∙ alone-is (getD text n 0) 44 b in
       let c = path-keeps 0 (length text) m (n, e, h) in
       omega (arith, c .1)
+
+-- ---- an arc's argument
+
+module _ (text : List ℕ) where
+  -- no flag stands where a number ends
+  pub no-flag-after : (i j k : ℕ) → number text i j → flag text j k → ⊥
+  unfolding among
+  no-flag-after i j k n f = clash (wider {l = flags} {m = digits} tt f .there) (number-stops text i j n)
+
+  -- so a separator stands between a number and what starts with a flag, whether it must or may
+  pub flag-separated : (Q : Span) (i j : ℕ) → (number text · opt (comma-wsp text) · flag text · Q) i j → (number text · comma-wsp text · flag text · Q) i j
+  flag-separated Q i j (k, n, (m, inl c, w)) = (k, n, (m, c, w))
+  flag-separated Q i j (k, n, (m, inr z, (x, f, w))) = absurd (no-flag-after i k x n (subst (λ (y : ℕ). flag text y x) (sym z) f))
+
+  -- the fields after the radii, each separated optionally
+  abbrev Rotated : Span
+  Rotated = number text · opt (comma-wsp text) · flag text · opt (comma-wsp text) · flag text · opt (comma-wsp text) · coordinate-pair text
+
+  -- document 01's argument, whose second radius starts at m: "two signed radii, a signed rotation, two flags and a pair, each separated optionally"
+  abbrev pub Signable : ℕ → ℕ → ℕ → Type 0
+  Signable i m j = (k : ℕ) × number text i k × opt (comma-wsp text) k m × (number text · opt (comma-wsp text) · Rotated) m j
+
+  -- no sign stands before a radius
+  abbrev pub Bare : ℕ → ℕ → Type 0
+  Bare i m = (stands text i signs ≡ false) × (stands text m signs ≡ false)
+
+  -- an arc's argument is document 01's with no sign before a radius, and nothing else parts the two
+  pub arc-bare : (i j : ℕ) → elliptical-arc-argument text i j → (m : ℕ) × Signable i m j × Bare i m
+  unfolding elliptical-arc-argument
+  arc-bare i j (k, n, (m, o, (p, q, (x, s, (y, r, (z, c, w)))))) = (
+    m,
+    (k, nonnegative-is text i k n, o, (p, nonnegative-is text m p q, (x, s, (y, r, (z, inl c, w))))),
+    (nonnegative-no-sign text i k n, nonnegative-no-sign text m p q),
+  )
+
+  pub bare-arc : (i m j : ℕ) → Signable i m j → Bare i m → elliptical-arc-argument text i j
+  unfolding elliptical-arc-argument
+  bare-arc i m j (k, n, o, (p, q, (x, s, w))) (h, g) =
+      (k, nonnegative-of text i k h n, (m, o, (p, nonnegative-of text m p g q, (x, s, flag-separated (opt (comma-wsp text) · flag text · opt (comma-wsp text) · coordinate-pair text) x j w))))

@@ -55,7 +55,7 @@ module _ (text : List ℕ) where
   abbrev pub integer-constant : Span
   integer-constant = digit-sequence
 
-  -- integer-constant | floating-point-constant; used by the published arc alone
+  -- integer-constant | floating-point-constant; a radius, which takes the longest text like every number
   unfoldable pub nonnegative-number : Span
   nonnegative-number = longest (integer-constant ∥ floating-point-constant)
 
@@ -77,11 +77,11 @@ module _ (text : List ℕ) where
   unfoldable pub coordinate-pair : Span
   coordinate-pair = coordinate · opt comma-wsp · coordinate
 
-  -- the published one is `nonnegative-number comma-wsp? nonnegative-number comma-wsp? number comma-wsp flag comma-wsp? flag comma-wsp?
-  -- coordinate-pair`; document 01: "two signed radii, a signed rotation, two flags and a pair, each separated optionally"
+  -- nonnegative-number comma-wsp? nonnegative-number comma-wsp? number comma-wsp flag comma-wsp? flag comma-wsp? coordinate-pair
   unfoldable pub elliptical-arc-argument : Span
   elliptical-arc-argument =
-      number · opt comma-wsp · number · opt comma-wsp · number · opt comma-wsp · flag · opt comma-wsp · flag · opt comma-wsp · coordinate-pair
+      nonnegative-number · opt comma-wsp · nonnegative-number · opt comma-wsp · number · comma-wsp · flag · opt comma-wsp · flag
+      · opt comma-wsp · coordinate-pair
 
   -- elliptical-arc-argument | elliptical-arc-argument comma-wsp? elliptical-arc-argument-sequence
   abbrev pub elliptical-arc-argument-sequence : Span

@@ -12,8 +12,9 @@ const LONGEST: usize = 60;
 // derived texts and damaged copies for each letter
 const WANTED: usize = 6;
 
-// what document 01 and the grammar's notes decide, and where a mistake would show
-const TELLING: [&[u8]; 60] = [
+// what the documents and the grammar's notes decide, and where a mistake would show: also a sign on a radius, on a rotation,
+// in an exponent and where a second group begins
+const TELLING: [&[u8]; 85] = [
     b"",
     b" ",
     b"\t\r\n ",
@@ -69,6 +70,31 @@ const TELLING: [&[u8]; 60] = [
     b"M0 0A1 1 0 0134",
     b"M0 0A1 1 0,0,1,3,4",
     b"M0 0A-1 -1 -1 0 0 3 4",
+    b"M0 0A-1 1 0 0 0 3 4",
+    b"M0 0A+1 1 0 0 0 3 4",
+    b"M0 0A1 -1 0 0 0 3 4",
+    b"M0 0A1 +1 0 0 0 3 4",
+    b"M0 0A5-5 0 0 0 3 4",
+    b"M0 0A5+5 0 0 0 3 4",
+    b"M0 0A.5.5 0 0 0 3 4",
+    b"M0 0A-0 1 0 0 0 3 4",
+    b"M0 0A+0 1 0 0 0 3 4",
+    b"M0 0A1 -0 0 0 0 3 4",
+    b"M0 0A1 +.0 0 0 0 3 4",
+    b"M0 0A5e-1 5E+1 0 0 0 3 4",
+    b"M0 0A5e-1.5 0 0 0 3 4",
+    b"M0 0A5e-1-5 0 0 0 3 4",
+    b"M0 0A1 1 -9 0 0 3 4",
+    b"M0 0A1 1 +9 0 0 3 4",
+    b"M0 0A1 1-9 0 0-3+4",
+    b"M0 0A1 1-0,0 0 3 4",
+    b"M0 0A1 1-00 0 3 4",
+    b"M0 0A1 1 0 0 0 3 4-1 1 0 0 0 5 6",
+    b"M0 0A1 1 0 0 0 3 4+1 1 0 0 0 5 6",
+    b"M0 0A1 1 0 0 0 3 4 -1 1 0 0 0 5 6",
+    b"M0 0A1 1 0 0 0 3 4,+1 1 0 0 0 5 6",
+    b"M0 0A1 1 0 0 0 3 4 1-1 0 0 0 5 6",
+    b"M0 0A1 1 0 0 0 3 4.5.5 0 0 0 5 6",
     b"M0 0A1 1 0 0 1 3 4 1 1 0 1 0 5 6",
     b"M0 0A1 1 0 10 3 4",
     b"M0 0A1 1 0 1 3 4",

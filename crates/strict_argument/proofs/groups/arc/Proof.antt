@@ -1,10 +1,10 @@
--- `strict_argument::arc` meets its contract: a number and the rest, with a separator or none between them. Assumes nothing.
+-- `strict_argument::arc` meets its contract: a radius and the rest, with a separator or none between them. Assumes nothing.
 use native.Mathlib.Omega.{arith}
 use borrow.Author.Needs.{needs}
-use Rattle.strict_grammar.specs.Grammar.{elliptical-arc-argument, number}
+use Rattle.strict_grammar.specs.Grammar.{elliptical-arc-argument, nonnegative-number}
 use Rattle.strict_argument.specs.Reading.{arc-from-large-flag, arc-from-radius, arc-from-rotation, arc-from-sweep-flag}
 use Rattle.strict_argument.proofs.Steps.{step}
-use Rattle.strict_argument.proofs.Starts.{radius-starts}
+use Rattle.strict_argument.proofs.Starts.{second-radius-starts}
 use Rattle.strict_argument.proofs.groups.arc.Statement.{statement}
 use Rattle.strict_argument.proofs.groups.arc.Tie as tie
 
@@ -12,7 +12,7 @@ returns : tie.Need-returns
 unfolding elliptical-arc-argument arc-from-radius arc-from-rotation arc-from-large-flag arc-from-sweep-flag
 returns c =
     let text = c .before .before .before .before .args .text .now in
-    step text (omega arith) (number text) (arc-from-radius text) (radius-starts text) _ _ _ _ (c .before .before .read-number .ensures) (c .before .past-separator .ensures) (c .arc-from-radius .ensures)
+    step text (omega arith) (nonnegative-number text) (arc-from-radius text) (second-radius-starts text) _ _ _ _ (c .before .before .read-radius .ensures) (c .before .past-separator .ensures) (c .arc-from-radius .ensures)
 
 pub arc-spec : {M : Type 1} → statement M
 arc-spec =

@@ -1,7 +1,7 @@
--- `strict_argument::arc_from_radius` meets its contract: a number and the rest, with a separator or none between them. Assumes nothing.
+-- `strict_argument::arc_from_radius` meets its contract: a radius and the rest, with a separator or none between them. Assumes nothing.
 use native.Mathlib.Omega.{arith}
 use borrow.Author.Needs.{needs}
-use Rattle.strict_grammar.specs.Grammar.{number}
+use Rattle.strict_grammar.specs.Grammar.{nonnegative-number}
 use Rattle.strict_argument.specs.Reading.{arc-from-radius, arc-from-rotation}
 use Rattle.strict_argument.proofs.Steps.{step}
 use Rattle.strict_argument.proofs.Starts.{rotation-starts}
@@ -12,7 +12,7 @@ returns : tie.Need-returns
 unfolding arc-from-radius
 returns c =
     let text = c .before .before .before .before .args .text .now in
-    step text (omega arith) (number text) (arc-from-rotation text) (rotation-starts text) _ _ _ _ (c .before .before .read-number .ensures) (c .before .past-separator .ensures) (c .arc-from-rotation .ensures)
+    step text (omega arith) (nonnegative-number text) (arc-from-rotation text) (rotation-starts text) _ _ _ _ (c .before .before .read-radius .ensures) (c .before .past-separator .ensures) (c .arc-from-rotation .ensures)
 
 pub arc-from-radius-spec : {M : Type 1} → statement M
 arc-from-radius-spec =

@@ -1,18 +1,20 @@
--- `strict_argument::arc_from_rotation` meets its contract: a number and the rest, with a separator or none between them. Assumes nothing.
+-- `strict_argument::arc_from_rotation` meets its contract: a number and the rest, between which a separator that may stand does. Assumes nothing.
 use native.Mathlib.Omega.{arith}
 use borrow.Author.Needs.{needs}
-use Rattle.strict_grammar.specs.Grammar.{number}
-use Rattle.strict_argument.specs.Reading.{arc-from-large-flag, arc-from-rotation}
-use Rattle.strict_argument.proofs.Steps.{step}
+use Rattle.strict_grammar.specs.Spans.{_·_, opt}
+use Rattle.strict_grammar.specs.Grammar.{comma-wsp, number}
+use Rattle.strict_argument.specs.Reading.{arc-from-large-flag, arc-from-rotation, arc-from-sweep-flag}
+use Rattle.strict_argument.proofs.Steps.{must-separate, step}
 use Rattle.strict_argument.proofs.Starts.{large-flag-starts}
 use Rattle.strict_argument.proofs.groups.arc_from_rotation.Statement.{statement}
 use Rattle.strict_argument.proofs.groups.arc_from_rotation.Tie as tie
 
 returns : tie.Need-returns
-unfolding arc-from-rotation
+unfolding arc-from-rotation arc-from-large-flag
 returns c =
     let text = c .before .before .before .before .args .text .now in
-    step text (omega arith) (number text) (arc-from-large-flag text) (large-flag-starts text) _ _ _ _ (c .before .before .read-number .ensures) (c .before .past-separator .ensures) (c .arc-from-large-flag .ensures)
+    must-separate text (opt (comma-wsp text) · arc-from-sweep-flag text) _ _
+    (step text (omega arith) (number text) (arc-from-large-flag text) (large-flag-starts text) _ _ _ _ (c .before .before .read-number .ensures) (c .before .past-separator .ensures) (c .arc-from-large-flag .ensures))
 
 pub arc-from-rotation-spec : {M : Type 1} → statement M
 arc-from-rotation-spec =
