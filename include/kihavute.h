@@ -337,8 +337,9 @@ uint32_t kihavute_bounds(const float *from, size_t from_len, const float *to, si
  * 3 at 0 where no number starts, with 4 at the e of an exponent without digit. */
 uint32_t kihavute_number(const uint8_t *text, size_t text_len, uint64_t *answer, size_t answer_len);
 
-/* Whether the text matches the path grammar of SVG 1.1 Second Edition, 8.3.9, with an arc's radii signed: answer[0]
- * is 1 for a yes and 0 for a no. Refused with 1: above 65,536 bytes; answer[0] is the count. The time is linear. */
+/* Whether the text matches the path grammar of SVG 1.1 Second Edition, 8.3.9: answer[0] is 1 for a yes and 0 for a no. No
+ * sign stands before an arc's radius there; kihavute_read takes one, and building takes a radius by its size. Refused with
+ * 1: above 65,536 bytes; answer[0] is the count. The time is linear. */
 uint32_t kihavute_strict(const uint8_t *text, size_t text_len, uint64_t *answer, size_t answer_len);
 
 /* Reads path data into a command list. A command is a letter (M, L, Q, C, A or Z) in letters and 2, 2, 4, 6, 7 or 0

@@ -836,7 +836,8 @@ pub fn number(text: &[u8]) -> Result<(Bits, usize), Refusal> {
     Ok((given[0] as Bits, given[1] as usize))
 }
 
-/// Whether a text of any bytes matches the path grammar of SVG 1.1 Second Edition, 8.3.9, with an arc's radii signed.
+/// Whether a text of any bytes matches the path grammar of SVG 1.1 Second Edition, 8.3.9. No sign stands before an arc's
+/// radius there; permissive reading takes one, and building takes a radius by its size.
 #[inline]
 pub fn strict(text: &[u8]) -> Strict {
     let mut answer = [0; 8];
@@ -1180,6 +1181,8 @@ mod tests {
         assert_eq!(strict(b"M0 0L1 2"), Strict::Yes);
         assert_eq!(strict(b""), Strict::Yes);
         assert_eq!(strict(b"M0 0,"), Strict::No);
+        assert_eq!(strict(b"M0 0A5e-1 1-9 0 0-3-4"), Strict::Yes);
+        assert_eq!(strict(b"M0 0A-5 1 9 0 0 3 4"), Strict::No);
         assert_eq!(strict(&[b' '; 65_537]), Strict::TooLong(65_537));
     }
 

@@ -579,7 +579,17 @@ static void strict_reading(void) {
     same("strict, empty", strict_says("", 0), 1);
     same("strict, a path", strict_says("M0 0L1 2z", 9), 1);
     same("strict, a smooth curve", strict_says("M0 0S1 2 3 4", 12), 1);
-    same("strict, a signed radius", strict_says("M0 0A-1 1 0 0 0 3 4", 19), 1);
+    same("strict, an arc", strict_says("M0 0A1 1 0 0 0 3 4", 18), 1);
+    same("strict, a minus before a radius", strict_says("M0 0A-1 1 0 0 0 3 4", 19), 0);
+    same("strict, a plus before a radius", strict_says("M0 0A+1 1 0 0 0 3 4", 19), 0);
+    same("strict, a minus parts no radii", strict_says("M0 0A5-5 0 0 0 3 4", 18), 0);
+    same("strict, a plus before a second radius of zero", strict_says("M0 0A1 +0 0 0 0 3 4", 19), 0);
+    same("strict, a point parts two radii", strict_says("M0 0A.5.5 0 0 0 3 4", 19), 1);
+    same("strict, a radius with a signed exponent", strict_says("M0 0A5e-1 5E+1 0 0 0 3 4", 24), 1);
+    same("strict, signs on a rotation and an end", strict_says("M0 0A1 1-9 0 0-3+4", 18), 1);
+    same("strict, a sign where a second group begins", strict_says("M0 0A1 1 0 0 0 3 4-1 1 0 0 0 5 6", 32), 0);
+    same("strict, a separator and a sign there", strict_says("M0 0A1 1 0 0 0 3 4,-1 1 0 0 0 5 6", 33), 0);
+    same("strict, a flag at once behind a rotation", strict_says("M0 0A1 1 00 0 3 4", 17), 0);
     same("strict, a comma at the end", strict_says("M0 0,", 5), 0);
     same("strict, a form feed", strict_says("M0 0\f", 5), 0);
     same("strict, an exponent without digit", strict_says("M1e 2", 5), 0);
@@ -710,6 +720,8 @@ static void reading(void) {
     read_is("ZL1 2", "ZL", 2, (uint32_t[]){one, two});
     read_is("M1 2h1v-1", "MLL", 6, (uint32_t[]){one, two, two, two, two, one});
     read_is("M0 0a1 2 3 01 4-0", "MA", 9, (uint32_t[]){0, 0, one, two, three, 0, one, four, 0});
+    /* a minus before a radius reads, which strict reading refuses */
+    read_is("M0 0A-1 1 0 0 0 3 4", "MA", 9, (uint32_t[]){0, 0, bits(-1), one, 0, 0, 0, three, four});
     read_is("M0 0Q1 2 3 4", "MQ", 6, (uint32_t[]){0, 0, one, two, three, four});
     read_is("M1 1c0 1 2 3 1e39-1e39", "MC", 8,
             (uint32_t[]){one, one, one, two, three, four, INFINITE, INFINITE | MINUS_ZERO});

@@ -18,8 +18,8 @@ pub enum Kind {
 fn pair(text: &[u8], at: usize) -> usize
     ensures { λ r. ⌜ Reads (coordinate-pair (now (text .entry))) at r ⌝ }
 {
-    let end = read_number(text, at);
-    read_number(text, past_separator(text, end))
+    let middle = read_number(text, at);
+    read_number(text, past_separator(text, middle))
 }
 
 // The argument of a smooth curve and of a quadratic one.

@@ -38,7 +38,8 @@ pub fn read_number(text: &[u8], at: usize) -> usize
 pub fn read_radius(text: &[u8], at: usize) -> usize
     ensures { λ r. ⌜ Reads (nonnegative-number (now (text .entry))) at r ⌝ }
 {
-    if is_sign(byte_at(text, at)) {
+    let first = byte_at(text, at);
+    if is_sign(first) {
         return NOWHERE;
     }
     read_number(text, at)
