@@ -8,11 +8,11 @@ use lib.ListN.{length, length-append}
 use Rattle.answers.specs.declared.refusals.Refusal.{Refusal}
 use Rattle.commands.specs.declared.command.PathCommand.{PathCommand}
 use Rattle.path_segment.specs.declared.segments.PathSegment.{PathSegment}
-use Rattle.svg.specs.Steps.{freshOf, readStepOf}
+use Rattle.svg_step.specs.Steps.{freshOf, readStepOf}
 use Rattle.svg.specs.Texts.{Outcome, commands, refusal as unread, readFrom, commandsOf}
-use Rattle.svg.specs.declared.steps.Reader.{Reader}
-use Rattle.svg.specs.declared.steps.Step.the-variants.{Command, Done, Refused as StepRefused}
-use Rattle.svg.proofs.Ahead.{step-ahead}
+use Rattle.svg_step.specs.declared.steps.Reader.{Reader}
+use Rattle.svg_step.specs.declared.steps.Step.the-variants.{Command, Done, Refused as StepRefused}
+use Rattle.svg_step.proofs.Ahead.{step-ahead}
 use Rattle.svg.proofs.PassLaws.{onto as ontoCommands, Known, known-none, known-all, known-refused, known-more}
 use Rattle.path_drawing.specs.Drawing.{drawOf}
 use Rattle.path_drawing.specs.Building.{Built, path, refusal, buildOf}

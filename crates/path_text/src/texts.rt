@@ -14,9 +14,9 @@ use path_storing::inner::count;
 use path_storing::inner::lay;
 use path_storing::opening;
 use path_storing::start;
-use svg::Step;
-use svg::fresh;
-use svg::read_step;
+use svg_step::Step;
+use svg_step::fresh;
+use svg_step::read_step;
 
 // What the first pass finds.
 pub enum Found {

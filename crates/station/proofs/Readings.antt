@@ -22,7 +22,7 @@ use Rattle.commands.specs.Stored.{lettersOf, numbersOf}
 use Rattle.svg_group.specs.Groups.{readMoveOf, readLineOf, readHorizontalOf, readVerticalOf, readCubicOf, readQuadOf, readArcOf, readGroupOf}
 use Rattle.svg_group.specs.Letters.{isLetterOf, meaningOf}
 use Rattle.svg_group.specs.Numbers.{readNumberOf, flagAt, readFlagOf, readFlagsOf, movedOf, readPairOf}
-use Rattle.svg.specs.Steps.{isRelativeOf, needsPointOf, repeatedOf, afterOf, dueGroupOf, dueLetterOf, dueAgainOf, nextDueOf, readStepOf}
+use Rattle.svg_step.specs.Steps.{isRelativeOf, needsPointOf, repeatedOf, afterOf, dueGroupOf, dueLetterOf, dueAgainOf, nextDueOf, readStepOf}
 use Rattle.svg.specs.Texts.{readFrom, commandsOf}
 use Rattle.arc.specs.Arcs.{isFallback, mostDegrees, inRange, fallbackShape, noTable, fallenBack, fitted, outOfRange, madeArcOf, arcPositionOf, arcTangentOf, arcPlacedOf, arcHeadingOf, arcTurnedOf, arcLengthOf}
 use Rattle.arc.specs.Lines.{lineLengthOf, linePointOf, linePositionOf, lineTangentOf, lineRotationDegOf, madeLineOf}

@@ -7,11 +7,11 @@ use lib.ListN.{length, drop, length-append}
 use Rattle.answers.specs.declared.refusals.Refusal.{Refusal}
 use Rattle.commands.specs.Stored.{lettersOf, numbersOf}
 use Rattle.commands.specs.declared.command.PathCommand.{PathCommand}
-use Rattle.svg.specs.Steps.{freshOf, readStepOf}
+use Rattle.svg_step.specs.Steps.{freshOf, readStepOf}
 use Rattle.svg.specs.Texts.{Outcome, commands, refusal, readFrom, commandsOf}
-use Rattle.svg.specs.declared.steps.Reader.{Reader}
-use Rattle.svg.specs.declared.steps.Step.{Step}
-use Rattle.svg.specs.declared.steps.Step.the-variants.{Command, Done, Refused}
+use Rattle.svg_step.specs.declared.steps.Reader.{Reader}
+use Rattle.svg_step.specs.declared.steps.Step.{Step}
+use Rattle.svg_step.specs.declared.steps.Step.the-variants.{Command, Done, Refused}
 use Rattle.svg.proofs.PassLaws.{onto, Known, known-none, known-all, known-refused, known-more, Counting}
 use Rattle.text_reader.specs.Plans.{stepOf}
 use Rattle.station_lines.specs.Lines.{commandLine}

@@ -10,8 +10,8 @@ use crate::sizes::Size;
 use commands::inner::store;
 use commands::width;
 use station_lines::inner::put_command;
-use svg::Step;
-use svg::fresh;
+use svg_step::Step;
+use svg_step::fresh;
 use text_reader::path_step;
 
 // How many letters and numbers the path stores whose text starts at `start`, or its first refusal.

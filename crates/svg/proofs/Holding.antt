@@ -11,15 +11,15 @@ use Rattle.answers.specs.declared.refusals.Refusal.{Refusal}
 use Rattle.answers.proofs.Writing.{written-more, length-written}
 use Rattle.commands.specs.Stored.{letterOf, argumentsOf, lettersOf, numbersOf, Store}
 use Rattle.commands.specs.declared.command.PathCommand.{PathCommand}
-use Rattle.svg.specs.Steps.{freshOf, readStepOf}
+use Rattle.svg_step.specs.Steps.{freshOf, readStepOf}
 use Rattle.svg.specs.Texts.{Outcome, commands, refusal, readFrom, commandsOf, measureOf, Room, Filled, onto, Known, Counting, Holding, Begun, Held, SaysStored, Stores}
-use Rattle.svg.specs.declared.steps.Reader.{Reader}
-use Rattle.svg.specs.declared.steps.Step.the-variants.{Command, Done, Refused}
+use Rattle.svg_step.specs.declared.steps.Reader.{Reader}
+use Rattle.svg_step.specs.declared.steps.Step.the-variants.{Command, Done, Refused}
 use Rattle.svg.specs.declared.passes.Size.{Size}
 use Rattle.svg.specs.declared.passes.Size.the-variants.{Counted, Refused as Unmeasured}
 use Rattle.svg.specs.declared.passes.Stored.{Stored}
 use Rattle.svg.specs.declared.passes.Stored.the-variants.{Whole, Refused as Unstored, Full}
-use Rattle.svg.proofs.Ahead.{step-ahead}
+use Rattle.svg_step.proofs.Ahead.{step-ahead}
 use Rattle.svg.proofs.PassLaws.{letters-append, numbers-append, letters-more, numbers-more, few-arguments, known-none, known-all, known-refused, known-more, counted, uncounted, room-of}
 
 -- ---- what is written twice

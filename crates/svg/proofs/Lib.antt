@@ -1,6 +1,4 @@
 -- Laws of the definitions of `specs/`.
-pub mod StepCases
-pub mod Ahead
 pub mod Texts
 pub mod PassLaws
 pub mod Copying

@@ -12,14 +12,14 @@ use Rattle.answers.proofs.Writing.{written-more, length-written}
 use Rattle.commands.specs.Stored.{letterOf, argumentsOf, lettersOf, numbersOf, Store}
 use Rattle.commands.specs.declared.command.PathCommand.{PathCommand}
 use Rattle.commands.specs.declared.command.PathCommand.the-variants.{MoveTo, LineTo, QuadTo, CubicTo, ArcTo, ClosePath}
-use Rattle.svg.specs.Steps.{freshOf, readStepOf}
+use Rattle.svg_step.specs.Steps.{freshOf, readStepOf}
 use Rattle.svg.specs.Texts.{Outcome, commands, refusal, prepend, readFrom, commandsOf, measureOf, Room, Filled}
 pub use Rattle.svg.specs.Texts.{onto, Known, Counting}
-use Rattle.svg.specs.declared.steps.Reader.{Reader}
-use Rattle.svg.specs.declared.steps.Step.the-variants.{Command, Done, Refused}
+use Rattle.svg_step.specs.declared.steps.Reader.{Reader}
+use Rattle.svg_step.specs.declared.steps.Step.the-variants.{Command, Done, Refused}
 use Rattle.svg.specs.declared.passes.Size.{Size}
 use Rattle.svg.specs.declared.passes.Size.the-variants.{Counted, Refused as Unmeasured}
-use Rattle.svg.proofs.Ahead.{step-ahead}
+use Rattle.svg_step.proofs.Ahead.{step-ahead}
 use Rattle.svg.proofs.Texts.{from-done, from-refused, from-command}
 
 -- ---- lists of commands

@@ -17,7 +17,7 @@ use Rattle.commands.specs.declared.command.PathCommand.the-variants.{MoveTo, Li
 use Rattle.svg_group.specs.Letters.{isLetterOf, meaningOf}
 use Rattle.svg_group.specs.Numbers.{readNumberOf, flagAt, readFlagOf, readFlagsOf, movedOf, readPairOf}
 use Rattle.svg_group.specs.Groups.{readMoveOf, readLineOf, readHorizontalOf, readVerticalOf, readCubicOf, readQuadOf, readArcOf, readGroupOf}
-use Rattle.svg.specs.Steps.{isRelativeOf, needsPointOf, repeatedOf, afterOf, dueGroupOf, dueLetterOf, dueAgainOf, nextDueOf, readStepOf}
+use Rattle.svg_step.specs.Steps.{isRelativeOf, needsPointOf, repeatedOf, afterOf, dueGroupOf, dueLetterOf, dueAgainOf, nextDueOf, readStepOf}
 use Rattle.svg.specs.Texts.{Outcome, commands, refusal, readFrom, commandsOf}
 use Rattle.svg.specs.Readings.{readPathOf}
 

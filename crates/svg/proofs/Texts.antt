@@ -7,12 +7,12 @@ use native.Mathlib.Omega.{arith}
 use lib.ListN.{length}
 use Rattle.answers.specs.declared.refusals.Refusal.{Refusal}
 use Rattle.commands.specs.declared.command.PathCommand.{PathCommand}
-use Rattle.svg.specs.Steps.{freshOf, readStepOf}
+use Rattle.svg_step.specs.Steps.{freshOf, readStepOf}
 use Rattle.svg.specs.Texts.{Outcome, commands, refusal, prepend, follow, readFrom, commandsOf}
-use Rattle.svg.specs.declared.steps.Reader.{Reader}
-use Rattle.svg.specs.declared.steps.Step.{Step}
-use Rattle.svg.specs.declared.steps.Step.the-variants.{Command, Done, Refused}
-use Rattle.svg.proofs.Ahead.{step-ahead, step-within}
+use Rattle.svg_step.specs.declared.steps.Reader.{Reader}
+use Rattle.svg_step.specs.declared.steps.Step.{Step}
+use Rattle.svg_step.specs.declared.steps.Step.the-variants.{Command, Done, Refused}
+use Rattle.svg_step.proofs.Ahead.{step-ahead, step-within}
 
 module _ (text : List ℕ) (reader : Reader) where
   -- the text ends

@@ -1,4 +1,3 @@
 -- What the contracts of this crate cite. Definitions only.
-pub mod Steps
 pub mod Texts
 pub mod Readings

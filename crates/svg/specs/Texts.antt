@@ -8,10 +8,10 @@ use Rattle.answers.specs.Report.{written}
 use Rattle.answers.specs.declared.refusals.Refusal.{Refusal}
 use Rattle.commands.specs.Stored.{lettersOf, numbersOf}
 use Rattle.commands.specs.declared.command.PathCommand.{PathCommand}
-use Rattle.svg.specs.Steps.{freshOf, readStepOf}
-use Rattle.svg.specs.declared.steps.Reader.{Reader}
-use Rattle.svg.specs.declared.steps.Step.{Step}
-use Rattle.svg.specs.declared.steps.Step.the-variants.{Command, Done, Refused}
+use Rattle.svg_step.specs.Steps.{freshOf, readStepOf}
+use Rattle.svg_step.specs.declared.steps.Reader.{Reader}
+use Rattle.svg_step.specs.declared.steps.Step.{Step}
+use Rattle.svg_step.specs.declared.steps.Step.the-variants.{Command, Done, Refused}
 use Rattle.svg.specs.declared.passes.Stored.{Stored}
 use Rattle.svg.specs.declared.passes.Stored.the-variants.{Whole, Refused as Unstored, Full}
 use Rattle.svg.specs.declared.passes.Size.{Size}

@@ -2,11 +2,6 @@
 pub mod inner;
 mod passes;
 mod reading;
-mod steps;
 
 pub use reading::Reading;
 pub use reading::read_path;
-pub use steps::Reader;
-pub use steps::Step;
-pub use steps::fresh;
-pub use steps::read_step;

@@ -4,14 +4,14 @@ ghost use Prim.Native.Nat.{_≤_};
 ghost use lib.ListN.{length};
 ghost use Rattle.answers.specs.Report.{written};
 ghost use Rattle.svg.specs.Texts.{commandsOf, measureOf, Counting, Holding, Stores};
-use crate::steps::Pass;
-use crate::steps::Reader;
-use crate::steps::Step;
-use crate::steps::pass_step;
-use crate::steps::read_step;
 use answers::Refusal;
 use commands::inner::store;
 use commands::width;
+use svg_step::Pass;
+use svg_step::Reader;
+use svg_step::Step;
+use svg_step::pass_step;
+use svg_step::read_step;
 
 // The places that a text's commands need in each buffer.
 pub enum Size {
@@ -24,7 +24,7 @@ pub fn measure(text: &[u8]) -> Size
     requires { ⌜ length (now text) ≤ 65536 ⌝ }
     ensures { λ r. ⌜ r ≡ measureOf (commandsOf (now (text .entry))) ⌝ }
 {
-    measure_on(text, crate::steps::fresh(), 0, 0)
+    measure_on(text, svg_step::fresh(), 0, 0)
 }
 
 // The same where the commands up to a state are counted already.

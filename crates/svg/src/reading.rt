@@ -11,10 +11,10 @@ use crate::passes::copy_letters;
 use crate::passes::copy_numbers;
 use crate::passes::fill;
 use crate::passes::measure_on;
-use crate::steps::Reader;
-use crate::steps::fresh;
 use answers::Refusal;
 use answers::Values;
+use svg_step::Reader;
+use svg_step::fresh;
 
 pub enum Reading {
     // The text is read, and stored in this many places of each buffer.

@@ -5,9 +5,9 @@ use mathlib.Core.List.{List, []}
 use native.Mathlib.Omega.{arith}
 use lib.ListN.{length, take, drop, length-drop}
 use lib.Seq.{take-all, drop-length}
-use Rattle.svg.specs.Steps.{readStepOf}
-use Rattle.svg.specs.declared.steps.Reader.{Reader}
-use Rattle.svg.specs.declared.steps.Step.{Step}
+use Rattle.svg_step.specs.Steps.{readStepOf}
+use Rattle.svg_step.specs.declared.steps.Reader.{Reader}
+use Rattle.svg_step.specs.declared.steps.Step.{Step}
 use Rattle.text_reader.specs.Plans.{stepOf}
 
 -- nothing stands past the end

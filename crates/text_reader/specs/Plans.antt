@@ -7,9 +7,9 @@ use lib.ListN.{getD, drop}
 use Rattle.answers.specs.declared.refusals.Refusal.the-variants.{Range}
 use Rattle.scan.specs.Runs.{pastDigitsOf}
 use Rattle.decimal_digits.specs.Digits.{digitsIn, val}
-use Rattle.svg.specs.Steps.{readStepOf}
-use Rattle.svg.specs.declared.steps.Reader.{Reader}
-use Rattle.svg.specs.declared.steps.Step.{Step}
+use Rattle.svg_step.specs.Steps.{readStepOf}
+use Rattle.svg_step.specs.declared.steps.Reader.{Reader}
+use Rattle.svg_step.specs.declared.steps.Step.{Step}
 use Rattle.text_reader.specs.declared.line.FirstLine.{FirstLine}
 use Rattle.text_reader.specs.declared.line.FirstLine.the-variants.{Stations, Refused}
 

@@ -4,8 +4,8 @@ ghost use Rattle.text_reader.specs.Plans.{firstLineOf, stepOf};
 use crate::line::FirstLine;
 use crate::line::line_at;
 use crate::steps::step_at;
-use svg::Reader;
-use svg::Step;
+use svg_step::Reader;
+use svg_step::Step;
 
 pub struct TextReader<'a> {
     pub text: &'a [u8],

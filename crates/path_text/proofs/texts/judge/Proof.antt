@@ -5,7 +5,7 @@ use Prim.Native.Nat.{_-_}
 use mathlib.Core.Path.{sym, _∙_}
 use native.Mathlib.Omega.{arith}
 use lib.ListN.{length}
-use Rattle.svg.proofs.Ahead.{step-ahead}
+use Rattle.svg_step.proofs.Ahead.{step-ahead}
 use Rattle.path_text.proofs.Steps.{Measuring, measuring-none, measured-all, measured-unread, measuring-few, measured-unbuilt, measuring-more}
 use Rattle.path_text.proofs.texts.judge.Statement.{statement}
 use Rattle.path_text.proofs.texts.judge.Tie as tie

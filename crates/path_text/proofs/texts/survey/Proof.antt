@@ -5,7 +5,7 @@ use Prim.Native.Nat.{_-_}
 use mathlib.Core.Path.{sym, _∙_}
 use native.Mathlib.Omega.{arith}
 use lib.ListN.{length}
-use Rattle.svg.proofs.Ahead.{step-ahead}
+use Rattle.svg_step.proofs.Ahead.{step-ahead}
 use Rattle.path_text.proofs.Steps.{Surveying, surveying-none, surveyed-all, surveying-scant, surveying-more}
 use Rattle.path_text.proofs.texts.survey.Statement.{statement}
 use Rattle.path_text.proofs.texts.survey.Tie as tie

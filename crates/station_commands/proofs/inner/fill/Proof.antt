@@ -5,7 +5,7 @@ use native.Mathlib.Omega.{arith}
 use Prim.Native.Nat.{_-_}
 use lib.ListN.{length, drop}
 use Rattle.svg.proofs.PassLaws.{Filling, filling-none, same-letters, same-numbers, never-refused, filled, fits, filling-more}
-use Rattle.svg.proofs.Ahead.{step-ahead}
+use Rattle.svg_step.proofs.Ahead.{step-ahead}
 use Rattle.station_commands.proofs.PlanLaws.{step-as}
 use Rattle.station_commands.proofs.inner.fill.Statement.{statement}
 use Rattle.station_commands.proofs.inner.fill.Tie as tie

@@ -3,7 +3,7 @@ use borrow.Author.Needs.{needs}
 use Prim.Native.Nat.{_-_}
 use native.Mathlib.Omega.{arith}
 use lib.ListN.{length, drop}
-use Rattle.svg.proofs.Ahead.{step-ahead}
+use Rattle.svg_step.proofs.Ahead.{step-ahead}
 use Rattle.station_commands.proofs.PlanLaws.{Listing, step-as, listing-none, same-out, never-refused, listed, line-room, listing-more}
 use Rattle.station_commands.proofs.inner.list.Statement.{statement}
 use Rattle.station_commands.proofs.inner.list.Tie as tie

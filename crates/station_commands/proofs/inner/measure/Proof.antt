@@ -4,7 +4,7 @@ use Prim.Native.Nat.{_-_}
 use native.Mathlib.Omega.{arith}
 use lib.ListN.{length, drop}
 use Rattle.svg.proofs.PassLaws.{Counting, counting-none, counting-within, counting-more}
-use Rattle.svg.proofs.Ahead.{step-ahead}
+use Rattle.svg_step.proofs.Ahead.{step-ahead}
 use Rattle.station_commands.proofs.PlanLaws.{step-as, counted, uncounted}
 use Rattle.station_commands.proofs.inner.measure.Statement.{statement}
 use Rattle.station_commands.proofs.inner.measure.Tie as tie

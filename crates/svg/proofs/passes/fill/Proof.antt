@@ -6,7 +6,7 @@ use mathlib.Core.Path.{sym, _∙_}
 use Prim.Native.Nat.{_-_}
 use lib.ListN.{length}
 use Rattle.svg.specs.Texts.{Holding}
-use Rattle.svg.proofs.Ahead.{step-ahead}
+use Rattle.svg_step.proofs.Ahead.{step-ahead}
 use Rattle.svg.proofs.Holding.{held-letters, held-numbers, held-within, held-whole, held-refused, full-of-letters, full-of-numbers, holding-more}
 use Rattle.svg.proofs.passes.fill.Statement.{statement}
 use Rattle.svg.proofs.passes.fill.Tie as tie

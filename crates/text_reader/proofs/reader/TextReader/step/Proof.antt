@@ -45,8 +45,8 @@ use denote.Exit.{yes}
 use denote.Triple.Clauses.{ensured, lasts}
 use Rattle.text_reader.specs.Plans.{stepOf}
 use Rattle.text_reader.specs.declared.reader.TextReader.{TextReader}
-use Rattle.svg.specs.declared.steps.Step.{Step}
-use Rattle.svg.specs.declared.steps.Reader.{Reader}
+use Rattle.svg_step.specs.declared.steps.Step.{Step}
+use Rattle.svg_step.specs.declared.steps.Reader.{Reader}
 use Rattle.text_reader.proofs.reader.TextReader as T
 use Rattle.text_reader.proofs.reader.TextReader.Laws as T′
 use Rattle.svg.proofs.steps.Step as S

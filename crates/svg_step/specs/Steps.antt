@@ -23,13 +23,13 @@ use Rattle.svg_group.specs.declared.groups.Group.{Group}
 use Rattle.svg_group.specs.declared.groups.Group.the-variants.{Taken, Refused as GroupRefused}
 use Rattle.svg_group.specs.declared.passing.Passed.{Passed}
 use Rattle.svg_group.specs.declared.passing.Passed.the-variants.{To, Refused as NotPassed}
-use Rattle.svg.specs.declared.steps.Due.{Due}
-use Rattle.svg.specs.declared.steps.Due.the-variants.{Done as NothingDue, Refused as NotDue, Close, Group as GroupDue}
-use Rattle.svg.specs.declared.steps.Pass.{Pass}
-use Rattle.svg.specs.declared.steps.Pass.the-variants.{Command as PassCommand, Done as PassDone, Refused as PassRefused}
-use Rattle.svg.specs.declared.steps.Reader.{Reader}
-use Rattle.svg.specs.declared.steps.Step.{Step}
-use Rattle.svg.specs.declared.steps.Step.the-variants.{Command, Done, Refused}
+use Rattle.svg_step.specs.declared.steps.Due.{Due}
+use Rattle.svg_step.specs.declared.steps.Due.the-variants.{Done as NothingDue, Refused as NotDue, Close, Group as GroupDue}
+use Rattle.svg_step.specs.declared.steps.Pass.{Pass}
+use Rattle.svg_step.specs.declared.steps.Pass.the-variants.{Command as PassCommand, Done as PassDone, Refused as PassRefused}
+use Rattle.svg_step.specs.declared.steps.Reader.{Reader}
+use Rattle.svg_step.specs.declared.steps.Step.{Step}
+use Rattle.svg_step.specs.declared.steps.Step.the-variants.{Command, Done, Refused}
 
 -- no current point and no remembered command; the points are those to which a Z at the start returns
 abbrev pub origin : Point

@@ -1,8 +1,8 @@
--- `svg::steps::after` meets its contract: each way out is a case of its definition. Assumes nothing.
+-- `svg_step::steps::after` meets its contract: each way out is a case of its definition. Assumes nothing.
 use borrow.Author.Needs.{needs}
-use Rattle.svg.specs.Steps.{afterOf}
-use Rattle.svg.proofs.steps.after.Statement.{statement}
-use Rattle.svg.proofs.steps.after.Tie as tie
+use Rattle.svg_step.specs.Steps.{afterOf}
+use Rattle.svg_step.proofs.steps.after.Statement.{statement}
+use Rattle.svg_step.proofs.steps.after.Tie as tie
 
 returns : tie.Need-returns
 unfolding afterOf

@@ -1,9 +1,9 @@
--- `svg::steps::next_due` meets its contract: each way out is a case of its definition. Assumes nothing.
+-- `svg_step::steps::next_due` meets its contract: each way out is a case of its definition. Assumes nothing.
 use borrow.Author.Needs.{needs}
 use mathlib.Core.Path.{sym, _∙_}
-use Rattle.svg.proofs.StepCases.{due-done, due-letter, due-other}
-use Rattle.svg.proofs.steps.next_due.Statement.{statement}
-use Rattle.svg.proofs.steps.next_due.Tie as tie
+use Rattle.svg_step.proofs.StepCases.{due-done, due-letter, due-other}
+use Rattle.svg_step.proofs.steps.next_due.Statement.{statement}
+use Rattle.svg_step.proofs.steps.next_due.Tie as tie
 
 returns : tie.Need-returns
 returns c = due-done _ _ _ _ _ (c .before .past-separators .ensures) (c .if1 .taken)

@@ -1,9 +1,9 @@
--- `svg::steps::due_letter` meets its contract: each way out is a case of its definition. Assumes nothing.
+-- `svg_step::steps::due_letter` meets its contract: each way out is a case of its definition. Assumes nothing.
 use borrow.Author.Needs.{needs}
 use mathlib.Core.Path.{sym, _∙_}
-use Rattle.svg.proofs.StepCases.{letter-unknown, letter-closes, letter-missing, letter-placed, letter-moves}
-use Rattle.svg.proofs.steps.due_letter.Statement.{statement}
-use Rattle.svg.proofs.steps.due_letter.Tie as tie
+use Rattle.svg_step.proofs.StepCases.{letter-unknown, letter-closes, letter-missing, letter-placed, letter-moves}
+use Rattle.svg_step.proofs.steps.due_letter.Statement.{statement}
+use Rattle.svg_step.proofs.steps.due_letter.Tie as tie
 
 returns : tie.Need-returns
 returns c = letter-placed _ _ _ _ _ (sym (c .before .before .before .before .before .before .before .meaning .ensures) ∙ c .before .before .before .before .before .kind .given .1) _ (sym (c .before .before .before .needs-point .ensures) ∙ c .before .before .if1 .taken) (c .before .if2 .taken) (c .due-group .ensures)

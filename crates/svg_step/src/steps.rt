@@ -2,7 +2,7 @@
 ghost use Prim.Native.Nat.{_<_};
 ghost use mathlib.Core.Path.{_≡_};
 ghost use lib.ListN.{length};
-ghost use Rattle.svg.specs.Steps.{freshOf, isRelativeOf, needsPointOf, repeatedOf, afterOf, dueGroupOf, dueLetterOf, dueAgainOf, nextDueOf, readStepOf, passStepOf};
+ghost use Rattle.svg_step.specs.Steps.{freshOf, isRelativeOf, needsPointOf, repeatedOf, afterOf, dueGroupOf, dueLetterOf, dueAgainOf, nextDueOf, readStepOf, passStepOf};
 use answers::Refusal;
 use commands::PathCommand;
 use math::Point;

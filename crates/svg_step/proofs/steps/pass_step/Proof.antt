@@ -1,9 +1,9 @@
--- `svg::steps::pass_step` meets its contract: each way out is a case of its definition. Assumes nothing.
+-- `svg_step::steps::pass_step` meets its contract: each way out is a case of its definition. Assumes nothing.
 use borrow.Author.Needs.{needs}
 use mathlib.Core.Path.{sym, _∙_}
-use Rattle.svg.specs.Steps.{passStepOf}
-use Rattle.svg.proofs.steps.pass_step.Statement.{statement}
-use Rattle.svg.proofs.steps.pass_step.Tie as tie
+use Rattle.svg_step.specs.Steps.{passStepOf}
+use Rattle.svg_step.proofs.steps.pass_step.Statement.{statement}
+use Rattle.svg_step.proofs.steps.pass_step.Tie as tie
 
 returns : tie.Need-returns
 unfolding passStepOf

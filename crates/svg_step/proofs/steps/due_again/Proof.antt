@@ -1,9 +1,9 @@
--- `svg::steps::due_again` meets its contract: each way out is a case of its definition. Assumes nothing.
+-- `svg_step::steps::due_again` meets its contract: each way out is a case of its definition. Assumes nothing.
 use borrow.Author.Needs.{needs}
 use mathlib.Core.Path.{sym, _∙_}
-use Rattle.svg.proofs.StepCases.{again-unknown, again-closes, again-draws}
-use Rattle.svg.proofs.steps.due_again.Statement.{statement}
-use Rattle.svg.proofs.steps.due_again.Tie as tie
+use Rattle.svg_step.proofs.StepCases.{again-unknown, again-closes, again-draws}
+use Rattle.svg_step.proofs.steps.due_again.Statement.{statement}
+use Rattle.svg_step.proofs.steps.due_again.Tie as tie
 
 returns : tie.Need-returns
 returns c = again-unknown _ _ _ (sym (c .before .before .meaning .ensures) ∙ c .enum-told .given .1)

@@ -1,9 +1,9 @@
--- `svg::steps::due_group` meets its contract: each way out is a case of its definition. Assumes nothing.
+-- `svg_step::steps::due_group` meets its contract: each way out is a case of its definition. Assumes nothing.
 use borrow.Author.Needs.{needs}
 use mathlib.Core.Path.{sym, _∙_}
-use Rattle.svg.proofs.StepCases.{group-none, group-due}
-use Rattle.svg.proofs.steps.due_group.Statement.{statement}
-use Rattle.svg.proofs.steps.due_group.Tie as tie
+use Rattle.svg_step.proofs.StepCases.{group-none, group-due}
+use Rattle.svg_step.proofs.steps.due_group.Statement.{statement}
+use Rattle.svg_step.proofs.steps.due_group.Tie as tie
 
 returns : tie.Need-returns
 returns c = group-due _ _ _ _ _ _ (c .before .before .before .past-separators .ensures) (c .before .before .byte-at .ensures) (sym (c .before .starts-number .ensures) ∙ c .if1 .taken)

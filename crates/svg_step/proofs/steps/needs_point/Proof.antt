@@ -1,39 +1,39 @@
--- `svg::steps::repeated` meets its contract: each way out is a case of its definition. Assumes nothing.
+-- `svg_step::steps::needs_point` meets its contract: each way out is a case of its definition. Assumes nothing.
 use borrow.Author.Needs.{needs}
-use Rattle.svg.specs.Steps.{repeatedOf}
-use Rattle.svg.proofs.steps.repeated.Statement.{statement}
-use Rattle.svg.proofs.steps.repeated.Tie as tie
+use Rattle.svg_step.specs.Steps.{needsPointOf}
+use Rattle.svg_step.proofs.steps.needs_point.Statement.{statement}
+use Rattle.svg_step.proofs.steps.needs_point.Tie as tie
 
 returns : tie.Need-returns
-unfolding repeatedOf
+unfolding needsPointOf
 returns c = rw (c .enum-told .given .1)
 
 returns-2 : tie.Need-returns-2
-unfolding repeatedOf
+unfolding needsPointOf
 returns-2 c = rw (c .enum-told2 .given .1)
 
 returns-3 : tie.Need-returns-3
-unfolding repeatedOf
+unfolding needsPointOf
 returns-3 c = rw (c .enum-told3 .given .1)
 
 returns-4 : tie.Need-returns-4
-unfolding repeatedOf
+unfolding needsPointOf
 returns-4 c = rw (c .enum-told4 .given .1)
 
 returns-5 : tie.Need-returns-5
-unfolding repeatedOf
+unfolding needsPointOf
 returns-5 c = rw (c .enum-told5 .given .1)
 
 returns-6 : tie.Need-returns-6
-unfolding repeatedOf
+unfolding needsPointOf
 returns-6 c = rw (c .enum-told6 .given .1)
 
 returns-7 : tie.Need-returns-7
-unfolding repeatedOf
+unfolding needsPointOf
 returns-7 c = rw (c .enum-told7 .given .1)
 
-pub repeated-spec : {M : Type 1} → statement M
-repeated-spec =
+pub needs-point-spec : {M : Type 1} → statement M
+needs-point-spec =
     tie.close
     (tie.spec (λ c. search needs) (λ c. search needs) (λ c. search needs) (λ c. search needs) (λ c. search needs)
     (λ c. search needs) (λ c. search needs) returns returns-2 returns-3 returns-4 returns-5 returns-6 returns-7)

@@ -22,12 +22,12 @@ use Rattle.svg_group.specs.declared.letters.Letter.the-variants.{Draws, Closes,
 use Rattle.svg_group.specs.declared.groups.Group.{Group}
 use Rattle.svg_group.specs.declared.groups.Group.the-variants.{Taken, Refused as GroupRefused}
 use Rattle.svg_group.proofs.Ahead.{group-ahead}
-use Rattle.svg.specs.Steps.{isRelativeOf, needsPointOf, repeatedOf, afterOf, dueGroupOf, begun, dueLetterOf, again, dueAgainOf, nextDueOf, taken, stepped, readStepOf}
-use Rattle.svg.specs.declared.steps.Reader.{Reader}
-use Rattle.svg.specs.declared.steps.Due.{Due}
-use Rattle.svg.specs.declared.steps.Due.the-variants.{Done as NothingDue, Refused as NotDue, Close, Group as GroupDue}
-use Rattle.svg.specs.declared.steps.Step.{Step}
-use Rattle.svg.specs.declared.steps.Step.the-variants.{Command, Done, Refused}
+use Rattle.svg_step.specs.Steps.{isRelativeOf, needsPointOf, repeatedOf, afterOf, dueGroupOf, begun, dueLetterOf, again, dueAgainOf, nextDueOf, taken, stepped, readStepOf}
+use Rattle.svg_step.specs.declared.steps.Reader.{Reader}
+use Rattle.svg_step.specs.declared.steps.Due.{Due}
+use Rattle.svg_step.specs.declared.steps.Due.the-variants.{Done as NothingDue, Refused as NotDue, Close, Group as GroupDue}
+use Rattle.svg_step.specs.declared.steps.Step.{Step}
+use Rattle.svg_step.specs.declared.steps.Step.the-variants.{Command, Done, Refused}
 
 cond-elim : (P : Due → Type 0) (b : Bool) (x y : Due) → (b ≡ true → P x) → (b ≡ false → P y) → P (cond b x y)
 cond-elim P true x y f g = f refl

@@ -11,9 +11,9 @@ use Rattle.scan.specs.Runs.{pastSeparatorsOf}
 use Rattle.svg_group.specs.Letters.{isLetterOf, meaningOf}
 use Rattle.svg_group.specs.declared.letters.Kind.{Kind}
 use Rattle.svg_group.specs.declared.letters.Letter.the-variants.{Draws, Closes, Unknown}
-use Rattle.svg.specs.Steps.{needsPointOf, repeatedOf, dueGroupOf, dueLetterOf, dueAgainOf, nextDueOf}
-use Rattle.svg.specs.declared.steps.Due.{Due}
-use Rattle.svg.specs.declared.steps.Due.the-variants.{Done, Refused, Close, Group}
+use Rattle.svg_step.specs.Steps.{needsPointOf, repeatedOf, dueGroupOf, dueLetterOf, dueAgainOf, nextDueOf}
+use Rattle.svg_step.specs.declared.steps.Due.{Due}
+use Rattle.svg_step.specs.declared.steps.Due.the-variants.{Done, Refused, Close, Group}
 
 -- ---- a group
 

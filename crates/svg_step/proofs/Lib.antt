@@ -1,0 +1,4 @@
+-- Laws of the definitions of `specs/`.
+pub mod StepCases
+pub mod Ahead
+pub mod Passed

@@ -1,0 +1,2 @@
+-- What the contracts of this crate cite. Definitions only.
+pub mod Steps
