@@ -345,8 +345,9 @@ uint32_t kihavute_strict(const uint8_t *text, size_t text_len, uint64_t *answer,
 /* Reads path data into a command list. A command is a letter (M, L, Q, C, A or Z) in letters and 2, 2, 4, 6, 7 or 0
  * numbers in numbers, in the unit of the path, a rotation in degrees, a flag +0 or 1: M and L have their end, Q a control
  * and its end, C two controls and its end, A two radii, the rotation, the flags large and sweep and its end. Coordinates
- * are absolute, H and V become L, and a NaN that comes of adding is 0x7FC00000. Separators are comma, space, tab, LF, FF
- * and CR. answer[0] gets how many letters are stored, answer[1] how many numbers; both stand from their buffer's start,
+ * are absolute, H and V become L, S and T become C and Q: their first control is the last one mirrored, p + (p - c) by
+ * coordinate, past C or S for S and past Q or T for T, and else the current point. A NaN that comes of adding is 0x7FC00000.
+ * Separators are comma, space, tab, LF, FF and CR. answer[0] gets how many letters are stored, answer[1] how many numbers; both stand from their buffer's start,
  * and what stands past them is left as it was.
  *
  * Refused with 1 above 65,536 bytes, else with the first of 2 to 7 in the text, else with 8 where a buffer is too short:

@@ -154,6 +154,17 @@ fn angles() {
     row("atan2, libm, latency", latency(&inputs, after, plain, ours, theirs));
 }
 
+// S and T read like Q and L, byte for byte
+fn plain(byte: u8) -> u8 {
+    match byte {
+        b'S' => b'Q',
+        b's' => b'q',
+        b'T' => b'L',
+        b't' => b'l',
+        other => other,
+    }
+}
+
 // the path texts that tools/drawings gathers and the Rust reads
 struct Drawings {
     gathered: Vec<u8>,
@@ -171,20 +182,34 @@ impl Drawings {
     fn texts(&self) -> Vec<&[u8]> {
         self.gathered.split(|byte| *byte == b'\n').filter(|text| original_reads(text) > 0).collect()
     }
+
+    // those that the Rust does not read for their S and T
+    fn smooth(&self) -> Vec<&[u8]> {
+        let read = |text: &[u8]| {
+            let plain: Vec<u8> = text.iter().map(|byte| plain(*byte)).collect();
+            plain != text && original_reads(&plain) > 0
+        };
+        self.gathered.split(|byte| *byte == b'\n').filter(|text| read(text)).collect()
+    }
 }
 
 // all texts once a turn, both sides in turn; ns per byte
 fn per_byte(texts: &[&[u8]], ours: impl Fn(&[u8]) -> usize, theirs: impl Fn(&[u8]) -> usize) -> [f64; 2] {
-    let bytes: usize = texts.iter().map(|text| text.len()).sum();
-    let turn = |side: &dyn Fn(&[u8]) -> usize| {
+    per_byte_of([texts, texts], ours, theirs)
+}
+
+// the same where each side has texts of its own
+fn per_byte_of(texts: [&[&[u8]]; 2], ours: impl Fn(&[u8]) -> usize, theirs: impl Fn(&[u8]) -> usize) -> [f64; 2] {
+    let turn = |texts: &[&[u8]], side: &dyn Fn(&[u8]) -> usize| {
+        let bytes: usize = texts.iter().map(|text| text.len()).sum();
         let began = std::time::Instant::now();
         std::hint::black_box(texts.iter().map(|text| side(text)).sum::<usize>());
         began.elapsed().as_secs_f64() * 1e9 / bytes as f64
     };
     let mut least = [f64::INFINITY; 2];
     for _ in 0..10 {
-        least[0] = least[0].min(turn(&ours));
-        least[1] = least[1].min(turn(&theirs));
+        least[0] = least[0].min(turn(texts[0], &ours));
+        least[1] = least[1].min(turn(texts[1], &theirs));
     }
     least
 }
@@ -208,6 +233,11 @@ fn read() {
         kihavute::read_into(text, letters, numbers).map_or(0, |(commands, _)| commands)
     };
     row("read, drawings, a byte", per_byte(&texts, ours, original_reads));
+    // those with S and T, which the Rust does not read: it is handed Q and L in their place
+    let smooth = drawings.smooth();
+    let plain: Vec<Vec<u8>> = smooth.iter().map(|text| text.iter().map(|byte| plain(*byte)).collect()).collect();
+    let plain: Vec<&[u8]> = plain.iter().map(|text| &text[..]).collect();
+    row("read, smooth, a byte", per_byte_of([&smooth, &plain], ours, original_reads));
     let owned = |text: &[u8]| kihavute::read(text).map_or(0, |commands| commands.letters.len());
     row("read, own buffers, a byte", per_byte(&texts, owned, original_reads));
     other_readers(&texts, &ours);

@@ -4,8 +4,8 @@ use crate::compare::{Input, Report};
 use crate::math::alike;
 use crate::read;
 use crate::samples::{SPECIALS, Stream};
+use crate::smooth;
 use animato_path::poly::{CompoundPath, PathCommand, PathSegment};
-use animato_path::svg::SvgPathParser;
 use std::fmt;
 
 /// What a path is built of.
@@ -138,7 +138,7 @@ impl Asked {
     fn commands(&self) -> Option<Vec<PathCommand>> {
         match &self.source {
             Source::List(commands) => Some(commands.clone()),
-            Source::Text(text) => SvgPathParser::try_parse(text).ok(),
+            Source::Text(text) => smooth::try_parse(text).ok(),
         }
     }
 
@@ -291,12 +291,20 @@ pub fn list(stream: &mut Stream, kind: u32) -> Vec<PathCommand> {
     commands
 }
 
-/// A list as a text, some letters in lower case.
+/// A list as a text, some letters in lower case, and some curves without their first control.
 pub fn text(stream: &mut Stream, kind: u32) -> String {
     let mut out = String::new();
     for command in list(stream, kind) {
-        let (letters, numbers) = stored(&[command]);
-        let letter = if stream.below(3) == 0 { letters[0].to_ascii_lowercase() } else { letters[0] };
+        let (letters, mut numbers) = stored(&[command]);
+        let capital = match letters[0] {
+            b'C' if stream.below(3) == 0 => b'S',
+            b'Q' if stream.below(3) == 0 => b'T',
+            letter => letter,
+        };
+        if capital != letters[0] {
+            numbers.drain(..2);
+        }
+        let letter = if stream.below(3) == 0 { capital.to_ascii_lowercase() } else { capital };
         out.push(letter as char);
         for number in numbers {
             out.push([' ', ',', ' '][stream.below(3) as usize]);
@@ -345,7 +353,7 @@ impl Due {
     pub fn of(text: &str, room: [usize; 4]) -> Due {
         let refused =
             |number, values| Due { number, values, total: 0, kinds: vec![], numbers: [vec![], vec![], vec![]] };
-        let commands = match (SvgPathParser::try_parse(text), read::theirs(text.as_bytes())) {
+        let commands = match (smooth::try_parse(text), read::theirs(text.as_bytes())) {
             (Ok(commands), _) => commands,
             (Err(_), read::Said::Refused { number, carried }) => return refused(number, carried),
             (Err(error), _) => panic!("{error}"),
@@ -382,7 +390,7 @@ pub fn compare_drawings(report: &mut Report) {
     let asked = texts.iter().map(|line| Asked { source: Source::Text(line.to_string()), short: None });
     report.group("building drawings", asked, Asked::ours, Asked::expected);
     let asked = texts.iter().filter_map(|line| {
-        let commands = SvgPathParser::try_parse(line).ok()?;
+        let commands = smooth::try_parse(line).ok()?;
         Some(Asked { source: Source::List(commands), short: None })
     });
     report.group("building drawings' lists", asked, Asked::ours, Asked::expected);

@@ -15,6 +15,7 @@ mod record;
 mod root_all;
 mod samples;
 mod simple;
+mod smooth;
 mod spline;
 mod stations;
 mod stored;

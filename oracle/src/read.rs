@@ -1,12 +1,13 @@
-//! Permissive reading: the proved reader against the original's try_parse on texts of UTF-8, and against a second reader
-//! on other bytes. Each text is read into buffers of several sizes, and every place of them is looked at.
+//! Permissive reading: the proved reader against the original's try_parse on texts of UTF-8, with S and T put in by the rule
+//! of SVG, and against a second reader on other bytes. Each text is read into buffers of several sizes, and every place of them is looked at.
 
 use crate::compare::Report;
 use crate::samples::{Stream, damaged};
+use crate::smooth;
 use crate::strict::Text;
 use crate::words;
 use animato_path::poly::PathCommand;
-use animato_path::svg::{SvgPathError, SvgPathParser};
+use animato_path::svg::SvgPathError;
 use std::fmt;
 
 /// What a reader says of a text; a NaN's bits are 7FC00000.
@@ -141,7 +142,7 @@ fn stored(command: &PathCommand) -> (u8, Vec<f32>) {
 /// What the original says of a text of UTF-8.
 pub fn theirs(text: &[u8]) -> Said {
     let text = std::str::from_utf8(text).expect("the original reads UTF-8");
-    let (number, carried) = match SvgPathParser::try_parse(text) {
+    let (number, carried) = match smooth::try_parse(text) {
         Ok(commands) => {
             let commands: Vec<_> = commands.iter().map(stored).collect();
             return list(commands.iter().map(|(letter, numbers)| (*letter, &numbers[..])));
@@ -172,13 +173,15 @@ pub fn judge(text: &[u8]) -> Said {
 // ---- all texts
 
 // bytes at which a wrong class, a wrong end, a wrong case or a wrong place shows
-pub const TELLING: [u8; 16] = *b"MmLhZS01.-+e, \x0C#";
+pub const TELLING: [u8; 17] = *b"MmLhZST01.-+e, \x0C#";
+
+const COUNT: u64 = TELLING.len() as u64;
 
 // a start, then up to so many telling bytes
 fn texts(start: &[u8], more: u32) -> impl Iterator<Item = Text> {
     (0..=more).flat_map(move |bytes| {
-        (0..16u64.pow(bytes)).map(move |number| {
-            let tail = (0..bytes).map(|place| TELLING[(number >> (4 * place)) as usize % 16]);
+        (0..COUNT.pow(bytes)).map(move |number| {
+            let tail = (0..bytes).map(|place| TELLING[(number / COUNT.pow(place) % COUNT) as usize]);
             Text(start.iter().copied().chain(tail).collect())
         })
     })
@@ -193,13 +196,14 @@ fn compare_texts(report: &mut Report, name: &str, inputs: impl Iterator<Item = T
 fn short_texts(report: &mut Report, bytes: u32) {
     compare_texts(report, "the empty text", texts(b"", 0));
     for byte in TELLING {
-        let name = format!("{:?} and up to {} of 16 bytes", char::from(byte), bytes - 1);
+        let name = format!("{:?} and up to {} of {COUNT} bytes", char::from(byte), bytes - 1);
         compare_texts(report, &name, texts(&[byte], bytes - 1));
     }
 }
 
-// a path that lacks the last argument of a group, for each letter, and an arc that lacks its flags
-const STARTS: [&str; 19] = [
+// a path that lacks the last argument of a group, for each letter, S and T behind a cubic, a quad and a line; and an arc that
+// lacks its flags
+const STARTS: [&str; 31] = [
     "M0 0",
     "M0 0M1",
     "M0 0m1",
@@ -219,11 +223,23 @@ const STARTS: [&str; 19] = [
     "M0 0a1 2 3 0",
     "M0 0Z",
     "M1 2m3 4z",
+    "M0 0C1 2 3 4 5 6S7 8 9",
+    "M0 0C1 2 3 4 5 6s7 8 9",
+    "M0 0C1 2 3 4 5 6T7",
+    "M0 0C1 2 3 4 5 6t7",
+    "M0 0Q1 2 3 4S5 6 7",
+    "M0 0Q1 2 3 4s5 6 7",
+    "M0 0Q1 2 3 4T5",
+    "M0 0Q1 2 3 4t5",
+    "M0 0L1 2S3 4 5",
+    "M0 0L1 2s3 4 5",
+    "M0 0L1 2T3",
+    "M0 0L1 2t3",
 ];
 
 fn tails(report: &mut Report, bytes: u32) {
     for start in STARTS {
-        compare_texts(report, &format!("{start:?} and up to {bytes} of 16 bytes"), texts(start.as_bytes(), bytes));
+        compare_texts(report, &format!("{start:?} and up to {bytes} of {COUNT} bytes"), texts(start.as_bytes(), bytes));
     }
 }
 
@@ -314,7 +330,7 @@ impl Paths {
         }
         for _ in 0..self.0.below(7) {
             self.separators(&mut text, 0);
-            let letter = self.pick(b"MmLlHhVvCcQqAaZzLlCcAa");
+            let letter = self.pick(b"MmLlHhVvCcSsQqTtAaZzLlCcSsTtAa");
             text.push(letter);
             if letter | 32 == b'z' {
                 continue;
@@ -331,7 +347,7 @@ impl Paths {
                     other => {
                         let numbers = match other {
                             b'c' => 6,
-                            b'q' => 4,
+                            b'q' | b's' => 4,
                             _ => 2,
                         };
                         (0..numbers).for_each(|_| self.number(&mut text));
@@ -409,16 +425,17 @@ fn other_bytes(report: &mut Report, seed: u64, count: u64) {
 
 // 65,536 bytes are read, one more is not
 fn long_texts(report: &mut Report) {
-    let inputs = ["", "z", "M0 0h1 ", "M.1.1", "M0 0c1 2 3 4 5 6,", "1", "-", "M1e", "M0 0a1 1 0 00.1.1 "]
-        .iter()
-        .flat_map(|part| {
-            [65_535, 65_536, 65_537].map(|size| {
-                let repeated = part.bytes().cycle().take(if part.is_empty() { 0 } else { size });
-                let mut text: Vec<u8> = repeated.collect();
-                text.resize(size, b' ');
-                Text(text)
-            })
-        });
+    let inputs =
+        ["", "z", "M0 0h1 ", "M.1.1", "M0 0c1 2 3 4 5 6,", "M0 0s1 2 3 4,", "1", "-", "M1e", "M0 0a1 1 0 00.1.1 "]
+            .iter()
+            .flat_map(|part| {
+                [65_535, 65_536, 65_537].map(|size| {
+                    let repeated = part.bytes().cycle().take(if part.is_empty() { 0 } else { size });
+                    let mut text: Vec<u8> = repeated.collect();
+                    text.resize(size, b' ');
+                    Text(text)
+                })
+            });
     let judge = |text: &Text| if text.0.len() > 65_536 { second(&text.0) } else { judge(&text.0) };
     let calls = report.group("texts of about 65,536 bytes", inputs, |text| ours(&text.0), judge);
     println!("  texts of about 65,536 bytes: {calls} texts, {:.0} s", report.seconds());
@@ -427,7 +444,7 @@ fn long_texts(report: &mut Report) {
 // so many commands, whole or with an end that is refused, that the reader's own buffers of 256 letters and 512 numbers,
 // and past 2,048 bytes of 2,048 and 4,096, are just full or one command too small
 fn full_buffers(report: &mut Report) {
-    let parts = ["z", "h1 ", "l1 2 ", "q1 2 3 4 ", "c1 2 3 4 5 6 ", "a1 2 3 011.5 6 "];
+    let parts = ["z", "h1 ", "l1 2 ", "t1 2 ", "q1 2 3 4 ", "s1 2 3 4 ", "c1 2 3 4 5 6 ", "a1 2 3 011.5 6 "];
     let counts = [84, 85, 86, 127, 128, 129, 254, 255, 256, 257, 258, 682, 683, 1023, 1024, 2046, 2047, 2048, 2049];
     let ends = ["", "z", "l7 8", "h", "l1", "x", "a1 1 0 2", "l1e"];
     let mut inputs = Vec::new();
@@ -553,7 +570,7 @@ pub fn compare_drawings(report: &mut Report, seed: u64) {
 
 /// What the gate runs: shorter texts, shorter tails and fewer made ones.
 pub fn compare_some(report: &mut Report, seed: u64) {
-    compare_texts(report, "all texts of up to 4 of 16 bytes", texts(b"", 4));
+    compare_texts(report, &format!("all texts of up to 4 of {COUNT} bytes"), texts(b"", 4));
     let inputs = STARTS.iter().flat_map(|start| texts(start.as_bytes(), 2));
     compare_texts(report, "all tails of up to 2 after each command", inputs);
     compare_made(report, seed, 200_000);

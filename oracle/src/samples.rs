@@ -149,14 +149,14 @@ pub fn draw<const N: usize>(kind: Kind, stream: &mut Stream) -> [u32; N] {
 
 /// A copy of a text with one to three bytes changed, left out, put in or doubled, or with its end cut off. The bytes put in
 /// are telling ones, now and then a letter or any byte.
-pub fn damaged(stream: &mut Stream, text: &[u8], telling: &[u8; 16], letters: &[u8; 12]) -> Vec<u8> {
+pub fn damaged(stream: &mut Stream, text: &[u8], telling: &[u8], letters: &[u8; 12]) -> Vec<u8> {
     let mut text = text.to_vec();
     for _ in 0..=stream.below(3) {
         let place = stream.below(text.len() as u32 + 1) as usize;
         let byte = match stream.below(8) {
             0 => stream.bits() as u8,
             1 => letters[stream.below(12) as usize],
-            _ => telling[stream.below(16) as usize],
+            _ => telling[stream.below(telling.len() as u32) as usize],
         };
         match stream.below(5) {
             0 => text.insert(place, byte),

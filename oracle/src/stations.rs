@@ -6,10 +6,10 @@ use crate::compare::Report;
 use crate::math::alike;
 use crate::read::{self, Paths, Said};
 use crate::samples::Stream;
+use crate::smooth;
 use crate::strict::Text;
 use animato_path::bezier::PathEvaluate;
 use animato_path::poly::{CompoundPath, PathCommand, PathSegment};
-use animato_path::svg::SvgPathParser;
 use std::fmt;
 use std::io::Write;
 use std::process::{Command, Stdio};
@@ -57,7 +57,7 @@ fn read(text: &[u8]) -> Result<Vec<PathCommand>, Refused> {
         return Err(Refused(number, carried));
     }
     let text = std::str::from_utf8(text).expect("a path that reads is ASCII");
-    let commands = SvgPathParser::try_parse(text).expect("the original reads what it read before");
+    let commands = smooth::try_parse(text).expect("the original reads what it read before");
     if commands.len() > 256 {
         let (letters, numbers) = build::stored(&commands);
         return Err(Refused(8, vec![letters.len() as u64, numbers.len() as u64]));

@@ -1,11 +1,11 @@
-//! Strict reading: the proved recogniser against a general one over the grammar as data, and against the original reader,
-//! which takes every text with a yes that has no smooth curve.
+//! Strict reading: the proved recogniser against a general one over the grammar as data, and against the permissive readers,
+//! which take every text with a yes.
 
 use crate::bnf::{Grammar, PATH, Symbol};
 use crate::compare::{Input, Report};
 use crate::earley::{Found, Recogniser};
 use crate::samples::{Stream, damaged};
-use animato_path::svg::SvgPathParser;
+use crate::{read, smooth};
 use kihavute::Strict;
 use std::fmt;
 use std::hint::black_box;
@@ -234,21 +234,31 @@ fn derivations(report: &mut Report, grammar: &Grammar, paths: &Paths, seed: u64,
     let all = report.group(&name, texts(), |text| ours(&text.0), |text| paths.says(&text.0));
     println!("  {name}: {all} texts, {:.0} s", report.seconds());
 
-    // S and T are in the grammar and not in the original reader
-    let smooth = |text: &Text| text.0.iter().any(|byte| b"SsTt".contains(byte));
-    let taken = texts().filter(|text| ours(&text.0).0 && !smooth(text));
-    let name = "those with a yes and without S and T, by the original reader";
-    let read = report.group(name, taken, |_| Said(true), |text| Said(original_reads(&text.0)));
+    read_too(report, texts);
+}
+
+// every text with a yes is read, by the original reader with S and T put in, and by the proved one
+fn read_too<Texts: Iterator<Item = Text>>(report: &mut Report, texts: impl Fn() -> Texts) {
+    let taken = || texts().filter(|text| ours(&text.0).0);
+    let name = "those with a yes, by the original reader";
+    let read = report.group(name, taken(), |_| Said(true), |text| Said(original_reads(&text.0)));
+    println!("  {name}: {read} texts, {:.0} s", report.seconds());
+    let name = "those with a yes, by the proved permissive reader";
+    let read = report.group(name, taken(), |_| Said(true), |text| Said(proved_reads(&text.0)));
     println!("  {name}: {read} texts, {:.0} s", report.seconds());
 }
 
 fn original_reads(text: &[u8]) -> bool {
-    std::str::from_utf8(text).is_ok_and(|text| SvgPathParser::try_parse(text).is_ok())
+    std::str::from_utf8(text).is_ok_and(|text| smooth::try_parse(text).is_ok())
+}
+
+fn proved_reads(text: &[u8]) -> bool {
+    matches!(read::ours(text), read::Said::Read { .. })
 }
 
 // ---- real drawings
 
-/// The path texts that tools/drawings gathers: both recognisers, and the original reader for those with a yes and no S or T.
+/// The path texts that tools/drawings gathers: both recognisers, and both permissive readers for those with a yes.
 pub fn compare_drawings(report: &mut Report) {
     let Ok(gathered) = std::fs::read("target/drawings/paths.txt") else {
         println!("  no path texts: run tools/drawings first");
@@ -262,11 +272,7 @@ pub fn compare_drawings(report: &mut Report) {
     let all = report.group("real drawings", texts(), |text| ours(&text.0), |text| paths.says(&text.0));
     let yes = texts().filter(|text| ours(&text.0).0).count();
     println!("  real drawings: {all} texts of {} bytes, {yes} with a yes, {:.0} s", gathered.len(), report.seconds());
-    let smooth = |text: &Text| text.0.iter().any(|byte| b"SsTt".contains(byte));
-    let taken = texts().filter(|text| ours(&text.0).0 && !smooth(text));
-    let name = "those with a yes and without S and T, by the original reader";
-    let read = report.group(name, taken, |_| Said(true), |text| Said(original_reads(&text.0)));
-    println!("  {name}: {read} texts, {:.0} s", report.seconds());
+    read_too(report, texts);
 }
 
 // ---- the time of long texts

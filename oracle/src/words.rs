@@ -8,16 +8,27 @@ pub type Stored = (u8, Vec<f32>);
 pub type Refused = (u32, Vec<u64>);
 
 // what a group of each letter has: a coordinate of either axis, a plain number or a flag
-const GROUPS: [(u8, &str); 7] =
-    [(b'M', "xy"), (b'L', "xy"), (b'H', "x"), (b'V', "y"), (b'C', "xyxyxy"), (b'Q', "xyxy"), (b'A', "nnnffxy")];
+const GROUPS: [(u8, &str); 9] = [
+    (b'M', "xy"),
+    (b'L', "xy"),
+    (b'H', "x"),
+    (b'V', "y"),
+    (b'C', "xyxyxy"),
+    (b'S', "xyxy"),
+    (b'Q', "xyxy"),
+    (b'T', "xy"),
+    (b'A', "nnnffxy"),
+];
 
 /// The commands of a text, or its first refusal.
 pub fn read(text: &[u8]) -> Result<Vec<Stored>, Refused> {
-    let mut commands = Vec::new();
+    let mut commands: Vec<Stored> = Vec::new();
     if text.len() > 65_536 {
         return Err((1, vec![text.len() as u64]));
     }
     let (mut remembered, mut current, mut start) = (None, None, [0.0, 0.0]);
+    // in capitals the letter of the last command
+    let mut before = b'Z';
     let mut at = past_separators(text, 0);
     while at < text.len() {
         // "a letter becomes the remembered command; any other byte repeats it; with none, 7 at that byte"
@@ -29,12 +40,12 @@ pub fn read(text: &[u8]) -> Result<Vec<Stored>, Refused> {
         let capital = letter.to_ascii_uppercase();
         if capital == b'Z' {
             commands.push((b'Z', vec![]));
-            (remembered, current) = (None, Some(start));
+            (remembered, current, before) = (None, Some(start), b'Z');
         } else {
             let Some((_, group)) = GROUPS.iter().find(|(name, _)| *name == capital) else {
                 return Err((6, vec![u64::from(letter), at as u64 - 1]));
             };
-            // "LHVCQA need a current point, else 7 just after the letter"
+            // "LHVCQA need a current point, else 7 just after the letter", and so do S and T
             if capital != b'M' && current.is_none() {
                 return Err((7, vec![at as u64]));
             }
@@ -62,14 +73,27 @@ pub fn read(text: &[u8]) -> Result<Vec<Stored>, Refused> {
                 }
                 // "M: first pair MoveTo, more pairs LineTo. H and V give LineTo."
                 let [x, y] = current.unwrap_or([0.0, 0.0]);
+                // "the last control mirrored through the current point when the previous command was C or S (for S), Q or T
+                // (for T), and the current point itself otherwise": a curve's last control stands before its end
+                let control = |makers: &[u8]| match commands.last() {
+                    Some((_, last)) if makers.contains(&before) => {
+                        let [.., u, v, _, _] = last[..] else { panic!("a curve has a control") };
+                        [x + (x - u), y + (y - v)]
+                    }
+                    _ => [x, y],
+                };
                 let stored = match capital {
                     b'M' if !first => b'L',
                     b'H' | b'V' => b'L',
+                    b'S' => b'C',
+                    b'T' => b'Q',
                     _ => capital,
                 };
                 match capital {
                     b'H' => numbers.push(y),
                     b'V' => numbers.insert(0, x),
+                    b'S' => drop(numbers.splice(..0, control(b"CS"))),
+                    b'T' => drop(numbers.splice(..0, control(b"QT"))),
                     _ => {}
                 }
                 let end = [numbers[numbers.len() - 2], numbers[numbers.len() - 1]];
@@ -78,6 +102,7 @@ pub fn read(text: &[u8]) -> Result<Vec<Stored>, Refused> {
                 }
                 current = Some(end);
                 first = false;
+                before = capital;
                 commands.push((stored, numbers));
             }
         }

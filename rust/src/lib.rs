@@ -1204,7 +1204,10 @@ mod tests {
         assert_eq!(read(b"M"), Err(ReadError::ExpectedNumber(1)));
         assert_eq!(read(b"M1e 2"), Err(ReadError::InvalidNumber(2)));
         assert_eq!(read(b"M0 0A1 1 0 2 0 3 4"), Err(ReadError::ExpectedFlag(11)));
-        assert_eq!(read(b"M0 0S1 2 3 4"), Err(ReadError::UnsupportedCommand(b'S', 4)));
+        assert_eq!(read(b"M0 0S1 2 3 4"), list(b"MC", &[0.0, 0.0, 0.0, 0.0, 1.0, 2.0, 3.0, 4.0]));
+        assert_eq!(read(b"M1 2T4 6T9 9"), list(b"MQQ", &[1.0, 2.0, 1.0, 2.0, 4.0, 6.0, 7.0, 10.0, 9.0, 9.0]));
+        assert_eq!(read(b"S1 2 3 4"), Err(ReadError::MissingMoveTo(1)));
+        assert_eq!(read(b"M0 0R1 2 3 4"), Err(ReadError::UnsupportedCommand(b'R', 4)));
         assert_eq!(read(b"M1 2Z3 4"), Err(ReadError::MissingMoveTo(5)));
         // in words as the refusal that read_into gives
         for text in [&b"M1"[..], b"M", b"M1e 2", b"M0 0A1 1 0 2 0 3 4", b"M0 0S1 2 3 4", b"M1 2Z3 4", &[b' '; 65_537]] {

@@ -89,8 +89,8 @@ pub struct Place {
 /// let place = path.place(Progress(0.25)).unwrap().expect("a path with a segment");
 /// assert_eq!(place.segment, 0);
 /// assert_eq!(path.position(Progress(0.0)).unwrap(), [0.0, 0.0]);
-/// let refusal = Path::from_text(b"M0 0 S1 2 3 4").unwrap_err();
-/// assert_eq!(refusal.to_string(), "the command S at byte 5 is not known; use M, L, H, V, C, Q, A or Z");
+/// let refusal = Path::from_text(b"M0 0 R1 2 3 4").unwrap_err();
+/// assert_eq!(refusal.to_string(), "the command R at byte 5 is not known; use M, L, H, V, C, S, Q, T, A or Z");
 /// ```
 #[derive(Clone, Debug, Default, PartialEq)]
 pub struct Path {

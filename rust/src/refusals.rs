@@ -133,7 +133,7 @@ impl fmt::Display for Reason {
             Reason::ExpectedFlag { offset } => write!(f, "byte {offset} is an arc's flag; write 0 or 1 there"),
             Reason::UnsupportedCommand { letter, offset } => {
                 let letter = letter.escape_ascii();
-                write!(f, "the command {letter} at byte {offset} is not known; use M, L, H, V, C, Q, A or Z")
+                write!(f, "the command {letter} at byte {offset} is not known; use M, L, H, V, C, S, Q, T, A or Z")
             }
             Reason::MissingMoveTo { offset } => {
                 write!(f, "at byte {offset} there is no command or current point to draw from; begin with M")
@@ -183,7 +183,7 @@ mod tests {
         for number in (1..=13).chain([255, 77]) {
             assert!(refusal(number, &[7, 9]).to_string().contains(';'), "refusal {number}");
         }
-        assert!(refusal(6, &[83, 4]).to_string().contains("command S at byte 4"));
+        assert!(refusal(6, &[82, 4]).to_string().contains("command R at byte 4"));
         assert!(refusal(8, &[2, 4]).to_string().ends_with("2, 4"));
         assert!(refusal(8, &[0]).to_string().ends_with(": 0"));
     }

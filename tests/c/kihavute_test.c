@@ -723,6 +723,12 @@ static void reading(void) {
     /* a minus before a radius reads, which strict reading refuses */
     read_is("M0 0A-1 1 0 0 0 3 4", "MA", 9, (uint32_t[]){0, 0, bits(-1), one, 0, 0, 0, three, four});
     read_is("M0 0Q1 2 3 4", "MQ", 6, (uint32_t[]){0, 0, one, two, three, four});
+    /* smooth curves: from the current point, its own bits, or past a curve of their own kind mirrored */
+    read_is("M0 0S1 2 3 4", "MC", 8, (uint32_t[]){0, 0, 0, 0, one, two, three, four});
+    read_is("M1 2T4 6T9 9", "MQQ", 10,
+            (uint32_t[]){one, two, one, two, four, bits(6), bits(7), bits(10), bits(9), bits(9)});
+    read_is("ZS9 8 7 6", "ZC", 6, (uint32_t[]){0, 0, bits(9), bits(8), bits(7), bits(6)});
+    read_is("M1e39-0T1 2", "MQ", 6, (uint32_t[]){INFINITE, MINUS_ZERO, INFINITE, MINUS_ZERO, one, two});
     read_is("M1 1c0 1 2 3 1e39-1e39", "MC", 8,
             (uint32_t[]){one, one, one, two, three, four, INFINITE, INFINITE | MINUS_ZERO});
     /* infinity less infinity */
@@ -735,7 +741,9 @@ static void reading(void) {
     read_refused("M1", 2, 1, (uint64_t[]){2});
     read_refused("M1e 2", 4, 1, (uint64_t[]){2});
     read_refused("M1 2Z3 4", 7, 1, (uint64_t[]){5});
-    read_refused("M0 0S1 2 3 4", 6, 2, (uint64_t[]){'S', 4});
+    read_refused("M0 0R1 2 3 4", 6, 2, (uint64_t[]){'R', 4});
+    read_refused("S1 2 3 4", 7, 1, (uint64_t[]){1});
+    read_refused("t1 2", 7, 1, (uint64_t[]){1});
     read_refused("M0 0A1 1 0 2 0 3 4", 5, 1, (uint64_t[]){11});
     read_refused("M0 0\xFF", 3, 1, (uint64_t[]){4});
 
@@ -983,8 +991,8 @@ static void stations(void) {
     same("what it says", memcmp(out, "refused 13 0\n", 13), 0);
     same("what stood past it stays", memcmp(out + 13, due + 13, due_len - 13), 0);
     fresh();
-    answered("a plan of a letter", kihavute_stations((const uint8_t *)"2\nM0 0S", 7, out, 65536, answer, PLACES), 0, 1, (uint64_t[]){14});
-    same("what it says", memcmp(out, "refused 6 S 4\n", 14), 0);
+    answered("a plan of a letter", kihavute_stations((const uint8_t *)"2\nM0 0R", 7, out, 65536, answer, PLACES), 0, 1, (uint64_t[]){14});
+    same("what it says", memcmp(out, "refused 6 R 4\n", 14), 0);
 }
 
 /* Every slice of every entry as C++'s empty vector lends it: a null pointer with a count of 0. The answer is that of any empty slice. */

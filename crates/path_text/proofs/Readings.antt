@@ -3,9 +3,9 @@ use Prim.Native.Nat.{ℕ}
 use mathlib.Core.Path.{_≡_, refl}
 use mathlib.Core.List.{List, [], _∷_}
 use lib.Ieee.{binary32, ofBits}
-use Rattle.answers.specs.declared.refusals.Refusal.the-variants.{UnexpectedEnd, ExpectedNumber, InvalidNumber, ExpectedFlag, UnsupportedCommand, MissingMoveTo}
+use Rattle.answers.specs.declared.refusals.Refusal.the-variants.{UnexpectedEnd, ExpectedNumber, InvalidNumber, ExpectedFlag, MissingMoveTo}
 use Rattle.math.specs.declared.points.Point.{Point}
-use Rattle.commands.specs.declared.command.PathCommand.the-variants.{MoveTo, LineTo, ClosePath}
+use Rattle.commands.specs.declared.command.PathCommand.the-variants.{MoveTo, LineTo, CubicTo, ClosePath}
 use Rattle.svg.specs.Texts.{Outcome, commands, refusal}
 use Rattle.svg.specs.Readings.{readPathOf}
 use Rattle.svg.proofs.Readings.{readings}
@@ -36,7 +36,8 @@ pub readings-whole :
     -- `ZL1 2`
     × (read (90 ∷ 76 ∷ 49 ∷ 32 ∷ 50 ∷ []) ≡ commands (ClosePath ∷ LineTo (point 0x3f80_0000 0x4000_0000) ∷ []))
     -- `M0 0S1 2 3 4`
-    × (read (77 ∷ 48 ∷ 32 ∷ 48 ∷ 83 ∷ 49 ∷ 32 ∷ 50 ∷ 32 ∷ 51 ∷ 32 ∷ 52 ∷ []) ≡ refusal (UnsupportedCommand 83 4))
+    × (read (77 ∷ 48 ∷ 32 ∷ 48 ∷ 83 ∷ 49 ∷ 32 ∷ 50 ∷ 32 ∷ 51 ∷ 32 ∷ 52 ∷ [])
+    ≡ commands (MoveTo (point 0 0) ∷ CubicTo (point 0 0) (point 0x3f80_0000 0x4000_0000) (point 0x4040_0000 0x4080_0000) ∷ []))
     -- `M0 0A1 1 0 2 0 3 4`
     × (read (77 ∷ 48 ∷ 32 ∷ 48 ∷ 65 ∷ 49 ∷ 32 ∷ 49 ∷ 32 ∷ 48 ∷ 32 ∷ 50 ∷ 32 ∷ 48 ∷ 32 ∷ 51 ∷ 32 ∷ 52 ∷ []) ≡ refusal (ExpectedFlag 11))
     -- the list of `ZL1 2` builds no segment

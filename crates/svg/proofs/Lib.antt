@@ -8,3 +8,4 @@ pub mod Answering
 pub mod Unique
 pub mod ReadBack
 pub mod Readings
+pub mod Smooth

@@ -22,9 +22,9 @@ use Rattle.decimal.specs.declared.numbers.Read.the-variants.{Value, Refused as 
 use Rattle.math.specs.declared.points.Point.{Point}
 use Rattle.commands.specs.declared.command.PathCommand.{PathCommand}
 use Rattle.svg_group.specs.Numbers.{readNumberOf, numberThen, flagAt, readFlagOf, flagThen, readFlagsOf, flagsThen, readPairOf, pairThen}
-use Rattle.svg_group.specs.Groups.{readMoveOf, readLineOf, readHorizontalOf, readVerticalOf, readCubicOf, readQuadOf, readArcOf, readGroupOf}
+use Rattle.svg_group.specs.Groups.{readMoveOf, readLineOf, readHorizontalOf, readVerticalOf, readCubicOf, readSmoothCubicOf, readQuadOf, readSmoothQuadOf, readArcOf, readGroupOf}
 use Rattle.svg_group.specs.declared.letters.Kind.{Kind}
-use Rattle.svg_group.specs.declared.letters.Kind.the-variants.{Move, Line, Horizontal, Vertical, Cubic, Quad, Arc}
+use Rattle.svg_group.specs.declared.letters.Kind.the-variants.{Move, Line, Horizontal, Vertical, Cubic, SmoothCubic, Quad, SmoothQuad, Arc}
 use Rattle.svg_group.specs.declared.numbers.Flag.{Flag}
 use Rattle.svg_group.specs.declared.numbers.Flag.the-variants.{Taken as FlagTaken, Refused as FlagRefused}
 use Rattle.svg_group.specs.declared.numbers.Flags.{Flags}
@@ -144,9 +144,9 @@ module _ (text : List ℕ) (at : ℕ) (relative : Bool) (current : Point) where
   unfolding PairPast
   pair-ahead v e q = subst (PairPast at) q pair-past
 
-module _ (text : List ℕ) (at : ℕ) (relative : Bool) (current : Point) where
-  group-past : (kind : Kind) → GroupPast at (readGroupOf text at kind relative current)
-  unfolding readGroupOf readMoveOf readLineOf readHorizontalOf readVerticalOf readCubicOf readQuadOf readArcOf GroupPast
+module _ (text : List ℕ) (at : ℕ) (relative : Bool) (current first : Point) where
+  group-past : (kind : Kind) → GroupPast at (readGroupOf text at kind relative current first)
+  unfolding readGroupOf readMoveOf readLineOf readHorizontalOf readVerticalOf readCubicOf readSmoothCubicOf readQuadOf readSmoothQuadOf readArcOf GroupPast
   group-past Move = pair-elim (GroupPast at) Refused (readPairOf text at relative current) _ (λ x. tt) (λ v n q. pair-ahead text at relative current v n q)
   group-past Line = pair-elim (GroupPast at) Refused (readPairOf text at relative current) _ (λ x. tt) (λ v n q. pair-ahead text at relative current v n q)
   group-past Horizontal = number-elim (GroupPast at) Refused (readNumberOf text at) _ (λ x. tt) (λ v n q. number-ahead text at v n q)
@@ -156,6 +156,11 @@ module _ (text : List ℕ) (at : ℕ) (relative : Bool) (current : Point) where
       pair-elim (GroupPast at) Refused (readPairOf text n relative current) _ (λ x. tt) (λ w m r.
       pair-elim (GroupPast at) Refused (readPairOf text m relative current) _ (λ x. tt) (λ u k s.
       omega (arith, pair-ahead text at relative current v n q, pair-ahead text n relative current w m r, pair-ahead text m relative current u k s))))
+  group-past SmoothCubic =
+      pair-elim (GroupPast at) Refused (readPairOf text at relative current) _ (λ x. tt) (λ v n q.
+      pair-elim (GroupPast at) Refused (readPairOf text n relative current) _ (λ x. tt) (λ w m r.
+      omega (arith, pair-ahead text at relative current v n q, pair-ahead text n relative current w m r)))
+  group-past SmoothQuad = pair-elim (GroupPast at) Refused (readPairOf text at relative current) _ (λ x. tt) (λ v n q. pair-ahead text at relative current v n q)
   group-past Quad =
       pair-elim (GroupPast at) Refused (readPairOf text at relative current) _ (λ x. tt) (λ v n q.
       pair-elim (GroupPast at) Refused (readPairOf text n relative current) _ (λ x. tt) (λ w m r.
@@ -168,6 +173,6 @@ module _ (text : List ℕ) (at : ℕ) (relative : Bool) (current : Point) where
       omega (arith, pair-ahead text at false current radii a q, number-ahead text a rotation b r, flags-ahead text b large sweep d s, pair-ahead text d relative current end e t)))))
 
   -- a group passes a byte
-  pub group-ahead : (kind : Kind) (command : PathCommand) (next : ℕ) → readGroupOf text at kind relative current ≡ Taken command next → at < next
+  pub group-ahead : (kind : Kind) (command : PathCommand) (next : ℕ) → readGroupOf text at kind relative current first ≡ Taken command next → at < next
   unfolding GroupPast
   group-ahead kind command next q = subst (GroupPast at) q (group-past kind)

@@ -21,10 +21,10 @@ use Rattle.commands.specs.Stored.{argumentsOf}
 use Rattle.commands.specs.declared.command.PathCommand.{PathCommand}
 use Rattle.commands.specs.declared.command.PathCommand.the-variants.{MoveTo, LineTo, QuadTo, CubicTo, ArcTo}
 use Rattle.svg_group.specs.Numbers.{readNumberOf, numberThen, readFlagsOf, flagsThen, readPairOf, pairThen}
-use Rattle.svg_group.specs.Groups.{readMoveOf, readLineOf, readHorizontalOf, readVerticalOf, readCubicOf, readQuadOf, readArcOf, readGroupOf}
+use Rattle.svg_group.specs.Groups.{readMoveOf, readLineOf, readHorizontalOf, readVerticalOf, readCubicOf, readSmoothCubicOf, readQuadOf, readSmoothQuadOf, readArcOf, readGroupOf}
 use Rattle.svg_group.specs.Passing.{ended, passNumberOf, passThen, passPairOf, passQuadOf, passCubicOf, passArcOf, passGroupOf}
 use Rattle.svg_group.specs.declared.letters.Kind.{Kind}
-use Rattle.svg_group.specs.declared.letters.Kind.the-variants.{Move, Line, Horizontal, Vertical, Cubic, Quad, Arc}
+use Rattle.svg_group.specs.declared.letters.Kind.the-variants.{Move, Line, Horizontal, Vertical, Cubic, SmoothCubic, Quad, SmoothQuad, Arc}
 use Rattle.svg_group.specs.declared.numbers.Flags.{Flags}
 use Rattle.svg_group.specs.declared.numbers.Flags.the-variants.{Taken as FlagsTaken, Refused as FlagsRefused}
 use Rattle.svg_group.specs.declared.numbers.Pair.{Pair}
@@ -125,9 +125,9 @@ module _ (text : List ℕ) where
 
 -- ---- groups
 
-module _ (text : List ℕ) (relative : Bool) (current : Point) where
-  pub group-place : (at : ℕ) (kind : Kind) → groupPlace (readGroupOf text at kind relative current) ≡ passGroupOf text at kind
-  unfolding readGroupOf passGroupOf readMoveOf readLineOf readHorizontalOf readVerticalOf readCubicOf readQuadOf readArcOf passQuadOf passCubicOf passArcOf
+module _ (text : List ℕ) (relative : Bool) (current first : Point) where
+  pub group-place : (at : ℕ) (kind : Kind) → groupPlace (readGroupOf text at kind relative current first) ≡ passGroupOf text at kind
+  unfolding readGroupOf passGroupOf readMoveOf readLineOf readHorizontalOf readVerticalOf readCubicOf readSmoothCubicOf readQuadOf readSmoothQuadOf readArcOf passQuadOf passCubicOf passArcOf
   group-place at Move = pair-ends text relative current at MoveTo
   group-place at Line = pair-ends text relative current at LineTo
   group-place at Horizontal = number-ends text at _
@@ -136,6 +136,8 @@ module _ (text : List ℕ) (relative : Bool) (current : Point) where
       pair-goes text relative current at _ (λ n. passThen (passPairOf text n) (passPairOf text))
       (λ control1 n. pair-goes text relative current n _ (passPairOf text) (λ control2 m. pair-ends text relative current m (CubicTo control1 control2)))
       ∙ sym (pass-more (passPairOf text at) (passPairOf text) (passPairOf text))
+  group-place at SmoothCubic = pair-goes text relative current at _ (passPairOf text) (λ control2 n. pair-ends text relative current n (CubicTo first control2))
+  group-place at SmoothQuad = pair-ends text relative current at (QuadTo first)
   group-place at Quad = pair-goes text relative current at _ (passPairOf text) (λ control n. pair-ends text relative current n (QuadTo control))
   group-place at Arc =
       pair-goes text false current at _ _ (λ radii a.

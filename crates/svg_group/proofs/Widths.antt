@@ -9,9 +9,9 @@ use Rattle.commands.specs.Stored.{argumentsOf}
 use Rattle.commands.specs.declared.command.PathCommand.{PathCommand}
 use Rattle.svg_group.specs.Letters.{widthOf}
 use Rattle.svg_group.specs.Numbers.{readNumberOf, readFlagsOf, readPairOf}
-use Rattle.svg_group.specs.Groups.{readMoveOf, readLineOf, readHorizontalOf, readVerticalOf, readCubicOf, readQuadOf, readArcOf, readGroupOf}
+use Rattle.svg_group.specs.Groups.{readMoveOf, readLineOf, readHorizontalOf, readVerticalOf, readCubicOf, readSmoothCubicOf, readQuadOf, readSmoothQuadOf, readArcOf, readGroupOf}
 use Rattle.svg_group.specs.declared.letters.Kind.{Kind}
-use Rattle.svg_group.specs.declared.letters.Kind.the-variants.{Move, Line, Horizontal, Vertical, Cubic, Quad, Arc}
+use Rattle.svg_group.specs.declared.letters.Kind.the-variants.{Move, Line, Horizontal, Vertical, Cubic, SmoothCubic, Quad, SmoothQuad, Arc}
 use Rattle.svg_group.specs.declared.groups.Group.{Group}
 use Rattle.svg_group.specs.declared.groups.Group.the-variants.{Taken, Refused}
 use Rattle.svg_group.proofs.Ahead.{number-elim, flags-elim, pair-elim}
@@ -20,9 +20,9 @@ Wide : ℕ → Group → Type 0
 Wide width (Taken command next) = length (argumentsOf command) ≡ width
 Wide width (Refused refusal) = Unit
 
-module _ (text : List ℕ) (at : ℕ) (relative : Bool) (current : Point) where
-  group-wide : (kind : Kind) → Wide (widthOf kind) (readGroupOf text at kind relative current)
-  unfolding readGroupOf readMoveOf readLineOf readHorizontalOf readVerticalOf readCubicOf readQuadOf readArcOf Wide
+module _ (text : List ℕ) (at : ℕ) (relative : Bool) (current first : Point) where
+  group-wide : (kind : Kind) → Wide (widthOf kind) (readGroupOf text at kind relative current first)
+  unfolding readGroupOf readMoveOf readLineOf readHorizontalOf readVerticalOf readCubicOf readSmoothCubicOf readQuadOf readSmoothQuadOf readArcOf Wide
   group-wide Move = pair-elim (Wide 2) Refused (readPairOf text at relative current) _ (λ x. tt) (λ v n q. refl)
   group-wide Line = pair-elim (Wide 2) Refused (readPairOf text at relative current) _ (λ x. tt) (λ v n q. refl)
   group-wide Horizontal = number-elim (Wide 2) Refused (readNumberOf text at) _ (λ x. tt) (λ v n q. refl)
@@ -31,6 +31,10 @@ module _ (text : List ℕ) (at : ℕ) (relative : Bool) (current : Point) where
       pair-elim (Wide 6) Refused (readPairOf text at relative current) _ (λ x. tt) (λ v n q.
       pair-elim (Wide 6) Refused (readPairOf text n relative current) _ (λ x. tt) (λ w m r.
       pair-elim (Wide 6) Refused (readPairOf text m relative current) _ (λ x. tt) (λ u k s. refl)))
+  group-wide SmoothCubic =
+      pair-elim (Wide 6) Refused (readPairOf text at relative current) _ (λ x. tt) (λ v n q.
+      pair-elim (Wide 6) Refused (readPairOf text n relative current) _ (λ x. tt) (λ w m r. refl))
+  group-wide SmoothQuad = pair-elim (Wide 4) Refused (readPairOf text at relative current) _ (λ x. tt) (λ v n q. refl)
   group-wide Quad =
       pair-elim (Wide 4) Refused (readPairOf text at relative current) _ (λ x. tt) (λ v n q.
       pair-elim (Wide 4) Refused (readPairOf text n relative current) _ (λ x. tt) (λ w m r. refl))
@@ -40,6 +44,6 @@ module _ (text : List ℕ) (at : ℕ) (relative : Bool) (current : Point) where
       flags-elim (Wide 7) Refused (readFlagsOf text b) _ (λ x. tt) (λ large sweep d s.
       pair-elim (Wide 7) Refused (readPairOf text d relative current) _ (λ x. tt) (λ end e t. refl))))
 
-  pub group-width : (kind : Kind) (command : PathCommand) (next : ℕ) → readGroupOf text at kind relative current ≡ Taken command next → length (argumentsOf command) ≡ widthOf kind
+  pub group-width : (kind : Kind) (command : PathCommand) (next : ℕ) → readGroupOf text at kind relative current first ≡ Taken command next → length (argumentsOf command) ≡ widthOf kind
   unfolding Wide
   group-width kind command next q = subst (Wide (widthOf kind)) q (group-wide kind)

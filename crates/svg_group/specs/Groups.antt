@@ -7,7 +7,7 @@ use Rattle.math.specs.declared.points.Point.{Point}
 use Rattle.commands.specs.declared.command.PathCommand.the-variants.{MoveTo, LineTo, QuadTo, CubicTo, ArcTo}
 use Rattle.svg_group.specs.Numbers.{readNumberOf, numberThen, readFlagsOf, flagsThen, readPairOf, pairThen}
 use Rattle.svg_group.specs.declared.letters.Kind.{Kind}
-use Rattle.svg_group.specs.declared.letters.Kind.the-variants.{Move, Line, Horizontal, Vertical, Cubic, Quad, Arc}
+use Rattle.svg_group.specs.declared.letters.Kind.the-variants.{Move, Line, Horizontal, Vertical, Cubic, SmoothCubic, Quad, SmoothQuad, Arc}
 use Rattle.svg_group.specs.declared.groups.Group.{Group}
 use Rattle.svg_group.specs.declared.groups.Group.the-variants.{Taken, Refused}
 
@@ -45,6 +45,17 @@ module _ (text : List ℕ) (at : ℕ) (relative : Bool) (current : Point) where
       pairThen (readPairOf text second relative current) Refused (λ end next.
       Taken (QuadTo control end) next))
 
+  -- S: the second control and the end; the first control is given
+  unfoldable pub readSmoothCubicOf : Point → Group
+  readSmoothCubicOf first =
+      pairThen (readPairOf text at relative current) Refused (λ control2 second.
+      pairThen (readPairOf text second relative current) Refused (λ end next.
+      Taken (CubicTo first control2 end) next))
+
+  -- T: the end alone
+  unfoldable pub readSmoothQuadOf : Point → Group
+  readSmoothQuadOf first = pairThen (readPairOf text at relative current) Refused (λ end next. Taken (QuadTo first end) next)
+
   -- two radii, which are no point and stay as they are written, a rotation, two flags and the end
   unfoldable pub readArcOf : Group
   readArcOf =
@@ -54,11 +65,14 @@ module _ (text : List ℕ) (at : ℕ) (relative : Bool) (current : Point) where
       pairThen (readPairOf text fourth relative current) Refused (λ end next.
       Taken (ArcTo radii rotation large sweep end) next))))
 
-unfoldable pub readGroupOf : List ℕ → ℕ → Kind → Bool → Point → Group
-readGroupOf text at Move relative current = readMoveOf text at relative current
-readGroupOf text at Line relative current = readLineOf text at relative current
-readGroupOf text at Horizontal relative current = readHorizontalOf text at relative current
-readGroupOf text at Vertical relative current = readVerticalOf text at relative current
-readGroupOf text at Cubic relative current = readCubicOf text at relative current
-readGroupOf text at Quad relative current = readQuadOf text at relative current
-readGroupOf text at Arc relative current = readArcOf text at relative current
+-- `first` is the first control of a smooth curve
+unfoldable pub readGroupOf : List ℕ → ℕ → Kind → Bool → Point → Point → Group
+readGroupOf text at Move relative current first = readMoveOf text at relative current
+readGroupOf text at Line relative current first = readLineOf text at relative current
+readGroupOf text at Horizontal relative current first = readHorizontalOf text at relative current
+readGroupOf text at Vertical relative current first = readVerticalOf text at relative current
+readGroupOf text at Cubic relative current first = readCubicOf text at relative current
+readGroupOf text at SmoothCubic relative current first = readSmoothCubicOf text at relative current first
+readGroupOf text at Quad relative current first = readQuadOf text at relative current
+readGroupOf text at SmoothQuad relative current first = readSmoothQuadOf text at relative current first
+readGroupOf text at Arc relative current first = readArcOf text at relative current

@@ -13,7 +13,7 @@ use Rattle.scan.specs.declared.numbers.Number.{Number}
 use Rattle.scan.specs.declared.numbers.Number.the-variants.{Scanned, NoDigit, NoExponentDigit}
 use Rattle.svg_group.specs.Numbers.{readFlagsOf, flagsThen}
 use Rattle.svg_group.specs.declared.letters.Kind.{Kind}
-use Rattle.svg_group.specs.declared.letters.Kind.the-variants.{Move, Line, Horizontal, Vertical, Cubic, Quad, Arc}
+use Rattle.svg_group.specs.declared.letters.Kind.the-variants.{Move, Line, Horizontal, Vertical, Cubic, SmoothCubic, Quad, SmoothQuad, Arc}
 use Rattle.svg_group.specs.declared.passing.Passed.{Passed}
 use Rattle.svg_group.specs.declared.passing.Passed.the-variants.{To, Refused}
 
@@ -54,5 +54,7 @@ passGroupOf text at Line = passPairOf text at
 passGroupOf text at Horizontal = passNumberOf text at
 passGroupOf text at Vertical = passNumberOf text at
 passGroupOf text at Cubic = passCubicOf text at
+passGroupOf text at SmoothCubic = passQuadOf text at
 passGroupOf text at Quad = passQuadOf text at
+passGroupOf text at SmoothQuad = passPairOf text at
 passGroupOf text at Arc = passArcOf text at

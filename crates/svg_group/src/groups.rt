@@ -1,6 +1,6 @@
 // One group of each kind, read into a command.
 ghost use mathlib.Core.Path.{_≡_};
-ghost use Rattle.svg_group.specs.Groups.{readMoveOf, readLineOf, readHorizontalOf, readVerticalOf, readCubicOf, readQuadOf, readArcOf, readGroupOf};
+ghost use Rattle.svg_group.specs.Groups.{readMoveOf, readLineOf, readHorizontalOf, readVerticalOf, readCubicOf, readSmoothCubicOf, readQuadOf, readSmoothQuadOf, readArcOf, readGroupOf};
 use crate::letters::Kind;
 use crate::numbers::Flags;
 use crate::numbers::Pair;
@@ -143,6 +143,45 @@ fn read_quad(text: &[u8], at: usize, relative: bool, current: Point) -> Group
     }
 }
 
+// The second control and the end; the first control is given.
+fn read_smooth_cubic(text: &[u8], at: usize, relative: bool, current: Point, first: Point) -> Group
+    ensures { λ r. ⌜ r ≡ readSmoothCubicOf (now (text .entry)) at relative current first ⌝ }
+{
+    match read_pair(text, at, relative, current) {
+        Pair::Refused(refusal) => Group::Refused(refusal),
+        Pair::Taken { point, next } => match read_pair(text, next, relative, current) {
+            Pair::Refused(refusal) => Group::Refused(refusal),
+            Pair::Taken {
+                point: end,
+                next: past,
+            } => Group::Taken {
+                command: PathCommand::CubicTo {
+                    control1: first,
+                    control2: point,
+                    end,
+                },
+                next: past,
+            },
+        },
+    }
+}
+
+// The end alone.
+fn read_smooth_quad(text: &[u8], at: usize, relative: bool, current: Point, first: Point) -> Group
+    ensures { λ r. ⌜ r ≡ readSmoothQuadOf (now (text .entry)) at relative current first ⌝ }
+{
+    match read_pair(text, at, relative, current) {
+        Pair::Refused(refusal) => Group::Refused(refusal),
+        Pair::Taken { point, next } => Group::Taken {
+            command: PathCommand::QuadTo {
+                control: first,
+                end: point,
+            },
+            next,
+        },
+    }
+}
+
 // The radii are no point of the plane, and are never added to one.
 fn read_arc(text: &[u8], at: usize, relative: bool, current: Point) -> Group
     ensures { λ r. ⌜ r ≡ readArcOf (now (text .entry)) at relative current ⌝ }
@@ -179,9 +218,17 @@ fn read_arc(text: &[u8], at: usize, relative: bool, current: Point) -> Group
     }
 }
 
-// One group of a kind; `relative` says that its points are added to the current one.
-pub fn read_group(text: &[u8], at: usize, kind: Kind, relative: bool, current: Point) -> Group
-    ensures { λ r. ⌜ r ≡ readGroupOf (now (text .entry)) at kind relative current ⌝ }
+// One group of a kind; `relative` says that its points are added to the current one, and `first` is
+// the first control of a smooth curve.
+pub fn read_group(
+    text: &[u8],
+    at: usize,
+    kind: Kind,
+    relative: bool,
+    current: Point,
+    first: Point,
+) -> Group
+    ensures { λ r. ⌜ r ≡ readGroupOf (now (text .entry)) at kind relative current first ⌝ }
 {
     match kind {
         Kind::Move => read_move(text, at, relative, current),
@@ -189,7 +236,9 @@ pub fn read_group(text: &[u8], at: usize, kind: Kind, relative: bool, current: P
         Kind::Horizontal => read_horizontal(text, at, relative, current),
         Kind::Vertical => read_vertical(text, at, relative, current),
         Kind::Cubic => read_cubic(text, at, relative, current),
+        Kind::SmoothCubic => read_smooth_cubic(text, at, relative, current, first),
         Kind::Quad => read_quad(text, at, relative, current),
+        Kind::SmoothQuad => read_smooth_quad(text, at, relative, current, first),
         Kind::Arc => read_arc(text, at, relative, current),
     }
 }

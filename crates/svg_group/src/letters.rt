@@ -9,7 +9,9 @@ pub enum Kind {
     Horizontal,
     Vertical,
     Cubic,
+    SmoothCubic,
     Quad,
+    SmoothQuad,
     Arc,
 }
 
@@ -34,7 +36,9 @@ pub fn meaning(letter: u8) -> Letter
         b'H' | b'h' => Letter::Draws(Kind::Horizontal),
         b'V' | b'v' => Letter::Draws(Kind::Vertical),
         b'C' | b'c' => Letter::Draws(Kind::Cubic),
+        b'S' | b's' => Letter::Draws(Kind::SmoothCubic),
         b'Q' | b'q' => Letter::Draws(Kind::Quad),
+        b'T' | b't' => Letter::Draws(Kind::SmoothQuad),
         b'A' | b'a' => Letter::Draws(Kind::Arc),
         b'Z' | b'z' => Letter::Closes,
         _ => Letter::Unknown,
@@ -51,7 +55,9 @@ pub fn width(kind: Kind) -> usize
         Kind::Horizontal => 2,
         Kind::Vertical => 2,
         Kind::Cubic => 6,
+        Kind::SmoothCubic => 6,
         Kind::Quad => 4,
+        Kind::SmoothQuad => 4,
         Kind::Arc => 7,
     }
 }

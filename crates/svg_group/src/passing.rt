@@ -101,7 +101,9 @@ pub fn pass_group(text: &[u8], at: usize, kind: Kind) -> Passed
         Kind::Horizontal => pass_number(text, at),
         Kind::Vertical => pass_number(text, at),
         Kind::Cubic => pass_cubic(text, at),
+        Kind::SmoothCubic => pass_quad(text, at),
         Kind::Quad => pass_quad(text, at),
+        Kind::SmoothQuad => pass_pair(text, at),
         Kind::Arc => pass_arc(text, at),
     }
 }

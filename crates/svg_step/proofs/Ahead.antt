@@ -22,7 +22,7 @@ use Rattle.svg_group.specs.declared.letters.Letter.the-variants.{Draws, Closes,
 use Rattle.svg_group.specs.declared.groups.Group.{Group}
 use Rattle.svg_group.specs.declared.groups.Group.the-variants.{Taken, Refused as GroupRefused}
 use Rattle.svg_group.proofs.Ahead.{group-ahead}
-use Rattle.svg_step.specs.Steps.{isRelativeOf, needsPointOf, repeatedOf, afterOf, dueGroupOf, begun, dueLetterOf, again, dueAgainOf, nextDueOf, taken, stepped, readStepOf}
+use Rattle.svg_step.specs.Steps.{isRelativeOf, firstControlOf, needsPointOf, repeatedOf, afterOf, dueGroupOf, begun, dueLetterOf, again, dueAgainOf, nextDueOf, taken, stepped, readStepOf}
 use Rattle.svg_step.specs.declared.steps.Reader.{Reader}
 use Rattle.svg_step.specs.declared.steps.Due.{Due}
 use Rattle.svg_step.specs.declared.steps.Due.the-variants.{Done as NothingDue, Refused as NotDue, Close, Group as GroupDue}
@@ -127,12 +127,12 @@ Goes text reader (Refused reason) = reader .at < length text
 
 module _ (text : List ℕ) (reader : Reader) where
   taken-goes :
-      (kind : Kind) (letter first : ℕ) (relative : Bool) (current : Point) → reader .at ≤ first → reader .at < length text
-      → (group : Group) → readGroupOf text first kind relative current ≡ group → Goes text reader (taken letter (reader .start) group)
+      (kind : Kind) (letter first : ℕ) (relative : Bool) (current control : Point) → reader .at ≤ first → reader .at < length text
+      → (group : Group) → readGroupOf text first kind relative current control ≡ group → Goes text reader (taken letter (reader .start) group)
   unfolding Goes
-  taken-goes kind letter first relative current h w (Taken command next) e =
-      (omega (arith, group-ahead text first relative current kind command next e, after-at command next letter (reader .start)), w, after-placed command next letter (reader .start))
-  taken-goes kind letter first relative current h w (GroupRefused reason) e = w
+  taken-goes kind letter first relative current control h w (Taken command next) e =
+      (omega (arith, group-ahead text first relative current control kind command next e, after-at command next letter (reader .start)), w, after-placed command next letter (reader .start))
+  taken-goes kind letter first relative current control h w (GroupRefused reason) e = w
 
   stepped-goes : (due : Due) → Within text (reader .at) due → Goes text reader (stepped text reader due)
   unfolding Goes Within
@@ -140,8 +140,9 @@ module _ (text : List ℕ) (reader : Reader) where
   stepped-goes (NotDue reason) h = h
   stepped-goes (Close next) h = (omega (arith, h .0, after-at ClosePath next (reader .letter) (reader .start)), h .1, after-placed ClosePath next (reader .letter) (reader .start))
   stepped-goes (GroupDue kind letter first) h =
-      taken-goes kind letter first (isRelativeOf letter (reader .placed)) (reader .current) (h .0) (h .1)
-      (readGroupOf text first kind (isRelativeOf letter (reader .placed)) (reader .current)) refl
+      let control = firstControlOf kind (reader .letter) (reader .current) (reader .control) in
+      taken-goes kind letter first (isRelativeOf letter (reader .placed)) (reader .current) control (h .0) (h .1)
+      (readGroupOf text first kind (isRelativeOf letter (reader .placed)) (reader .current) control) refl
 
   step-goes : Goes text reader (readStepOf text reader)
   unfolding readStepOf

@@ -13,12 +13,12 @@ use Rattle.svg_group.specs.Letters.{widthOf}
 use Rattle.svg_group.specs.Groups.{readGroupOf}
 use Rattle.svg_group.specs.Passing.{passGroupOf}
 use Rattle.svg_group.specs.declared.letters.Kind.{Kind}
-use Rattle.svg_group.specs.declared.letters.Kind.the-variants.{Move, Line, Horizontal, Vertical, Cubic, Quad, Arc}
+use Rattle.svg_group.specs.declared.letters.Kind.the-variants.{Move, Line, Horizontal, Vertical, Cubic, SmoothCubic, Quad, SmoothQuad, Arc}
 use Rattle.svg_group.specs.declared.groups.Group.{Group}
 use Rattle.svg_group.specs.declared.groups.Group.the-variants.{Taken, Refused as GroupRefused}
 use Rattle.svg_group.proofs.Places.{groupPlace, group-place}
 use Rattle.svg_group.proofs.Widths.{group-width}
-use Rattle.svg_step.specs.Steps.{isRelativeOf, afterOf, nextDueOf, taken, stepped, readStepOf, passedTo, passed, passStepOf}
+use Rattle.svg_step.specs.Steps.{isRelativeOf, firstControlOf, afterOf, nextDueOf, taken, stepped, readStepOf, passedTo, passed, passStepOf}
 use Rattle.svg_step.specs.declared.steps.Reader.{Reader}
 use Rattle.svg_step.specs.declared.steps.Due.{Due}
 use Rattle.svg_step.specs.declared.steps.Due.the-variants.{Done as NothingDue, Refused as NotDue, Close, Group as GroupDue}
@@ -50,19 +50,21 @@ some-width Line = omega arith
 some-width Horizontal = omega arith
 some-width Vertical = omega arith
 some-width Cubic = omega arith
+some-width SmoothCubic = omega arith
 some-width Quad = omega arith
+some-width SmoothQuad = omega arith
 some-width Arc = omega arith
 
 module _ (text : List ℕ) (reader : Reader) where
   taken-passed :
-      (kind : Kind) (letter first : ℕ) (relative : Bool) (current : Point) (group : Group) → readGroupOf text first kind relative current ≡ group
+      (kind : Kind) (letter first : ℕ) (relative : Bool) (current control : Point) (group : Group) → readGroupOf text first kind relative current control ≡ group
       → passOf (taken letter (reader .start) group) ≡ passedTo letter kind (groupPlace group)
-  taken-passed kind letter first relative current (Taken command next) e =
-      let w = group-width text first relative current kind command next e in
+  taken-passed kind letter first relative current control (Taken command next) e =
+      let w = group-width text first relative current control kind command next e in
       let a = after-at command next letter (reader .start) in
       let l = after-letter command next letter (reader .start) (omega (arith, some-width kind)) in
       cc
-  taken-passed kind letter first relative current (GroupRefused reason) e = refl
+  taken-passed kind letter first relative current control (GroupRefused reason) e = refl
 
   stepped-passed : (due : Due) → passOf (stepped text reader due) ≡ passed text due
   unfolding afterOf
@@ -71,8 +73,9 @@ module _ (text : List ℕ) (reader : Reader) where
   stepped-passed (Close next) = refl
   stepped-passed (GroupDue kind letter first) =
       let relative = isRelativeOf letter (reader .placed) in
-      taken-passed kind letter first relative (reader .current) (readGroupOf text first kind relative (reader .current)) refl
-      ∙ ap (passedTo letter kind) (group-place text relative (reader .current) first kind)
+      let control = firstControlOf kind (reader .letter) (reader .current) (reader .control) in
+      taken-passed kind letter first relative (reader .current) control (readGroupOf text first kind relative (reader .current) control) refl
+      ∙ ap (passedTo letter kind) (group-place text relative (reader .current) control first kind)
 
   -- a step without values agrees with the step
   pub step-passed : passOf (readStepOf text reader) ≡ passStepOf text (reader .at) (reader .letter) (reader .placed)

@@ -9,13 +9,14 @@ use lib.ListN.{length, getD}
 use Rattle.answers.specs.declared.refusals.Refusal.the-variants.{ExpectedNumber, UnsupportedCommand, MissingMoveTo}
 use Rattle.scan.specs.Bytes.{among, numberStarts}
 use Rattle.scan.specs.Runs.{pastSeparatorsOf}
+use Rattle.math.specs.Math.{addOf, subOf}
 use Rattle.math.specs.declared.points.Point.{Point}
 use Rattle.commands.specs.declared.command.PathCommand.{PathCommand}
 use Rattle.commands.specs.declared.command.PathCommand.the-variants.{MoveTo, LineTo, QuadTo, CubicTo, ArcTo, ClosePath}
 use Rattle.svg_group.specs.Letters.{isLetterOf, meaningOf, widthOf}
 use Rattle.svg_group.specs.Groups.{readGroupOf}
 use Rattle.svg_group.specs.declared.letters.Kind.{Kind}
-use Rattle.svg_group.specs.declared.letters.Kind.the-variants.{Move, Line, Horizontal, Vertical, Cubic, Quad, Arc}
+use Rattle.svg_group.specs.declared.letters.Kind.the-variants.{Move, Line, Horizontal, Vertical, Cubic, SmoothCubic, Quad, SmoothQuad, Arc}
 use Rattle.svg_group.specs.declared.letters.Letter.{Letter}
 use Rattle.svg_group.specs.declared.letters.Letter.the-variants.{Draws, Closes, Unknown}
 use Rattle.svg_group.specs.Passing.{passGroupOf}
@@ -36,20 +37,22 @@ abbrev pub origin : Point
 origin = record { x = ofBits binary32 0; y = ofBits binary32 0 }
 
 abbrev pub freshOf : Reader
-freshOf = record { at = 0; current = origin; start = origin; placed = false; letter = 0 }
+freshOf = record { at = 0; current = origin; start = origin; placed = false; control = origin; letter = 0 }
 
 -- "Lower case adds to the current point, with none it is absolute."
 unfoldable pub isRelativeOf : ℕ → Bool → Bool
 isRelativeOf letter placed = leb 97 letter && placed
 
--- "LHVCQA need a current point"
+-- LHVCSQTA "need a current point"
 unfoldable pub needsPointOf : Kind → Bool
 needsPointOf Move = false
 needsPointOf Line = true
 needsPointOf Horizontal = true
 needsPointOf Vertical = true
 needsPointOf Cubic = true
+needsPointOf SmoothCubic = true
 needsPointOf Quad = true
+needsPointOf SmoothQuad = true
 needsPointOf Arc = true
 
 -- "M: first pair MoveTo, more pairs LineTo."
@@ -59,22 +62,76 @@ repeatedOf Line = Line
 repeatedOf Horizontal = Horizontal
 repeatedOf Vertical = Vertical
 repeatedOf Cubic = Cubic
+repeatedOf SmoothCubic = SmoothCubic
 repeatedOf Quad = Quad
+repeatedOf SmoothQuad = SmoothQuad
 repeatedOf Arc = Arc
 
--- the state after a command that ends at a point
-abbrev pub drawn : Point → Point → ℕ → ℕ → Reader
-drawn end start next letter = record { at = next; current = end; start = start; placed = true; letter = letter }
+-- ---- the first control of S and T (document 02, L1)
+
+-- p + (p - c) by coordinate: "the current point plus the rounded difference of current point and control"
+unfoldable pub mirroredOf : Point → Point → Point
+mirroredOf current control = addOf current (subOf current control)
+
+-- the kinds that draw a cubic, and those that draw a quad
+abbrev pub drawsCubic : Kind → Bool
+drawsCubic Move = false
+drawsCubic Line = false
+drawsCubic Horizontal = false
+drawsCubic Vertical = false
+drawsCubic Cubic = true
+drawsCubic SmoothCubic = true
+drawsCubic Quad = false
+drawsCubic SmoothQuad = false
+drawsCubic Arc = false
+
+abbrev pub drawsQuad : Kind → Bool
+drawsQuad Move = false
+drawsQuad Line = false
+drawsQuad Horizontal = false
+drawsQuad Vertical = false
+drawsQuad Cubic = false
+drawsQuad SmoothCubic = false
+drawsQuad Quad = true
+drawsQuad SmoothQuad = true
+drawsQuad Arc = false
+
+abbrev pub ofKind : (Kind → Bool) → Letter → Bool
+ofKind draws (Draws kind) = draws kind
+ofKind draws Closes = false
+ofKind draws Unknown = false
+
+-- "when the previous command was C or S (for S), Q or T (for T)": whether a kind takes up the control of a command of a letter
+unfoldable pub takesUpOf : Kind → Letter → Bool
+takesUpOf Move last = false
+takesUpOf Line last = false
+takesUpOf Horizontal last = false
+takesUpOf Vertical last = false
+takesUpOf Cubic last = false
+takesUpOf SmoothCubic last = ofKind drawsCubic last
+takesUpOf Quad last = false
+takesUpOf SmoothQuad last = ofKind drawsQuad last
+takesUpOf Arc last = false
+
+-- "the last control mirrored through the current point .. and the current point itself otherwise"
+unfoldable pub firstControlOf : Kind → ℕ → Point → Point → Point
+firstControlOf kind last current control = cond (takesUpOf kind (meaningOf last)) (mirroredOf current control) current
+
+-- ---- the state after a command
+
+-- a command that ends at a point; `control` is its last control, or its end where it has none
+abbrev pub drawn : Point → Point → Point → ℕ → ℕ → Reader
+drawn end start control next letter = record { at = next; current = end; start = start; placed = true; control = control; letter = letter }
 
 -- the state after a command, read up to `next` with a letter remembered, in a subpath that starts at a point
 unfoldable pub afterOf : PathCommand → ℕ → ℕ → Point → Reader
-afterOf (MoveTo end) next letter start = drawn end end next letter
-afterOf (LineTo end) next letter start = drawn end start next letter
-afterOf (QuadTo control end) next letter start = drawn end start next letter
-afterOf (CubicTo control1 control2 end) next letter start = drawn end start next letter
-afterOf (ArcTo radii rotation large sweep end) next letter start = drawn end start next letter
+afterOf (MoveTo end) next letter start = drawn end end end next letter
+afterOf (LineTo end) next letter start = drawn end start end next letter
+afterOf (QuadTo control end) next letter start = drawn end start control next letter
+afterOf (CubicTo control1 control2 end) next letter start = drawn end start control2 next letter
+afterOf (ArcTo radii rotation large sweep end) next letter start = drawn end start end next letter
 -- "Z .. returns to the subpath's start, sets the current point and forgets the command."
-afterOf ClosePath next letter start = drawn start start next 0
+afterOf ClosePath next letter start = drawn start start start next 0
 
 -- ---- what is due at a place
 
@@ -84,8 +141,8 @@ dueGroupOf text at kind letter =
     let first = pastSeparatorsOf text at in
     cond (among (getD text first 0) numberStarts) (GroupDue kind letter first) (NotDue (ExpectedNumber at))
 
--- "LHVCQA need a current point, else 7 just after the letter. Then, and for M at once, a number must start"; 6 is "letter other than MLHVCQAZ in
--- either case"
+-- LHVCSQTA "need a current point, else 7 just after the letter. Then, and for M at once, a number must start"; 6 is a letter other than MLHVCSQTAZ
+-- in either case
 abbrev pub begun : List ℕ → ℕ → ℕ → Bool → Letter → Due
 begun text at letter placed (Draws kind) =
     cond (needsPointOf kind)
@@ -126,7 +183,8 @@ stepped text reader NothingDue = Done
 stepped text reader (NotDue refusal) = Refused refusal
 stepped text reader (Close next) = Command ClosePath (afterOf ClosePath next (reader .letter) (reader .start))
 stepped text reader (GroupDue kind letter first) =
-    taken letter (reader .start) (readGroupOf text first kind (isRelativeOf letter (reader .placed)) (reader .current))
+    taken letter (reader .start)
+    (readGroupOf text first kind (isRelativeOf letter (reader .placed)) (reader .current) (firstControlOf kind (reader .letter) (reader .current) (reader .control)))
 
 unfoldable pub readStepOf : List ℕ → Reader → Step
 readStepOf text reader = stepped text reader (nextDueOf text (reader .at) (reader .letter) (reader .placed))

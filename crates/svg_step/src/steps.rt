@@ -2,7 +2,9 @@
 ghost use Prim.Native.Nat.{_<_};
 ghost use mathlib.Core.Path.{_≡_};
 ghost use lib.ListN.{length};
-ghost use Rattle.svg_step.specs.Steps.{freshOf, isRelativeOf, needsPointOf, repeatedOf, afterOf, dueGroupOf, dueLetterOf, dueAgainOf, nextDueOf, readStepOf, passStepOf};
+ghost use Rattle.svg_group.specs.Letters.{meaningOf};
+ghost use Rattle.svg_step.specs.Steps.{freshOf, isRelativeOf, needsPointOf, repeatedOf, mirroredOf, takesUpOf, firstControlOf, drawn, afterOf};
+ghost use Rattle.svg_step.specs.Steps.{dueGroupOf, dueLetterOf, dueAgainOf, nextDueOf, readStepOf, passStepOf};
 use answers::Refusal;
 use commands::PathCommand;
 use math::Point;
@@ -19,6 +21,8 @@ pub struct Reader {
     pub current: Point,
     pub start: Point,
     pub placed: bool,
+    // The last command's last control, or its end where it has none.
+    pub control: Point,
     // The remembered command's letter, or 0 for none.
     pub letter: u8,
 }
@@ -38,6 +42,7 @@ pub fn fresh() -> Reader
         current: Point { x: 0.0, y: 0.0 },
         start: Point { x: 0.0, y: 0.0 },
         placed: false,
+        control: Point { x: 0.0, y: 0.0 },
         letter: 0,
     }
 }
@@ -58,7 +63,9 @@ fn needs_point(kind: Kind) -> bool
         Kind::Horizontal => true,
         Kind::Vertical => true,
         Kind::Cubic => true,
+        Kind::SmoothCubic => true,
         Kind::Quad => true,
+        Kind::SmoothQuad => true,
         Kind::Arc => true,
     }
 }
@@ -73,8 +80,59 @@ fn repeated(kind: Kind) -> Kind
         Kind::Horizontal => Kind::Horizontal,
         Kind::Vertical => Kind::Vertical,
         Kind::Cubic => Kind::Cubic,
+        Kind::SmoothCubic => Kind::SmoothCubic,
         Kind::Quad => Kind::Quad,
+        Kind::SmoothQuad => Kind::SmoothQuad,
         Kind::Arc => Kind::Arc,
+    }
+}
+
+// A control on the other side of the current point. The difference is rounded, then the sum.
+fn mirrored(current: Point, control: Point) -> Point
+    ensures { λ r. ⌜ r ≡ mirroredOf current control ⌝ }
+{
+    math::add(current, math::sub(current, control))
+}
+
+// Whether a curve of a kind takes up the control of the last command, by that command's letter.
+fn takes_up(kind: Kind, last: u8) -> bool
+    ensures { λ r. ⌜ r ≡ takesUpOf kind (meaningOf last) ⌝ }
+{
+    match kind {
+        Kind::Move => false,
+        Kind::Line => false,
+        Kind::Horizontal => false,
+        Kind::Vertical => false,
+        Kind::Cubic => false,
+        Kind::SmoothCubic => { (last == b'C') | (last == b'c') | (last == b'S') | (last == b's') }
+        Kind::Quad => false,
+        Kind::SmoothQuad => { (last == b'Q') | (last == b'q') | (last == b'T') | (last == b't') }
+        Kind::Arc => false,
+    }
+}
+
+// The first control of a smooth curve, by the last command's letter and control. What is not
+// mirrored is the current point's own bits.
+fn first_control(kind: Kind, last: u8, current: Point, control: Point) -> Point
+    ensures { λ r. ⌜ r ≡ firstControlOf kind last current control ⌝ }
+{
+    if takes_up(kind, last) {
+        return mirrored(current, control);
+    }
+    current
+}
+
+// The state past a command that ends at a point.
+fn standing(end: Point, start: Point, control: Point, next: usize, letter: u8) -> Reader
+    ensures { λ r. ⌜ r ≡ drawn end start control next letter ⌝ }
+{
+    Reader {
+        at: next,
+        current: end,
+        start,
+        placed: true,
+        control,
+        letter,
     }
 }
 
@@ -83,58 +141,22 @@ fn after(command: PathCommand, next: usize, letter: u8, start: Point) -> Reader
     ensures { λ r. ⌜ r ≡ afterOf command next letter start ⌝ }
 {
     match command {
-        PathCommand::MoveTo(end) => Reader {
-            at: next,
-            current: end,
-            start: end,
-            placed: true,
-            letter,
-        },
-        PathCommand::LineTo(end) => Reader {
-            at: next,
-            current: end,
-            start,
-            placed: true,
-            letter,
-        },
-        PathCommand::QuadTo { control: _, end } => Reader {
-            at: next,
-            current: end,
-            start,
-            placed: true,
-            letter,
-        },
+        PathCommand::MoveTo(end) => standing(end, end, end, next, letter),
+        PathCommand::LineTo(end) => standing(end, start, end, next, letter),
+        PathCommand::QuadTo { control, end } => standing(end, start, control, next, letter),
         PathCommand::CubicTo {
             control1: _,
-            control2: _,
+            control2,
             end,
-        } => Reader {
-            at: next,
-            current: end,
-            start,
-            placed: true,
-            letter,
-        },
+        } => standing(end, start, control2, next, letter),
         PathCommand::ArcTo {
             radii: _,
             rotation: _,
             large_arc: _,
             sweep: _,
             end,
-        } => Reader {
-            at: next,
-            current: end,
-            start,
-            placed: true,
-            letter,
-        },
-        PathCommand::ClosePath => Reader {
-            at: next,
-            current: start,
-            start,
-            placed: true,
-            letter: 0,
-        },
+        } => standing(end, start, end, next, letter),
+        PathCommand::ClosePath => standing(start, start, start, next, 0),
     }
 }
 
@@ -233,7 +255,8 @@ pub fn read_step(text: &[u8], reader: Reader) -> Step
         } => {
             let current = reader.current;
             let relative = is_relative(letter, reader.placed);
-            match svg_group::read_group(text, first, kind, relative, current) {
+            let control = first_control(kind, reader.letter, current, reader.control);
+            match svg_group::read_group(text, first, kind, relative, current, control) {
                 Group::Refused(refusal) => Step::Refused(refusal),
                 Group::Taken { command, next } => Step::Command {
                     command,

@@ -18,13 +18,13 @@ const NUMBERS: [usize; 3] = [88, 264, 8];
 const RECORDS: usize = 600;
 
 // texts with a letter, texts with a kind of segment, texts of each refusal of building, of reading and of room
-const LETTERS: usize = 16;
+const LETTERS: usize = 13;
 const SEGMENTS: usize = 24;
 const UNBUILT: usize = 50;
 const UNREAD: usize = 6;
 
 // what document 01 decides, and where a mistake would show
-const TELLING: [&str; 45] = [
+const TELLING: [&str; 52] = [
     "M0 0L1e19 0",
     "M0 0L2e19 0",
     "M0 0A1 1 3600 0 0 1 1",
@@ -68,6 +68,13 @@ const TELLING: [&str; 45] = [
     "M0 0Q0 0 0 0",
     "M0 0C1 2 3 4 5 6",
     "M0 0c0 0 1e-30 0 1e-30 0",
+    "M0 0S1 2 3 4",
+    "M1 2T4 6T9 9",
+    "ZS9 8 7 6",
+    "M0 0C1 2 3 4 5 6s7 8 9 10 1 2 3 4",
+    "M0 0Q1 2 3 4t5 6 7 8S1 2 3 4T5 6",
+    "M-0-0T1 2S3 4 5 6",
+    "M1e38 0C0 0-3e38 0 1e38 1S0 0 1 1",
     "M0 0L1 1L2 2L3 3L4 4L5 5L6 6L7 7L8 8",
     "M0 0L1 1L2 2L3 3L4 4L5 5L6 6L7 7L8 8L9 9",
 ];
@@ -134,7 +141,7 @@ fn rotation(stream: &mut Stream) -> String {
 }
 
 fn command(stream: &mut Stream) -> String {
-    let letter = b"MmLlHhVvCcQqAaZzLlCcQqAa"[stream.below(24) as usize];
+    let letter = b"MmLlHhVvCcSsQqTtAaZzLlCcSsTtAa"[stream.below(30) as usize];
     let numbers: Vec<String> = match letter | 32 {
         b'z' => vec![],
         b'h' | b'v' => vec![number(stream)],
@@ -146,7 +153,7 @@ fn command(stream: &mut Stream) -> String {
         other => {
             let count = match other {
                 b'c' => 6,
-                b'q' => 4,
+                b'q' | b's' => 4,
                 _ => 2,
             };
             (0..count).map(|_| number(stream)).collect()
@@ -165,7 +172,7 @@ pub fn text(stream: &mut Stream) -> String {
 fn chosen(seed: u64) -> Vec<String> {
     let mut stream = Stream::new(seed);
     let mut found: Vec<String> = TELLING.iter().map(|text| text.to_string()).collect();
-    for letter in "MmLlHhVvCcQqAaZz".chars() {
+    for letter in "MmLlHhVvCcSsQqTtAaZz".chars() {
         more(&mut found, LETTERS, || text(&mut stream), |text, due| due.number == 0 && text.contains(letter));
     }
     for kind in 1..5 {

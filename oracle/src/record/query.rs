@@ -10,8 +10,8 @@ use crate::build::Due;
 use crate::compare::Report;
 use crate::query::{Answer, Asked};
 use crate::samples::Stream;
+use crate::smooth;
 use animato_path::poly::{CompoundPath, PathCommand};
-use animato_path::svg::SvgPathParser;
 
 // the longest text that a block holds, and the places of the program's buffers: 8 segments of any kind
 const LONGEST: usize = 90;
@@ -24,7 +24,7 @@ const EACH: usize = 12;
 
 // what document 01 decides, and where a mistake would show: no segment, a total of at most 2^-23 and the next above it, lengths
 // that meet, pieces of length 0 at the start, between and at the end, tables that are short, and each kind
-const TELLING: [&str; 30] = [
+const TELLING: [&str; 31] = [
     "",
     "M1 2",
     "ZL1 2",
@@ -55,6 +55,7 @@ const TELLING: [&str; 30] = [
     "M0 0A0 1 0 0 0 3 4",
     "M0 0A5 5 0 0 1 5 5A0 5 0 0 1 9 9Z",
     "M0 0L3 4Q6 4 6 8C6 12 9 12 9 8A2 2 0 0 1 13 8A0 1 0 0 1 14 8",
+    "M0 0C0 5 5 5 5 0S10-5 10 0s5 5 5 0T20 0t5 0T30 5",
 ];
 
 // a NaN and what is out of range, in turn
@@ -65,7 +66,7 @@ pub fn list(report: &mut Report, seed: u64) -> (Vec<u8>, u64) {
     let mut stream = Stream::new(seed);
     let (mut blocks, mut count) = (String::new(), 0);
     for (number, text) in chosen(&mut stream).into_iter().enumerate() {
-        let commands = SvgPathParser::try_parse(&text).expect("the text is read");
+        let commands = smooth::try_parse(&text).expect("the text is read");
         let progresses = progresses(&mut stream, &commands, BEYOND[number % BEYOND.len()]);
         let asked = Asked { commands, progresses };
         blocks.push_str(&format!("{:02}{text:90}\n", text.len()));

@@ -10,12 +10,23 @@ use crate::strict::Text;
 const RANDOM: u64 = 60;
 
 // what document 01 decides, and where a mistake would show
-const TELLING: [&str; 61] = [
+const TELLING: [&str; 72] = [
     // document 01's example, and the same with CR LF between its commands and at its end
     "3\nM0 0L3 4",
     "3\nM0 0\r\nL3 4\r\n",
     // a drawing with every letter in both cases, with each kind of segment
     "40\nM0 0L10 0H20V10C20 20 10 20 10 10Q5 5 0 10A5 5 0 0 1-10 10A0 1 0 0 1-9 9Zm1 1l2 2h3v-3c1 1 2-1 3 0q1 1 2 0a2 3 30 1 0 4 4z",
+    // smooth curves in both cases, behind each letter, with groups that repeat
+    "20\nM0 0C0 5 5 5 5 0S10-5 10 0s5 5 5 0 0-5 5 0",
+    "20\nM0 0Q5 5 10 0T20 0t10 0 10 5T60 0",
+    "9\nM1 2T4 6T9 9",
+    "9\nM0 0S1 2 3 4",
+    "9\nZS9 8 7 6Z",
+    "9\nM0 0C1 2 3 4 5 6T7 8Q1 2 3 4S5 6 7 8",
+    "9\nM0 0A5 5 0 0 1 5 5S1 2 3 4H1T2 3V4s1 2 3 4m1 1t2 2zT3 4",
+    "2\nM-0-0T1 2S3 4-0-0T5 6",
+    "2\nM.1.3Q.3.1.1.3T1 2",
+    "3\nM0 0C1e38 0-3e38 0 3e38 0S1 2 3 4",
     // no text, no command that draws, no LF at the end
     "3\n",
     "3\n \t\n\r,",
@@ -29,8 +40,9 @@ const TELLING: [&str; 61] = [
     "3\nM",
     "3\nM1e 2",
     "3\nM0 0A1 1 0 2 0 3 4",
-    "3\nM0 0S1 2 3 4",
+    "3\nM0 0R1 2 3 4",
     "3\nM0 0z t",
+    "3\nS1 2 3 4",
     "3\nM1 2Z3 4",
     "3\n\u{e9}",
     "3\nM0 0L\0",

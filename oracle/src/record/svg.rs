@@ -23,7 +23,7 @@ const READ: usize = 10;
 const REFUSED: usize = 32;
 
 // what document 01 decides, and where a mistake would show
-const TELLING: [&[u8]; 92] = [
+const TELLING: [&[u8]; 112] = [
     b"",
     b"M",
     b"M1",
@@ -33,6 +33,26 @@ const TELLING: [&[u8]; 92] = [
     b"ZL1 2",
     b"M0 0S1 2 3 4",
     b"M0 0A1 1 0 2 0 3 4",
+    b"M1 2T4 6T9 9",
+    b"ZS9 8 7 6",
+    b"Zt9 8",
+    b"S1 2 3 4",
+    b"t1 2",
+    b"S",
+    b"M1 2S",
+    b"M1 2T",
+    b"M1 2S3 4 5",
+    b"M1 2T3",
+    b"M0 0s1 2 3 4 5 6 7 8",
+    b"M0 0C1 2 3 4 5 6S7 8 9 1",
+    b"M0 0Q1 2 3 4S5 6 7 8",
+    b"M0 0Q1 2 3 4t5 6",
+    b"M0 0C1 2 3 4 5 6T7 8",
+    b"M0 0Q1 2 3 4L5 6T7 8",
+    b"M0 0Q1 2 3 4ZT7 8",
+    b"M-0-0T1 2",
+    b"M1e39 0T1 2",
+    b"M.1.3Q.3.1.1.3T1 2",
     b"M3.4028235e38 3.4028236e38",
     b"M16777217 16777217.0000001",
     b"M1e39 0m-1e39 0",
@@ -158,7 +178,7 @@ fn line(text: &[u8]) -> Vec<u8> {
 // the telling ones, then texts that are read for each letter, texts of each refusal, and texts with bytes above 127
 fn chosen(mut paths: Paths) -> Vec<Text> {
     let mut found: Vec<Text> = TELLING.iter().map(|text| Text(text.to_vec())).collect();
-    for letter in *b"MmLlHhVvCcQqAaZz" {
+    for letter in *b"MmLlHhVvCcSsQqTtAaZz" {
         more(&mut found, READ, || paths.text(), |text| said(text).0 == 0 && text.contains(&letter));
     }
     for number in 2..=7 {

@@ -26,11 +26,19 @@ returns-5 c = rw (c .before .enum-told5 .given .1) (c .read-cubic .ensures)
 
 returns-6 : tie.Need-returns-6
 unfolding readGroupOf
-returns-6 c = rw (c .before .enum-told6 .given .1) (c .read-quad .ensures)
+returns-6 c = rw (c .before .enum-told6 .given .1) (c .read-smooth-cubic .ensures)
 
 returns-7 : tie.Need-returns-7
 unfolding readGroupOf
-returns-7 c = rw (c .before .enum-told7 .given .1) (c .read-arc .ensures)
+returns-7 c = rw (c .before .enum-told7 .given .1) (c .read-quad .ensures)
+
+returns-8 : tie.Need-returns-8
+unfolding readGroupOf
+returns-8 c = rw (c .before .enum-told8 .given .1) (c .read-smooth-quad .ensures)
+
+returns-9 : tie.Need-returns-9
+unfolding readGroupOf
+returns-9 c = rw (c .before .enum-told9 .given .1) (c .read-arc .ensures)
 
 pub read-group-spec : {M : Type 1} → statement M
 read-group-spec =
@@ -38,4 +46,5 @@ read-group-spec =
     (tie.spec (λ c. search needs) (λ c κs. search needs) (λ c. search needs) (λ c κs. search needs)
     (λ c. search needs) (λ c κs. search needs) (λ c. search needs) (λ c κs. search needs) (λ c. search needs)
     (λ c κs. search needs) (λ c. search needs) (λ c κs. search needs) (λ c. search needs) (λ c κs. search needs)
-    returns returns-2 returns-3 returns-4 returns-5 returns-6 returns-7)
+    (λ c. search needs) (λ c κs. search needs) (λ c. search needs) (λ c κs. search needs) returns returns-2 returns-3
+    returns-4 returns-5 returns-6 returns-7 returns-8 returns-9)

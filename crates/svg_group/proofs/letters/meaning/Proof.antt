@@ -47,19 +47,31 @@ unfolding meaningOf among
 returns-8 c = ⊎-elim (λ e. rw e) (λ e. rw e) (c .match .keys8)
 
 returns-9 : tie.Need-returns-9
+unfolding meaningOf among
+returns-9 c = ⊎-elim (λ e. rw e) (λ e. rw e) (c .match .keys9)
+
+returns-10 : tie.Need-returns-10
+unfolding meaningOf among
+returns-10 c = ⊎-elim (λ e. rw e) (λ e. rw e) (c .match .keys10)
+
+returns-11 : tie.Need-returns-11
 unfolding meaningOf
-returns-9 c = let r = c .match .rest in simp (neither _ 77 109 (r .0 .0 .0 .0 .0 .0 .0 .1), neither _ 76 108 (r .0 .0 .0 .0 .0 .0 .1), neither _ 72 104 (r .0 .0 .0 .0 .0 .1), neither _ 86 118 (r .0 .0 .0 .0 .1), neither _ 67 99 (r .0 .0 .0 .1), neither _ 81 113 (r .0 .0 .1), neither _ 65 97 (r .0 .1), neither _ 90 122 (r .1))
+returns-11 c =
+    let r = c .match .rest in
+    simp (
+      neither _ 77 109 (r .0 .0 .0 .0 .0 .0 .0 .0 .0 .1),
+      neither _ 76 108 (r .0 .0 .0 .0 .0 .0 .0 .0 .1),
+      neither _ 72 104 (r .0 .0 .0 .0 .0 .0 .0 .1),
+      neither _ 86 118 (r .0 .0 .0 .0 .0 .0 .1),
+      neither _ 67 99 (r .0 .0 .0 .0 .0 .1),
+      neither _ 83 115 (r .0 .0 .0 .0 .1),
+      neither _ 81 113 (r .0 .0 .0 .1),
+      neither _ 84 116 (r .0 .0 .1),
+      neither _ 65 97 (r .0 .1),
+      neither _ 90 122 (r .1),
+    )
 
 pub meaning-spec : {M : Type 1} → statement M
 meaning-spec =
     tie.close
-    (tie.spec
-    returns
-    returns-2
-    returns-3
-    returns-4
-    returns-5
-    returns-6
-    returns-7
-    returns-8
-    returns-9)
+    (tie.spec returns returns-2 returns-3 returns-4 returns-5 returns-6 returns-7 returns-8 returns-9 returns-10 returns-11)

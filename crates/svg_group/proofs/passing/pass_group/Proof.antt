@@ -30,7 +30,15 @@ returns-6 c = rw (c .before .enum-told6 .given .1) (c .pass-quad .ensures)
 
 returns-7 : tie.Need-returns-7
 unfolding passGroupOf
-returns-7 c = rw (c .before .enum-told7 .given .1) (c .pass-arc .ensures)
+returns-7 c = rw (c .before .enum-told7 .given .1) (c .pass-quad2 .ensures)
+
+returns-8 : tie.Need-returns-8
+unfolding passGroupOf
+returns-8 c = rw (c .before .enum-told8 .given .1) (c .pass-pair3 .ensures)
+
+returns-9 : tie.Need-returns-9
+unfolding passGroupOf
+returns-9 c = rw (c .before .enum-told9 .given .1) (c .pass-arc .ensures)
 
 pub pass-group-spec : {M : Type 1} → statement M
 pass-group-spec =
@@ -38,4 +46,5 @@ pass-group-spec =
     (tie.spec (λ c. search needs) (λ c κs. search needs) (λ c. search needs) (λ c κs. search needs)
     (λ c. search needs) (λ c κs. search needs) (λ c. search needs) (λ c κs. search needs) (λ c. search needs)
     (λ c κs. search needs) (λ c. search needs) (λ c κs. search needs) (λ c. search needs) (λ c κs. search needs)
-    returns returns-2 returns-3 returns-4 returns-5 returns-6 returns-7)
+    (λ c. search needs) (λ c κs. search needs) (λ c. search needs) (λ c κs. search needs) returns returns-2 returns-3
+    returns-4 returns-5 returns-6 returns-7 returns-8 returns-9)

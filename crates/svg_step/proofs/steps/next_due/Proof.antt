@@ -9,10 +9,16 @@ returns : tie.Need-returns
 returns c = due-done _ _ _ _ _ (c .before .past-separators .ensures) (c .if1 .taken)
 
 returns-2 : tie.Need-returns-2
-returns-2 c = due-letter _ _ _ _ _ (c .before .before .before .before .before .past-separators .ensures) (c .before .before .before .before .if1 .left) _ (sym (c .before .before .is-letter .ensures) ∙ c .before .if2 .taken) (c .due-letter .ensures)
+returns-2 c =
+    let at-letter = c .before .before in
+    let at-end = at-letter .before .before in
+    due-letter _ _ _ _ _ (at-end .before .past-separators .ensures) (at-end .if1 .left) _ (sym (at-letter .is-letter .ensures) ∙ c .before .if2 .taken) (c .due-letter .ensures)
 
 returns-3 : tie.Need-returns-3
-returns-3 c = due-other _ _ _ _ _ (c .before .before .before .before .before .past-separators .ensures) (c .before .before .before .before .if1 .left) _ (sym (c .before .before .is-letter .ensures) ∙ c .before .if2 .left) (c .due-again .ensures)
+returns-3 c =
+    let at-letter = c .before .before in
+    let at-end = at-letter .before .before in
+    due-other _ _ _ _ _ (at-end .before .past-separators .ensures) (at-end .if1 .left) _ (sym (at-letter .is-letter .ensures) ∙ c .before .if2 .left) (c .due-again .ensures)
 
 pub next-due-spec : {M : Type 1} → statement M
 next-due-spec =

@@ -19,11 +19,21 @@ returns-3 c = rw (sym (c .before .before .before .next-due .ensures) ∙ c .befo
 
 returns-4 : tie.Need-returns-4
 unfolding passStepOf
-returns-4 c = rw (sym (c .before .before .before .before .before .before .before .next-due .ensures) ∙ c .before .before .before .before .before .kind .given .1, sym (c .before .before .before .pass-group .ensures) ∙ c .before .refusal2 .given .1)
+returns-4 c =
+    let at-group = c .before .before .before in
+    let at-kind = at-group .before .before in
+    rw (sym (at-kind .before .before .next-due .ensures) ∙ at-kind .kind .given .1, sym (at-group .pass-group .ensures) ∙ c .before .refusal2 .given .1)
 
 returns-5 : tie.Need-returns-5
 unfolding passStepOf
-returns-5 c = rw (sym (c .before .before .before .before .before .before .before .before .next-due .ensures) ∙ c .before .before .before .before .before .before .kind .given .1, sym (c .before .before .before .before .pass-group .ensures) ∙ c .before .before .next2 .given .1, c .width .ensures)
+returns-5 c =
+    let at-group = c .before .before .before .before in
+    let at-kind = at-group .before .before in
+    rw (
+      sym (at-kind .before .before .next-due .ensures) ∙ at-kind .kind .given .1,
+      sym (at-group .pass-group .ensures) ∙ c .before .before .next2 .given .1,
+      c .width .ensures,
+    )
 
 pub pass-step-spec : {M : Type 1} → statement M
 pass-step-spec =

@@ -19,15 +19,36 @@ returns-3 c = rw (sym (c .before .before .before .before .next-due .ensures) ∙
 
 returns-4 : tie.Need-returns-4
 unfolding readStepOf
-returns-4 c = rw (sym (c .before .before .before .before .before .before .before .before .before .next-due .ensures) ∙ c .before .before .before .before .before .before .before .kind .given .1, ← c .before .before .before .before .is-relative .ensures, sym (c .before .before .before .read-group .ensures) ∙ c .before .refusal2 .given .1)
+returns-4 c =
+    let at-group = c .before .before .before in
+    let at-control = at-group .before in
+    let at-relative = at-control .before in
+    let at-kind = at-relative .before .before .before in
+    rw (
+      sym (at-kind .before .before .next-due .ensures) ∙ at-kind .kind .given .1,
+      ← at-relative .is-relative .ensures,
+      ← at-control .first-control .ensures,
+      sym (at-group .read-group .ensures) ∙ c .before .refusal2 .given .1,
+    )
 
 returns-5 : tie.Need-returns-5
 unfolding readStepOf
-returns-5 c = rw (sym (c .before .before .before .before .before .before .before .before .before .before .next-due .ensures) ∙ c .before .before .before .before .before .before .before .before .kind .given .1, ← c .before .before .before .before .before .is-relative .ensures, sym (c .before .before .before .before .read-group .ensures) ∙ c .before .before .command .given .1, c .after2 .ensures)
+returns-5 c =
+    let at-group = c .before .before .before .before in
+    let at-control = at-group .before in
+    let at-relative = at-control .before in
+    let at-kind = at-relative .before .before .before in
+    rw (
+      sym (at-kind .before .before .next-due .ensures) ∙ at-kind .kind .given .1,
+      ← at-relative .is-relative .ensures,
+      ← at-control .first-control .ensures,
+      sym (at-group .read-group .ensures) ∙ c .before .before .command .given .1,
+      c .after2 .ensures,
+    )
 
 pub read-step-spec : {M : Type 1} → statement M
 read-step-spec =
     tie.close
     (tie.spec (λ c κs. search needs) (λ c. search needs) (λ c. search needs) (λ c. search needs)
-    (λ c κs. search needs) (λ c. search needs) (λ c κs. search needs) (λ c κs. search needs) (λ c. search needs)
+    (λ c κs. search needs) (λ c. search needs) (λ c κs. search needs) (λ c κs. search needs) (λ c κs. search needs) (λ c. search needs)
     (λ c. search needs) (λ c κs. search needs) returns returns-2 returns-3 returns-4 returns-5)

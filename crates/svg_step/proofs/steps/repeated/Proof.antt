@@ -32,8 +32,17 @@ returns-7 : tie.Need-returns-7
 unfolding repeatedOf
 returns-7 c = rw (c .enum-told7 .given .1)
 
+returns-8 : tie.Need-returns-8
+unfolding repeatedOf
+returns-8 c = rw (c .enum-told8 .given .1)
+
+returns-9 : tie.Need-returns-9
+unfolding repeatedOf
+returns-9 c = rw (c .enum-told9 .given .1)
+
 pub repeated-spec : {M : Type 1} → statement M
 repeated-spec =
     tie.close
     (tie.spec (λ c. search needs) (λ c. search needs) (λ c. search needs) (λ c. search needs) (λ c. search needs)
-    (λ c. search needs) (λ c. search needs) returns returns-2 returns-3 returns-4 returns-5 returns-6 returns-7)
+    (λ c. search needs) (λ c. search needs) (λ c. search needs) (λ c. search needs) returns returns-2 returns-3
+    returns-4 returns-5 returns-6 returns-7 returns-8 returns-9)

@@ -45,10 +45,10 @@ use Rattle.svg_step.specs.declared.steps.Step.{Step}
 use Rattle.svg_step.specs.declared.steps.Reader.{Reader}
 use Rattle.text_reader.proofs.reader.TextReader as T
 use Rattle.text_reader.proofs.reader.TextReader.Laws as T′
-use Rattle.svg.proofs.steps.Step as S
-use Rattle.svg.proofs.steps.Reader as R
-use Rattle.svg.proofs.steps.Reader.Laws as R′
-use Rattle.svg.proofs.steps.Step.Laws as S′
+use Rattle.svg_step.proofs.steps.Step as S
+use Rattle.svg_step.proofs.steps.Reader as R
+use Rattle.svg_step.proofs.steps.Reader.Laws as R′
+use Rattle.svg_step.proofs.steps.Step.Laws as S′
 use Rattle.text_reader.proofs.reader.reader as new
 use Rattle.text_reader.proofs.reader.reader.Symbol as new-def
 use Rattle.text_reader.proofs.reader.reader.Symbol.{name as #reader·new}
