@@ -7,6 +7,7 @@ use lib.ListN.{length}
 use lib.Ieee.{Float}
 use Rattle.answers.specs.declared.refusals.Refusal.the-variants.{BadPath}
 use Rattle.answers.specs.Answers.{Answer, accepted, refused}
+use Rattle.floats.specs.Floats.{bitsOf}
 use Rattle.table.specs.Spots.{pathTotal}
 use Rattle.arc.specs.Arcs.{noTable}
 use Rattle.path_stored.specs.declared.queries.Counted.{Counted}
@@ -47,21 +48,18 @@ partOf kinds fields tables lengths i =
     (cond (ltb i (length kinds)) (record { found = Found.Segment (segmentIn kinds fields i); table = tableIn kinds tables i }) (nothingOf Found.NoSegment))
     (nothingOf (Found.Refused BadPath))
 
--- ---- in document 01's terms
+-- ---- in document 01's terms; a segment's are what a caller makes of it
 abbrev pub countedAnswer : Counted → Answer
 countedAnswer (Counted.Segments count) = accepted (count ∷ [])
 countedAnswer (Counted.Refused refusal) = refused refusal
 
+-- 1 for a yes, 0 for a no
 abbrev pub emptinessAnswer : Emptiness → Answer
-emptinessAnswer Emptiness.Empty = accepted []
-emptinessAnswer Emptiness.NotEmpty = accepted []
+emptinessAnswer Emptiness.Empty = accepted (1 ∷ [])
+emptinessAnswer Emptiness.NotEmpty = accepted (0 ∷ [])
 emptinessAnswer (Emptiness.Refused refusal) = refused refusal
 
+-- the bits of the length
 abbrev pub measuredAnswer : Measured → Answer
-measuredAnswer (Measured.Length total) = accepted []
+measuredAnswer (Measured.Length total) = accepted (bitsOf total ∷ [])
 measuredAnswer (Measured.Refused refusal) = refused refusal
-
-abbrev pub foundAnswer : Found → Answer
-foundAnswer (Found.Segment segment) = accepted []
-foundAnswer Found.NoSegment = accepted []
-foundAnswer (Found.Refused refusal) = refused refusal

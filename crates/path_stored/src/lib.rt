@@ -2,6 +2,7 @@
 // check. What stands here asks nothing and refuses; `inner` has the same for a caller that knows the path to be stored.
 mod checking;
 pub mod inner;
+mod leaving;
 mod queries;
 
 pub use checking::check_path;

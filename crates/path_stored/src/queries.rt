@@ -1,6 +1,7 @@
 // What a path answers about its segments. Each entry checks the path first, and refuses what is not stored.
 use crate::checking::check_path;
 use crate::inner;
+use crate::leaving::leaving;
 use answers::Refusal;
 use arc::no_table;
 use path_segment::PathSegment;
@@ -86,7 +87,7 @@ pub fn segment(kinds: &[u8], numbers: &[f32], tables: &[f32], lengths: &[f32], i
 {
     if check_path(kinds, numbers, tables, lengths) {
         if i < kinds.len() {
-            let found = Found::Segment(inner::segment(kinds, numbers, i));
+            let found = Found::Segment(leaving(inner::segment(kinds, numbers, i)));
             let table = inner::segment_table(kinds, tables, i);
             return Part { found, table };
         }

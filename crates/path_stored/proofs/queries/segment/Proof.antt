@@ -9,14 +9,26 @@ use Rattle.path_stored.proofs.queries.segment.Statement.{statement}
 use Rattle.path_stored.proofs.queries.segment.Tie as tie
 
 segment-requires : tie.Need-segment-requires
-segment-requires c κs = (let a = c .before .before .before .before .before .before .before .args in stored-numbered (a .kinds .now) (a .numbers .now) (a .tables .now) (a .lengths .now) (passed (sym (c .before .before .check-path .ensures) ∙ c .before .if1 .taken)), c .if2 .taken)
+segment-requires c κs =
+    let a = c .before .before .before .before .before .before .before .args in (
+      stored-numbered (a .kinds .now) (a .numbers .now) (a .tables .now) (a .lengths .now) (passed (sym (c .before .before .check-path .ensures) ∙ c .before .if1 .taken)),
+      c .if2 .taken,
+    )
 
 segment-table-requires : tie.Need-segment-table-requires
-segment-table-requires c κs = (let a = c .before .before .before .before .before .before .before .before .args in stored-tabled (a .kinds .now) (a .numbers .now) (a .tables .now) (a .lengths .now) (passed (sym (c .before .before .before .check-path .ensures) ∙ c .before .before .if1 .taken)), c .before .if2 .taken)
+segment-table-requires c κs =
+    let inside = c .before .before in
+    let a = inside .before .before .before .before .before .before .before .args in (
+      stored-tabled (a .kinds .now) (a .numbers .now) (a .tables .now) (a .lengths .now) (passed (sym (inside .before .before .check-path .ensures) ∙ inside .before .if1 .taken)),
+      inside .if2 .taken,
+    )
 
 returns : tie.Need-returns
 unfolding partOf
-returns c = let t = sym (c .before .before .before .before .check-path .ensures) ∙ c .before .before .before .if1 .taken in simp (t, lt-ltb _ _ (c .before .before .if2 .taken), c .before .segment .ensures, c .segment-table .ensures)
+returns c =
+    let inside = c .before .before .before in
+    let t = sym (inside .before .before .check-path .ensures) ∙ inside .before .if1 .taken in
+    simp (t, lt-ltb _ _ (inside .if2 .taken), c .before .leaving .ensures, c .before .before .segment .ensures, c .segment-table .ensures)
 
 returns-2 : tie.Need-returns-2
 unfolding partOf
@@ -29,5 +41,5 @@ returns-3 c = let t = sym (c .before .before .check-path .ensures) ∙ c .before
 pub segment-spec : {M : Type 1} → statement M
 segment-spec =
     tie.close
-    (tie.spec (λ c κs. search needs) segment-requires segment-table-requires returns (λ c κs. search needs) returns-2
-    (λ c κs. search needs) returns-3)
+    (tie.spec (λ c κs. search needs) segment-requires (λ c κs. search needs) segment-table-requires returns
+    (λ c κs. search needs) returns-2 (λ c κs. search needs) returns-3)
