@@ -863,8 +863,8 @@ pub struct Commands {
 /// fn flown(text: &[u8]) -> Result<usize, Box<dyn std::error::Error>> {
 ///     Ok(kihavute::read(text)?.letters.len())
 /// }
-/// let why = flown(b"M0 0S1 2 3 4").unwrap_err();
-/// assert_eq!(why.to_string(), "the command S at byte 4 is not known; use M, L, H, V, C, Q, A or Z");
+/// let why = flown(b"M0 0R1 2 3 4").unwrap_err();
+/// assert_eq!(why.to_string(), "the command R at byte 4 is not known; use M, L, H, V, C, S, Q, T, A or Z");
 /// ```
 #[derive(Clone, Copy, Debug, PartialEq, Eq)]
 pub enum ReadError {
@@ -1137,7 +1137,9 @@ mod tests {
         let table = arc_table(&half).expect("half a circle is an arc").expect("and has a table");
         assert_eq!(Ok(table[32]), arc_length(&half));
         assert!(
-            arc_position(&half, Progress(0.5)).is_ok() && arc_tangent(&half, Progress(0.5)).is_ok() && arc_rotation_deg(&half, Progress(0.5)).is_ok()
+            arc_position(&half, Progress(0.5)).is_ok()
+                && arc_tangent(&half, Progress(0.5)).is_ok()
+                && arc_rotation_deg(&half, Progress(0.5)).is_ok()
         );
         let line = Chord { radii: [0.0, 1.0], x_axis_rotation: f32::NAN, ..half };
         assert_eq!(arc_shape(&line).map(|(_, fell_back)| fell_back), Ok(true));
@@ -1210,7 +1212,7 @@ mod tests {
         assert_eq!(read(b"M0 0R1 2 3 4"), Err(ReadError::UnsupportedCommand(b'R', 4)));
         assert_eq!(read(b"M1 2Z3 4"), Err(ReadError::MissingMoveTo(5)));
         // in words as the refusal that read_into gives
-        for text in [&b"M1"[..], b"M", b"M1e 2", b"M0 0A1 1 0 2 0 3 4", b"M0 0S1 2 3 4", b"M1 2Z3 4", &[b' '; 65_537]] {
+        for text in [&b"M1"[..], b"M", b"M1e 2", b"M0 0A1 1 0 2 0 3 4", b"M0 0R1 2 3 4", b"M1 2Z3 4", &[b' '; 65_537]] {
             let error: Box<dyn std::error::Error> = Box::new(read(text).unwrap_err());
             assert_eq!(error.to_string(), read_into(text, &mut [], &mut []).unwrap_err().to_string());
         }
