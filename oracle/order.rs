@@ -293,7 +293,7 @@ fn witnesses_section(check: &mut Checked) -> String {
     let bare = |share: Share| Way { share, clamped: false, ..LOOKUP };
     let joined = |join: Join| Way { join, ..LOOKUP };
     let mut text = format!("## {WITNESSES}\n\n");
-    text += "Bits and the numbers they stand for are theorems of `crates/table_order/proofs/Witnesses.antt`, named at each witness; `oracle/order` works them out again and compares. What lies between them, the fractions before they are rounded, is by `oracle/order` alone, which writes this section. In all but F and H the progress 0.5 has an entry as its target, and the progress after it is 0.5 + 2^-24.\n\n";
+    text += "Bits and the numbers they stand for are theorems of `crates/table_order/proofs/Witnesses.antt`, named at each witness; `oracle/order` works them out again and compares. What lies between them, the fractions before they are rounded, is by `oracle/order` alone, which writes this section. In A to E and G the progress 0.5 has an entry as its target; the f32 after it is 0.5 + 2^-24.\n\n";
 
     // A
     let a = standing(18, 32);
