@@ -51,7 +51,7 @@ pub fn cubic_sample(
     let c = lerp_point(control2, end, t);
     let d = lerp_point(a, b, t);
     let e = lerp_point(b, c, t);
-    lerp_point(d, e, t)
+    tidied(lerp_point(d, e, t))
 }
 
 // The direction and speed at a raw parameter.

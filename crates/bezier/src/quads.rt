@@ -41,7 +41,7 @@ pub fn quad_sample(start: Point, control: Point, end: Point, raw: RawParameter) 
     let t = clamp01(number_of(raw));
     let a = lerp_point(start, control, t);
     let b = lerp_point(control, end, t);
-    lerp_point(a, b, t)
+    tidied(lerp_point(a, b, t))
 }
 
 // The direction and speed at a raw parameter.

@@ -12,4 +12,4 @@ pub quad-sample-spec : {M : Type 1} → statement M
 quad-sample-spec =
     tie.close
     (tie.spec (λ c κs. search needs) (λ c κs. search needs) (λ c κs. search needs) (λ c κs. search needs)
-    (λ c κs. search needs) returns)
+    (λ c κs. search needs) (λ c κs. search needs) returns)
