@@ -1,30 +1,27 @@
 -- The fusion that compilers make by themselves where they are let, a contraction: total * progress - lower, rounded once, in place of the rounded target less lower. The entry is still picked by
--- the rounded target, so the difference may fall below 0 or pass the span. Clamped, it is a share all the same: nothing steps back, and every parameter lies between its places. Without the
--- clamp it steps back by a quarter of a part (Witnesses.antt). Assumes nothing.
+-- the rounded target, so the difference may fall below 0 or pass the span. Clamped, it is a share all the same, and meets demand 3 of a table (Kept.antt). Without the clamp it steps back by a
+-- quarter of a part (Witnesses.antt). Assumes nothing.
 use mathlib.Core.Path.{sym, subst}
 use mathlib.Core.Logic.{_⊎_, inl, inr}
 use Prim.Native.Nat.{ℕ, _-_, _*_, _≤_}
 use native.Mathlib.Nat.{le-trans, mul-comm, mul-assoc, mul-left-comm, mul-le-mul-right}
 use native.Mathlib.Omega.{arith}
-use mathlib.Core.List.{List}
 use lib.Dec.{T}
-use lib.Ieee.{Float, binary32, div, neg, lt, le}
+use lib.Ieee.{Float, binary32, div, neg, le}
 use lib.Ieee.Positive.{num, den}
-use Rattle.floats.specs.Floats.{zeroF, oneF, epsilonF, clampOf, clamp01Of}
+use Rattle.floats.specs.Floats.{zeroF, oneF, clampOf, clamp01Of}
 use Rattle.floats.specs.Kinds.{real, nonneg}
-use Rattle.floats.proofs.Order.{le-self, le-real-l, lt→not-le}
+use Rattle.floats.proofs.Order.{le-self, le-real-l}
 use Rattle.floats.proofs.Fractions.{nonneg-real}
 use Rattle.floats.proofs.Rounded.{Rounds, div-rounds}
 use Rattle.floats.proofs.Monotone.{div-mono}
 use Rattle.floats.proofs.Held.{Held, held-above, rounds-under, rounds-real}
 use Rattle.floats.proofs.Constants.{zero-le-one}
 use Rattle.floats.proofs.Clamping.{clamp-at-least, clamp-at-most, clamp01-nonneg, clamp01-at-most, at-most-one}
-use Rattle.table.specs.Lookup.{lastOf, firstNotBelow, targetOf, markOf}
-use Rattle.table_order.specs.Stated.{F32Table}
+use Rattle.table.specs.Lookup.{targetOf}
 use Rattle.table_order.proofs.Fused.{fusedOf, fused-swap, over, scale, fused-sorted, fused-rise, div-low}
-use Rattle.table_order.proofs.Steady.{Between, SharesOf, inPart, total-held}
-use Rattle.table_order.proofs.Targets.{target-held, long-parts}
-use Rattle.table_order.proofs.Division.{spanOf, span-nonneg, span-above, quotientOf, placed-from, placed-upto}
+use Rattle.table_order.proofs.Steady.{Between, SharesOf}
+use Rattle.table_order.proofs.Division.{spanOf, span-nonneg, span-above}
 use Rattle.table_order.proofs.Variants.{clamped-rise}
 
 -- of a progress, from the entry a to b
@@ -97,20 +94,3 @@ module _ (total : Float) (H : Held binary32 total) where
     high = λ a b p B. clamp-at-most zeroF oneF zero-le-one (contractedShare total a b p) (number a b p B);
     grows = rises;
   }
-
--- And joined by the division, the parameter lies between the places of the two entries that enclose the target, as theorem 4 has it for the lookup.
-module _ {xs : List Float} {total : Float} (f : F32Table xs total) (p : Float) (long : T (lt epsilonF total)) (above : T (lt zeroF (targetOf total p))) (below : T (lt (targetOf total p) total)) where
-  abbrev entry : ℕ
-  entry = firstNotBelow (targetOf total p) xs
-
-  abbrev own : Float
-  own = inPart (contractedClamped total) (quotientOf (lastOf xs)) xs p entry
-
-  some : 1 ≤ lastOf xs
-  some = long-parts f (lt→not-le total epsilonF long)
-
-  pub contracted-placed : T (le (markOf (lastOf xs) (entry - 1)) own) × T (le own (markOf (lastOf xs) entry))
-  contracted-placed =
-      let S = contracted-shares total (total-held f) in
-      let H = target-held total (total-held f) p in
-      (placed-from f some S p H above below, placed-upto f some S p H above below)

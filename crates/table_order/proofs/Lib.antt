@@ -1,5 +1,5 @@
 -- Demand 3. Read Theorems.antt first: the five statements. Steady.antt has the reason, Division.antt that the lookup fits it; Variants.antt, Contraction.antt,
--- Above.antt and Witnesses.antt settle what else fits it and what does not (docs/ORDER.md).
+-- Kept.antt, Above.antt and Witnesses.antt settle what else fits it and what does not (docs/ORDER.md).
 pub mod Steady
 pub mod Division
 pub mod Targets
@@ -11,4 +11,5 @@ pub mod Fused
 pub mod Above
 pub mod Variants
 pub mod Contraction
+pub mod Kept
 mod Witnesses
