@@ -1,6 +1,6 @@
 -- What the record forbids, field by field: a neighbour, the odd one of two at a tie, an infinity or a zero on the wrong side of its threshold, the
 -- other sign; and for a text the value that comes through binary64. antt computes each distance. Assumes nothing.
-use Prim.Native.Nat.{ℕ, _+_, _-_, _*_, _^_, _≤_}
+use Prim.Native.Nat.{ℕ, _+_, _-_, _^_, _≤_}
 use mathlib.Core.Path.{_≡_, refl, sym, ap, _∙_}
 use mathlib.Core.Bool.{true, false}
 use mathlib.Core.List.{List, [], _∷_}
@@ -9,13 +9,14 @@ use native.Mathlib.Omega.{arith}
 use lib.Dec.{lit≤, lit<}
 use lib.IntN.{pos}
 use lib.Count.{trailingZeros}
-use lib.Ieee.{Float, inf, fin, binary32, binary64, round, size, units, odd, ofBits, ofFields, toBits, fits}
+use lib.Ieee.{inf, fin, binary32, binary64, round, size, units, odd, ofBits, ofFields, toBits, fits}
 use Rattle.scan.specs.Scan.{leading, scan}
 use Rattle.scan.specs.Bytes.{among}
 use Rattle.scan.specs.Runs.{stands, pastOne, pastAll, pastMarkOf}
 use Rattle.scan.specs.Numbers.{wholeOf, pointOf, fractionOf, markOf, exponentOf, endOf, placesOf, noDigit, noExponentDigit, scanNumberOf}
+use Rattle.scan.specs.declared.numbers.Number.the-variants.{Scanned}
 use Rattle.decimal_digits.specs.Digits.{digitsAmong, val}
-use Rattle.decimal.specs.Decimal.{falls, riseOf, fallOf, valueOf, numberOf}
+use Rattle.decimal.specs.Decimal.{falls, riseOf, fallOf, valueOf, readOf, numberOf}
 use Rattle.decimal.specs.declared.numbers.Read.the-variants.{Value}
 use Rattle.decimal.proofs.Said.{again, through-binary64}
 use Rattle.decimal_nearest.specs.Nearest.{NearestTo, ValueAt}
@@ -59,9 +60,13 @@ sign-refused n = let e = n .signed in let z : _≡_ {A = ℕ} 0 1 = cc in omega 
 abbrev farPast : List ℕ
 farPast = 49 ∷ 54 ∷ 55 ∷ 55 ∷ 55 ∷ 50 ∷ 49 ∷ 55 ∷ 46 ∷ 48 ∷ 48 ∷ 48 ∷ 48 ∷ 48 ∷ 48 ∷ 48 ∷ 48 ∷ 49 ∷ []
 
+places : scanNumberOf farPast 0 ≡ Scanned (record { start = 0; whole = 0; point = 8; fraction = 9; mark = 18; exponent = 18; end = 18 })
+unfolding scanNumberOf placesOf noDigit noExponentDigit endOf exponentOf markOf fractionOf pointOf wholeOf pastMarkOf pastOne pastAll scan leading stands among
+places = refl
+
 read : numberOf farPast 0 ≡ Value (ofBits binary32 0x4b80_0001) 18
-unfolding scanNumberOf placesOf noDigit noExponentDigit endOf exponentOf markOf fractionOf pointOf wholeOf pastMarkOf pastOne pastAll scan leading stands among digitsAmong val falls riseOf fallOf valueOf numberOf round size units odd trailingZeros ofBits ofFields
-read = refl
+unfolding numberOf valueOf riseOf fallOf falls digitsAmong val among round size units odd trailingZeros ofBits ofFields
+read = ap (readOf farPast) places
 
 bits : toBits binary32 (ofBits binary32 0x4b80_0001) ≡ 0x4b80_0001
 unfolding toBits ofBits ofFields odd trailingZeros size

@@ -1,7 +1,7 @@
 -- The multiple of a step that is nearest to a number: no other is nearer, one as near is the next one at a half, and there the nearest is even.
 -- Assumes nothing.
 use Prim.Native.Nat.{ℕ, suc, _+_, _-_, _*_, _/_, _%_, _≤_, _<_, compare, Ordering, Ordering·lt, Ordering·eq, Ordering·gt}
-use mathlib.Core.Path.{_≡_, refl, sym, ap, _∙_, subst}
+use mathlib.Core.Path.{_≡_, refl, sym, ap, subst}
 use mathlib.Core.Logic.{_⊎_, inl, inr}
 use native.Mathlib.Nat.{le-of-eq, le-trans, mul-le-mul-right, suc-mul, div-add-mod', mod-lt}
 use native.Mathlib.Omega.{arith}

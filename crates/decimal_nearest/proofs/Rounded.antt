@@ -1,19 +1,19 @@
 -- A rounded fraction is its nearest value, and no other value is. num / den in units is n / den; the rounding takes the multiple of 2 ^ shift units
 -- that is nearest to it. A value that is no such multiple lies below all the digits of n / den, further off. Assumes nothing.
-use Prim.Native.Nat.{ℕ, zero, suc, _+_, _-_, _*_, _/_, _%_, _^_, _≤_, _<_, compare}
+use Prim.Native.Nat.{ℕ, suc, _+_, _-_, _*_, _/_, _%_, _^_, _≤_, _<_, compare}
 use mathlib.Core.Path.{_≡_, refl, sym, ap, _∙_, subst}
 use mathlib.Core.Logic.{_⊎_, inl, inr}
-use mathlib.Core.Bool.{Bool, true, false, cond}
-use native.Mathlib.Nat.{le-refl, le-trans, le-of-eq, le-antisymm, lt-of-lt-of-le, lt-of-le-of-lt, lt-irrefl, not-le-of-lt, mul-assoc, mul-comm, mul-right-comm, mul-one, mul-pos, mul-le-mul-right, mul-lt-mul-of-pos-right, lt-of-mul-lt-mul-right, eq-of-mul-eq-mul-right, le-div-iff-mul-le, div-lt-iff-lt-mul, div-div-eq-div-mul, eq-zero-or-pos, zero-mul, zero-div, suc-mul}
+use mathlib.Core.Bool.{Bool, cond}
+use native.Mathlib.Nat.{le-trans, le-of-eq, le-antisymm, lt-of-lt-of-le, lt-of-le-of-lt, lt-irrefl, mul-assoc, mul-comm, mul-right-comm, mul-one, mul-pos}
+use native.Mathlib.Nat.{mul-le-mul-right, mul-lt-mul-of-pos-right, lt-of-mul-lt-mul-right, le-div-iff-mul-le, div-lt-iff-lt-mul, div-div-eq-div-mul, eq-zero-or-pos, zero-mul, suc-mul}
 use native.Mathlib.Omega.{arith}
 use lib.IntN.{ℤ, pos}
 use lib.Dec.{T, lit≤, lit<}
 use lib.Pow.{pow-add, pow-pos, pow-mono}
-use lib.Ieee.{Float, nan, inf, fin, binary32, low, up, down, size, units, round, fits, toBits, ofBits, prec, hid, top}
+use lib.Ieee.{Float, nan, inf, fin, binary32, size, units, round, fits, toBits, ofBits, prec, hid, top}
 use lib.Ieee.Digits.{size-le, size-reaches}
 use lib.Ieee.Fits.{kept-lt, nearest-le, round-is, round-fits}
 use lib.Ieee.Exact.{HasValue, units-val}
-use lib.Ieee.Nearest.{closest}
 use lib.Ieee.Bits.{ofBits-toBits}
 use lib.Ieee.Order.{drop, kept}
 use lib.Ieee.Scale.{finite}

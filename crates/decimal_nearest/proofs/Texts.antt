@@ -10,8 +10,7 @@ use Rattle.scan.specs.declared.numbers.Number.{Number}
 use Rattle.scan.specs.declared.numbers.Number.the-variants.{Scanned, NoDigit, NoExponentDigit}
 use Rattle.decimal_digits.proofs.Values.{ten-pos}
 use Rattle.decimal.specs.Decimal.{numerator, denominator, negative, valueOf, readOf, numberOf}
-use Rattle.decimal.specs.declared.numbers.Read.{Read}
-use Rattle.decimal.specs.declared.numbers.Read.the-variants.{Value, Refused}
+use Rattle.decimal.specs.declared.numbers.Read.the-variants.{Value}
 use Rattle.decimal_nearest.specs.Nearest.{NearestTo, ValueAt}
 use Rattle.decimal_nearest.proofs.Rounded.{round-nearest, nearest-is}
 
