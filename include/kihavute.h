@@ -58,7 +58,7 @@ enum kihavute_refusal {
     KIHAVUTE_TOO_LONG = 1,            /* the text's length */
     KIHAVUTE_UNEXPECTED_END = 2,      /* offset, the text's length */
     KIHAVUTE_EXPECTED_NUMBER = 3,     /* offset */
-    KIHAVUTE_INVALID_NUMBER = 4,      /* offset */
+    KIHAVUTE_INVALID_NUMBER = 4,      /* offset of the e of an exponent without digit; there is no other cause */
     KIHAVUTE_EXPECTED_FLAG = 5,       /* offset */
     KIHAVUTE_UNSUPPORTED_COMMAND = 6, /* letter, offset */
     KIHAVUTE_MISSING_MOVE_TO = 7,     /* offset */
@@ -334,7 +334,8 @@ uint32_t kihavute_bounds(const float *from, size_t from_len, const float *to, si
 /* The decimal number that a text starts with: an optional sign, digits, an optional point and digits, at least one digit
  * in all, an optional exponent, the longest text. answer[0] gets the bits of the float nearest to its exact value, ties to
  * even, for any count of digits; answer[1] how many bytes it takes. Refused with 1 above 65,536 bytes (the count), with
- * 3 at 0 where no number starts, with 4 at the e of an exponent without digit. */
+ * 3 at 0 where no number starts, with 4 at the e of an exponent without digit, and for no other reason: every text that
+ * the scan passes has a value. */
 uint32_t kihavute_number(const uint8_t *text, size_t text_len, uint64_t *answer, size_t answer_len);
 
 /* Whether the text matches the path grammar of SVG 1.1 Second Edition, 8.3.9: answer[0] is 1 for a yes and 0 for a no. No
@@ -350,7 +351,8 @@ uint32_t kihavute_strict(const uint8_t *text, size_t text_len, uint64_t *answer,
  * Separators are comma, space, tab, LF, FF and CR. answer[0] gets how many letters are stored, answer[1] how many numbers; both stand from their buffer's start,
  * and what stands past them is left as it was.
  *
- * Refused with 1 above 65,536 bytes, else with the first of 2 to 7 in the text, else with 8 where a buffer is too short:
+ * Refused with 1 above 65,536 bytes, else with the first of 2 to 7 in the text (4 is an exponent without digit, at its e,
+ * and nothing else), else with 8 where a buffer is too short:
  * answer[0] is the count of letters needed, answer[1] that of numbers. A call that does not return 0 leaves both buffers
  * as they were, so that a call with buffers of length 0 asks for the sizes. */
 uint32_t kihavute_read(const uint8_t *text, size_t text_len, uint8_t *letters, size_t letters_len,
@@ -398,7 +400,8 @@ uint32_t kihavute_build(const uint8_t *letters, size_t letters_len, const float 
                         uint64_t *answer, size_t answer_len);
 
 /* The same for a text of path data, with no command list between. Refused with 1 above 65,536 bytes (the count), with 2 to 7
- * where it does not read to its end, then as above with 10, 11 and 8. */
+ * where it does not read to its end (4 is an exponent without digit, at its e, and nothing else), then as above with 10, 11
+ * and 8. */
 uint32_t kihavute_build_text(const uint8_t *text, size_t text_len, uint8_t *kinds, size_t kinds_len,
                              float *fields, size_t fields_len, float *tables, size_t tables_len,
                              float *lengths, size_t lengths_len, uint64_t *answer, size_t answer_len);

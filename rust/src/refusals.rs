@@ -33,6 +33,7 @@ pub enum Reason {
     ExpectedNumber {
         offset: u64,
     },
+    /// An exponent without a digit: where its e stands. There is no other cause.
     InvalidNumber {
         offset: u64,
     },

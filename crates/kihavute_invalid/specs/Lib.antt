@@ -1,0 +1,2 @@
+-- What a refusal says of the text. Definitions only.
+pub mod Cause
