@@ -96,6 +96,7 @@ fn main() -> ExitCode {
         },
         ["read"] => read::compare_all(&mut report, SEED),
         ["read", "drawings"] => read::compare_drawings(&mut report, SEED),
+        ["read", "numbers"] => read::bare_exponents(&mut report, 6),
         ["read", seed, count] => match (seed.parse(), count.parse()) {
             (Ok(seed), Ok(count)) => read::compare_made(&mut report, seed, count),
             _ => return usage(),

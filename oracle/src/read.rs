@@ -243,6 +243,40 @@ fn tails(report: &mut Report, bytes: u32) {
     }
 }
 
+// ---- 4 has one cause
+
+// the bytes of a number
+const OF_A_NUMBER: [u8; 8] = *b"019+-.eE";
+
+// M, then up to so many bytes of a number
+fn numbers(most: u32) -> impl Iterator<Item = Text> {
+    (0..=most).flat_map(|bytes| {
+        (0..8u64.pow(bytes)).map(move |number| {
+            let tail = (0..bytes).map(|place| OF_A_NUMBER[(number >> (3 * place)) as usize % 8]);
+            Text(std::iter::once(b'M').chain(tail).collect())
+        })
+    })
+}
+
+// what the original says, where each 4 is at an e
+fn theirs_at_an_e(text: &Text) -> Said {
+    match theirs(&text.0) {
+        Said::Refused { number: 4, carried } if !b"eE".contains(&text.0[carried[0] as usize]) => {
+            Said::Wrong("4 where no e stands")
+        }
+        said => said,
+    }
+}
+
+/// Ours and the second reader against the original; none of these texts fails to convert.
+pub fn bare_exponents(report: &mut Report, most: u32) {
+    let name = format!("M and up to {most} bytes of a number, each 4 at an e");
+    let calls = report.group(&name, numbers(most), |text| ours(&text.0), theirs_at_an_e);
+    report.group("the same, the second reader", numbers(most), |text| second(&text.0), theirs_at_an_e);
+    let bare = numbers(most).filter(|text| matches!(theirs(&text.0), Said::Refused { number: 4, .. })).count();
+    println!("  {name}: {calls} texts, {bare} of them 4, {:.0} s", report.seconds());
+}
+
 // ---- made texts
 
 /// Texts as a careless writer of paths would make them.
@@ -573,6 +607,7 @@ pub fn compare_some(report: &mut Report, seed: u64) {
     compare_texts(report, &format!("all texts of up to 4 of {COUNT} bytes"), texts(b"", 4));
     let inputs = STARTS.iter().flat_map(|start| texts(start.as_bytes(), 2));
     compare_texts(report, "all tails of up to 2 after each command", inputs);
+    bare_exponents(report, 6);
     compare_made(report, seed, 200_000);
     other_bytes(report, seed, 200_000);
     long_texts(report);
@@ -580,10 +615,12 @@ pub fn compare_some(report: &mut Report, seed: u64) {
     lists(report, seed, 100_000);
 }
 
-/// All texts of up to 6 telling bytes, and all tails of up to 5 after each command with all its arguments but one.
+/// All texts of up to 6 telling bytes, all tails of up to 5 after each command with all its arguments but one, and all of
+/// up to 6 bytes of a number behind M.
 pub fn compare_all(report: &mut Report, seed: u64) {
     short_texts(report, 6);
     tails(report, 5);
+    bare_exponents(report, 6);
     other_bytes(report, seed, 5_000_000);
     long_texts(report);
     full_buffers(report);

@@ -156,7 +156,8 @@ fn number(text: &[u8], at: &mut usize) -> Result<f32, Refused> {
     }
     *at = end;
     let digits = std::str::from_utf8(&text[start..end]).expect("a number has no other bytes");
-    digits.parse().map_err(|_| (4, vec![start as u64]))
+    // what is scanned converts: no refusal has the number 0, so that a text that did not would fail the run
+    digits.parse().map_err(|_| (0, vec![start as u64]))
 }
 
 fn flag(text: &[u8], at: &mut usize) -> Result<f32, Refused> {
