@@ -17,9 +17,9 @@ use Rattle.decimal.specs.declared.numbers.Read.the-variants.{Value, Refused as 
 use Rattle.decimal_text.proofs.Bare.{number-bare}
 use Rattle.math.specs.declared.points.Point.{Point}
 use Rattle.svg_group.specs.Numbers.{readNumberOf, numberThen, flagAt, readFlagOf, flagThen, readFlagsOf, flagsThen, readPairOf, pairThen}
-use Rattle.svg_group.specs.Groups.{readMoveOf, readLineOf, readHorizontalOf, readVerticalOf, readCubicOf, readQuadOf, readArcOf, readGroupOf}
+use Rattle.svg_group.specs.Groups.{readMoveOf, readLineOf, readHorizontalOf, readVerticalOf, readCubicOf, readSmoothCubicOf, readQuadOf, readSmoothQuadOf, readArcOf, readGroupOf}
 use Rattle.svg_group.specs.declared.letters.Kind.{Kind}
-use Rattle.svg_group.specs.declared.letters.Kind.the-variants.{Move, Line, Horizontal, Vertical, Cubic, Quad, Arc}
+use Rattle.svg_group.specs.declared.letters.Kind.the-variants.{Move, Line, Horizontal, Vertical, Cubic, SmoothCubic, Quad, SmoothQuad, Arc}
 use Rattle.svg_group.specs.declared.numbers.Flag.{Flag}
 use Rattle.svg_group.specs.declared.numbers.Flag.the-variants.{Taken as FlagTaken, Refused as FlagRefused}
 use Rattle.svg_group.specs.declared.numbers.Flags.{Flags}
@@ -28,7 +28,7 @@ use Rattle.svg_group.specs.declared.numbers.Pair.{Pair}
 use Rattle.svg_group.specs.declared.numbers.Pair.the-variants.{Taken as PairTaken, Refused as PairRefused}
 use Rattle.svg_group.specs.declared.groups.Group.{Group}
 use Rattle.svg_group.specs.declared.groups.Group.the-variants.{Taken, Refused}
-use Rattle.kihavute_invalid.specs.Cause.{Caused}
+use Rattle.invalid_number.specs.Cause.{Caused}
 
 cond-either : {A : Type 0} (P : A → Type 0) (b : Bool) (x y : A) → P x → P y → P (cond b x y)
 cond-either P true x y f g = f
@@ -131,14 +131,16 @@ module _ (text : List ℕ) where
   after-flags : (at : ℕ) (go : Bool → Bool → ℕ → Group) → ((v w : Bool) (e : ℕ) → GroupCaused (go v w e)) → GroupCaused (flagsThen (readFlagsOf text at) Refused go)
   after-flags at go h = flags-link GroupCaused Refused (λ x c. c) (readFlagsOf text at) go (flags-caused at) h
 
-  -- one law over the kinds
-  pub group-caused : (kind : Kind) (at : ℕ) (relative : Bool) (current : Point) → GroupCaused (readGroupOf text at kind relative current)
-  unfolding readGroupOf readMoveOf readLineOf readHorizontalOf readVerticalOf readCubicOf readQuadOf readArcOf
-  group-caused Move at relative current = after-pair at relative current _ (λ v e. tt)
-  group-caused Line at relative current = after-pair at relative current _ (λ v e. tt)
-  group-caused Horizontal at relative current = after-number at _ (λ v e. tt)
-  group-caused Vertical at relative current = after-number at _ (λ v e. tt)
-  group-caused Cubic at relative current = after-pair at relative current _ (λ v n. after-pair n relative current _ (λ w m. after-pair m relative current _ (λ u e. tt)))
-  group-caused Quad at relative current = after-pair at relative current _ (λ v n. after-pair n relative current _ (λ w e. tt))
-  group-caused Arc at relative current =
+  -- one law over the kinds; `first` is the first control of a smooth curve
+  pub group-caused : (kind : Kind) (at : ℕ) (relative : Bool) (current first : Point) → GroupCaused (readGroupOf text at kind relative current first)
+  unfolding readGroupOf readMoveOf readLineOf readHorizontalOf readVerticalOf readCubicOf readSmoothCubicOf readQuadOf readSmoothQuadOf readArcOf
+  group-caused Move at relative current first = after-pair at relative current _ (λ v e. tt)
+  group-caused Line at relative current first = after-pair at relative current _ (λ v e. tt)
+  group-caused Horizontal at relative current first = after-number at _ (λ v e. tt)
+  group-caused Vertical at relative current first = after-number at _ (λ v e. tt)
+  group-caused Cubic at relative current first = after-pair at relative current _ (λ v n. after-pair n relative current _ (λ w m. after-pair m relative current _ (λ u e. tt)))
+  group-caused SmoothCubic at relative current first = after-pair at relative current _ (λ v n. after-pair n relative current _ (λ w e. tt))
+  group-caused Quad at relative current first = after-pair at relative current _ (λ v n. after-pair n relative current _ (λ w e. tt))
+  group-caused SmoothQuad at relative current first = after-pair at relative current _ (λ v e. tt)
+  group-caused Arc at relative current first =
       after-pair at false current _ (λ radii n. after-number n _ (λ rotation m. after-flags m _ (λ large sweep i. after-pair i relative current _ (λ end e. tt))))

@@ -25,8 +25,8 @@ use Rattle.c_answer.specs.Given.{Given}
 use Rattle.kihavute.specs.Decimals.{readGiven, numberGiven}
 use Rattle.kihavute.proofs.NumberGiven.{text-fits}
 use Rattle.kihavute_reading.specs.Reading.{PathRead}
-use Rattle.kihavute_invalid.specs.Cause.{Bare, Caused}
-use Rattle.kihavute_invalid.proofs.Steps.{OutcomeCaused, text-caused}
+use Rattle.invalid_number.specs.Cause.{Bare, Caused}
+use Rattle.invalid_number.proofs.Steps.{OutcomeCaused, text-caused}
 
 cond-either : {A : Type 0} (P : A → Type 0) (b : Bool) (x y : A) → P x → P y → P (cond b x y)
 cond-either P true x y f g = f

@@ -19,15 +19,15 @@ use Rattle.svg_group.specs.declared.letters.Letter.{Letter}
 use Rattle.svg_group.specs.declared.letters.Letter.the-variants.{Draws, Closes, Unknown}
 use Rattle.svg_group.specs.declared.groups.Group.{Group}
 use Rattle.svg_group.specs.declared.groups.Group.the-variants.{Taken, Refused as GroupRefused}
-use Rattle.svg.specs.Steps.{freshOf, isRelativeOf, needsPointOf, repeatedOf, dueGroupOf, begun, dueLetterOf, again, dueAgainOf, nextDueOf, taken, stepped, readStepOf}
+use Rattle.svg_step.specs.Steps.{freshOf, isRelativeOf, needsPointOf, repeatedOf, firstControlOf, dueGroupOf, begun, dueLetterOf, again, dueAgainOf, nextDueOf, taken, stepped, readStepOf}
 use Rattle.svg.specs.Texts.{Outcome, commands, refusal, prepend, follow, readFrom, commandsOf}
-use Rattle.svg.specs.declared.steps.Reader.{Reader}
-use Rattle.svg.specs.declared.steps.Due.{Due}
-use Rattle.svg.specs.declared.steps.Due.the-variants.{Done as NothingDue, Refused as NotDue, Close, Group as GroupDue}
-use Rattle.svg.specs.declared.steps.Step.{Step}
-use Rattle.svg.specs.declared.steps.Step.the-variants.{Command, Done, Refused}
-use Rattle.kihavute_invalid.specs.Cause.{Bare, Caused}
-use Rattle.kihavute_invalid.proofs.Groups.{GroupCaused, group-caused}
+use Rattle.svg_step.specs.declared.steps.Reader.{Reader}
+use Rattle.svg_step.specs.declared.steps.Due.{Due}
+use Rattle.svg_step.specs.declared.steps.Due.the-variants.{Done as NothingDue, Refused as NotDue, Close, Group as GroupDue}
+use Rattle.svg_step.specs.declared.steps.Step.{Step}
+use Rattle.svg_step.specs.declared.steps.Step.the-variants.{Command, Done, Refused}
+use Rattle.invalid_number.specs.Cause.{Bare, Caused}
+use Rattle.invalid_number.proofs.Groups.{GroupCaused, group-caused}
 
 cond-either : {A : Type 0} (P : A → Type 0) (b : Bool) (x y : A) → P x → P y → P (cond b x y)
 cond-either P true x y f g = f
@@ -92,8 +92,10 @@ module _ (text : List ℕ) where
   stepped-caused reader (NotDue x) h = h
   stepped-caused reader (Close next) h = tt
   stepped-caused reader (GroupDue kind letter first) h =
-      taken-caused letter (reader .start) (readGroupOf text first kind (isRelativeOf letter (reader .placed)) (reader .current))
-      (group-caused text kind first (isRelativeOf letter (reader .placed)) (reader .current))
+      let relative = isRelativeOf letter (reader .placed) in
+      let control = firstControlOf kind (reader .letter) (reader .current) (reader .control) in
+      taken-caused letter (reader .start) (readGroupOf text first kind relative (reader .current) control)
+      (group-caused text kind first relative (reader .current) control)
 
   pub step-caused : (reader : Reader) → StepCaused (readStepOf text reader)
   unfolding readStepOf
