@@ -1,5 +1,6 @@
 //! Permissive reading: the proved reader against the original's try_parse on texts of UTF-8, with S and T put in by the rule
-//! of SVG, and against a second reader on other bytes. Each text is read into buffers of several sizes, and every place of them is looked at.
+//! of SVG, and against a second reader on other bytes. Each text is read into buffers of several sizes, and every place of
+//! them is looked at.
 
 use crate::compare::Report;
 use crate::samples::{Stream, damaged};
