@@ -13,7 +13,8 @@ int main(int count, char **words) {
     unsigned long steps = count == 2 ? strtoul(words[1], NULL, 10) : 6;
 
     read_two(&before, &after);
-    size_t room = 2 * larger(&before, &after);
+    /* the default: 128 points, or the larger outline's count if that is more */
+    size_t points = larger(&before, &after), room = 2 * (points < 128 ? 128 : points);
     accepted(kihavute_morph_default(before.numbers, before.len, after.numbers, after.len, from, room, to, room, answer, 8), answer);
 
     for (unsigned long k = 0; k <= steps; k++) {

@@ -20,9 +20,9 @@ int main(int count, char **words) {
     float progress = count == 2 ? strtof(words[1], NULL) : 0.5f;
 
     read_two(&before, &after);
-    /* the default has as many points as the larger outline */
-    size_t room = 2 * larger(&before, &after);
-    accepted(kihavute_morph_default(before.numbers, before.len, after.numbers, after.len, from, room, to, room, answer, 8), answer);
+    /* as many points as the larger outline has, stated, so that the buffers' size is this program's own */
+    size_t resolution = larger(&before, &after), room = 2 * resolution;
+    accepted(kihavute_morph(before.numbers, before.len, after.numbers, after.len, resolution, from, room, to, room, answer, 8), answer);
     accepted(kihavute_evaluate(from, room, to, room, progress, shape, room, answer, 8), answer);
 
     printf("<svg xmlns=\"http://www.w3.org/2000/svg\" viewBox=\"-2 -20 34 22\">\n");

@@ -22,10 +22,15 @@ pub enum Query {
 const QUERIES: [(Query, &str); 5] = [
     (Query::Resample, "resample"),
     (Query::Morph, "with_resolution"),
-    (Query::MorphDefault, "new"),
+    (Query::MorphDefault, "the default"),
     (Query::Evaluate, "evaluate"),
     (Query::Bounds, "bounds_at"),
 ];
+
+// what is asked of the Rust where our default is asked: 128 points, or the larger shape's count if that is more
+fn default_resolution(from: &[u32], to: &[u32]) -> usize {
+    (from.len() / 2).max(to.len() / 2).max(128)
+}
 
 /// Two lists of patterns (the first alone for `resample`), a count, a progress and the outputs' places.
 #[derive(Clone)]
@@ -88,7 +93,7 @@ impl Asked {
         let (lists, count): (Vec<&[u32]>, usize) = match self.query {
             Query::Resample => (vec![&self.from], self.count),
             Query::Morph => (vec![&self.from, &self.to], self.count.max(2)),
-            Query::MorphDefault => (vec![&self.from, &self.to], (self.from.len() / 2).max(self.to.len() / 2).max(2)),
+            Query::MorphDefault => (vec![&self.from, &self.to], default_resolution(&self.from, &self.to)),
             Query::Evaluate | Query::Bounds => (vec![&self.from, &self.to], 0),
         };
         if let Some(list) = lists.iter().find(|list| list.len() % 2 == 1) {
@@ -107,8 +112,9 @@ impl Asked {
         let t = f32::from_bits(self.progress);
         let given: Vec<Vec<[f32; 2]>> = match self.query {
             Query::Resample => vec![resample(&points[0], count)],
-            Query::Morph => shapes(&MorphPath::with_resolution(points[0].clone(), points[1].clone(), self.count)),
-            Query::MorphDefault => shapes(&MorphPath::new(points[0].clone(), points[1].clone())),
+            Query::Morph | Query::MorphDefault => {
+                shapes(&MorphPath::with_resolution(points[0].clone(), points[1].clone(), count))
+            }
             Query::Evaluate => vec![MorphPath::open_from_parts(points[0].clone(), points[1].clone()).evaluate(t)],
             Query::Bounds => return self.bounds(&points[0], &points[1], t),
         };
@@ -238,12 +244,13 @@ pub fn numbers(kind: Kind, points: usize, stream: &mut Stream) -> Vec<u32> {
     list.into_iter().map(f32::to_bits).collect()
 }
 
-// 0 to 40 points, now and then the limit and one more
+// 0 to 40 points, now and then about 128, the limit and one more
 fn points(stream: &mut Stream) -> usize {
     match stream.below(4096) {
         0 => 4096,
         1 => 4097,
         2..600 => stream.below(3) as usize,
+        600..700 => 126 + stream.below(5) as usize,
         _ => stream.below(41) as usize,
     }
 }
@@ -301,11 +308,10 @@ pub fn draw(query: Query, kind: Kind, most: Option<usize>, stream: &mut Stream) 
 impl Asked {
     // the most that the outputs may need
     fn need(&self) -> [usize; 2] {
-        let larger = (self.from.len() / 2).max(self.to.len() / 2).max(2);
         let count = match self.query {
             Query::Resample => self.count,
             Query::Morph => self.count.max(2),
-            Query::MorphDefault => larger,
+            Query::MorphDefault => default_resolution(&self.from, &self.to),
             Query::Evaluate | Query::Bounds => (self.from.len() / 2).min(self.to.len() / 2),
         };
         [2 * count.min(4097); 2]

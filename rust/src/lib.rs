@@ -333,7 +333,8 @@ pub fn morph(
     Ok([given[0] as usize, given[1] as usize])
 }
 
-/// The same with as many points as the larger shape has.
+/// The same where no resolution is stated: 128 points, or as many as the larger shape has if that is more. Each output takes
+/// two numbers for each.
 #[inline]
 pub fn morph_default(
     from: &[f32],
@@ -1074,7 +1075,10 @@ mod tests {
         let mut other = [9.0; 6];
         assert_eq!(morph(&line, &line[..2], 2, &mut out, &mut other), Ok([4, 4]));
         assert_eq!(other, [0.0, 0.0, 0.0, 0.0, 9.0, 9.0]);
-        assert_eq!(morph_default(&line, &[], &mut out, &mut other), Ok([6, 0]));
+        assert_eq!(morph_default(&line, &[], &mut out, &mut other), Err(refused(8, &[256, 0])));
+        let mut wide = [9.0; 257];
+        assert_eq!(morph_default(&line, &[], &mut wide, &mut other), Ok([256, 0]));
+        assert_eq!((wide[0], wide[254], wide[256]), (0.0, 2.0, 9.0));
         assert_eq!(evaluate(&line, &[2.0, 2.0, 4.0, 4.0], 0.5, &mut other), Ok(4));
         assert_eq!(other, [1.0, 1.0, 3.0, 2.0, 9.0, 9.0]);
         assert_eq!(bounds(&line, &line, 0.5), Ok([0.0f32, 0.0, 2.0, 2.0].map(f32::to_bits)));

@@ -789,6 +789,40 @@ static void nines(float *out, size_t places) {
     for (size_t i = 0; i < places; i++) out[i] = 9;
 }
 
+/* 128 points, or as many as the larger shape has: what the same resolution gives where it is stated, and 8 where a place is missing */
+static void default_of(size_t first, size_t second) {
+    static float from[8192], out[8193], other[8193], stated[8192], beside[8192];
+    size_t count = first < second ? second : first;
+    if (count < 128) count = 128;
+    size_t one = first == 0 ? 0 : 2 * count, two = second == 0 ? 0 : 2 * count;
+    uint64_t both[] = {one, two};
+
+    for (size_t i = 0; i < 8192; i++) from[i] = (float)(i * i % 1013);
+    nines(out, 8193);
+    nines(other, 8193);
+    fresh();
+    answered("a default", kihavute_morph_default(from, 2 * first, from, 2 * second, out, one, other, two, answer, PLACES), 0, 2, both);
+    fresh();
+    answered("as stated", kihavute_morph(from, 2 * first, from, 2 * second, count, stated, 8192, beside, 8192, answer, PLACES), 0, 2, both);
+    holds("its first shape", out, 8193, stated, one);
+    holds("its second shape", other, 8193, beside, two);
+    nines(out, 8193);
+    nines(other, 8193);
+    fresh();
+    if (one > 0) answered("one place short", kihavute_morph_default(from, 2 * first, from, 2 * second, out, one - 1, other, two, answer, PLACES), 8, 2, both);
+    fresh();
+    if (two > 0) answered("one place short", kihavute_morph_default(from, 2 * first, from, 2 * second, out, one, other, two - 1, answer, PLACES), 8, 2, both);
+    holds("refused, so as it was", out, 8193, NULL, 0);
+    holds("refused, so as it was", other, 8193, NULL, 0);
+}
+
+static void defaults(void) {
+    const size_t points[] = {0, 1, 4, 127, 128, 129, 4096};
+    for (size_t i = 0; i < 7; i++) {
+        for (size_t j = 0; j < 7; j++) default_of(points[i], points[j]);
+    }
+}
+
 static void shapes(void) {
     const float line[6] = {0, 0, 2, 0, 2, 2};
     const float none[1] = {0};
@@ -834,9 +868,9 @@ static void shapes(void) {
     holds("refused, so as it was", out, 12, NULL, 0);
     holds("refused, so as it was", other, 12, NULL, 0);
     fresh();
-    answered("a morph of the larger count", kihavute_morph_default(line, 6, none, 0, out, 12, other, 12, answer, PLACES), 0, 2, (uint64_t[]){6, 0});
-    holds("its first shape", out, 12, (float[]){0, 0, 2, 0, 2, 2}, 6);
-    holds("its second shape", other, 12, NULL, 0);
+    answered("the larger count is no room for a default", kihavute_morph_default(line, 6, none, 0, out, 6, other, 0, answer, PLACES), 8, 2, (uint64_t[]){256, 0});
+    holds("refused, so as it was", out, 12, NULL, 0);
+    defaults();
 
     const float to[4] = {2, 2, 4, 4};
     nines(out, 12);

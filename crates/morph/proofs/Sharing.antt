@@ -1,13 +1,14 @@
--- The points that both shapes have, and those of the larger one. Assumes nothing.
+-- The points that both shapes have, those of the larger one, and the default resolution. Assumes nothing.
 use Prim.Native.Nat.{ℕ, _≤_, _<_, min, max}
-use native.Mathlib.Nat.{le-refl, le-trans, le-min, min-le-left, min-le-right, le-antisymm, max-eq-left, max-eq-right}
+use native.Mathlib.Nat.{le-refl, le-trans, le-min, min-le-left, min-le-right, le-antisymm, le-max-left, max-eq-left, max-eq-right}
 use native.Mathlib.Omega.{arith}
-use mathlib.Core.Path.{_≡_, sym}
+use mathlib.Core.Path.{_≡_, sym, _∙_}
 use mathlib.Core.List.{List}
+use borrow.Author.Tests.{le-ltb}
 use lib.Ieee.{Float}
 use Rattle.polyline.specs.Points.{countOf}
 use Rattle.morph.specs.Shapes.{sharedOf}
-use Rattle.morph.specs.Morph.{largerOf}
+use Rattle.morph.specs.Morph.{largerOf, defaultOf, resolved}
 
 module _ (from to : List Float) where
   pub shared-first : countOf from < countOf to → countOf from ≡ sharedOf from to
@@ -37,3 +38,21 @@ module _ (from to : List Float) where
   pub larger-first : countOf to ≤ countOf from → countOf from ≡ largerOf from to
   unfolding largerOf
   larger-first h = sym (max-eq-left h)
+
+  -- ---- the default
+
+  pub default-least : (count : ℕ) → count ≡ largerOf from to → count < 128 → 128 ≡ defaultOf from to
+  unfolding defaultOf
+  default-least count e h = sym (max-eq-left (let g : largerOf from to ≤ 128 = omega arith in g))
+
+  pub default-larger : (count : ℕ) → count ≡ largerOf from to → 128 ≤ count → count ≡ defaultOf from to
+  unfolding defaultOf
+  default-larger count e h = e ∙ sym (max-eq-right (let g : 128 ≤ largerOf from to = omega arith in g))
+
+  -- it is at least 2, so stating it changes nothing
+  pub default-resolved : resolved (defaultOf from to) ≡ defaultOf from to
+  unfolding defaultOf
+  default-resolved = rw (le-ltb (max 128 (largerOf from to)) 2 (least (le-max-left 128 (largerOf from to))))
+    where
+      least : {n : ℕ} → 128 ≤ n → 2 ≤ n
+      least h = omega arith

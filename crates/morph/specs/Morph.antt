@@ -29,12 +29,13 @@ use Rattle.morph.specs.declared.morphing.Morphed.the-variants as Morphed
 abbrev pub resolved : ℕ → ℕ
 resolved resolution = cond (ltb resolution 2) 2 resolution
 
--- `from.len().max(to.len()).max(2)`
+-- the points of the larger shape
 unfoldable pub largerOf : List Float → List Float → ℕ
 largerOf from to = max (countOf from) (countOf to)
 
-abbrev pub defaultOf : List Float → List Float → ℕ
-defaultOf from to = resolved (largerOf from to)
+-- "The default becomes 128, or the larger count if that is more."
+unfoldable pub defaultOf : List Float → List Float → ℕ
+defaultOf from to = max 128 (largerOf from to)
 
 -- 11 of the first shape, then of the second
 abbrev pub both : Plan → Plan → Plans

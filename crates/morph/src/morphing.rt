@@ -41,6 +41,14 @@ fn larger(from: &[f32], to: &[f32]) -> usize
     if first < second { second } else { first }
 }
 
+// The resolution where none is stated: 128, or the larger shape's count if that is more.
+fn default_resolution(from: &[f32], to: &[f32]) -> usize
+    ensures { λ r. ⌜ r ≡ defaultOf (now (from .entry)) (now (to .entry)) ⌝ }
+{
+    let count = larger(from, to);
+    if count < 128 { 128 } else { count }
+}
+
 // The first shape's plan, then the second's.
 fn plan_both(from: &[f32], to: &[f32], count: usize) -> Plans
     ensures { λ r. ⌜ r ≡ plansOf (now (from .entry)) (now (to .entry)) count ⌝ }
@@ -98,9 +106,9 @@ pub fn morph(
     }
 }
 
-// The same with as many points as the larger shape has.
+// The same with 128 points, or as many as the larger shape has if that is more.
 pub fn morph_default(from: &[f32], to: &[f32], out_from: &mut [f32], out_to: &mut [f32]) -> Morphed
     ensures { λ r. ⌜ Morph (now (from .entry)) (now (to .entry)) (defaultOf (now (from .entry)) (now (to .entry))) (now («out_from» .entry)) (now («out_to» .entry)) r (now («out_from» .exit)) (now («out_to» .exit)) ⌝ }
 {
-    morph(from, to, larger(from, to), out_from, out_to)
+    morph(from, to, default_resolution(from, to), out_from, out_to)
 }

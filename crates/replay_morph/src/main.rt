@@ -16,46 +16,67 @@ use replay_records::read_numbers;
 use replay_records::same_numbers;
 use resample::Resampled;
 
-// A line has a letter (r: resample, m: a morph with a resolution, d: with the default, e: evaluate, b:
-// bounds) and patterns of eight hexadecimal digits: the counts of the two lists' numbers, the count,
-// the progress, the lists (16 numbers each, zeros past the count), the refusal's number or 0, four
-// values, and the 16 places of each output afterwards.
+// A line has a letter (r: resample, m: a morph with a resolution, e: evaluate, b: bounds) and patterns
+// of eight hexadecimal digits: the counts of the two lists' numbers, the count, the progress, the lists
+// (16 numbers each, zeros past the count), the refusal's number or 0, four values, and the 16 places of
+// each output afterwards.
 const LINE: usize = 659;
 
 const TO: usize = 182;
 
 const NUMBER: usize = 326;
 
-const VALUES: usize = 335;
-
 const FIRST: usize = 371;
 
 const SECOND: usize = 515;
 
+// So many of them come first. The lines after them are morphs with the default, which makes 128 points
+// and more: the letter d, the counts of the two lists' numbers, the lists (258 numbers each), the
+// refusal's number or 0, two values, and the 258 places of each output afterwards.
+const SHORT: usize = 320;
+
+const WIDE: usize = 9335;
+
+const WIDE_TO: usize = 2342;
+
+const WIDE_NUMBER: usize = 4664;
+
+const WIDE_FIRST: usize = 4691;
+
+const WIDE_SECOND: usize = 7013;
+
 // What stands in an output before a call.
 const BEFORE: u32 = 0xc2f6_e979;
 
-const MOST: usize = 1024;
+const MOST: usize = 64;
 
 fn main() {
     let mut replayed: u64 = 0;
     let mut different: u64 = 0;
-    for _ in 0..MOST {
+    for _ in 0..SHORT {
         let mut line = [0u8; LINE];
         let n = io::read_full(0, &mut line);
         if n == LINE {
             replayed += 1;
-            different += missed(&line);
+            different += missed(agrees(&line));
+        }
+    }
+    for _ in 0..MOST {
+        let mut line = [0u8; WIDE];
+        let n = io::read_full(0, &mut line);
+        if n == WIDE {
+            replayed += 1;
+            different += missed(morphed_by_default(&line));
         }
     }
     replay_records::tell(replayed, different);
 }
 
-// 1 where the call of this line gives another answer, else 0.
-fn missed(line: &[u8]) -> u64
+// 1 where a line's call gives another answer, else 0.
+fn missed(agrees: bool) -> u64
     ensures { λ r. ⌜ r ≤ 1 ⌝ }
 {
-    if agrees(line) { 0 } else { 1 }
+    if agrees { 0 } else { 1 }
 }
 
 // Whether the call of this line gives what is recorded.
@@ -72,7 +93,6 @@ fn agrees(line: &[u8]) -> bool {
     match line[0] {
         b'r' => resampled(line, &from[..n], count),
         b'm' => morphed(line, &from[..n], &to[..m], count),
-        b'd' => morphed_by_default(line, &from[..n], &to[..m]),
         b'e' => evaluated(line, &from[..n], &to[..m], t),
         b'b' => bounded(line, &from[..n], &to[..m], t),
         _ => false,
@@ -88,13 +108,15 @@ fn numbers_at(line: &[u8], at: usize) -> [f32; 16]
     numbers
 }
 
-// Whether the answer has this number and these values.
-fn answered(line: &[u8], number: u32, values: Values) -> bool {
-    if pattern(line, NUMBER) != number {
+// Whether the answer that is recorded from this place on has this number and these values.
+fn answered(line: &[u8], at: usize, number: u32, values: Values) -> bool
+    requires { ⌜ at ≤ 4664 ⌝ }
+{
+    if pattern(line, at) != number {
         return false;
     }
-    let first = pattern(line, VALUES) as usize;
-    let second = pattern(line, VALUES + 9) as usize;
+    let first = pattern(line, at + 9) as usize;
+    let second = pattern(line, at + 18) as usize;
     match values {
         Values::Nothing => true,
         Values::One(a) => first == a,
@@ -103,8 +125,15 @@ fn answered(line: &[u8], number: u32, values: Values) -> bool {
     }
 }
 
-fn refused(line: &[u8], refusal: Refusal) -> bool {
-    answered(line, answers::number(refusal), answers::carried(refusal))
+fn refused(line: &[u8], at: usize, refusal: Refusal) -> bool
+    requires { ⌜ at ≤ 4664 ⌝ }
+{
+    answered(
+        line,
+        at,
+        answers::number(refusal),
+        answers::carried(refusal),
+    )
 }
 
 fn resampled(line: &[u8], points: &[f32], count: usize) -> bool {
@@ -112,18 +141,20 @@ fn resampled(line: &[u8], points: &[f32], count: usize) -> bool {
     let given = resample::resample(points, count, &mut out);
     if same_numbers(&out, line, FIRST, 9) {
         match given {
-            Resampled::Numbers(numbers) => answered(line, 0, Values::One(numbers)),
-            Resampled::Refused(refusal) => refused(line, refusal),
+            Resampled::Numbers(numbers) => answered(line, NUMBER, 0, Values::One(numbers)),
+            Resampled::Refused(refusal) => refused(line, NUMBER, refusal),
         }
     } else {
         false
     }
 }
 
-fn of_morph(line: &[u8], given: Morphed) -> bool {
+fn of_morph(line: &[u8], at: usize, given: Morphed) -> bool
+    requires { ⌜ at ≤ 4664 ⌝ }
+{
     match given {
-        Morphed::Numbers { from, to } => answered(line, 0, Values::Two(from, to)),
-        Morphed::Refused(refusal) => refused(line, refusal),
+        Morphed::Numbers { from, to } => answered(line, at, 0, Values::Two(from, to)),
+        Morphed::Refused(refusal) => refused(line, at, refusal),
     }
 }
 
@@ -133,7 +164,7 @@ fn morphed(line: &[u8], from: &[f32], to: &[f32], resolution: usize) -> bool {
     let given = morph::morph(from, to, resolution, &mut one, &mut other);
     if same_numbers(&one, line, FIRST, 9) {
         if same_numbers(&other, line, SECOND, 9) {
-            of_morph(line, given)
+            of_morph(line, NUMBER, given)
         } else {
             false
         }
@@ -142,13 +173,27 @@ fn morphed(line: &[u8], from: &[f32], to: &[f32], resolution: usize) -> bool {
     }
 }
 
-fn morphed_by_default(line: &[u8], from: &[f32], to: &[f32]) -> bool {
-    let mut one = [float(BEFORE); 16];
-    let mut other = [float(BEFORE); 16];
-    let given = morph::morph_default(from, to, &mut one, &mut other);
-    if same_numbers(&one, line, FIRST, 9) {
-        if same_numbers(&other, line, SECOND, 9) {
-            of_morph(line, given)
+// The 258 patterns from this place on, as floats.
+fn wide_numbers_at(line: &[u8], at: usize) -> [f32; 258]
+    ensures { λ r. ⌜ 258 ≡ length r ⌝ }
+{
+    let mut numbers = [0.0f32; 258];
+    read_numbers(line, at, 9, &mut numbers);
+    numbers
+}
+
+// Whether the morph of a wide line gives what is recorded.
+fn morphed_by_default(line: &[u8]) -> bool {
+    let from = wide_numbers_at(line, 20);
+    let to = wide_numbers_at(line, WIDE_TO);
+    let n = held(pattern(line, 2), 258);
+    let m = held(pattern(line, 11), 258);
+    let mut one = [float(BEFORE); 258];
+    let mut other = [float(BEFORE); 258];
+    let given = morph::morph_default(&from[..n], &to[..m], &mut one, &mut other);
+    if same_numbers(&one, line, WIDE_FIRST, 9) {
+        if same_numbers(&other, line, WIDE_SECOND, 9) {
+            of_morph(line, WIDE_NUMBER, given)
         } else {
             false
         }
@@ -162,8 +207,8 @@ fn evaluated(line: &[u8], from: &[f32], to: &[f32], t: f32) -> bool {
     let given = morph::evaluate(from, to, t, &mut out);
     if same_numbers(&out, line, FIRST, 9) {
         match given {
-            Evaluated::Numbers(numbers) => answered(line, 0, Values::One(numbers)),
-            Evaluated::Refused(refusal) => refused(line, refusal),
+            Evaluated::Numbers(numbers) => answered(line, NUMBER, 0, Values::One(numbers)),
+            Evaluated::Refused(refusal) => refused(line, NUMBER, refusal),
         }
     } else {
         false
@@ -181,10 +226,10 @@ fn bounded(line: &[u8], from: &[f32], to: &[f32], t: f32) -> bool {
             if pattern(line, NUMBER) != 0 {
                 return false;
             }
-            if bound(line, VALUES, bounds.min_x) {
-                if bound(line, VALUES + 9, bounds.min_y) {
-                    if bound(line, VALUES + 18, bounds.max_x) {
-                        bound(line, VALUES + 27, bounds.max_y)
+            if bound(line, NUMBER + 9, bounds.min_x) {
+                if bound(line, NUMBER + 18, bounds.min_y) {
+                    if bound(line, NUMBER + 27, bounds.max_x) {
+                        bound(line, NUMBER + 36, bounds.max_y)
                     } else {
                         false
                     }
@@ -195,6 +240,6 @@ fn bounded(line: &[u8], from: &[f32], to: &[f32], t: f32) -> bool {
                 false
             }
         }
-        Bounded::Refused(refusal) => refused(line, refusal),
+        Bounded::Refused(refusal) => refused(line, NUMBER, refusal),
     }
 }

@@ -1,4 +1,4 @@
--- Each part of a list that is lent is as long as its count says. Assumes nothing.
+-- Each part of a list that is lent is as long as its count says: `counted` is where the count was read. Assumes nothing.
 use borrow.Author.Needs.{needs}
 use mathlib.Core.Path.{sym}
 use native.Mathlib.Omega.{arith}
@@ -7,31 +7,39 @@ use Rattle.replay_morph.proofs.agrees.Statement.{statement}
 use Rattle.replay_morph.proofs.agrees.Tie as tie
 
 slice-aggregate-resampled : tie.Need-slice-aggregate-resampled
-slice-aggregate-resampled c = sym (length-take-le _ _ (omega (arith, c .before .before .before .before .before .before .before .before .held .ensures, c .before .before .before .before .before .before .before .before .before .before .before .numbers-at .ensures)))
+slice-aggregate-resampled c =
+    let counted = c .before .before .before .before .before .before .before .before in
+    sym (length-take-le _ _ (omega (arith, counted .held .ensures, counted .before .before .before .numbers-at .ensures)))
 
 slice-aggregate-morphed : tie.Need-slice-aggregate-morphed
-slice-aggregate-morphed c = sym (length-take-le _ _ (omega (arith, c .before .before .before .before .before .before .before .before .held .ensures, c .before .before .before .before .before .before .before .before .before .before .before .numbers-at .ensures)))
+slice-aggregate-morphed c =
+    let counted = c .before .before .before .before .before .before .before .before in
+    sym (length-take-le _ _ (omega (arith, counted .held .ensures, counted .before .before .before .numbers-at .ensures)))
 
 slice-aggregate-morphed-2 : tie.Need-slice-aggregate-morphed-2
-slice-aggregate-morphed-2 c = sym (length-take-le _ _ (omega (arith, c .before .before .before .before .before .before .before .held2 .ensures, c .before .before .before .before .before .before .before .before .before .before .before .numbers-at2 .ensures)))
-
-slice-aggregate-morphed-by-default : tie.Need-slice-aggregate-morphed-by-default
-slice-aggregate-morphed-by-default c = sym (length-take-le _ _ (omega (arith, c .before .before .before .before .before .before .before .before .held .ensures, c .before .before .before .before .before .before .before .before .before .before .before .numbers-at .ensures)))
-
-slice-aggregate-morphed-by-default-2 : tie.Need-slice-aggregate-morphed-by-default-2
-slice-aggregate-morphed-by-default-2 c = sym (length-take-le _ _ (omega (arith, c .before .before .before .before .before .before .before .held2 .ensures, c .before .before .before .before .before .before .before .before .before .before .before .numbers-at2 .ensures)))
+slice-aggregate-morphed-2 c =
+    let counted = c .before .before .before .before .before .before .before in
+    sym (length-take-le _ _ (omega (arith, counted .held2 .ensures, counted .before .before .before .before .numbers-at2 .ensures)))
 
 slice-aggregate-evaluated : tie.Need-slice-aggregate-evaluated
-slice-aggregate-evaluated c = sym (length-take-le _ _ (omega (arith, c .before .before .before .before .before .before .before .before .held .ensures, c .before .before .before .before .before .before .before .before .before .before .before .numbers-at .ensures)))
+slice-aggregate-evaluated c =
+    let counted = c .before .before .before .before .before .before .before .before in
+    sym (length-take-le _ _ (omega (arith, counted .held .ensures, counted .before .before .before .numbers-at .ensures)))
 
 slice-aggregate-evaluated-2 : tie.Need-slice-aggregate-evaluated-2
-slice-aggregate-evaluated-2 c = sym (length-take-le _ _ (omega (arith, c .before .before .before .before .before .before .before .held2 .ensures, c .before .before .before .before .before .before .before .before .before .before .before .numbers-at2 .ensures)))
+slice-aggregate-evaluated-2 c =
+    let counted = c .before .before .before .before .before .before .before in
+    sym (length-take-le _ _ (omega (arith, counted .held2 .ensures, counted .before .before .before .before .numbers-at2 .ensures)))
 
 slice-aggregate-bounded : tie.Need-slice-aggregate-bounded
-slice-aggregate-bounded c = sym (length-take-le _ _ (omega (arith, c .before .before .before .before .before .before .before .before .held .ensures, c .before .before .before .before .before .before .before .before .before .before .before .numbers-at .ensures)))
+slice-aggregate-bounded c =
+    let counted = c .before .before .before .before .before .before .before .before in
+    sym (length-take-le _ _ (omega (arith, counted .held .ensures, counted .before .before .before .numbers-at .ensures)))
 
 slice-aggregate-bounded-2 : tie.Need-slice-aggregate-bounded-2
-slice-aggregate-bounded-2 c = sym (length-take-le _ _ (omega (arith, c .before .before .before .before .before .before .before .held2 .ensures, c .before .before .before .before .before .before .before .before .before .before .before .numbers-at2 .ensures)))
+slice-aggregate-bounded-2 c =
+    let counted = c .before .before .before .before .before .before .before in
+    sym (length-take-le _ _ (omega (arith, counted .held2 .ensures, counted .before .before .before .before .numbers-at2 .ensures)))
 
 pub agrees-spec : {M : Type 1} → statement M
 agrees-spec =
@@ -40,8 +48,7 @@ agrees-spec =
     (λ c κs. search needs) (λ c κs. search needs) (λ c κs. search needs) (λ c κs. search needs) (λ c. search needs)
     (λ c κs. search needs) (λ c κs. search needs) (λ c. search needs) (λ c. search needs) slice-aggregate-resampled
     (λ c κs. search needs) (λ c. search needs) slice-aggregate-morphed (λ c. search needs) slice-aggregate-morphed-2
-    (λ c κs. search needs) (λ c. search needs) slice-aggregate-morphed-by-default (λ c. search needs)
-    slice-aggregate-morphed-by-default-2 (λ c κs. search needs) (λ c. search needs) slice-aggregate-evaluated
-    (λ c. search needs) slice-aggregate-evaluated-2 (λ c κs. search needs) (λ c. search needs) slice-aggregate-bounded
-    (λ c. search needs) slice-aggregate-bounded-2 (λ c κs. search needs) (λ c. search needs) (λ c. search needs)
-    (λ c. search needs) (λ c. search needs) (λ c. search needs) (λ c. search needs))
+    (λ c κs. search needs) (λ c. search needs) slice-aggregate-evaluated (λ c. search needs)
+    slice-aggregate-evaluated-2 (λ c κs. search needs) (λ c. search needs) slice-aggregate-bounded (λ c. search needs)
+    slice-aggregate-bounded-2 (λ c κs. search needs) (λ c. search needs) (λ c. search needs) (λ c. search needs)
+    (λ c. search needs) (λ c. search needs))
