@@ -410,6 +410,87 @@ uint32_t kihavute_build_text(const uint8_t *text, size_t text_len, uint8_t *kind
                              float *fields, size_t fields_len, float *tables, size_t tables_len,
                              float *lengths, size_t lengths_len, uint64_t *answer, size_t answer_len);
 
+/* ---- Segments, one by one ----
+ * Appending: count segments are the path, at the start of four buffers with room after them; docs/STORED.md has the layout. One
+ * segment is stored after them, its table made from its numbers, and the running length added to. answer[0] to answer[3] get how
+ * many places of kinds, fields, tables and lengths are in use then. Refused, with nothing written, in this order: 12 where the
+ * first count segments are no stored path, 13 with count 65,536 (65,537, the segments that there would be), 10 with count for an
+ * arc beyond 3600 degrees in size, 11 with count where the running length becomes infinite or a NaN, 8 with the four counts
+ * needed. Start from count 0; each call checks the whole path that is there, so that a path of n segments costs n checks: for a
+ * whole plan take kihavute_build. The start is given each time: it need not be where the path ended. */
+
+/* Appends the line from (sx, sy) to (ex, ey). */
+uint32_t kihavute_line_to(uint8_t *kinds, size_t kinds_len, float *fields, size_t fields_len,
+                          float *tables, size_t tables_len, float *lengths, size_t lengths_len, size_t count,
+                          float sx, float sy, float ex, float ey,
+                          uint64_t *answer, size_t answer_len);
+
+/* Appends the quad from (sx, sy) to (ex, ey) with the control (cx, cy). */
+uint32_t kihavute_quad_to(uint8_t *kinds, size_t kinds_len, float *fields, size_t fields_len,
+                          float *tables, size_t tables_len, float *lengths, size_t lengths_len, size_t count,
+                          float sx, float sy, float cx, float cy, float ex, float ey,
+                          uint64_t *answer, size_t answer_len);
+
+/* Appends the cubic from (sx, sy) to (ex, ey) with the controls (ax, ay) and (bx, by). */
+uint32_t kihavute_cubic_to(uint8_t *kinds, size_t kinds_len, float *fields, size_t fields_len,
+                           float *tables, size_t tables_len, float *lengths, size_t lengths_len, size_t count,
+                           float sx, float sy, float ax, float ay, float bx, float by, float ex, float ey,
+                           uint64_t *answer, size_t answer_len);
+
+/* Appends the arc from (sx, sy) to (ex, ey): two radii, the rotation in degrees, and two flags, of which 0 is no and any other
+ * number yes. Where the ends are within 2^-23, or a radius is that small, it is the line fallback, kind 4. */
+uint32_t kihavute_arc_to(uint8_t *kinds, size_t kinds_len, float *fields, size_t fields_len,
+                         float *tables, size_t tables_len, float *lengths, size_t lengths_len, size_t count,
+                         float sx, float sy, float rx, float ry, float rotation, uint32_t large, uint32_t sweep,
+                         float ex, float ey,
+                         uint64_t *answer, size_t answer_len);
+
+/* Appends the segment of a kind and of its 4, 6, 8, 11 or 11 numbers, as both are stored. Refused with 12 also where the kind is
+ * above 4 or has another count of numbers. The numbers of an arc are taken as they are. */
+uint32_t kihavute_push_segment(uint8_t *kinds, size_t kinds_len, float *fields, size_t fields_len,
+                               float *tables, size_t tables_len, float *lengths, size_t lengths_len, size_t count, uint8_t kind,
+                               const float *numbers, size_t numbers_len,
+                               uint64_t *answer, size_t answer_len);
+
+/* How many segments a stored path has: answer[0]. Refused with 12, as each of the calls below, where the four arrays are none. */
+uint32_t kihavute_len(const uint8_t *kinds, size_t kinds_len, const float *fields, size_t fields_len,
+                      const float *tables, size_t tables_len, const float *lengths, size_t lengths_len,
+                      uint64_t *answer, size_t answer_len);
+
+/* Whether it has none: answer[0] is 1 for a yes and 0 for a no. */
+uint32_t kihavute_is_empty(const uint8_t *kinds, size_t kinds_len, const float *fields, size_t fields_len,
+                           const float *tables, size_t tables_len, const float *lengths, size_t lengths_len,
+                           uint64_t *answer, size_t answer_len);
+
+/* How long it is, in path units: answer[0] gets the bits of the last running length, 0 without a segment. */
+uint32_t kihavute_path_length(const uint8_t *kinds, size_t kinds_len, const float *fields, size_t fields_len,
+                              const float *tables, size_t tables_len, const float *lengths, size_t lengths_len,
+                              uint64_t *answer, size_t answer_len);
+
+/* Segment i, counted from 0: answer[0] gets its kind, answer[1] how many numbers stand from the start of out: its own 4, 6, 8, 11
+ * or 11, then the 33 of its table for the kinds 1, 2 and 3; 44 places hold any segment. Where i is the count of segments or above,
+ * the call is accepted and writes nothing. Refused with 12, then with 8 and the count needed. */
+uint32_t kihavute_segment(const uint8_t *kinds, size_t kinds_len, const float *fields, size_t fields_len,
+                          const float *tables, size_t tables_len, const float *lengths, size_t lengths_len, size_t i,
+                          float *out, size_t out_len, uint64_t *answer, size_t answer_len);
+
+/* Where segment i is at a progress along itself, in path units: answer[0] and answer[1] get the bits of x and of y. The progress is
+ * clamped to 0 and 1, and a NaN is 0. A line has a middle however short it is, where a path of at most 2^-23 is at its end. Where i
+ * is the count of segments or above, the call is accepted and writes nothing; so with the two below. */
+uint32_t kihavute_segment_position(const uint8_t *kinds, size_t kinds_len, const float *fields, size_t fields_len,
+                                   const float *tables, size_t tables_len, const float *lengths, size_t lengths_len, size_t i,
+                                   float along, uint64_t *answer, size_t answer_len);
+
+/* Where it heads there, with the length 1, or (0, 0) where nothing tells: the bits of x and of y. */
+uint32_t kihavute_segment_tangent(const uint8_t *kinds, size_t kinds_len, const float *fields, size_t fields_len,
+                                  const float *tables, size_t tables_len, const float *lengths, size_t lengths_len, size_t i,
+                                  float along, uint64_t *answer, size_t answer_len);
+
+/* That direction in degrees from the x axis towards the y axis: answer[0] gets the bits. */
+uint32_t kihavute_segment_rotation(const uint8_t *kinds, size_t kinds_len, const float *fields, size_t fields_len,
+                                   const float *tables, size_t tables_len, const float *lengths, size_t lengths_len, size_t i,
+                                   float along, uint64_t *answer, size_t answer_len);
+
 /* ---- Queries of a stored path ----
  * Each call checks the whole path first, which reads every kind, table and length once, and refuses with 12 where the
  * check fails. That takes 0.2 to 0.4 ns for each element of the four arrays (x86-64), so the time of a single query grows

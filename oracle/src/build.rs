@@ -78,8 +78,8 @@ pub fn stored(commands: &[PathCommand]) -> (Vec<u8>, Vec<f32>) {
     (letters, numbers)
 }
 
-// the Rust's segment in its stored form
-fn lay(segment: &PathSegment, kinds: &mut Vec<u8>, fields: &mut Vec<u32>, tables: &mut Vec<u32>) {
+/// The Rust's segment in its stored form.
+pub fn lay(segment: &PathSegment, kinds: &mut Vec<u8>, fields: &mut Vec<u32>, tables: &mut Vec<u32>) {
     let mut points = |points: &[[f32; 2]]| fields.extend(points.as_flattened().iter().map(|x| alike(*x)));
     let (kind, table) = match segment {
         PathSegment::Line(line) => {
@@ -247,8 +247,8 @@ impl Input for Asked {
 
 // ---- lists and texts
 
-// a coordinate: whole, with thousandths, near another, huge, tiny, special or of any bits
-fn number(stream: &mut Stream, kind: u32) -> f32 {
+/// A coordinate: whole, with thousandths, near another, huge, tiny, special or of any bits.
+pub fn number(stream: &mut Stream, kind: u32) -> f32 {
     match if kind == 6 { stream.below(6) } else { kind } {
         0 => stream.below(21) as f32 - 10.0,
         1 => (stream.below(1 << 21) as f32 - 1_048_576.0) / 1000.0,
@@ -259,7 +259,8 @@ fn number(stream: &mut Stream, kind: u32) -> f32 {
     }
 }
 
-fn command(stream: &mut Stream, kind: u32) -> PathCommand {
+/// A command of such numbers.
+pub fn command(stream: &mut Stream, kind: u32) -> PathCommand {
     let point = |stream: &mut Stream| [number(stream, kind), number(stream, kind)];
     match stream.below(12) {
         0 => PathCommand::MoveTo(point(stream)),

@@ -14,6 +14,7 @@ mod read;
 mod record;
 mod root_all;
 mod samples;
+mod segments;
 mod simple;
 mod smooth;
 mod spline;
@@ -48,6 +49,7 @@ fn main() -> ExitCode {
             build::compare(&mut report, SEED, 5_000);
             query::compare(&mut report, SEED, 500);
             query::compare_order(&mut report, SEED, 500);
+            segments::compare(&mut report, SEED, 1_000);
             morph::compare(&mut report, SEED, 2_000);
             stations::compare(&mut report, SEED, 1_000);
             for recording in record::RECORDINGS {
@@ -74,6 +76,11 @@ fn main() -> ExitCode {
         ["query"] => query::compare(&mut report, SEED, 20_000),
         ["order", seed, count] => match (seed.parse(), count.parse()) {
             (Ok(seed), Ok(count)) => query::compare_order(&mut report, seed, count),
+            _ => return usage(),
+        },
+        ["segments"] => segments::compare(&mut report, SEED, 50_000),
+        ["segments", seed, count] => match (seed.parse(), count.parse()) {
+            (Ok(seed), Ok(count)) => segments::compare(&mut report, seed, count),
             _ => return usage(),
         },
         ["stations"] => {

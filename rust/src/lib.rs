@@ -36,10 +36,12 @@ macro_rules! answering {
 mod listings;
 mod paths;
 mod refusals;
+mod segments;
 
 pub use listings::{LISTING, listing, listing_into};
 pub use paths::{Path, Place, Progress, RawParameter};
 pub use refusals::{Reason, Refusal};
+pub use segments::{Growing, Stored};
 
 unsafe extern "C" {
     safe fn kihavute_sqrt(x: f32) -> f32;

@@ -94,10 +94,10 @@ pub struct Place {
 /// ```
 #[derive(Clone, Debug, Default, PartialEq)]
 pub struct Path {
-    kinds: Vec<u8>,
-    fields: Vec<f32>,
-    tables: Vec<f32>,
-    lengths: Vec<f32>,
+    pub(crate) kinds: Vec<u8>,
+    pub(crate) fields: Vec<f32>,
+    pub(crate) tables: Vec<f32>,
+    pub(crate) lengths: Vec<f32>,
 }
 
 impl Path {

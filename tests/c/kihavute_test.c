@@ -983,6 +983,166 @@ static void paths(void) {
     answered("a reading refusal after one of building", built("M0 0L2e19 0X", 4, 24, 70, 4), 6, 2, (uint64_t[]){'X', 11});
 }
 
+/* what stands in the four buffers past these counts is still 9 */
+static int past_is_nine(size_t kinds_used, size_t fields_used, size_t tables_used, size_t lengths_used) {
+    int nine = 1;
+    for (size_t i = kinds_used; i < 4; i++) nine = nine && kinds[i] == 9;
+    for (size_t i = fields_used; i < 24; i++) nine = nine && fields[i] == 9;
+    for (size_t i = tables_used; i < 70; i++) nine = nine && tables[i] == 9;
+    for (size_t i = lengths_used; i < 4; i++) nine = nine && lengths[i] == 9;
+    return nine;
+}
+
+static void nine_all(void) {
+    memset(kinds, 9, sizeof kinds);
+    nines(fields, 24);
+    nines(tables, 70);
+    nines(lengths, 4);
+}
+
+#define BUFFERS kinds, 4, fields, 24, tables, 70, lengths, 4
+#define STORED(count, own, more) kinds, count, fields, own, tables, more, lengths, count
+
+static void appending(void) {
+    static uint8_t many_kinds[65537];
+    static float many_fields[4 * 65537], many_lengths[65537];
+
+    nine_all();
+    fresh();
+    answered("a line", kihavute_line_to(BUFFERS, 0, 0, 0, 3, 4, answer, PLACES), 0, 4, (uint64_t[]){1, 4, 0, 1});
+    same("its numbers", memcmp(fields, (float[]){0, 0, 3, 4}, 16), 0);
+    same("its length", bits(lengths[0]), bits(5));
+    same("past a line", past_is_nine(1, 4, 0, 1), 1);
+    fresh();
+    answered("a quad", kihavute_quad_to(BUFFERS, 1, 3, 4, 4, 4, 5, 4, answer, PLACES), 0, 4, (uint64_t[]){2, 10, 33, 2});
+    same("its kind", kinds[1], 1);
+    same("its start", memcmp(fields + 4, (float[]){3, 4, 4, 4, 5, 4}, 24), 0);
+    same("its table", bits(tables[0]) == 0 && bits(tables[31]) == bits(tables[32]), 1);
+    same("the length so far", bits(lengths[1]), bits(5 + tables[32]));
+    same("past a quad", past_is_nine(2, 10, 33, 2), 1);
+    fresh();
+    answered("a fallback", kihavute_arc_to(BUFFERS, 2, 5, 4, 0, 1, 30, 0, 1, 5, 6, answer, PLACES), 0, 4, (uint64_t[]){3, 21, 33, 3});
+    same("its kind", kinds[2], 4);
+    same("its rotation", bits(fields[18]), bits(30));
+    same("past a fallback", past_is_nine(3, 21, 33, 3), 1);
+
+    /* what is refused leaves every place */
+    fresh();
+    answered("an arc without room", kihavute_arc_to(BUFFERS, 3, 5, 6, 1, 1, 0, 0, 1, 7, 6, answer, PLACES), 8, 4, (uint64_t[]){4, 32, 66, 4});
+    fresh();
+    answered("a cubic without room", kihavute_cubic_to(BUFFERS, 3, 0, 0, 1, 0, 2, 0, 3, 0, answer, PLACES), 8, 4, (uint64_t[]){4, 29, 66, 4});
+    fresh();
+    answered("a line without room", kihavute_line_to(BUFFERS, 3, 0, 0, 3, 4, answer, PLACES), 8, 4, (uint64_t[]){4, 25, 33, 4});
+    fresh();
+    answered("a line of no end", kihavute_line_to(BUFFERS, 3, 0, 0, 2e19f, 0, answer, PLACES), 11, 1, (uint64_t[]){3});
+    fresh();
+    answered("an arc turned too far", kihavute_arc_to(BUFFERS, 3, 0, 0, 1, 1, 3601, 0, 0, 1, 1, answer, PLACES), 10, 1, (uint64_t[]){3});
+    fresh();
+    answered("a count above the path", kihavute_line_to(BUFFERS, 4, 0, 0, 3, 4, answer, PLACES), 12, 0, NULL);
+    fresh();
+    answered("a count below 2^64", kihavute_line_to(BUFFERS, SIZE_MAX, 0, 0, 3, 4, answer, PLACES), 12, 0, NULL);
+    fresh();
+    answered("a kind above 4", kihavute_push_segment(BUFFERS, 0, 5, fields, 11, answer, PLACES), 12, 0, NULL);
+    fresh();
+    answered("a quad of five numbers", kihavute_push_segment(BUFFERS, 0, 1, fields, 5, answer, PLACES), 12, 0, NULL);
+    fresh();
+    answered("a quad, a short answer", kihavute_quad_to(BUFFERS, 3, 3, 4, 4, 4, 5, 4, answer, 7), 255, 0, NULL);
+    answered("a segment, a short answer", kihavute_push_segment(BUFFERS, 0, 0, fields, 4, answer, 7), 255, 0, NULL);
+    same("nothing written", past_is_nine(3, 21, 33, 3), 1);
+    same("the path stays", bits(fields[20]) == 0 && kinds[0] == 0 && bits(lengths[0]) == bits(5), 1);
+
+    /* from an earlier count on */
+    fresh();
+    answered("a segment over the second", kihavute_push_segment(BUFFERS, 1, 0, (float[]){3, 4, 3, 5}, 4, answer, PLACES), 0, 4, (uint64_t[]){2, 8, 0, 2});
+    same("its length", bits(lengths[1]), bits(6));
+    same("what stood after it stays", kinds[2] == 4 && bits(fields[8]) == bits(5), 1);
+    nine_all();
+    fresh();
+    answered("a cubic", kihavute_cubic_to(BUFFERS, 0, 0, 0, 1, 0, 2, 0, 3, 0, answer, PLACES), 0, 4, (uint64_t[]){1, 8, 33, 1});
+    same("past a cubic", past_is_nine(1, 8, 33, 1), 1);
+
+    fresh();
+    answered("the 65,536th", kihavute_line_to(many_kinds, 65537, many_fields, 4 * 65537, tables, 0, many_lengths, 65537, 65535, 0, 0, 3, 4, answer, PLACES), 0, 4,
+             (uint64_t[]){65536, 4 * 65536, 0, 65536});
+    fresh();
+    answered("one more", kihavute_line_to(many_kinds, 65537, many_fields, 4 * 65537, tables, 0, many_lengths, 65537, 65536, 0, 0, 3, 4, answer, PLACES), 13, 1,
+             (uint64_t[]){65537});
+}
+
+static void segments(void) {
+    float out[45];
+
+    nine_all();
+    fresh();
+    answered("the empty path's count", kihavute_len(STORED(0, 0, 0), answer, PLACES), 0, 1, (uint64_t[]){0});
+    fresh();
+    answered("it is empty", kihavute_is_empty(STORED(0, 0, 0), answer, PLACES), 0, 1, (uint64_t[]){1});
+    fresh();
+    answered("its length", kihavute_path_length(STORED(0, 0, 0), answer, PLACES), 0, 1, (uint64_t[]){0});
+
+    /* a line that a path takes for its end, and a quad after it */
+    fresh();
+    kihavute_line_to(BUFFERS, 0, 0, 0, 1e-8f, 0, answer, PLACES);
+    fresh();
+    answered("a short path's place", kihavute_position(STORED(1, 4, 0), 0.5f, answer, PLACES), 0, 2, (uint64_t[]){bits(1e-8f), 0});
+    fresh();
+    answered("its segment's", kihavute_segment_position(STORED(1, 4, 0), 0, 0.5f, answer, PLACES), 0, 2, (uint64_t[]){bits(1e-8f * 0.5f), 0});
+    fresh();
+    answered("its segment's direction", kihavute_segment_tangent(STORED(1, 4, 0), 0, 0.5f, answer, PLACES), 0, 2, (uint64_t[]){0, 0});
+    kihavute_quad_to(BUFFERS, 1, 0, 0, 1, 0, 2, 0, answer, PLACES);
+    fresh();
+    answered("two segments", kihavute_len(STORED(2, 10, 33), answer, PLACES), 0, 1, (uint64_t[]){2});
+    fresh();
+    answered("not empty", kihavute_is_empty(STORED(2, 10, 33), answer, PLACES), 0, 1, (uint64_t[]){0});
+    fresh();
+    answered("their length", kihavute_path_length(STORED(2, 10, 33), answer, PLACES), 0, 1, (uint64_t[]){bits(lengths[1])});
+    fresh();
+    answered("the quad's end", kihavute_segment_position(STORED(2, 10, 33), 1, 7, answer, PLACES), 0, 2, (uint64_t[]){bits(2), 0});
+    fresh();
+    answered("its start for a NaN", kihavute_segment_position(STORED(2, 10, 33), 1, kihavute_float(NAN_BITS), answer, PLACES), 0, 2, (uint64_t[]){0, 0});
+    fresh();
+    answered("its direction", kihavute_segment_tangent(STORED(2, 10, 33), 1, 0.5f, answer, PLACES), 0, 2, (uint64_t[]){bits(1), 0});
+    fresh();
+    answered("in degrees", kihavute_segment_rotation(STORED(2, 10, 33), 1, 0.5f, answer, PLACES), 0, 1, (uint64_t[]){0});
+
+    nines(out, 45);
+    fresh();
+    answered("the line's numbers", kihavute_segment(STORED(2, 10, 33), 0, out, 4, answer, PLACES), 0, 2, (uint64_t[]){0, 4});
+    holds("they stand there", out, 45, (float[]){0, 0, 1e-8f, 0}, 4);
+    nines(out, 45);
+    fresh();
+    answered("the quad's numbers", kihavute_segment(STORED(2, 10, 33), 1, out, 45, answer, PLACES), 0, 2, (uint64_t[]){1, 39});
+    same("they stand there", memcmp(out, fields + 4, 24) == 0 && memcmp(out + 6, tables, 132) == 0 && out[39] == 9, 1);
+    nines(out, 45);
+    fresh();
+    answered("a place too few", kihavute_segment(STORED(2, 10, 33), 1, out, 38, answer, PLACES), 8, 1, (uint64_t[]){39});
+    fresh();
+    answered("a third segment", kihavute_segment(STORED(2, 10, 33), 2, out, 45, answer, PLACES), 0, 0, NULL);
+    fresh();
+    answered("a third segment's place", kihavute_segment_position(STORED(2, 10, 33), 2, 0, answer, PLACES), 0, 0, NULL);
+    fresh();
+    answered("a last segment's direction", kihavute_segment_tangent(STORED(2, 10, 33), SIZE_MAX, 0, answer, PLACES), 0, 0, NULL);
+    fresh();
+    answered("a third segment's heading", kihavute_segment_rotation(STORED(2, 10, 33), 2, 0, answer, PLACES), 0, 0, NULL);
+    fresh();
+    answered("a segment, a short answer", kihavute_segment(STORED(2, 10, 33), 0, out, 45, answer, 7), 255, 0, NULL);
+    fresh();
+    answered("a table too few", kihavute_segment(STORED(2, 10, 0), 0, out, 45, answer, PLACES), 12, 0, NULL);
+    holds("nothing written", out, 45, NULL, 0);
+    fresh();
+    answered("a path that is none", kihavute_len(STORED(2, 9, 33), answer, PLACES), 12, 0, NULL);
+    fresh();
+    answered("a path that is none", kihavute_is_empty(STORED(2, 9, 33), answer, PLACES), 12, 0, NULL);
+    fresh();
+    answered("a path that is none", kihavute_path_length(STORED(2, 9, 33), answer, PLACES), 12, 0, NULL);
+    fresh();
+    answered("a path that is none", kihavute_segment_position(STORED(2, 9, 33), 0, 0, answer, PLACES), 12, 0, NULL);
+    fresh();
+    answered("a path that is none", kihavute_segment_tangent(STORED(2, 9, 33), 5, 0, answer, PLACES), 12, 0, NULL);
+    fresh();
+    answered("a path that is none", kihavute_segment_rotation(STORED(2, 9, 33), 0, 0, answer, PLACES), 12, 0, NULL);
+}
+
 static void stations(void) {
     /* document 01's example of the station tool */
     static const char plan[] = "3\nM0 0L3 4";
@@ -1194,6 +1354,8 @@ int main(void) {
     stored_paths();
     shapes();
     paths();
+    appending();
+    segments();
     splines();
     strict_reading();
     decimals();

@@ -230,7 +230,26 @@ static void r_positions(float nan) {
     accepted(kihavute_positions(PATH, (float[]){0.5f, nan}, 2, out, 64, answer, PLACES));
     is_nan(bits(out[0])), is_nan(bits(out[2])), is_nan(bits(out[3])), is_nan(bits(out[4]));
 }
+static void r_path_length(float nan) {
+    stored(nan), accepted(kihavute_path_length(PATH, answer, PLACES)), no_nan(answer[0]);
+    lengths[0] = nan, refused(kihavute_path_length(PATH, answer, PLACES), 12);
+}
+static void r_segment(float nan) { stored(nan), accepted(kihavute_segment(PATH, 0, out, 64, answer, PLACES)), is_nan(bits(out[2])); }
+static void r_segment_position(float nan) { stored(nan), accepted(kihavute_segment_position(PATH, 0, 0.5f, answer, PLACES)), is_nan(answer[0]); }
+static void r_segment_tangent(float nan) {
+    stored(nan), accepted(kihavute_segment_tangent(PATH, 0, 0.5f, answer, PLACES)), is_nan(answer[0]), is_nan(answer[1]);
+}
+static void r_segment_rotation(float nan) { stored(nan), accepted(kihavute_segment_rotation(PATH, 0, 0.5f, answer, PLACES)), is_nan(answer[0]); }
 
+#define BUFFERS kinds, 2, fields, 24, tables, 70, lengths, 2
+static void r_push_segment(float nan) {
+    accepted(kihavute_push_segment(BUFFERS, 0, 4, (float[]){0, 0, 3, 4, nan, 0, 0, nan, nan, 0, nan}, 11, answer, PLACES));
+    is_nan(bits(fields[4])), is_nan(bits(fields[7])), is_nan(bits(fields[8])), is_nan(bits(fields[10]));
+}
+static void r_arc_to(float nan) { accepted(kihavute_arc_to(BUFFERS, 0, 0, 0, 0, 1, nan, 0, 0, 3, 4, answer, PLACES)), is_nan(bits(fields[8])); }
+static void r_line_to(float nan) { refused(kihavute_line_to(BUFFERS, 0, 0, nan, 3, 4, answer, PLACES), 11); }
+static void r_quad_to(float nan) { refused(kihavute_quad_to(BUFFERS, 0, 0, 0, nan, 1, 3, 4, answer, PLACES), 11); }
+static void r_cubic_to(float nan) { refused(kihavute_cubic_to(BUFFERS, 0, 0, 0, nan, 1, 2, 2, 3, 4, answer, PLACES), 11); }
 
 /* ---- the table: a function, its run, or why it has none */
 
@@ -283,6 +302,13 @@ static const struct {
     ROW(position), ROW(tangent), ROW(rotation),
     NEVER(places, "a raw parameter lies between 0 and 1"),
     ROW(positions), ROW(stations),
+    NONE(len), NONE(is_empty),
+    NEVER(path_length, "a running length that is not finite is refused"),
+    ROW(segment), ROW(segment_position), ROW(segment_tangent), ROW(segment_rotation),
+    ROW(push_segment), ROW(arc_to),
+    NEVER(line_to, "a length that is not finite is refused"),
+    NEVER(quad_to, "a length that is not finite is refused"),
+    NEVER(cubic_to, "a length that is not finite is refused"),
 };
 
 enum { ROWS = sizeof table / sizeof *table };

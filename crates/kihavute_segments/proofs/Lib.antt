@@ -1,0 +1,4 @@
+-- The laws of what segments give through C.
+pub mod AppendingGiven
+pub mod SegmentsGiven
+pub mod Stored

@@ -1,0 +1,92 @@
+-- "A path or spline query: 12 only.": a segment of a stored path is never refused by its table, which the path's check found sound. Assumes nothing.
+use Prim.Native.Nat.{ℕ, zero, suc, _<_}
+use mathlib.Core.Path.{_≡_, refl, sym, ap, _∙_, subst}
+use mathlib.Core.Bool.{true}
+use mathlib.Core.List.{List}
+use native.Mathlib.Omega.{arith}
+use lib.Dec.{T}
+use lib.ListN.{length, getD, drop}
+use lib.Ieee.{Float}
+use Rattle.answers.specs.declared.refusals.Refusal.the-variants.{BadPath}
+use Rattle.math.specs.declared.points.Point.{Point}
+use Rattle.floats.proofs.Tests.{passed, cond-yes, same-test}
+use Rattle.table.specs.declared.tables.Table.{Table}
+use Rattle.table.specs.Sound.{tableIsSound}
+use Rattle.bezier.specs.declared.curves.Placed.{Placed}
+use Rattle.bezier.specs.declared.curves.Placed.the-variants as Placed
+use Rattle.bezier.specs.Curves.{placedOf}
+use Rattle.bezier.specs.Quads.{quadPlacedOf, quadPositionOf, quadHeadingOf, quadTangentOf}
+use Rattle.bezier.specs.Cubics.{cubicPlacedOf, cubicPositionOf, cubicHeadingOf, cubicTangentOf}
+use Rattle.arc.specs.Lines.{linePositionOf, lineTangentOf}
+use Rattle.arc.specs.Arcs.{chordLine, arcPlacedOf, arcPositionOf, arcHeadingOf, arcTangentOf}
+use Rattle.path_segment.specs.declared.segments.PathSegment.{PathSegment}
+use Rattle.path_segment.specs.declared.segments.PathSegment.the-variants as Segment
+use Rattle.path_segment.specs.Segments.{kindOf, widthOf, tablesOf, hasTable, segmentOf}
+use Rattle.path_stored.specs.Stored.{before, isStored, Numbered, segmentIn, tableIn}
+use Rattle.path_stored.proofs.Reading.{stored-numbered, stored-tabled, table-in-sound}
+use Rattle.path_part.specs.Parts.{quadWith, cubicWith, positionOf, tangentOf}
+
+-- a place, and no refusal
+pub record IsPlaced (placed : Placed) : Type 0 where
+  pub point : Point
+  pub is : placed ≡ Placed.At point
+
+-- ---- a segment with its table, if it has one
+module _ (table : Table) (along : Float) where
+  at-sound : (p : Point) → T (tableIsSound (table .entries) (table .total)) → placedOf table p ≡ Placed.At p
+  unfolding placedOf
+  at-sound p sound = cond-yes (tableIsSound (table .entries) (table .total)) (Placed.At p) (Placed.Refused BadPath) sound
+
+  part-placed : (segment : PathSegment) → (T (hasTable (kindOf segment)) → T (tableIsSound (table .entries) (table .total))) → IsPlaced (positionOf segment table along)
+  unfolding positionOf quadPlacedOf cubicPlacedOf arcPlacedOf hasTable tablesOf
+  part-placed (Segment.Line line) sound = record { point = linePositionOf line along; is = refl }
+  part-placed (Segment.Quad start control end) sound =
+      record { point = quadPositionOf (quadWith start control end table) along; is = at-sound (quadPositionOf (quadWith start control end table) along) (sound tt) }
+  part-placed (Segment.Cubic start control1 control2 end) sound =
+      record {
+        point = cubicPositionOf (cubicWith start control1 control2 end table) along;
+        is = at-sound (cubicPositionOf (cubicWith start control1 control2 end table) along) (sound tt);
+      }
+  part-placed (Segment.Arc shape) sound = record { point = arcPositionOf shape table along; is = at-sound (arcPositionOf shape table along) (sound tt) }
+  part-placed (Segment.Fallback shape) sound = record { point = linePositionOf (chordLine shape) along; is = refl }
+
+  part-headed : (segment : PathSegment) → (T (hasTable (kindOf segment)) → T (tableIsSound (table .entries) (table .total))) → IsPlaced (tangentOf segment table along)
+  unfolding tangentOf quadHeadingOf cubicHeadingOf arcHeadingOf hasTable tablesOf
+  part-headed (Segment.Line line) sound = record { point = lineTangentOf line; is = refl }
+  part-headed (Segment.Quad start control end) sound =
+      record { point = quadTangentOf (quadWith start control end table) along; is = at-sound (quadTangentOf (quadWith start control end table) along) (sound tt) }
+  part-headed (Segment.Cubic start control1 control2 end) sound =
+      record {
+        point = cubicTangentOf (cubicWith start control1 control2 end table) along;
+        is = at-sound (cubicTangentOf (cubicWith start control1 control2 end table) along) (sound tt);
+      }
+  part-headed (Segment.Arc shape) sound = record { point = arcTangentOf shape table along; is = at-sound (arcTangentOf shape table along) (sound tt) }
+  part-headed (Segment.Fallback shape) sound = record { point = lineTangentOf (chordLine shape); is = refl }
+
+-- ---- segment i of a stored path
+
+-- a known kind reads as itself
+segment-kind : (kind : ℕ) (numbers : List Float) → kind < 5 → kindOf (segmentOf kind numbers) ≡ kind
+unfolding segmentOf
+segment-kind zero numbers known = refl
+segment-kind (suc zero) numbers known = refl
+segment-kind (suc (suc zero)) numbers known = refl
+segment-kind (suc (suc (suc zero))) numbers known = refl
+segment-kind (suc (suc (suc (suc zero)))) numbers known = refl
+segment-kind (suc (suc (suc (suc (suc kind))))) numbers known = absurd (omega arith)
+
+kind-is : (kinds : List ℕ) (fields : List Float) → Numbered kinds fields → (i : ℕ) → i < length kinds → kindOf (segmentIn kinds fields i) ≡ getD kinds i 0
+unfolding segmentIn
+kind-is kinds fields numbered i inside = segment-kind (getD kinds i 0) (drop (before widthOf kinds i) fields) (numbered .known i inside)
+
+module _ (kinds : List ℕ) (fields tables lengths : List Float) (stored : isStored kinds fields tables lengths ≡ true) (i : ℕ) (inside : i < length kinds) (along : Float) where
+  sound : T (hasTable (kindOf (segmentIn kinds fields i))) → T (tableIsSound (tableIn kinds tables i .entries) (tableIn kinds tables i .total))
+  sound has =
+      let kind = kind-is kinds fields (stored-numbered kinds fields tables lengths (passed stored)) i inside in
+      table-in-sound (stored-tabled kinds fields tables lengths (passed stored)) i inside (same-test (hasTable (getD kinds i 0)) true (λ _. tt) (λ _. subst (λ (k : ℕ). T (hasTable k)) kind has))
+
+  pub stored-placed : IsPlaced (positionOf (segmentIn kinds fields i) (tableIn kinds tables i) along)
+  stored-placed = part-placed (tableIn kinds tables i) along (segmentIn kinds fields i) sound
+
+  pub stored-headed : IsPlaced (tangentOf (segmentIn kinds fields i) (tableIn kinds tables i) along)
+  stored-headed = part-headed (tableIn kinds tables i) along (segmentIn kinds fields i) sound

@@ -1,0 +1,3 @@
+-- What segments give to C.
+pub mod Appending
+pub mod Segments

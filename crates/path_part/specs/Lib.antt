@@ -1,0 +1,2 @@
+-- What a segment gives at a progress along itself.
+pub mod Parts
