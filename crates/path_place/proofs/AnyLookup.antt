@@ -1,31 +1,27 @@
 -- Whatever looks a table up so that it is steady (`Steady` of table_order/specs/Swept.antt), a path's lookup with it meets demand 3: `steady-meets`. So the demand asks of a curve just what
 -- `Steady` says. The contraction that a compiler makes by itself, with its clamp, is steady: the demand allows it, and only the comparison with the Rust refuses its bits. Assumes nothing.
-use mathlib.Core.Path.{_≡_, refl, sym, ap, _∙_, subst}
-use Prim.Native.Nat.{ℕ, _-_, _≤_, _<_}
+use mathlib.Core.Path.{_≡_, sym, ap, _∙_, subst}
+use Prim.Native.Nat.{ℕ, _-_, _<_}
 use native.Mathlib.Omega.{arith}
-use mathlib.Core.Bool.{Bool, true, false, not, cond}
+use mathlib.Core.Bool.{Bool, true, false, cond}
 use mathlib.Core.List.{List}
 use lib.Dec.{T}
 use lib.ListN.{length, getD}
 use lib.Ieee.{Float, lt, le}
-use lib.Ieee.Bits.{cond-no}
 use Rattle.floats.specs.Floats.{zeroF, oneF, epsilonF, clamp01Of}
 use Rattle.floats.proofs.Tests.{cond-yes}
-use Rattle.floats.proofs.Order.{le-lt-trans, lt-le-trans, lt→le, lt→not-le, le→not-lt}
-use Rattle.floats.proofs.Constants.{zero-lt-epsilon}
 use Rattle.floats.proofs.Clamping.{clamp01-mono}
 use Rattle.table.specs.declared.tables.Spot.{Spot}
-use Rattle.table.specs.Lookup.{at, lastOf, firstNotBelow, targetOf, markOf}
+use Rattle.table.specs.Lookup.{lastOf, firstNotBelow, targetOf}
 use Rattle.table.specs.Spots.{pathTotal, spotWithin, spotOf}
 use Rattle.table_order.specs.Stated.{F32Table}
 use Rattle.table_order.specs.Swept.{Inside, Swept, Steady}
-use Rattle.table_order.proofs.Steady.{inPart, byWayOf, total-held}
-use Rattle.table_order.proofs.Division.{quotientOf, first-picks, division-joins}
-use Rattle.table_order.proofs.Ends.{clamped-zero, clamped-one, target-of-zero, target-of-one, target-of-one-above}
-use Rattle.table_order.proofs.Theorems.{target-enclosed, path-order, path-starts, path-ends, carried}
-use Rattle.table_order.proofs.Swept.{clamped-again}
-use Rattle.table_order.proofs.Variants.{wayAlong, way-along-order}
-use Rattle.table_order.proofs.Contraction.{contractedClamped, contracted-shares, contracted-placed}
+use Rattle.table_order.proofs.Division.{quotientOf}
+use Rattle.table_order.proofs.Ends.{clamped-zero, clamped-one}
+use Rattle.table_order.proofs.Theorems.{path-order, path-starts, path-ends, carried}
+use Rattle.table_order.proofs.Variants.{wayAlong}
+use Rattle.table_order.proofs.Contraction.{contractedClamped}
+use Rattle.table_order.proofs.Kept.{contracted-steady as by-shares}
 use Rattle.path_segment.specs.Segments.{hasTable}
 use Rattle.path_place.specs.declared.places.Place.{Place}
 use Rattle.path_place.specs.Places.{placed, placeOf}
@@ -110,76 +106,8 @@ module _ (way : List Float → Float → Float → Float) (is : WaySteady way) {
 abbrev pub contracted : List Float → Float → Float → Float
 contracted xs total p = wayAlong (λ t. firstNotBelow t xs) (contractedClamped total) (quotientOf (lastOf xs)) xs total p
 
-contracted-counts : (xs : List Float) (total p : Float) → contracted xs total p ≡ contracted xs total (clamp01Of p)
-unfolding targetOf
-contracted-counts xs total p = rw (clamped-again p) refl
-
-module _ {xs : List Float} {total : Float} (f : F32Table xs total) (some : 1 ≤ lastOf xs) where
-  abbrev target : Float → Float
-  target p = targetOf total p
-
-  abbrev inside : Float → Float
-  inside p = inPart (contractedClamped total) (quotientOf (lastOf xs)) xs p (firstNotBelow (targetOf total p) xs)
-
-  contracted-order : (p q : Float) → T (le (clamp01Of p) (clamp01Of q)) → T (le (contracted xs total p) (contracted xs total q))
-  contracted-order = way-along-order f (first-picks f) (contracted-shares total (total-held f)) (division-joins (lastOf xs) some (f .table .counted))
-
-  contracted-starts : contracted xs total zeroF ≡ zeroF
-  contracted-starts = by-length (le total epsilonF)
-    where
-      rest : Float
-      rest = cond (le total (target zeroF)) oneF (inside zeroF)
-
-      by-length : (b : Bool) → cond b (clamp01Of zeroF) (cond (le (target zeroF) zeroF) zeroF rest) ≡ zeroF
-      by-length true = clamped-zero
-      by-length false = cond-yes (le (target zeroF) zeroF) zeroF rest (target-of-zero total (total-held f))
-
-  contracted-ends : contracted xs total oneF ≡ oneF
-  contracted-ends = by-length (le total epsilonF) (λ n. n)
-    where
-      by-length : (b : Bool) → (T (not b) → T (not (le total epsilonF))) → cond b (clamp01Of oneF) (cond (le (target oneF) zeroF) zeroF (cond (le total (target oneF)) oneF (inside oneF))) ≡ oneF
-      by-length true long = clamped-one
-      by-length false long =
-          cond-no (le (target oneF) zeroF) zeroF (cond (le total (target oneF)) oneF (inside oneF)) (target-of-one-above total (total-held f) (long tt))
-          ∙ cond-yes (le total (target oneF)) oneF (inside oneF) (target-of-one total (total-held f))
-
-  contracted-swept : (p : Float) → T (lt epsilonF total) → Swept (lastOf xs) xs total (targetOf total p) (contracted xs total p)
-  contracted-swept p long =
-      record {
-        starts = λ low. far ∙ cond-yes (le (target p) zeroF) _ _ low;
-        ends = λ high. far ∙ cond-no (le (target p) zeroF) _ _ (lt→not-le (target p) zeroF (lt-le-trans zeroF total (target p) above-zero high)) ∙ cond-yes (le total (target p)) _ _ high;
-        chosen = λ within.
-            let e = target-enclosed f p (within .above) (within .below) in
-            let placed-there = contracted-placed f p long (within .above) (within .below) in
-            let same : contracted xs total p ≡ inside p =
-            far ∙ cond-no (le (target p) zeroF) _ _ (lt→not-le (target p) zeroF (within .above)) ∙ cond-no (le total (target p)) _ _ (lt→not-le total (target p) (within .below)) in
-            record {
-              entry = firstNotBelow (target p) xs;
-              first = e .from;
-              last = e .upto;
-              enclose = record { lower = e .lower; upper = le→not-lt (target p) (at xs (firstNotBelow (target p) xs)) (e .upper) };
-              from = subst (λ (r : Float). T (le (markOf (lastOf xs) (firstNotBelow (target p) xs - 1)) r)) (sym same) (placed-there .0);
-              upto = subst (λ (r : Float). T (le r (markOf (lastOf xs) (firstNotBelow (target p) xs)))) (sym same) (placed-there .1);
-            };
-      }
-    where
-      above-zero : T (lt zeroF total)
-      above-zero = le-lt-trans zeroF epsilonF total (lt→le zeroF epsilonF zero-lt-epsilon) long
-
-      far : contracted xs total p ≡ byWayOf (targetOf total) (λ t. firstNotBelow t xs) (contractedClamped total) (quotientOf (lastOf xs)) xs total p
-      far = cond-no (le total epsilonF) _ _ (lt→not-le total epsilonF long)
-
 pub contracted-steady : WaySteady contracted
-contracted-steady xs total f last =
-    let some : 1 ≤ lastOf xs = omega arith in
-    subst (λ (n : ℕ). Steady n xs total (contracted xs total)) last
-    (record {
-      counts = contracted-counts xs total;
-      order = contracted-order f some;
-      starts = contracted-starts f some;
-      ends = contracted-ends f some;
-      swept = contracted-swept f some;
-    })
+contracted-steady xs total f last = subst (λ (n : ℕ). Steady n xs total (contracted xs total)) last (by-shares f)
 
 -- so the letter's sentence allows it
 pub contraction-kept : {kinds : List ℕ} {fields tables lengths : List Float} → F32Stored kinds fields tables lengths → 0 < length kinds → T (lt epsilonF (pathTotal lengths))
