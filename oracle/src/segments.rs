@@ -156,8 +156,8 @@ impl Asked {
                 return Overwritten("past the counts");
             }
             steps.push(given.map(|counts| counts.map(|n| n as u64)).map_err(|refusal| {
-                let [a, b, c, d, ..] = refusal.carried;
-                (refusal.number, [a, b, c, d])
+                let [a, b, c, d, ..] = refusal.carried();
+                (refusal.number(), [a, b, c, d])
             }));
         }
         let stored = Stored {
@@ -280,14 +280,14 @@ fn compare_known(report: &mut Report) {
     let cases = [
         // a path of at most 2^-23 is at its end; its segment is not
         path.stored().segment_position(0, Progress(0.5)) == Ok(Some([5e-9f32.to_bits(), 0])),
-        path.append(|room| room.push_segment(5, &[])).map_err(|refusal| refusal.number) == Err(12),
-        path.append(|room| room.push_segment(0, &[0.0; 3])).map_err(|refusal| refusal.number) == Err(12),
+        path.append(|room| room.push_segment(5, &[])).map_err(|refusal| refusal.number()) == Err(12),
+        path.append(|room| room.push_segment(0, &[0.0; 3])).map_err(|refusal| refusal.number()) == Err(12),
         // the path in use is judged: its running length is not one
         path.append(|room| {
             room.lengths[0] = -1.0;
             room.line_to([[0.0; 2]; 2])
         })
-        .map_err(|refusal| refusal.number)
+        .map_err(|refusal| refusal.number())
             == Err(12),
     ];
     for (number, case) in cases.iter().enumerate().filter(|(_, case)| !**case) {

@@ -1287,7 +1287,7 @@ static void nulls(void) {
     answered("a null plan", kihavute_stations(NULL, 0, listing, sizeof listing, answer, PLACES), 0, 1, (uint64_t[]){13});
     same("what it says", memcmp(listing, "refused 13 0\n", 13), 0);
     fresh();
-    answered("a plan into null", kihavute_stations(text, 8, NULL, 0, answer, PLACES), 8, 1, (uint64_t[]){65536});
+    answered("a plan into null", kihavute_stations(text, 8, NULL, 0, answer, PLACES), 8, 1, (uint64_t[]){13});
 
     /* a null answer has fewer than 8 places, which is judged first */
     const uint32_t found[] = {

@@ -18,7 +18,7 @@ static const uint32_t nans[] = {0x7FC00000, 0xFFC00000, 0x7F800001, 0xFF800001, 
 static int passed, failed;
 static const char *row;
 static uint64_t answer[PLACES];
-static float out[64], other[64];
+static float out[256], other[256];
 static uint8_t kinds[2], text[ROOM];
 static float fields[24], tables[70], lengths[2];
 
@@ -171,7 +171,7 @@ static void r_morph(float nan) {
     is_nan(bits(out[1])), is_nan(bits(out[3])), is_nan(bits(other[0])), is_nan(bits(other[2]));
 }
 static void r_morph_default(float nan) {
-    accepted(kihavute_morph_default((float[]){1, nan}, 2, (float[]){nan, 1}, 2, out, 64, other, 64, answer, PLACES));
+    accepted(kihavute_morph_default((float[]){1, nan}, 2, (float[]){nan, 1}, 2, out, 256, other, 256, answer, PLACES));
     is_nan(bits(out[1])), is_nan(bits(other[0]));
 }
 static void r_evaluate(float nan) {
