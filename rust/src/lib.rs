@@ -33,6 +33,28 @@ macro_rules! answering {
     };
 }
 
+/// Calls a function that answers on the four buffers of a stored path, with what else it takes.
+macro_rules! ask {
+    ($path:expr, $query:ident($($argument:expr),*)) => {
+        // SAFETY: the slices are whole, each output is borrowed alone, and the answer is the call's own
+        crate::judged(|answer, places| unsafe {
+            $query(
+                $path.kinds.as_ptr(),
+                $path.kinds.len(),
+                $path.fields.as_ptr(),
+                $path.fields.len(),
+                $path.tables.as_ptr(),
+                $path.tables.len(),
+                $path.lengths.as_ptr(),
+                $path.lengths.len(),
+                $($argument,)*
+                answer,
+                places,
+            )
+        })
+    };
+}
+
 mod listings;
 mod paths;
 mod refusals;

@@ -15,28 +15,6 @@ answering! {
     );
 }
 
-// calls one of these on the four buffers of a path
-macro_rules! ask {
-    ($path:expr, $query:ident($($argument:expr),*)) => {
-        // SAFETY: the slices are whole, each output is borrowed alone, and the answer is the call's own
-        crate::judged(|answer, places| unsafe {
-            $query(
-                $path.kinds.as_ptr(),
-                $path.kinds.len(),
-                $path.fields.as_ptr(),
-                $path.fields.len(),
-                $path.tables.as_ptr(),
-                $path.tables.len(),
-                $path.lengths.as_ptr(),
-                $path.lengths.len(),
-                $($argument,)*
-                answer,
-                places,
-            )
-        })
-    };
-}
-
 /// How far along by length: 0 at the start, 1 at the end. A NaN counts as 0, and the rest is clamped.
 #[derive(Clone, Copy, Debug, PartialEq, PartialOrd)]
 #[repr(transparent)]

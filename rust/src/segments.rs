@@ -50,28 +50,6 @@ pub struct Stored<'a> {
     pub lengths: &'a [f32],
 }
 
-// calls one of these on the four arrays of a stored path
-macro_rules! ask {
-    ($path:expr, $query:ident($($argument:expr),*)) => {
-        // SAFETY: the slices are whole, an output is borrowed alone, and the answer is the call's own
-        crate::judged(|answer, places| unsafe {
-            $query(
-                $path.kinds.as_ptr(),
-                $path.kinds.len(),
-                $path.fields.as_ptr(),
-                $path.fields.len(),
-                $path.tables.as_ptr(),
-                $path.tables.len(),
-                $path.lengths.as_ptr(),
-                $path.lengths.len(),
-                $($argument,)*
-                answer,
-                places,
-            )
-        })
-    };
-}
-
 impl Stored<'_> {
     /// How many segments there are.
     pub fn len(&self) -> Result<usize, Refusal> {
