@@ -1,2 +1,3 @@
-// The C interface's second part: the permissive reader and the check of a command list.
+// The C interface's second part: the permissive reader, twice, and the check of a command list.
+mod lean;
 mod reading;

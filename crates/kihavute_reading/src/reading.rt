@@ -8,7 +8,7 @@ use commands::Checked;
 use svg::Reading;
 
 // The counts of what was stored.
-fn give_reading(reading: Reading, answer: &mut [u64]) -> u32
+pub(crate) fn give_reading(reading: Reading, answer: &mut [u64]) -> u32
     ensures { λ r. ⌜ Given (answerOf reading) (now (answer .entry)) r (now (answer .exit)) ⌝ }
 {
     match reading {

@@ -48,6 +48,11 @@ unfolding lettersOf numbersOf
 holding-none text before stood =
     record { done = []; known = known-none text; places = refl; count = refl; place-le = omega arith; at-le = omega arith; lettersNow = refl; numbersNow = refl; lettersIn = omega arith; numbersIn = omega arith }
 
+-- at the start nothing is held
+pub begun-none : (text : List ℕ) → Begun text [] [] freshOf
+unfolding lettersOf numbersOf
+begun-none text = record { done = []; known = known-none text; letters = refl; numbers = refl; place-le = omega arith; at-le = omega arith }
+
 module _ (text before letters : List ℕ) (stood numbers : List Float) (reader : Reader) (place at : ℕ) (k : Holding text before letters stood numbers reader place at) where
   counting : Counting text reader place at
   counting = record { done = k .done; known = k .known; letters = k .places; numbers = k .count; place-le = k .place-le; at-le = k .at-le }

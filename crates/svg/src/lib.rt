@@ -1,7 +1,9 @@
 // The permissive reader: from a text of path data to a list of commands in two lent buffers.
 pub mod inner;
+mod lean;
 mod passes;
 mod reading;
 
+pub use lean::read_lean;
 pub use reading::Reading;
 pub use reading::read_path;

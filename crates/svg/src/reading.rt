@@ -23,7 +23,7 @@ pub enum Reading {
 }
 
 // The rest of a text of which the commands up to a state are held.
-fn read_on(
+pub(crate) fn read_on(
     text: &[u8],
     reader: Reader,
     held: &[u8],
