@@ -8,6 +8,8 @@
  * Limits: 65,536 bytes of text, 65,536 commands, 65,536 segments of a path, 4,096 points of a list; 4,096 bytes, 256 commands
  *         and 2 to 1,000 stations of a plan; angles of 64 radians for sine and cosine, rotations of 3,600 degrees.
  *         What lies beyond is refused, or a NaN where that is said.
+ * Stack:  at most 64 KiB, which is kihavute_stations; of the others that take a text kihavute_read some 20 KB, and the rest at most
+ *         2 KiB. docs/RUNS.md has the table, and tests/c/stack.c holds each entry to its limit.
  * Units:  coordinates and lengths are in the unit of the path, times t are pure numbers, angles say theirs.
  * Sizes:  a coordinate is a float of 24 bits, so the larger it is, the further apart its neighbours are: 2^-10 (0.00098) from 8,192 to
  *         16,384, 2^-9 from there, 1/32 from 262,144, 1/2 from 4,194,304, and twice as much at each doubling. A northing of
@@ -339,7 +341,7 @@ uint32_t kihavute_bounds(const float *from, size_t from_len, const float *to, si
  * in all, an optional exponent, the longest text. answer[0] gets the bits of the float nearest to its exact value, ties to
  * even, for any count of digits; answer[1] how many bytes it takes. Refused with 1 above 65,536 bytes (the count), with
  * 3 at 0 where no number starts, with 4 at the e of an exponent without digit, and for no other reason: every text that
- * the scan passes has a value. */
+ * the scan passes has a value. It costs at most 256 bytes of stack, whatever the text. */
 uint32_t kihavute_number(const uint8_t *text, size_t text_len, uint64_t *answer, size_t answer_len);
 
 /* Whether the text matches the path grammar of SVG 1.1 Second Edition, 8.3.9: answer[0] is 1 for a yes and 0 for a no. No
@@ -358,9 +360,18 @@ uint32_t kihavute_strict(const uint8_t *text, size_t text_len, uint64_t *answer,
  * Refused with 1 above 65,536 bytes, else with the first of 2 to 7 in the text (4 is an exponent without digit, at its e,
  * and nothing else), else with 8 where a buffer is too short:
  * answer[0] is the count of letters needed, answer[1] that of numbers. A call that does not return 0 leaves both buffers
- * as they were, so that a call with buffers of length 0 asks for the sizes. */
+ * as they were, so that a call with buffers of length 0 asks for the sizes.
+ *
+ * It costs some 20 KB of stack, whatever the text, since most texts are passed once, by way of buffers of its own: about 4.3 ns a
+ * byte on the machine of docs/RUNS.md. For a task with less stack there is the next one. */
 uint32_t kihavute_read(const uint8_t *text, size_t text_len, uint8_t *letters, size_t letters_len,
                        float *numbers, size_t numbers_len, uint64_t *answer, size_t answer_len);
+
+/* The same in every place and number: of two calls that are lent the same, one of each, answers and buffers are equal. It costs at
+ * most 2,048 bytes of stack, and twice the time, about 8.5 ns a byte: it has no buffers of its own and passes each text twice, to
+ * count and then to store. */
+uint32_t kihavute_read_lean(const uint8_t *text, size_t text_len, uint8_t *letters, size_t letters_len,
+                            float *numbers, size_t numbers_len, uint64_t *answer, size_t answer_len);
 
 /* Whether letters and numbers are a command list as kihavute_read stores it: accepted, with nothing written, where each
  * letter is known and has its numbers, each flag is +0 or 1 by its bits, and no number is left over. Refused with 13 above

@@ -660,6 +660,9 @@ static void decimals(void) {
 static uint8_t list_letters[ROOM];
 static float list_numbers[ROOM];
 
+/* one of the two readers */
+static __typeof__(&kihavute_read) reader = kihavute_read;
+
 /* reads into so many places of each buffer, with an answer of so many places */
 static uint32_t read_in(const char *text, size_t size, size_t letters_len, size_t numbers_len, size_t places) {
     curve_tables();
@@ -670,7 +673,7 @@ static uint32_t read_in(const char *text, size_t size, size_t letters_len, size_
     for (size_t i = 0; i < ROOM; i++) {
         list_numbers[i] = 77;
     }
-    return kihavute_read((const uint8_t *)text, size, list_letters, letters_len, list_numbers, numbers_len, answer, places);
+    return reader((const uint8_t *)text, size, list_letters, letters_len, list_numbers, numbers_len, answer, places);
 }
 
 /* the buffers hold this list, and 77s past it */
@@ -1253,6 +1256,10 @@ static void nulls(void) {
     fresh();
     answered("a text into nulls", kihavute_read(text, 8, NULL, 0, NULL, 0, answer, PLACES), 8, 2, (uint64_t[]){2, 4});
     fresh();
+    answered("a null text, lean", kihavute_read_lean(NULL, 0, NULL, 0, NULL, 0, answer, PLACES), 0, 2, (uint64_t[]){0, 0});
+    fresh();
+    answered("a text into nulls, lean", kihavute_read_lean(text, 8, NULL, 0, NULL, 0, answer, PLACES), 8, 2, (uint64_t[]){2, 4});
+    fresh();
     answered("a list of nulls", kihavute_check_commands(NULL, 0, NULL, 0, answer, PLACES), 0, 0, NULL);
 
     fresh();
@@ -1326,6 +1333,7 @@ static void nulls(void) {
         kihavute_number(NULL, 0, NULL, 0),
         kihavute_strict(NULL, 0, NULL, 0),
         kihavute_read(NULL, 0, NULL, 0, NULL, 0, NULL, 0),
+        kihavute_read_lean(NULL, 0, NULL, 0, NULL, 0, NULL, 0),
         kihavute_check_commands(NULL, 0, NULL, 0, NULL, 0),
         kihavute_check(NULL, 0, NULL, 0, NULL, 0, NULL, 0, NULL, 0),
         kihavute_build(NULL, 0, NULL, 0, NULL, 0, NULL, 0, NULL, 0, NULL, 0, NULL, 0),
@@ -1339,7 +1347,7 @@ static void nulls(void) {
         kihavute_stations(NULL, 0, NULL, 0, NULL, 0),
     };
     for (size_t i = 0; i < sizeof found / sizeof *found; i++) same("a null answer", found[i], 255);
-    same("the entries with an answer", sizeof found / sizeof *found, 46);
+    same("the entries with an answer", sizeof found / sizeof *found, 47);
 }
 
 int main(void) {
@@ -1359,6 +1367,8 @@ int main(void) {
     splines();
     strict_reading();
     decimals();
+    reading();
+    reader = kihavute_read_lean;
     reading();
     lists();
     stations();

@@ -184,10 +184,14 @@ static void r_bounds(float nan) {
 }
 
 /* infinity less infinity */
+static const char apart[] = "M1e39 0m-1e39 0";
 static void r_read(float nan) {
-    static const char path[] = "M1e39 0m-1e39 0";
     (void)nan;
-    accepted(kihavute_read((const uint8_t *)path, sizeof path - 1, text, ROOM, out, 64, answer, PLACES)), is_nan(bits(out[2]));
+    accepted(kihavute_read((const uint8_t *)apart, sizeof apart - 1, text, ROOM, out, 64, answer, PLACES)), is_nan(bits(out[2]));
+}
+static void r_read_lean(float nan) {
+    (void)nan;
+    accepted(kihavute_read_lean((const uint8_t *)apart, sizeof apart - 1, text, ROOM, out, 64, answer, PLACES)), is_nan(bits(out[2]));
 }
 static void r_number(float nan) {
     (void)nan;
@@ -294,7 +298,7 @@ static const struct {
     NEVER(spline_length, "a table with an entry that is not finite is refused"),
     ROW(resample), ROW(morph), ROW(morph_default), ROW(evaluate), ROW(bounds),
     NEVER(number, "a decimal is a number or infinite"),
-    ROW(read),
+    ROW(read), ROW(read_lean),
     NONE(strict), NONE(check_commands), NONE(check),
     ROW(build),
     NEVER(build_text, "a NaN coordinate makes a length that is refused, and no text is a NaN rotation"),

@@ -48,7 +48,7 @@ module _ (text letters : List ℕ) (numbers : List Float) (answer : List ℕ) wh
       let s = le-ltb (length answer) 8 h in
       record { reported = given-same _ _ (p .answer) g; lettersAfter = rw s (p .lettersAfter); numbersAfter = rw s (p .numbersAfter) }
 
-  -- any two allowed results are equal
+  -- any two allowed results are equal, be they of one of the two entries or one of each
   pub path-read-unique :
       (r s : ℕ) (letters₁ letters₂ : List ℕ) (numbers₁ numbers₂ : List Float) (answer₁ answer₂ : List ℕ)
       → PathRead text letters numbers answer r letters₁ numbers₁ answer₁
