@@ -222,8 +222,8 @@ fn drawings() {
     row("strict, drawings, a byte", per_byte(&texts, ours, original_reads));
 }
 
-// permissive reading: into lent buffers, which are not cleared between two texts, and into buffers of its own; the Rust
-// pushes to a vector of its own
+// permissive reading: into lent buffers, which are not cleared between two texts, by either entry, and into buffers of its
+// own; the Rust pushes to a vector of its own
 fn read() {
     let Some(drawings) = Drawings::new() else { return };
     let texts = drawings.texts();
@@ -233,6 +233,11 @@ fn read() {
         kihavute::read_into(text, letters, numbers).map_or(0, |(commands, _)| commands)
     };
     row("read, drawings, a byte", per_byte(&texts, ours, original_reads));
+    let lean = |text: &[u8]| {
+        let (letters, numbers) = &mut *lent.borrow_mut();
+        kihavute::read_lean_into(text, letters, numbers).map_or(0, |(commands, _)| commands)
+    };
+    row("read, lean, a byte", per_byte(&texts, lean, original_reads));
     // those with S and T, which the Rust does not read: it is handed Q and L in their place
     let smooth = drawings.smooth();
     let plain: Vec<Vec<u8>> = smooth.iter().map(|text| text.iter().map(|byte| plain(*byte)).collect()).collect();

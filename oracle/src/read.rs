@@ -1,6 +1,6 @@
 //! Permissive reading: the proved reader against the original's try_parse on texts of UTF-8, with S and T put in by the rule
-//! of SVG, and against a second reader on other bytes. Each text is read into buffers of several sizes, and every place of
-//! them is looked at.
+//! of SVG, and against a second reader on other bytes. Each text is read by both entries, into buffers of several sizes, and
+//! every place of them is looked at.
 
 use crate::compare::Report;
 use crate::samples::{Stream, damaged};
@@ -53,11 +53,19 @@ fn carries(number: u32) -> usize {
 // a refusal's number, and what it carries
 type Refused = (u32, [u64; 8]);
 
+// one of the two entries
+type Entry = fn(&[u8], &mut [u8], &mut [f32]) -> Result<(usize, usize), kihavute::Refusal>;
+
 // reads into buffers of so many places; the buffers afterwards
-fn read_into(text: &[u8], letters: usize, numbers: usize) -> (Result<(usize, usize), Refused>, Vec<u8>, Vec<u32>) {
+fn read_into(
+    entry: Entry,
+    text: &[u8],
+    letters: usize,
+    numbers: usize,
+) -> (Result<(usize, usize), Refused>, Vec<u8>, Vec<u32>) {
     let mut letters = vec![LETTER; letters];
     let mut numbers = vec![f32::from_bits(NUMBER); numbers];
-    let found = kihavute::read_into(text, &mut letters, &mut numbers);
+    let found = entry(text, &mut letters, &mut numbers);
     let found = found.map_err(|refusal| (refusal.number(), refusal.carried()));
     (found, letters, numbers.into_iter().map(f32::to_bits).collect())
 }
@@ -66,15 +74,21 @@ fn untouched(letters: &[u8], numbers: &[u32]) -> bool {
     letters.iter().all(|letter| *letter == LETTER) && numbers.iter().all(|bits| *bits == NUMBER)
 }
 
-/// What the proved reader says, after reading into buffers that just hold the list, that hold more, that are one place
-/// short of letters or of numbers, and that hold nothing.
+/// What the proved reader says, by either of its entries.
 pub fn ours(text: &[u8]) -> Said {
-    let (sizes, _, _) = read_into(text, 0, 0);
+    let said = by(kihavute::read_into, text);
+    if by(kihavute::read_lean_into, text) == said { said } else { Said::Wrong("the lean reading says otherwise") }
+}
+
+// what an entry says, after reading into buffers that just hold the list, that hold more, that are one place short of
+// letters or of numbers, and that hold nothing
+fn by(entry: Entry, text: &[u8]) -> Said {
+    let (sizes, _, _) = read_into(entry, text, 0, 0);
     let (places, count) = match sizes {
         Ok(counts) => counts,
         Err((8, carried)) => (carried[0] as usize, carried[1] as usize),
         Err((number, carried)) => {
-            let (again, letters, numbers) = read_into(text, 9, 9);
+            let (again, letters, numbers) = read_into(entry, text, 9, 9);
             return if again != Err((number, carried)) {
                 Said::Wrong("another refusal with more room")
             } else if !untouched(&letters, &numbers) {
@@ -87,11 +101,11 @@ pub fn ours(text: &[u8]) -> Said {
     let mut needs = [0; 8];
     needs[..2].copy_from_slice(&[places as u64, count as u64]);
     let no_room = Err((8, needs));
-    let (found, letters, numbers) = read_into(text, places, count);
+    let (found, letters, numbers) = read_into(entry, text, places, count);
     if found != Ok((places, count)) {
         return Said::Wrong("other counts with just the room that was asked for");
     }
-    let (found, longer, more) = read_into(text, places + 3, count + 3);
+    let (found, longer, more) = read_into(entry, text, places + 3, count + 3);
     if found != Ok((places, count)) || longer[..places] != letters || more[..count] != numbers {
         return Said::Wrong("another list with more room");
     }
@@ -103,7 +117,7 @@ pub fn ours(text: &[u8]) -> Said {
         (count.checked_sub(1).map(|less| (places + 1, less)), "no room for a number"),
     ] {
         let Some((fewer, less)) = short else { continue };
-        let (found, letters, numbers) = read_into(text, fewer, less);
+        let (found, letters, numbers) = read_into(entry, text, fewer, less);
         if found != no_room || !untouched(&letters, &numbers) {
             return Said::Wrong(what);
         }

@@ -144,6 +144,7 @@ answering! {
     fn kihavute_number(text: [u8]);
     fn kihavute_strict(text: [u8]);
     fn kihavute_read(text: [u8], letters: mut [u8], numbers: mut [f32]);
+    fn kihavute_read_lean(text: [u8], letters: mut [u8], numbers: mut [f32]);
     fn kihavute_check_commands(letters: [u8], numbers: [f32]);
 }
 
@@ -961,13 +962,14 @@ pub fn read(text: &[u8]) -> Result<Commands, ReadError> {
     })
 }
 
-/// Reads path data into lent buffers, from the start of each: how many letters and numbers are stored. A refusal leaves
-/// both as they were; it is 8, with the counts needed, where one is too short.
+// a reader of the library
+type Reader = unsafe extern "C" fn(*const u8, usize, *mut u8, usize, *mut f32, usize, *mut u64, usize) -> u32;
+
 #[inline]
-pub fn read_into(text: &[u8], letters: &mut [u8], numbers: &mut [f32]) -> Result<(usize, usize), Refusal> {
+fn read_by(reader: Reader, text: &[u8], letters: &mut [u8], numbers: &mut [f32]) -> Result<(usize, usize), Refusal> {
     // SAFETY: each pointer is good for the length beside it, no two overlap, and the library keeps none
     let given = judged(|answer, places| unsafe {
-        kihavute_read(
+        reader(
             text.as_ptr(),
             text.len(),
             letters.as_mut_ptr(),
@@ -979,6 +981,20 @@ pub fn read_into(text: &[u8], letters: &mut [u8], numbers: &mut [f32]) -> Result
         )
     })?;
     Ok((given[0] as usize, given[1] as usize))
+}
+
+/// Reads path data into lent buffers, from the start of each: how many letters and numbers are stored. A refusal leaves
+/// both as they were; it is 8, with the counts needed, where one is too short. It takes some 20 KB of stack.
+#[inline]
+pub fn read_into(text: &[u8], letters: &mut [u8], numbers: &mut [f32]) -> Result<(usize, usize), Refusal> {
+    read_by(kihavute_read, text, letters, numbers)
+}
+
+/// The same in every place and number, for a task with a small stack: at most 2,048 bytes of it, and twice as long, since
+/// each text is counted before it is stored.
+#[inline]
+pub fn read_lean_into(text: &[u8], letters: &mut [u8], numbers: &mut [f32]) -> Result<(usize, usize), Refusal> {
+    read_by(kihavute_read_lean, text, letters, numbers)
 }
 
 /// Whether letters and numbers are a command list as `read` gives it.
@@ -1243,7 +1259,15 @@ mod tests {
         for text in [&b"M1"[..], b"M", b"M1e 2", b"M0 0A1 1 0 2 0 3 4", b"M0 0R1 2 3 4", b"M1 2Z3 4", &[b' '; 65_537]] {
             let error: Box<dyn std::error::Error> = Box::new(read(text).unwrap_err());
             assert_eq!(error.to_string(), read_into(text, &mut [], &mut []).unwrap_err().to_string());
+            assert_eq!(read_lean_into(text, &mut [], &mut []), read_into(text, &mut [], &mut []));
         }
+        // the lean one stores the same, and writes nothing where it refuses
+        let (mut letters, mut numbers) = ([b'-'; 3], [-1.0; 5]);
+        assert_eq!(read_lean_into(b"m1 2 3 4x", &mut letters, &mut numbers).unwrap_err().number(), 6);
+        assert_eq!(read_lean_into(b"m1 2 3 4", &mut letters[..1], &mut numbers).unwrap_err().carried()[..2], [2, 4]);
+        assert_eq!((letters, numbers), ([b'-'; 3], [-1.0; 5]));
+        assert_eq!(read_lean_into(b"m1 2 3 4", &mut letters, &mut numbers), Ok((2, 4)));
+        assert_eq!((letters, numbers), (*b"ML-", [1.0, 2.0, 4.0, 6.0, -1.0]));
     }
 
     #[test]
