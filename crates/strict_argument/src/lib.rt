@@ -6,4 +6,6 @@ mod words;
 pub use groups::Kind;
 pub use groups::read_argument;
 pub use words::NOWHERE;
+pub use words::past_gap;
 pub use words::past_separator;
+pub use words::past_space;

@@ -12,30 +12,39 @@ use Rattle.scan.specs.Bytes.{among, digits, signs, points, commas, whiteSpace, 
 use Rattle.scan.specs.Runs.{stands}
 use Rattle.scan.proofs.ByteLaws.{apartb, clash, alone-is}
 use Rattle.scan.proofs.RunLaws.{stands-inside}
-use Rattle.strict_grammar.specs.Spans.{Span, Byte, _·_, _∥_, opt, star, none, more, plus, longest, sequence, last, then}
-use Rattle.strict_grammar.specs.Grammar.{wsp, digit, flag, comma, letter, digit-sequence, exponent, fractional-constant, floating-point-constant, nonnegative-number, number, comma-wsp, coordinate-pair, elliptical-arc-argument, moveto-argument-sequence, moveto, closepath, lineto, horizontal-lineto, vertical-lineto, curveto, smooth-curveto, quadratic-bezier-curveto, smooth-quadratic-bezier-curveto, elliptical-arc, drawto-command, drawto-commands, moveto-drawto-command-group, moveto-drawto-command-groups, svg-path, Matches}
+use Rattle.strict_grammar.specs.Spans.{Span, Byte, _·_, _∥_, opt, star, none, more, plus, longest, sequence, last, then, editions, never}
+use Rattle.strict_grammar.specs.Grammar.{whiteOf, wsp, digit, flag, letter, digit-sequence, exponent, fractional-constant, floating-point-constant, nonnegative-number, number, comma-wsp, coordinate-pair, rotation, elliptical-arc-argument, moveto-argument-sequence, moveto, closepath, lineto, horizontal-lineto, vertical-lineto, curveto, smooth-curveto, quadratic-bezier-curveto, smooth-quadratic-bezier-curveto, elliptical-arc, drawto-command, gap, drawto-commands, moveto-drawto-command-group, moveto-drawto-command-groups, svg-path, Matches}
+use Rattle.strict_grammar.specs.declared.Edition.{Edition}
+use Rattle.strict_grammar.specs.declared.Edition.the-variants.{Svg11, Svg2}
 use Rattle.strict_grammar.proofs.SpanLaws.{standing, not-both, wider, run-between}
-use Rattle.strict_grammar.proofs.Numbers.{number-stops, nonnegative-no-sign, nonnegative-is, nonnegative-of}
+use Rattle.strict_grammar.proofs.Numbers.{of-11, number-stops, nonnegative-no-sign, nonnegative-is, nonnegative-of}
 
 -- ---- white space alone
 
-module _ (text : List ℕ) where
-  white-run : star (wsp text) 0 (length text) → Matches text
-  unfolding Matches svg-path
-  white-run w = (length text, w, (length text, inr refl, none refl))
+white-run : (edition : Edition) (text : List ℕ) → star (wsp edition text) 0 (length text) → Matches edition text
+unfolding Matches svg-path
+white-run Svg11 text w = (length text, w, (length text, inr refl, none refl))
+white-run Svg2 text w = inl (length text, w, inr refl)
 
-  -- a text of white space alone matches
-  pub white-alone-matches : ((k : ℕ) → k < length text → among (getD text k 0) whiteSpace ≡ true) → Matches text
-  white-alone-matches white =
-      white-run (run-between whiteSpace text 0 (length text) (omega arith) (λ k a b. stands-inside whiteSpace text k b ∙ white k b))
+-- a text of white space alone matches
+pub white-alone-matches :
+    (edition : Edition) (text : List ℕ) → ((k : ℕ) → k < length text → among (getD text k 0) (whiteOf edition) ≡ true) → Matches edition text
+white-alone-matches edition text white =
+    white-run edition text
+    (run-between (whiteOf edition) text 0 (length text) (omega arith) (λ k a b. stands-inside (whiteOf edition) text k b ∙ white k b))
 
 -- the empty text matches
-pub empty-matches : Matches []
-empty-matches = white-alone-matches [] (λ k h. absurd (omega arith))
+pub empty-matches : (edition : Edition) → Matches edition []
+empty-matches edition = white-alone-matches edition [] (λ k h. absurd (omega arith))
 
 -- ---- a comma at the end
 
-module _ (text : List ℕ) where
+white-apart : (edition : Edition) → T (apartb (whiteOf edition) commas)
+unfolding among
+white-apart Svg11 = tt
+white-apart Svg2 = tt
+
+module _ (edition : Edition) (text : List ℕ) where
   -- the byte before j is a comma
   abbrev AfterComma : ℕ → Type 0
   AfterComma j = (k : ℕ) × (j ≡ k + 1) × (stands text k commas ≡ true)
@@ -85,70 +94,72 @@ module _ (text : List ℕ) where
 
   -- ---- numbers and arguments
 
-  white-never : Never (wsp text)
-  unfolding among
-  white-never = byte-never whiteSpace tt
+  white-never : Never (wsp edition text)
+  white-never = byte-never (whiteOf edition) (white-apart edition)
 
   point-never : Never (Byte text points)
   unfolding among
   point-never = byte-never points tt
 
-  flag-never : Never (flag text)
+  flag-never : Never (flag edition text)
   unfolding among
   flag-never = byte-never flags tt
 
-  digits-never : Never (digit-sequence text)
+  digits-never : Never (digit-sequence edition text)
   unfolding digit-sequence among
-  digits-never = plus-never (digit text) (byte-never digits tt)
+  digits-never = plus-never (digit edition text) (byte-never digits tt)
 
-  exponent-never : Never (exponent text)
+  exponent-never : Never (exponent edition text)
   unfolding exponent
   exponent-never i j (k, b, (m, o, d)) c = digits-never m j d c
 
-  fraction-never : Never (fractional-constant text)
+  fraction-never : Never (fractional-constant edition text)
   unfolding fractional-constant
   fraction-never i j (inl (k, o, (m, b, d))) c = digits-never m j d c
-  fraction-never i j (inr (k, d, b)) c = point-never k j b c
+  fraction-never i j (inr t) c =
+      let (k, d, b) = of-11 edition (digit-sequence edition text · Byte text points) i j t in
+      point-never k j b c
 
-  floating-never : Never (floating-point-constant text)
+  floating-never : Never (floating-point-constant edition text)
   unfolding floating-point-constant
-  floating-never i j (inl (k, f, o)) c = fraction-never i k f (opt-keeps (exponent text) exponent-never k j o c)
-  floating-never i j (inr (k, d, x)) c = exponent-never k j x c
+  floating-never i j (inl (k, f, inl x)) c = exponent-never k j (of-11 edition (exponent edition text) k j x) c
+  floating-never i j (inl (k, f, inr z)) c = fraction-never i k f (subst AfterComma (sym z) c)
+  floating-never i j (inr (k, d, x)) c = exponent-never k j (of-11 edition (exponent edition text) k j x) c
 
-  number-never : Never (number text)
+  number-never : Never (number edition text)
   unfolding number
   number-never i j (inl (k, o, d), _) c = digits-never k j d c
   number-never i j (inr (k, o, f), _) c = floating-never k j f c
 
-  pair-never : Never (coordinate-pair text)
+  pair-never : Never (coordinate-pair edition text)
   unfolding coordinate-pair
   pair-never i j (k, n, (m, o, p)) c = number-never m j p c
 
-  two-pairs-never : Never (coordinate-pair text · opt (comma-wsp text) · coordinate-pair text)
+  two-pairs-never : Never (coordinate-pair edition text · opt (comma-wsp edition text) · coordinate-pair edition text)
   two-pairs-never i j (k, n, (m, o, p)) c = pair-never m j p c
 
-  three-pairs-never : Never (coordinate-pair text · opt (comma-wsp text) · coordinate-pair text · opt (comma-wsp text) · coordinate-pair text)
+  three-pairs-never : Never (coordinate-pair edition text · opt (comma-wsp edition text) · coordinate-pair edition text · opt (comma-wsp edition text) · coordinate-pair edition text)
   three-pairs-never i j (k, n, (m, o, p)) c = two-pairs-never m j p c
 
-  arc-never : Never (elliptical-arc-argument text)
+  arc-never : Never (elliptical-arc-argument edition text)
   unfolding elliptical-arc-argument
   arc-never i j (_, _, (_, _, (_, _, (_, _, (_, _, (_, _, (_, _, (_, _, (_, _, (m, _, p)))))))))) c = pair-never m j p c
 
-  moveto-arguments-never : Never (moveto-argument-sequence text)
+  moveto-arguments-never : Never (moveto-argument-sequence edition text)
   unfolding moveto-argument-sequence
   moveto-arguments-never i j (inl p) c = pair-never i j p c
-  moveto-arguments-never i j (inr (k, p, (m, o, w))) c = sequence-never (coordinate-pair text) (opt (comma-wsp text)) pair-never m j w c
+  moveto-arguments-never i j (inr (k, p, (m, o, w))) c = sequence-never (coordinate-pair edition text) (opt (comma-wsp edition text)) pair-never m j w c
 
   -- ---- commands
 
-  lettered-never : (class : List ℕ) (P : Span) → Never P → Never (Byte text class · star (wsp text) · sequence P (opt (comma-wsp text)))
-  lettered-never class P n i j (k, b, (m, w, s)) c = sequence-never P (opt (comma-wsp text)) n m j s c
+  lettered-never : (class : List ℕ) (P : Span) → Never P → Never (Byte text class · star (wsp edition text) · sequence P (opt (comma-wsp edition text)))
+  lettered-never class P n i j (k, b, (m, w, s)) c = sequence-never P (opt (comma-wsp edition text)) n m j s c
 
-  moveto-never : Never (moveto text)
+  moveto-never : Never (moveto edition text)
   unfolding moveto
   moveto-never i j (k, b, (m, w, s)) c = moveto-arguments-never m j s c
 
-  drawto-never : Never (drawto-command text)
+  drawto-never : Never (drawto-command edition text)
   unfolding drawto-command closepath lineto horizontal-lineto vertical-lineto curveto smooth-curveto quadratic-bezier-curveto smooth-quadratic-bezier-curveto elliptical-arc among
   drawto-never i j (inl b) c = byte-never (90 ∷ 122 ∷ []) tt i j b c
   drawto-never i j (inr (inl w)) c = lettered-never _ _ pair-never i j w c
@@ -160,68 +171,84 @@ module _ (text : List ℕ) where
   drawto-never i j (inr (inr (inr (inr (inr (inr (inr (inl w)))))))) c = lettered-never _ _ pair-never i j w c
   drawto-never i j (inr (inr (inr (inr (inr (inr (inr (inr w)))))))) c = lettered-never _ _ arc-never i j w c
 
-  drawtos-never : Never (drawto-commands text)
-  unfolding drawto-commands
-  drawtos-never = sequence-never (drawto-command text) (star (wsp text)) drawto-never
+  gap-keeps : (edition : Edition) → Keeps (gap edition text)
+  gap-keeps Svg11 i j w c = star-keeps (wsp Svg11 text) (byte-never (whiteOf Svg11) (white-apart Svg11)) i j w c
+  gap-keeps Svg2 i j e c = subst AfterComma (sym e) c
 
-  group-never : Never (moveto-drawto-command-group text)
+  drawtos-never : Never (drawto-commands edition text)
+  unfolding drawto-commands
+  drawtos-never = sequence-never (drawto-command edition text) (gap edition text) drawto-never
+
+  group-never : Never (moveto-drawto-command-group edition text)
   unfolding moveto-drawto-command-group
   group-never i j (k, m, (n, w, o)) c =
-      moveto-never i k m (star-keeps (wsp text) white-never k n w (opt-keeps (drawto-commands text) drawtos-never n j o c))
+      moveto-never i k m (gap-keeps edition k n w (opt-keeps (drawto-commands edition text) drawtos-never n j o c))
 
-  groups-never : Never (moveto-drawto-command-groups text)
+  groups-never : Never (moveto-drawto-command-groups edition text)
   unfolding moveto-drawto-command-groups
-  groups-never = sequence-never (moveto-drawto-command-group text) (star (wsp text)) group-never
+  groups-never = sequence-never (moveto-drawto-command-group edition text) (gap edition text) group-never
 
-  path-keeps : Keeps (svg-path text)
-  unfolding svg-path
-  path-keeps i j (k, w, (m, o, u)) c =
-      star-keeps (wsp text) white-never i k w
-      (opt-keeps (moveto-drawto-command-groups text) groups-never k m o (star-keeps (wsp text) white-never m j u c))
+path-keeps : (edition : Edition) (text : List ℕ) → Keeps edition text (svg-path edition text)
+unfolding svg-path
+path-keeps Svg11 text i j (k, w, (m, o, u)) c =
+    star-keeps Svg11 text (wsp Svg11 text) (white-never Svg11 text) i k w
+    (opt-keeps Svg11 text (moveto-drawto-command-groups Svg11 text) (groups-never Svg11 text) k m o (star-keeps Svg11 text (wsp Svg11 text) (white-never Svg11 text) m j u c))
+path-keeps Svg2 text i j (inl (k, w, o)) c =
+    star-keeps Svg2 text (wsp Svg2 text) (white-never Svg2 text) i k w (opt-keeps Svg2 text (moveto Svg2 text) (moveto-never Svg2 text) k j o c)
+path-keeps Svg2 text i j (inr o) c = opt-keeps Svg2 text (moveto-drawto-command-groups Svg2 text) (groups-never Svg2 text) i j o c
 
-  -- a text whose last byte is a comma does not match
-  pub comma-at-end-fails : (n : ℕ) → length text ≡ n + 1 → getD text n 0 ≡ 44 → Matches text → ⊥
-  unfolding Matches
-  comma-at-end-fails n e b m =
-      let h : stands text n commas ≡ true = stands-inside commas text n (omega arith) ∙ alone-is (getD text n 0) 44 b in
-      let c = path-keeps 0 (length text) m (n, e, h) in
-      omega (arith, c .1)
+-- a text whose last byte is a comma matches neither edition
+pub comma-at-end-fails : (edition : Edition) (text : List ℕ) (n : ℕ) → length text ≡ n + 1 → getD text n 0 ≡ 44 → Matches edition text → ⊥
+unfolding Matches
+comma-at-end-fails edition text n e b m =
+    let h : stands text n commas ≡ true = stands-inside commas text n (omega arith) ∙ alone-is (getD text n 0) 44 b in
+    let c = path-keeps edition text 0 (length text) m (n, e, h) in
+    omega (arith, c .1)
 
 -- ---- an arc's argument
 
-module _ (text : List ℕ) where
-  -- no flag stands where a number ends
-  pub no-flag-after : (i j k : ℕ) → number text i j → flag text j k → ⊥
+-- a rotation is a number
+pub rotation-is : (edition : Edition) (text : List ℕ) (i j : ℕ) → rotation edition text i j → number edition text i j
+unfolding rotation
+rotation-is Svg11 text i j n = n
+rotation-is Svg2 text i j n = nonnegative-is Svg2 text i j n
+
+module _ (edition : Edition) (text : List ℕ) where
+  -- no flag stands where a rotation ends
+  no-flag-after : (i j k : ℕ) → rotation edition text i j → flag edition text j k → ⊥
   unfolding among
-  no-flag-after i j k n f = clash (wider {l = flags} {m = digits} tt f .there) (number-stops text i j n)
+  no-flag-after i j k n f = clash (wider {l = flags} {m = digits} tt f .there) (number-stops edition text i j (rotation-is edition text i j n))
 
-  -- so a separator stands between a number and what starts with a flag, whether it must or may
-  pub flag-separated : (Q : Span) (i j : ℕ) → (number text · opt (comma-wsp text) · flag text · Q) i j → (number text · comma-wsp text · flag text · Q) i j
+  -- so a separator stands between a rotation and what starts with a flag, whether it must or may
+  pub flag-separated :
+      (Q : Span) (i j : ℕ) → (rotation edition text · opt (comma-wsp edition text) · flag edition text · Q) i j
+      → (rotation edition text · comma-wsp edition text · flag edition text · Q) i j
   flag-separated Q i j (k, n, (m, inl c, w)) = (k, n, (m, c, w))
-  flag-separated Q i j (k, n, (m, inr z, (x, f, w))) = absurd (no-flag-after i k x n (subst (λ (y : ℕ). flag text y x) (sym z) f))
+  flag-separated Q i j (k, n, (m, inr z, (x, f, w))) = absurd (no-flag-after i k x n (subst (λ (y : ℕ). flag edition text y x) (sym z) f))
 
+module _ (text : List ℕ) where
   -- the fields after the radii, each separated optionally
   abbrev Rotated : Span
-  Rotated = number text · opt (comma-wsp text) · flag text · opt (comma-wsp text) · flag text · opt (comma-wsp text) · coordinate-pair text
+  Rotated = number Svg11 text · opt (comma-wsp Svg11 text) · flag Svg11 text · opt (comma-wsp Svg11 text) · flag Svg11 text · opt (comma-wsp Svg11 text) · coordinate-pair Svg11 text
 
   -- document 01's argument, whose second radius starts at m: "two signed radii, a signed rotation, two flags and a pair, each separated optionally"
   abbrev pub Signable : ℕ → ℕ → ℕ → Type 0
-  Signable i m j = (k : ℕ) × number text i k × opt (comma-wsp text) k m × (number text · opt (comma-wsp text) · Rotated) m j
+  Signable i m j = (k : ℕ) × number Svg11 text i k × opt (comma-wsp Svg11 text) k m × (number Svg11 text · opt (comma-wsp Svg11 text) · Rotated) m j
 
   -- no sign stands before a radius
   abbrev pub Bare : ℕ → ℕ → Type 0
   Bare i m = (stands text i signs ≡ false) × (stands text m signs ≡ false)
 
-  -- an arc's argument is document 01's with no sign before a radius, and nothing else parts the two
-  pub arc-bare : (i j : ℕ) → elliptical-arc-argument text i j → (m : ℕ) × Signable i m j × Bare i m
-  unfolding elliptical-arc-argument
+  -- in 1.1 an arc's argument is document 01's with no sign before a radius, and nothing else parts the two
+  pub arc-bare : (i j : ℕ) → elliptical-arc-argument Svg11 text i j → (m : ℕ) × Signable i m j × Bare i m
+  unfolding elliptical-arc-argument rotation
   arc-bare i j (k, n, (m, o, (p, q, (x, s, (y, r, (z, c, w)))))) = (
     m,
-    (k, nonnegative-is text i k n, o, (p, nonnegative-is text m p q, (x, s, (y, r, (z, inl c, w))))),
-    (nonnegative-no-sign text i k n, nonnegative-no-sign text m p q),
+    (k, nonnegative-is Svg11 text i k n, o, (p, nonnegative-is Svg11 text m p q, (x, s, (y, r, (z, inl c, w))))),
+    (nonnegative-no-sign Svg11 text i k n, nonnegative-no-sign Svg11 text m p q),
   )
 
-  pub bare-arc : (i m j : ℕ) → Signable i m j → Bare i m → elliptical-arc-argument text i j
-  unfolding elliptical-arc-argument
+  pub bare-arc : (i m j : ℕ) → Signable i m j → Bare i m → elliptical-arc-argument Svg11 text i j
+  unfolding elliptical-arc-argument rotation
   bare-arc i m j (k, n, o, (p, q, (x, s, w))) (h, g) =
-      (k, nonnegative-of text i k h n, (m, o, (p, nonnegative-of text m p g q, (x, s, flag-separated (opt (comma-wsp text) · flag text · opt (comma-wsp text) · coordinate-pair text) x j w))))
+      (k, nonnegative-of Svg11 text i k h n, (m, o, (p, nonnegative-of Svg11 text m p g q, (x, s, flag-separated Svg11 text (opt (comma-wsp Svg11 text) · flag Svg11 text · opt (comma-wsp Svg11 text) · coordinate-pair Svg11 text) x j w))))

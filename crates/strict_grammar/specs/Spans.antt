@@ -6,6 +6,8 @@ use mathlib.Core.Bool.{true}
 use mathlib.Core.List.{List}
 use mathlib.Core.Logic.{_⊎_}
 use Rattle.scan.specs.Runs.{stands}
+use Rattle.strict_grammar.specs.declared.Edition.{Edition}
+use Rattle.strict_grammar.specs.declared.Edition.the-variants.{Svg11, Svg2}
 
 abbrev pub Span : Type 1
 Span = ℕ → ℕ → Type 0
@@ -46,3 +48,16 @@ pub data sequence (P S : Span) : ℕ → ℕ → Type 0 where
 -- "each number taking the longest text": of P's words from a place the one that no other outruns
 abbrev pub longest : Span → Span
 longest P i j = P i j × ((k : ℕ) → P i k → k ≤ j)
+
+-- the word of no bytes
+abbrev pub empty : Span
+empty i j = i ≡ j
+
+-- no word at all
+abbrev pub never : Span
+never i j = ⊥
+
+-- P in SVG 1.1, Q in SVG 2: where the two grammars part
+abbrev pub editions : Edition → Span → Span → Span
+editions Svg11 P Q = P
+editions Svg2 P Q = Q
