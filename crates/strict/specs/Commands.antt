@@ -4,11 +4,14 @@ use mathlib.Core.Path.{_≡_}
 use mathlib.Core.Bool.{Bool, true, false}
 use mathlib.Core.Logic.{_⊎_}
 use mathlib.Core.List.{List, [], _∷_, _++_}
+use lib.Dec.{ltb}
 use Rattle.scan.specs.Bytes.{among}
 use Rattle.scan.specs.Runs.{stands}
 use Rattle.strict_grammar.specs.Spans.{Span, _·_, _∥_, opt, star, sequence}
 use Rattle.strict_grammar.specs.Grammar.{wsp, comma-wsp, moveto, drawto-command}
 use Rattle.strict_grammar.specs.Words.{Past, Lacks, Goes}
+use Rattle.strict_grammar.specs.declared.Edition.{Edition}
+use Rattle.strict_grammar.specs.declared.Edition.the-variants.{Svg11, Svg2}
 use Rattle.strict_argument.specs.Reading.{nowhere, argumentOf}
 use Rattle.strict_argument.specs.declared.groups.Kind.{Kind}
 use Rattle.strict_argument.specs.declared.groups.Kind.the-variants.{Coordinate, Pair, TwoPairs, ThreePairs, Arc}
@@ -54,19 +57,24 @@ pub data Reaches (P : Span) (C : ℕ → Type 0) (i r : ℕ) : Type 0 where
   missing : r ≡ nowhere → Lacks P i → Reaches P C i r
 
 -- white space, and a sequence of arguments of a kind
-abbrev pub Arguments : List ℕ → Kind → Span
-Arguments text kind = star (wsp text) · sequence (argumentOf text kind) (opt (comma-wsp text))
+abbrev pub Arguments : Edition → List ℕ → Kind → Span
+Arguments edition text kind = star (wsp edition text) · sequence (argumentOf edition text kind) (opt (comma-wsp edition text))
 
 -- a separator or none, and an argument of a kind
-abbrev pub Item : List ℕ → Kind → Span
-Item text kind = opt (comma-wsp text) · argumentOf text kind
+abbrev pub Item : Edition → List ℕ → Kind → Span
+Item edition text kind = opt (comma-wsp edition text) · argumentOf edition text kind
 
 -- past all further arguments: other items from the same place end where a sequence could go on
-pub record Further (text : List ℕ) (kind : Kind) (i r : ℕ) : Type 0 where
-  pub past : Past (star (Item text kind)) (Goes text) i r
+pub record Further (edition : Edition) (text : List ℕ) (kind : Kind) (i r : ℕ) : Type 0 where
+  pub past : Past (star (Item edition text kind)) (Goes edition text) i r
   pub bounded : (r ≡ i) ⊎ (r < nowhere)
 
 -- what may stand where a command is due: a moveto, and after one also a drawto-command
-abbrev pub Command : List ℕ → Bool → Span
-Command text true = moveto text ∥ drawto-command text
-Command text false = moveto text
+abbrev pub Command : Edition → List ℕ → Bool → Span
+Command edition text true = moveto edition text ∥ drawto-command edition text
+Command edition text false = moveto edition text
+
+-- whether the first moveto is the whole path, by the white space before it: "wsp* moveto? | (moveto drawto_command*)?" of SVG 2
+abbrev pub aloneOf : Edition → ℕ → Bool
+aloneOf Svg11 white = false
+aloneOf Svg2 white = ltb 0 white

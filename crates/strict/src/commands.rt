@@ -1,9 +1,10 @@
 // Commands: a letter, and the sequence of arguments that it takes.
-use scan::past_white;
 use strict_argument::Kind;
 use strict_argument::NOWHERE;
 use strict_argument::past_separator;
+use strict_argument::past_space;
 use strict_argument::read_argument;
+use strict_grammar::Edition;
 ghost use Rattle.strict_grammar.specs.Words.{Goes};
 ghost use Rattle.strict.specs.Commands.{LetterOf, LetterAt, Reaches, Further, Arguments, Command};
 
@@ -54,13 +55,13 @@ fn letter_at(text: &[u8], at: usize) -> Letter
 
 // Past all further arguments, each after a separator or none. A separator that no argument follows
 // is not passed.
-fn past_arguments(text: &[u8], at: usize, kind: Kind) -> usize
-    ensures { λ r. ⌜ Further (now (text .entry)) kind at r ⌝ }
+fn past_arguments(text: &[u8], at: usize, kind: Kind, edition: Edition) -> usize
+    ensures { λ r. ⌜ Further edition (now (text .entry)) kind at r ⌝ }
 {
     let mut end = at;
     loop {
-        let start = past_separator(text, end);
-        let next = read_argument(text, start, kind);
+        let start = past_separator(text, end, edition);
+        let next = read_argument(text, start, kind, edition);
         if next == NOWHERE {
             return end;
         }
@@ -69,22 +70,22 @@ fn past_arguments(text: &[u8], at: usize, kind: Kind) -> usize
 }
 
 // White space, and a sequence of at least one argument.
-fn read_arguments(text: &[u8], at: usize, kind: Kind) -> usize
-    ensures { λ r. ⌜ Reaches (Arguments (now (text .entry)) kind) (Goes (now (text .entry))) at r ⌝ }
+fn read_arguments(text: &[u8], at: usize, kind: Kind, edition: Edition) -> usize
+    ensures { λ r. ⌜ Reaches (Arguments edition (now (text .entry)) kind) (Goes edition (now (text .entry))) at r ⌝ }
 {
-    let end = read_argument(text, past_white(text, at), kind);
+    let end = read_argument(text, past_space(text, at, edition), kind, edition);
     if end == NOWHERE {
         return NOWHERE;
     }
-    past_arguments(text, end, kind)
+    past_arguments(text, end, kind, edition)
 }
 
 // One command. Before the first moveto no other command has begun, and none is read.
-pub fn read_command(text: &[u8], at: usize, begun: bool) -> usize
-    ensures { λ r. ⌜ Reaches (Command (now (text .entry)) begun) (Goes (now (text .entry))) at r ⌝ }
+pub fn read_command(text: &[u8], at: usize, begun: bool, edition: Edition) -> usize
+    ensures { λ r. ⌜ Reaches (Command edition (now (text .entry)) begun) (Goes edition (now (text .entry))) at r ⌝ }
 {
     match letter_at(text, at) {
-        Letter::Moves => read_arguments(text, at + 1, Kind::Pair),
+        Letter::Moves => read_arguments(text, at + 1, Kind::Pair, edition),
         Letter::Closes => {
             if begun {
                 return at + 1;
@@ -93,7 +94,7 @@ pub fn read_command(text: &[u8], at: usize, begun: bool) -> usize
         }
         Letter::Takes(kind) => {
             if begun {
-                return read_arguments(text, at + 1, kind);
+                return read_arguments(text, at + 1, kind, edition);
             }
             NOWHERE
         }

@@ -9,7 +9,7 @@ use lib.Dec.{ltb}
 use borrow.Author.Tests.{ltb-true, ltb-false, lt-ltb, le-ltb}
 use lib.ListN.{length, List·getD-eq-default}
 use Rattle.scan.specs.Bytes.{among, signs, flags, numberStarts}
-use Rattle.scan.specs.Runs.{stands, byteAtOf}
+use Rattle.scan.specs.Runs.{stands, byteAtOf, pastDigitsOf, pastSignOf, pastPointOf}
 use Rattle.scan.specs.Numbers.{placesOf, wholeOf, pointOf, fractionOf, markOf, endOf, noDigit, noExponentDigit, scanNumberOf}
 use Rattle.scan.specs.declared.numbers.Places.{Places}
 use Rattle.scan.specs.declared.numbers.Number.{Number}
@@ -111,22 +111,53 @@ module _ (text : List ℕ) (room : length text < nowhere) (at : ℕ) where
       omega (arith, end-within text at (omega arith), exponent-onward text at, end-onward text at)
 
   -- SVG 2: digits after a point, digits alone, neither
-  pub fraction-reads : fractionOf text at < markOf text at → Reads (number Svg2 text) at (markOf text at)
+  fraction-reads : fractionOf text at < markOf text at → Reads (number Svg2 text) at (markOf text at)
   fraction-reads h =
       let some = some-digit text at (inr h) in
       let w = subst (λ (y : ℕ). Only (number Svg2 text) at y) (ends-fraction text at (lt-ltb (fractionOf text at) (markOf text at) h)) (number-only Svg2 text at some) in
       ends (omega (arith, mark-within Svg2 _ (w .0))) w
 
-  pub whole-reads : markOf text at ≤ fractionOf text at → wholeOf text at < pointOf text at → Reads (number Svg2 text) at (pointOf text at)
+  whole-reads : markOf text at ≤ fractionOf text at → wholeOf text at < pointOf text at → Reads (number Svg2 text) at (pointOf text at)
   whole-reads h g =
       let some = some-digit text at (inl g) in
       let w = subst (λ (y : ℕ). Only (number Svg2 text) at y) (ends-point text at (le-ltb (fractionOf text at) (markOf text at) h)) (number-only Svg2 text at some) in
       ends (omega (arith, mark-within Svg2 _ (w .0), fraction-onward text at, mark-onward text at)) w
 
-  pub neither-reads : markOf text at ≤ fractionOf text at → pointOf text at ≤ wholeOf text at → Reads (number Svg2 text) at nowhere
+  neither-reads : markOf text at ≤ fractionOf text at → pointOf text at ≤ wholeOf text at → Reads (number Svg2 text) at nowhere
   neither-reads h g =
       missing refl
       (number-lacks Svg2 text at (⊎-elim (λ n. n) (λ n. absurd (omega (arith, digit-in-all text at n))) (either-way (noDigit text at))))
+
+  -- the places as the code finds them
+  module _
+      {whole point fraction mark : ℕ} (w : whole ≡ pastSignOf text at) (p : point ≡ pastDigitsOf text whole) (f : fraction ≡ pastPointOf text point)
+      (m : mark ≡ pastDigitsOf text fraction)
+    where
+      the-whole : whole ≡ wholeOf text at
+      unfolding wholeOf
+      the-whole = w
+
+      the-point : point ≡ pointOf text at
+      unfolding pointOf
+      the-point = p ∙ ap (pastDigitsOf text) the-whole
+
+      the-fraction : fraction ≡ fractionOf text at
+      unfolding fractionOf
+      the-fraction = f ∙ ap (pastPointOf text) the-point
+
+      the-mark : mark ≡ markOf text at
+      unfolding markOf
+      the-mark = m ∙ ap (pastDigitsOf text) the-fraction
+
+      pub fraction-found : fraction < mark → Reads (number Svg2 text) at mark
+      fraction-found h = subst (Reads (number Svg2 text) at) (sym the-mark) (fraction-reads (omega (arith, the-fraction, the-mark)))
+
+      pub whole-found : mark ≤ fraction → whole < point → Reads (number Svg2 text) at point
+      whole-found h g =
+          subst (Reads (number Svg2 text) at) (sym the-point) (whole-reads (omega (arith, the-fraction, the-mark)) (omega (arith, the-whole, the-point)))
+
+      pub neither-found : mark ≤ fraction → point ≤ whole → Reads (number Svg2 text) at nowhere
+      neither-found h g = neither-reads (omega (arith, the-fraction, the-mark)) (omega (arith, the-whole, the-point))
 
   -- past the text the byte is 0, which is no sign
   sign-stands : stands text at signs ≡ among (byteAtOf text at) signs

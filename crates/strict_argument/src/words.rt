@@ -52,7 +52,7 @@ pub fn past_gap(text: &[u8], at: usize, edition: Edition) -> usize
     ensures { λ r. ⌜ r ≡ pastGapOf edition (now (text .entry)) at ⌝ }
 {
     match edition {
-        Edition::Svg11 => past_space(text, at, edition),
+        Edition::Svg11 => past_space(text, at, Edition::Svg11),
         Edition::Svg2 => at,
     }
 }
@@ -122,8 +122,8 @@ pub fn read_rotation(text: &[u8], at: usize, edition: Edition) -> usize
     ensures { λ r. ⌜ Reads (rotation edition (now (text .entry))) at r ⌝ }
 {
     match edition {
-        Edition::Svg11 => read_number(text, at, edition),
-        Edition::Svg2 => read_radius(text, at, edition),
+        Edition::Svg11 => number_11(text, at),
+        Edition::Svg2 => read_radius(text, at, Edition::Svg2),
     }
 }
 

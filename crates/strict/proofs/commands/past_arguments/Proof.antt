@@ -9,36 +9,36 @@ use Rattle.strict.proofs.commands.past_arguments.Statement.{statement}
 use Rattle.strict.proofs.commands.past_arguments.Tie as tie
 
 abbrev Inv-loop : tie.InvT-loop
-Inv-loop text at kind end₀ end = Going text kind at end
+Inv-loop text at kind edition end₀ end = Going edition text kind at end
 
 abbrev μ-loop : tie.MeasureT-loop
-μ-loop text at kind end₀ end = length text - end
+μ-loop text at kind edition end₀ end = length text - end
 
 loop-holds : tie.Need-loop-holds Inv-loop μ-loop
-loop-holds c = set-out _ _ _
+loop-holds c = set-out _ _ _ _
 
 returns : tie.Need-returns Inv-loop μ-loop
 returns c =
     let at-loop = c .before .before .before in
     let a = at-loop .before .before .args in
-    let reads = item (a .text .now) (a .kind) _ _ _ (c .before .before .past-separator .ensures) (c .before .read-argument .ensures) in
-    come-to-end (a .text .now) (a .kind) (a .at) _ (at-loop .loop .inv) (no-item (a .text .now) (a .kind) (a .at) _ _ reads (c .if1 .taken))
+    let reads = item (a .edition) (a .text .now) (a .kind) _ _ _ (c .before .before .past-separator .ensures) (c .before .read-argument .ensures) in
+    come-to-end (a .edition) (a .text .now) (a .kind) (a .at) _ (at-loop .loop .inv) (no-item (a .edition) (a .text .now) (a .kind) (a .at) _ _ reads (c .if1 .taken))
 
 loop-less : tie.Need-loop-less Inv-loop μ-loop
 loop-less c =
     let at-loop = c .before .before .before in
     let a = at-loop .before .before .args in
-    let reads = item (a .text .now) (a .kind) _ _ _ (c .before .before .past-separator .ensures) (c .before .read-argument .ensures) in
-    let one = one-item (a .text .now) (a .kind) (a .at) _ _ reads (c .if1 .left) in
-    let h = item-ahead (a .text .now) (a .kind) _ _ (one .0 .0) in
+    let reads = item (a .edition) (a .text .now) (a .kind) _ _ _ (c .before .before .past-separator .ensures) (c .before .read-argument .ensures) in
+    let one = one-item (a .edition) (a .text .now) (a .kind) (a .at) _ _ reads (c .if1 .left) in
+    let h = item-ahead (a .edition) (a .text .now) (a .kind) _ _ (one .0 .0) in
     omega arith
 
 loop-again : tie.Need-loop-again Inv-loop μ-loop
 loop-again c =
     let at-loop = c .before .before .before in
     let a = at-loop .before .before .args in
-    let reads = item (a .text .now) (a .kind) _ _ _ (c .before .before .past-separator .ensures) (c .before .read-argument .ensures) in
-    go-on (a .text .now) (a .kind) (a .at) _ (at-loop .loop .inv) _ (one-item (a .text .now) (a .kind) (a .at) _ _ reads (c .if1 .left))
+    let reads = item (a .edition) (a .text .now) (a .kind) _ _ _ (c .before .before .past-separator .ensures) (c .before .read-argument .ensures) in
+    go-on (a .edition) (a .text .now) (a .kind) (a .at) _ (at-loop .loop .inv) _ (one-item (a .edition) (a .text .now) (a .kind) (a .at) _ _ reads (c .if1 .left))
 
 pub past-arguments-spec : {M : Type 1} → statement M
 past-arguments-spec =

@@ -7,12 +7,12 @@ use Rattle.strict.proofs.commands.read_arguments.Tie as tie
 returns : tie.Need-returns
 returns c =
     let a = c .before .before .before .before .args in
-    arguments-missing (a .text .now) (a .kind) (a .at) _ (c .before .before .past-white .ensures) _ (c .before .read-argument .ensures) (c .if1 .taken)
+    arguments-missing (a .edition) (a .text .now) (a .kind) (a .at) _ (c .before .before .past-space .ensures) _ (c .before .read-argument .ensures) (c .if1 .taken)
 
 returns-2 : tie.Need-returns-2
 returns-2 c =
     let a = c .before .before .before .before .before .args in
-    arguments-past (a .text .now) (a .kind) (a .at) _ (c .before .before .before .past-white .ensures) _ _ (c .before .before .read-argument .ensures)
+    arguments-past (a .edition) (a .text .now) (a .kind) (a .at) _ (c .before .before .before .past-space .ensures) _ _ (c .before .before .read-argument .ensures)
     (c .before .if1 .left) (c .past-arguments .ensures)
 
 pub read-arguments-spec : {M : Type 1} → statement M

@@ -11,8 +11,9 @@ use Rattle.strict_argument.proofs.groups.arc_from_radius.Tie as tie
 returns : tie.Need-returns
 unfolding arc-from-radius
 returns c =
+    let edition = c .before .before .before .before .args .edition in
     let text = c .before .before .before .before .args .text .now in
-    step text (omega arith) (nonnegative-number text) (arc-from-rotation text) (rotation-starts text) _ _ _ _ (c .before .before .read-radius .ensures) (c .before .past-separator .ensures) (c .arc-from-rotation .ensures)
+    step edition text (omega arith) (nonnegative-number edition text) (arc-from-rotation edition text) (rotation-starts edition text) _ _ _ _ (c .before .before .read-radius .ensures) (c .before .past-separator .ensures) (c .arc-from-rotation .ensures)
 
 pub arc-from-radius-spec : {M : Type 1} → statement M
 arc-from-radius-spec =

@@ -10,13 +10,13 @@ use Rattle.strict_argument.proofs.words.read_radius.Tie as tie
 
 returns : tie.Need-returns
 returns c =
-    let text = c .before .before .before .before .args .text .now in
-    radius-left text (omega arith) _ (sym (ap (λ (b : ℕ). among b signs) (c .before .before .byte-at .ensures)) ∙ (sym (c .before .is-sign .ensures) ∙ c .if1 .taken))
+    let a = c .before .before .before .before .args in
+    radius-left (a .text .now) (omega arith) _ (a .edition) (sym (ap (λ (b : ℕ). among b signs) (c .before .before .byte-at .ensures)) ∙ (sym (c .before .is-sign .ensures) ∙ c .if1 .taken))
 
 returns-2 : tie.Need-returns-2
 returns-2 c =
-    let text = c .before .before .before .before .before .args .text .now in
-    radius-taken text (omega arith) _ _ (sym (ap (λ (b : ℕ). among b signs) (c .before .before .before .byte-at .ensures)) ∙ (sym (c .before .before .is-sign .ensures) ∙ c .before .if1 .left)) (c .read-number .ensures)
+    let a = c .before .before .before .before .before .args in
+    radius-taken (a .text .now) (omega arith) _ (a .edition) _ (sym (ap (λ (b : ℕ). among b signs) (c .before .before .before .byte-at .ensures)) ∙ (sym (c .before .before .is-sign .ensures) ∙ c .before .if1 .left)) (c .read-number .ensures)
 
 pub read-radius-spec : {M : Type 1} → statement M
 read-radius-spec =
