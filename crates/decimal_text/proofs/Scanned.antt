@@ -8,6 +8,7 @@ use Rattle.scan.specs.declared.numbers.Number.the-variants.{Scanned}
 use Rattle.scan.proofs.NumberLaws.{scanned-flags, scanned-places, scanned-start, scanned-number}
 use Rattle.strict_grammar.specs.Spans.{longest}
 use Rattle.strict_grammar.specs.Grammar.{number}
+use Rattle.strict_grammar.specs.declared.Edition.the-variants.{Svg11}
 use Rattle.strict_grammar.proofs.Numbers.{number-only, ends-whole}
 use Rattle.decimal.specs.Decimal.{readOf, numberOf}
 use Rattle.decimal_text.specs.Converts.{Converts, Converted}
@@ -27,7 +28,7 @@ module _ (text : List ℕ) (at : ℕ) where
   scanned-converts p e =
       let f = scanned-flags text at p e in
       let ends = ends-whole text at (f .1) ∙ sym (end-is p e) in
-      let l : longest (Converts text) at (p .end) = number-converts text at (p .end) (subst (λ (z : ℕ). number text at z) ends (number-only text at (f .0) .0)) in
+      let l : longest (Converts text) at (p .end) = number-converts text at (p .end) (subst (λ (z : ℕ). number Svg11 text at z) ends (number-only Svg11 text at (f .0) .0)) in
       record {
         starts = scanned-start text at p e;
         within = scanned-number text at p e .end-within;

@@ -7,7 +7,7 @@ use borrow.Author.Needs.{needs}
 use Rattle.answers.specs.Answers.{accepted, refused, listed}
 use Rattle.answers.specs.Report.{Report, short, written}
 use Rattle.answers.specs.declared.refusals.Values.{Values}
-use Rattle.strict.specs.Verdicts.{Judged, answerOf}
+use Rattle.strict.specs.Verdicts.{JudgedBy, answerOf}
 use Rattle.strict.specs.declared.texts.Verdict.{Verdict}
 use Rattle.kihavute.proofs.strict_reading.kihavute_strict.Statement.{statement}
 use Rattle.kihavute.proofs.strict_reading.kihavute_strict.Tie as tie
@@ -26,7 +26,7 @@ returns c =
     let found = c .before .before .before .before .before .before in
     record {
       answer = accepted (1 ∷ []);
-      judged = subst (λ (v : Verdict). Judged (found .before .before .before .args .text .now) (answerOf v)) (c .before .before .before .before .enum-told .given .1) (found .strict .ensures);
+      judged = subst (λ (v : Verdict). JudgedBy (found .before .before .before .args .edition) (found .before .before .before .args .text .now) (answerOf v)) (c .before .before .before .before .enum-told .given .1) (found .strict .ensures);
       reported = c .before .before .report .ensures;
     }
 
@@ -35,7 +35,7 @@ returns-2 c =
     let found = c .before .before .before .before .before .before in
     record {
       answer = accepted (0 ∷ []);
-      judged = subst (λ (v : Verdict). Judged (found .before .before .before .args .text .now) (answerOf v)) (c .before .before .before .before .enum-told2 .given .1) (found .strict .ensures);
+      judged = subst (λ (v : Verdict). JudgedBy (found .before .before .before .args .edition) (found .before .before .before .args .text .now) (answerOf v)) (c .before .before .before .before .enum-told2 .given .1) (found .strict .ensures);
       reported = c .before .before .report2 .ensures;
     }
 
@@ -45,7 +45,7 @@ returns-3 c =
     let refusal = c .before .before .before .before .before .before .before .refusal .given in
     record {
       answer = refused (refusal .0 .0);
-      judged = subst (λ (v : Verdict). Judged (found .before .before .before .args .text .now) (answerOf v)) (refusal .1) (found .strict .ensures);
+      judged = subst (λ (v : Verdict). JudgedBy (found .before .before .before .args .edition) (found .before .before .before .args .text .now) (answerOf v)) (refusal .1) (found .strict .ensures);
       reported =
           same-report (c .before .before .before .before .before .number .ensures) (c .before .before .before .before .carried .ensures)
           (c .before .before .report3 .ensures);
