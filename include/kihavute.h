@@ -344,10 +344,20 @@ uint32_t kihavute_bounds(const float *from, size_t from_len, const float *to, si
  * the scan passes has a value. It costs at most 256 bytes of stack, whatever the text. */
 uint32_t kihavute_number(const uint8_t *text, size_t text_len, uint64_t *answer, size_t answer_len);
 
-/* Whether the text matches the path grammar of SVG 1.1 Second Edition, 8.3.9: answer[0] is 1 for a yes and 0 for a no. No
- * sign stands before an arc's radius there; kihavute_read takes one, and building takes a radius by its size. Refused with
- * 1: above 65,536 bytes; answer[0] is the count. The time is linear. */
-uint32_t kihavute_strict(const uint8_t *text, size_t text_len, uint64_t *answer, size_t answer_len);
+/* The editions of the path grammar: SVG 1.1 Second Edition, 8.3.9, and SVG 2, Candidate Recommendation of 4 October 2018, 9.3.9. */
+enum kihavute_edition {
+    KIHAVUTE_SVG_1_1 = 1,
+    KIHAVUTE_SVG_2 = 2
+};
+
+/* Whether the text matches the path grammar of an edition: answer[0] is 1 for a yes and 0 for a no. No sign stands before an
+ * arc's radius in either; kihavute_read takes one, and building takes a radius by its size. SVG 2 is read to the letter: most
+ * drawings in use are a NO under it, since it writes no white space between commands ("M5 5 L6 6" is a no, "M5 5L 6 6" a yes), none
+ * at the end, and before the first moveto only where that is the whole path; a number has no exponent and no point without a
+ * digit behind it, a rotation has no sign; a form feed is white space there, and not in 1.1. Every text with a yes, under either,
+ * is read by kihavute_read (8 for want of room aside). Refused with 13: another edition; answer[0] is its number. Then with 1: above
+ * 65,536 bytes; answer[0] is the count. The time is linear. */
+uint32_t kihavute_strict(const uint8_t *text, size_t text_len, uint32_t edition, uint64_t *answer, size_t answer_len);
 
 /* Reads path data into a command list. A command is a letter (M, L, Q, C, A or Z) in letters and 2, 2, 4, 6, 7 or 0
  * numbers in numbers, in the unit of the path, a rotation in degrees, a flag +0 or 1: M and L have their end, Q a control

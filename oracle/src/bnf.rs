@@ -1,12 +1,14 @@
-//! A grammar written as text, read into rules. The path grammar of SVG 1.1 Second Edition, 8.3.9, is data here.
+//! A grammar written as text, read into rules. The path grammars of SVG 1.1 Second Edition, 8.3.9, and of SVG 2, 9.3.9, are data here.
 //!
 //! A line is `name = alternatives`; an alternative is a row of items; an item is a name, a quoted byte, a byte as `#x20`
 //! or a group in parentheses, and `?`, `*` or `+` may follow it. A name with a `!` before its `=` takes the longest text.
+//! The first name is the whole path.
 
+use kihavute::Edition;
 use std::collections::HashMap;
 
-/// The published productions. A number takes the longest text, with a sign or without.
-pub const PATH: &str = r#"
+/// The productions of SVG 1.1. A number takes the longest text, with a sign or without.
+const SVG_1_1: &str = r#"
 svg-path = wsp* moveto-drawto-command-groups? wsp*
 moveto-drawto-command-groups = moveto-drawto-command-group | moveto-drawto-command-group wsp* moveto-drawto-command-groups
 moveto-drawto-command-group = moveto wsp* drawto-commands?
@@ -52,6 +54,41 @@ digit = "0" | "1" | "2" | "3" | "4" | "5" | "6" | "7" | "8" | "9"
 wsp = #x20 | #x9 | #xD | #xA
 "#;
 
+/// Those of SVG 2, Candidate Recommendation of 4 October 2018, from memory, with `digit` for `[0-9]`.
+const SVG_2: &str = r#"
+svg_path = wsp* moveto? | ( moveto drawto_command* )?
+drawto_command = moveto | closepath | lineto | horizontal_lineto | vertical_lineto | curveto | smooth_curveto | quadratic_bezier_curveto | smooth_quadratic_bezier_curveto | elliptical_arc
+moveto = ( "M" | "m" ) wsp* coordinate_pair_sequence
+closepath = ( "Z" | "z" )
+lineto = ( "L" | "l" ) wsp* coordinate_pair_sequence
+horizontal_lineto = ( "H" | "h" ) wsp* coordinate_sequence
+vertical_lineto = ( "V" | "v" ) wsp* coordinate_sequence
+curveto = ( "C" | "c" ) wsp* curveto_coordinate_sequence
+curveto_coordinate_sequence = coordinate_pair_triplet | ( coordinate_pair_triplet comma_wsp? curveto_coordinate_sequence )
+smooth_curveto = ( "S" | "s" ) wsp* smooth_curveto_coordinate_sequence
+smooth_curveto_coordinate_sequence = coordinate_pair_double | ( coordinate_pair_double comma_wsp? smooth_curveto_coordinate_sequence )
+quadratic_bezier_curveto = ( "Q" | "q" ) wsp* quadratic_bezier_curveto_coordinate_sequence
+quadratic_bezier_curveto_coordinate_sequence = coordinate_pair_double | ( coordinate_pair_double comma_wsp? quadratic_bezier_curveto_coordinate_sequence )
+smooth_quadratic_bezier_curveto = ( "T" | "t" ) wsp* coordinate_pair_sequence
+elliptical_arc = ( "A" | "a" ) wsp* elliptical_arc_argument_sequence
+elliptical_arc_argument_sequence = elliptical_arc_argument | ( elliptical_arc_argument comma_wsp? elliptical_arc_argument_sequence )
+elliptical_arc_argument = number comma_wsp? number comma_wsp? number comma_wsp flag comma_wsp? flag comma_wsp? coordinate_pair
+coordinate_pair_double = coordinate_pair comma_wsp? coordinate_pair
+coordinate_pair_triplet = coordinate_pair comma_wsp? coordinate_pair comma_wsp? coordinate_pair
+coordinate_pair_sequence = coordinate_pair | ( coordinate_pair comma_wsp? coordinate_pair_sequence )
+coordinate_sequence = coordinate | ( coordinate comma_wsp? coordinate_sequence )
+coordinate_pair = coordinate comma_wsp? coordinate
+coordinate = sign? number
+sign = "+" | "-"
+exponent = ( "e" | "E" ) sign? digit+
+number ! = digit+ | digit* "." digit+
+flag = "0" | "1"
+comma_wsp = ( wsp+ comma? wsp* ) | ( comma wsp* )
+comma = ","
+digit = "0" | "1" | "2" | "3" | "4" | "5" | "6" | "7" | "8" | "9"
+wsp = #x9 | #x20 | #xA | #xC | #xD
+"#;
+
 #[derive(Clone, Copy, Debug, PartialEq, Eq)]
 pub enum Symbol {
     Byte(u8),
@@ -77,7 +114,15 @@ pub struct Grammar {
 }
 
 impl Grammar {
-    pub fn read(text: &str) -> Grammar {
+    /// The path grammar of an edition.
+    pub fn of(edition: Edition) -> Grammar {
+        Grammar::read(match edition {
+            Edition::Svg11 => SVG_1_1,
+            Edition::Svg2 => SVG_2,
+        })
+    }
+
+    fn read(text: &str) -> Grammar {
         let mut grammar =
             Grammar { rules: Vec::new(), rules_of: Vec::new(), longest: Vec::new(), numbers: HashMap::new() };
         for line in text.lines().filter(|line| !line.trim().is_empty()) {
@@ -93,8 +138,9 @@ impl Grammar {
         grammar
     }
 
-    pub fn number(&self, name: &str) -> usize {
-        self.numbers[name]
+    /// The number of the whole path, the first name.
+    pub fn path(&self) -> usize {
+        0
     }
 
     fn named(&mut self, name: &str) -> usize {
@@ -150,8 +196,8 @@ impl Grammar {
         if word == "(" {
             let group = self.unnamed();
             let rest = self.alternatives(group, &words[1..]);
-            assert_eq!(rest[0], ")", "a group is closed");
-            return (Symbol::Name(group), &rest[1..]);
+            let times = rest[0].strip_prefix(')').expect("a group is closed");
+            return (self.repeated(Symbol::Name(group), times), &rest[1..]);
         }
         if let Some(hex) = word.strip_prefix("#x") {
             return (Symbol::Byte(u8::from_str_radix(hex, 16).expect("a byte")), &words[1..]);

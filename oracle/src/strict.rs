@@ -1,12 +1,12 @@
-//! Strict reading: the proved recogniser against a general one over the grammar as data, and against the permissive readers,
-//! which take every text with a yes.
+//! Strict reading: the proved recogniser against a general one over the grammars as data, under both editions, and against the
+//! permissive readers, which take every text with a yes.
 
-use crate::bnf::{Grammar, PATH, Symbol};
+use crate::bnf::{Grammar, Symbol};
 use crate::compare::{Input, Report};
 use crate::earley::{Found, Recogniser};
 use crate::samples::{Stream, damaged};
 use crate::{read, smooth};
-use kihavute::Strict;
+use kihavute::{Edition, Strict};
 use std::fmt;
 use std::hint::black_box;
 use std::time::Instant;
@@ -51,23 +51,28 @@ impl fmt::Display for Said {
     }
 }
 
-pub fn ours(text: &[u8]) -> Said {
-    match kihavute::strict(text) {
+/// Both editions, with their names.
+pub const EDITIONS: [(Edition, &str); 2] = [(Edition::Svg11, "1.1"), (Edition::Svg2, "SVG 2")];
+
+pub fn ours(text: &[u8], edition: Edition) -> Said {
+    match kihavute::strict(text, edition) {
         Strict::Yes => Said(true),
         Strict::No => Said(false),
         Strict::TooLong(_) => panic!("no text here is too long"),
     }
 }
 
-/// The general recogniser of whole paths.
+/// The general recogniser of whole paths of an edition.
 pub struct Paths<'a> {
     recogniser: Recogniser<'a>,
     path: usize,
+    edition: Edition,
+    edition_name: &'a str,
 }
 
 impl<'a> Paths<'a> {
-    pub fn new(grammar: &'a Grammar) -> Paths<'a> {
-        Paths { recogniser: Recogniser::new(grammar), path: grammar.number("svg-path") }
+    pub fn new(grammar: &'a Grammar, edition: Edition, edition_name: &'a str) -> Paths<'a> {
+        Paths { recogniser: Recogniser::new(grammar), path: grammar.path(), edition, edition_name }
     }
 
     fn run(&self, text: &[u8]) -> Found {
@@ -133,7 +138,7 @@ impl Walk<'_, '_> {
     fn see(&mut self, whole: Vec<u8>, said: Said) {
         self.calls += 1;
         self.yes += u64::from(said.0);
-        if self.different.is_none() && ours(&whole) != said {
+        if self.different.is_none() && ours(&whole, self.paths.edition) != said {
             self.different = Some(Text(whole));
         }
     }
@@ -149,11 +154,11 @@ fn all_texts(report: &mut Report, paths: &Paths, name: &str, about: &[(String, &
         yes += walk.yes;
         if let Some(text) = walk.different {
             equal = false;
-            report.group(name, [text].into_iter(), |text: &Text| ours(&text.0), |text| paths.says(&text.0));
+            report.group(name, [text].into_iter(), |text: &Text| ours(&text.0, paths.edition), |text| paths.says(&text.0));
         }
     }
     report.count(calls, equal);
-    println!("  {name}: {calls} texts, {yes} with a yes, {:.0} s", report.seconds());
+    println!("  {}, {name}: {calls} texts, {yes} with a yes, {:.0} s", paths.edition_name, report.seconds());
 }
 
 // ---- derivations
@@ -183,7 +188,7 @@ impl<'a> Derivations<'a> {
     pub fn text(&mut self) -> Vec<u8> {
         let mut text = Vec::new();
         let mut budget = 10 + self.stream.below(150) as i64;
-        self.derive(self.grammar.number("svg-path"), &mut budget, &mut text);
+        self.derive(self.grammar.path(), &mut budget, &mut text);
         text
     }
 
@@ -230,22 +235,21 @@ fn derivations(report: &mut Report, grammar: &Grammar, paths: &Paths, seed: u64,
             [Text(made.damaged(&text)), Text(text)]
         })
     };
-    let name = format!("derivations and damaged copies, seed {seed}");
-    let all = report.group(&name, texts(), |text| ours(&text.0), |text| paths.says(&text.0));
+    let name = format!("{}, derivations and damaged copies, seed {seed}", paths.edition_name);
+    let all = report.group(&name, texts(), |text| ours(&text.0, paths.edition), |text| paths.says(&text.0));
     println!("  {name}: {all} texts, {:.0} s", report.seconds());
 
-    read_too(report, texts);
+    read_too(report, paths, texts);
 }
 
 // every text with a yes is read, by the original reader with S and T put in, and by the proved one
-fn read_too<Texts: Iterator<Item = Text>>(report: &mut Report, texts: impl Fn() -> Texts) {
-    let taken = || texts().filter(|text| ours(&text.0).0);
-    let name = "those with a yes, by the original reader";
-    let read = report.group(name, taken(), |_| Said(true), |text| Said(original_reads(&text.0)));
-    println!("  {name}: {read} texts, {:.0} s", report.seconds());
-    let name = "those with a yes, by the proved permissive reader";
-    let read = report.group(name, taken(), |_| Said(true), |text| Said(proved_reads(&text.0)));
-    println!("  {name}: {read} texts, {:.0} s", report.seconds());
+fn read_too<Texts: Iterator<Item = Text>>(report: &mut Report, paths: &Paths, texts: impl Fn() -> Texts) {
+    let taken = || texts().filter(|text| ours(&text.0, paths.edition).0);
+    for (reader, reads) in [("original", original_reads as fn(&[u8]) -> bool), ("proved permissive", proved_reads)] {
+        let name = format!("{}, those with a yes, by the {reader} reader", paths.edition_name);
+        let read = report.group(&name, taken(), |_| Said(true), |text| Said(reads(&text.0)));
+        println!("  {name}: {read} texts, {:.0} s", report.seconds());
+    }
 }
 
 fn original_reads(text: &[u8]) -> bool {
@@ -265,14 +269,15 @@ pub fn compare_drawings(report: &mut Report) {
         report.count(1, false);
         return;
     };
-    let grammar = Grammar::read(PATH);
-    let paths = Paths::new(&grammar);
     let texts =
         || gathered.split(|byte| *byte == b'\n').filter(|text| !text.is_empty()).map(|text| Text(text.to_vec()));
-    let all = report.group("real drawings", texts(), |text| ours(&text.0), |text| paths.says(&text.0));
-    let yes = texts().filter(|text| ours(&text.0).0).count();
-    println!("  real drawings: {all} texts of {} bytes, {yes} with a yes, {:.0} s", gathered.len(), report.seconds());
-    read_too(report, texts);
+    for_editions(|_, paths| {
+        let all = report.group("real drawings", texts(), |text| ours(&text.0, paths.edition), |text| paths.says(&text.0));
+        let yes = texts().filter(|text| ours(&text.0, paths.edition).0).count();
+        let (name, bytes) = (paths.edition_name, gathered.len());
+        println!("  {name}, real drawings: {all} texts of {bytes} bytes, {yes} with a yes, {:.0} s", report.seconds());
+        read_too(report, paths, texts);
+    });
 }
 
 // ---- the time of long texts
@@ -296,22 +301,25 @@ const WORST: [(&str, &str, &str, &str); 12] = [
 
 /// The time for each byte of texts of 1,024 and of 65,536 bytes: linear time is as long for both.
 pub fn compare_time(report: &mut Report) {
-    println!("  {:34} {:>13} {:>13}   ns per byte", "", "1,024 bytes", "65,536 bytes");
-    for (name, start, middle, end) in WORST {
-        let [short, long] = [1_024, 65_536].map(|size| {
-            let text = stretched(start, middle, end, size);
-            let turns = 16 * 65_536 / size;
-            let times = (0..8).map(|_| {
-                let began = Instant::now();
-                for _ in 0..turns {
-                    black_box(kihavute::strict(black_box(&text)));
-                }
-                began.elapsed().as_secs_f64() * 1e9 / (turns * size) as f64
+    println!("  {:40} {:>13} {:>13}   ns per byte", "", "1,024 bytes", "65,536 bytes");
+    for (edition, edition_name) in EDITIONS {
+        for (name, start, middle, end) in WORST {
+            let [short, long] = [1_024, 65_536].map(|size| {
+                let text = stretched(start, middle, end, size);
+                let turns = 16 * 65_536 / size;
+                let times = (0..8).map(|_| {
+                    let began = Instant::now();
+                    for _ in 0..turns {
+                        black_box(kihavute::strict(black_box(&text), edition));
+                    }
+                    began.elapsed().as_secs_f64() * 1e9 / (turns * size) as f64
+                });
+                times.fold(f64::INFINITY, f64::min)
             });
-            times.fold(f64::INFINITY, f64::min)
-        });
-        println!("  {name:34} {short:13.2} {long:13.2}");
-        report.count(2, long < 4.0 * short + 10.0);
+            let name = format!("{edition_name}, {name}");
+            println!("  {name:40} {short:13.2} {long:13.2}");
+            report.count(2, long < 4.0 * short + 10.0);
+        }
     }
 }
 
@@ -325,27 +333,33 @@ fn stretched(start: &str, middle: &str, end: &str, size: usize) -> Vec<u8> {
 
 // ---- the runs
 
+fn for_editions(mut run: impl FnMut(&Grammar, &Paths)) {
+    for (edition, name) in EDITIONS {
+        let grammar = Grammar::of(edition);
+        run(&grammar, &Paths::new(&grammar, edition, name));
+    }
+}
+
 /// What the gate runs: shorter texts, shorter tails and fewer derivations.
 pub fn compare_some(report: &mut Report, seed: u64) {
-    let grammar = Grammar::read(PATH);
-    let paths = Paths::new(&grammar);
-    short_texts(report, &paths, 4);
-    tails(report, &paths, 2);
-    derivations(report, &grammar, &paths, seed, 50_000);
+    for_editions(|grammar, paths| {
+        short_texts(report, paths, 4);
+        tails(report, paths, 2);
+        derivations(report, grammar, paths, seed, 25_000);
+    });
 }
 
 /// All texts of up to 6 telling bytes, and all tails of up to 5 of them in an arc and after every letter, with up to 4 within an arc.
 pub fn compare_all(report: &mut Report) {
-    let grammar = Grammar::read(PATH);
-    let paths = Paths::new(&grammar);
-    short_texts(report, &paths, 6);
-    tails(report, &paths, 5);
+    for_editions(|_, paths| {
+        short_texts(report, paths, 6);
+        tails(report, paths, 5);
+    });
 }
 
 /// Derivations and as many damaged copies.
 pub fn compare_derivations(report: &mut Report, seed: u64, count: u64) {
-    let grammar = Grammar::read(PATH);
-    derivations(report, &grammar, &Paths::new(&grammar), seed, count);
+    for_editions(|grammar, paths| derivations(report, grammar, paths, seed, count));
 }
 
 fn short_texts(report: &mut Report, paths: &Paths, bytes: usize) {

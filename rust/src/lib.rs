@@ -142,7 +142,7 @@ answering! {
     fn kihavute_spline_rotation_deg(points: [f32], table: [f32], progress: f32);
     fn kihavute_spline_length(points: [f32], table: [f32]);
     fn kihavute_number(text: [u8]);
-    fn kihavute_strict(text: [u8]);
+    fn kihavute_strict(text: [u8], edition: u32);
     fn kihavute_read(text: [u8], letters: mut [u8], numbers: mut [f32]);
     fn kihavute_read_lean(text: [u8], letters: mut [u8], numbers: mut [f32]);
     fn kihavute_check_commands(letters: [u8], numbers: [f32]);
@@ -606,6 +606,16 @@ pub fn spline_length(points: &[f32], table: &[f32]) -> Result<Bits, Refusal> {
     Ok(given[0] as Bits)
 }
 
+/// The edition whose path grammar decides.
+#[derive(Clone, Copy, Debug, PartialEq, Eq)]
+pub enum Edition {
+    /// SVG 1.1 Second Edition, 8.3.9.
+    Svg11 = 1,
+    /// SVG 2, Candidate Recommendation of 4 October 2018, 9.3.9, to the letter. Most drawings in use are a no under it: it
+    /// writes no white space between commands.
+    Svg2 = 2,
+}
+
 /// What strict reading says of a text.
 #[derive(Clone, Copy, Debug, PartialEq, Eq)]
 pub enum Strict {
@@ -862,13 +872,14 @@ pub fn number(text: &[u8]) -> Result<(Bits, usize), Refusal> {
     Ok((given[0] as Bits, given[1] as usize))
 }
 
-/// Whether a text of any bytes matches the path grammar of SVG 1.1 Second Edition, 8.3.9. No sign stands before an arc's
-/// radius there; permissive reading takes one, and building takes a radius by its size.
+/// Whether a text of any bytes matches the path grammar of an edition. No sign stands before an arc's radius in either;
+/// permissive reading takes one, and building takes a radius by its size.
 #[inline]
-pub fn strict(text: &[u8]) -> Strict {
+pub fn strict(text: &[u8], edition: Edition) -> Strict {
     let mut answer = [0; 8];
     // SAFETY: both pointers are good for the lengths beside them, and the library keeps neither.
-    let code = unsafe { kihavute_strict(text.as_ptr(), text.len(), answer.as_mut_ptr(), answer.len()) };
+    let code =
+        unsafe { kihavute_strict(text.as_ptr(), text.len(), edition as u32, answer.as_mut_ptr(), answer.len()) };
     match (code, answer[0]) {
         (0, 1) => Strict::Yes,
         (0, _) => Strict::No,
@@ -1224,12 +1235,18 @@ mod tests {
 
     #[test]
     fn texts() {
-        assert_eq!(strict(b"M0 0L1 2"), Strict::Yes);
-        assert_eq!(strict(b""), Strict::Yes);
-        assert_eq!(strict(b"M0 0,"), Strict::No);
-        assert_eq!(strict(b"M0 0A5e-1 1-9 0 0-3-4"), Strict::Yes);
-        assert_eq!(strict(b"M0 0A-5 1 9 0 0 3 4"), Strict::No);
-        assert_eq!(strict(&[b' '; 65_537]), Strict::TooLong(65_537));
+        for edition in [Edition::Svg11, Edition::Svg2] {
+            assert_eq!(strict(b"M0 0L1 2", edition), Strict::Yes);
+            assert_eq!(strict(b"", edition), Strict::Yes);
+            assert_eq!(strict(b"M0 0,", edition), Strict::No);
+            assert_eq!(strict(b"M0 0A-5 1 9 0 0 3 4", edition), Strict::No);
+            assert_eq!(strict(&[b' '; 65_537], edition), Strict::TooLong(65_537));
+        }
+        let both = |text: &[u8]| [strict(text, Edition::Svg11), strict(text, Edition::Svg2)];
+        for text in [&b"M0 0 L1 2"[..], b"M1e3 0", b"M1. 2", b" M5 5L6 6", b"M0 0A5 1-9 0 0-3-4"] {
+            assert_eq!(both(text), [Strict::Yes, Strict::No]);
+        }
+        assert_eq!(both(b"\x0C"), [Strict::No, Strict::Yes]);
     }
 
     #[test]

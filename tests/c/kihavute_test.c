@@ -562,13 +562,69 @@ static void arcs(void) {
 }
 
 /* the code returned, and what stands in the first place of an answer that held 77 */
-static uint64_t strict_says(const char *text, size_t length) {
+static uint64_t strict_under(const char *text, size_t length, uint32_t edition) {
     uint64_t answer[8] = {77, 77, 77, 77, 77, 77, 77, 77};
-    uint64_t code = kihavute_strict((const uint8_t *)text, length, answer, 8);
+    uint64_t code = kihavute_strict((const uint8_t *)text, length, edition, answer, 8);
     for (size_t i = 1; i < 8; i++) {
         same("strict leaves the other places", answer[i], 77);
     }
     return code << 32 | answer[0];
+}
+
+static uint64_t strict_says(const char *text, size_t length) {
+    return strict_under(text, length, KIHAVUTE_SVG_1_1);
+}
+
+/* where the editions part: a text, the verdict of 1.1 and that of SVG 2 */
+static const struct {
+    const char *text;
+    uint64_t first, second;
+} PARTS[] = {
+    {"\f", 0, 1},
+    {"M0\f0", 0, 1},
+    {"M5 5 L6 6", 1, 0},
+    {"M5 5 ", 1, 0},
+    {"M5 5L 6 6", 1, 1},
+    {"M5 5 6 6", 1, 1},
+    {"M5 5Z M6 6", 1, 0},
+    {"M5 5ZM6 6", 1, 1},
+    {" M5 5 6 6", 1, 1},
+    {" M5 5L6 6", 1, 0},
+    {" M5 5Z", 1, 0},
+    {" M5 5M6 6", 1, 0},
+    {" ", 1, 1},
+    {"M1. 2", 1, 0},
+    {"M1.5.5", 1, 1},
+    {"M1.", 0, 0},
+    {"M1e3 0", 1, 0},
+    {"M1e 0", 0, 0},
+    {"M0 0A1 1-9 0 0 3 4", 1, 0},
+    {"M0 0A1 1 +9 0 0 3 4", 1, 0},
+    {"M0 0A1 1 9 0 0-3+4", 1, 1},
+    {"M0 0A-1 1 9 0 0 3 4", 0, 0},
+    {"M0 0,", 0, 0},
+};
+
+static void strict_editions(void) {
+    static char spaces[65537];
+    uint64_t seven[7] = {77, 77, 77, 77, 77, 77, 77};
+    memset(spaces, ' ', sizeof spaces);
+    for (size_t i = 0; i < sizeof PARTS / sizeof *PARTS; i++) {
+        same(PARTS[i].text, strict_under(PARTS[i].text, strlen(PARTS[i].text), KIHAVUTE_SVG_1_1), PARTS[i].first);
+        same(PARTS[i].text, strict_under(PARTS[i].text, strlen(PARTS[i].text), KIHAVUTE_SVG_2), PARTS[i].second);
+    }
+    same("SVG 2, empty", strict_under("", 0, KIHAVUTE_SVG_2), 1);
+    same("SVG 2, 65,536 spaces", strict_under(spaces, 65536, KIHAVUTE_SVG_2), 1);
+    same("SVG 2, 65,537 spaces", strict_under(spaces, 65537, KIHAVUTE_SVG_2), (uint64_t)1 << 32 | 65537);
+    /* 13 is judged before 1, and 255 before both */
+    same("edition 0", strict_under("", 0, 0), (uint64_t)13 << 32);
+    same("edition 3", strict_under("M5 5L6 6", 8, 3), (uint64_t)13 << 32 | 3);
+    same("the largest edition", strict_under("", 0, 4294967295u), (uint64_t)13 << 32 | 4294967295u);
+    same("edition 3, 65,537 spaces", strict_under(spaces, 65537, 3), (uint64_t)13 << 32 | 3);
+    same("edition 3, seven places", kihavute_strict((const uint8_t *)spaces, 65537, 3, seven, 7), 255);
+    for (size_t i = 0; i < 7; i++) {
+        same("an edition leaves a short answer", seven[i], 77);
+    }
 }
 
 static void strict_reading(void) {
@@ -596,7 +652,7 @@ static void strict_reading(void) {
     same("strict, a byte 0", strict_says("M0 0\0", 5), 0);
     same("strict, 65,536 spaces", strict_says(spaces, 65536), 1);
     same("strict, 65,537 spaces", strict_says(spaces, 65537), (uint64_t)1 << 32 | 65537);
-    same("strict, seven places", kihavute_strict((const uint8_t *)"", 0, seven, 7), 255);
+    same("strict, seven places", kihavute_strict((const uint8_t *)"", 0, KIHAVUTE_SVG_1_1, seven, 7), 255);
     for (size_t i = 0; i < 7; i++) {
         same("strict leaves a short answer", seven[i], 77);
     }
@@ -1250,7 +1306,7 @@ static void nulls(void) {
     fresh();
     answered("a number of a null text", kihavute_number(NULL, 0, answer, PLACES), 3, 1, (uint64_t[]){0});
     fresh();
-    answered("a null text, strictly", kihavute_strict(NULL, 0, answer, PLACES), 0, 1, (uint64_t[]){1});
+    answered("a null text, strictly", kihavute_strict(NULL, 0, KIHAVUTE_SVG_2, answer, PLACES), 0, 1, (uint64_t[]){1});
     fresh();
     answered("a null text into nulls", kihavute_read(NULL, 0, NULL, 0, NULL, 0, answer, PLACES), 0, 2, (uint64_t[]){0, 0});
     fresh();
@@ -1331,7 +1387,7 @@ static void nulls(void) {
         kihavute_evaluate(NULL, 0, NULL, 0, half, NULL, 0, NULL, 0),
         kihavute_bounds(NULL, 0, NULL, 0, half, NULL, 0),
         kihavute_number(NULL, 0, NULL, 0),
-        kihavute_strict(NULL, 0, NULL, 0),
+        kihavute_strict(NULL, 0, KIHAVUTE_SVG_1_1, NULL, 0),
         kihavute_read(NULL, 0, NULL, 0, NULL, 0, NULL, 0),
         kihavute_read_lean(NULL, 0, NULL, 0, NULL, 0, NULL, 0),
         kihavute_check_commands(NULL, 0, NULL, 0, NULL, 0),
@@ -1366,6 +1422,7 @@ int main(void) {
     segments();
     splines();
     strict_reading();
+    strict_editions();
     decimals();
     reading();
     reader = kihavute_read_lean;

@@ -4,8 +4,8 @@ ghost use Prim.Native.Nat.{_+_, _≤_};
 ghost use lib.ListN.{length};
 use strict::Verdict;
 
-// The bytes of a record: y or n, the text's length as two digits, the text, which has at most 60
-// bytes, blanks up to 60, and a line's end.
+// The bytes of a record: the edition's number, y or n, the text's length as two digits, the text,
+// which has at most 59 bytes, blanks up to 59, and a line's end.
 const RECORD: usize = 64;
 
 fn main() {
@@ -36,13 +36,23 @@ fn missed(lines: &[u8], at: usize) -> u64
 fn agrees(lines: &[u8], at: usize) -> bool
     requires { ⌜ at + 64 ≤ length (now lines) ⌝ }
 {
-    let size = replay_records::two(lines, at + 1);
-    if 60 < size {
+    let edition = numbered(lines[at]);
+    let size = replay_records::two(lines, at + 2);
+    if 59 < size {
         return false;
     }
-    let from = at + 3;
+    let from = at + 4;
     let to = from + size;
-    letter(strict::strict(&lines[from..to])) == lines[at]
+    letter(strict::strict(&lines[from..to], edition)) == lines[at + 1]
+}
+
+// The number that a digit stands for, of another byte 0.
+fn numbered(digit: u8) -> u32 {
+    match digit {
+        b'1' => 1,
+        b'2' => 2,
+        _ => 0,
+    }
 }
 
 fn letter(verdict: Verdict) -> u8 {

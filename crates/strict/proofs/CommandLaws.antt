@@ -97,13 +97,13 @@ module _ (edition : Edition) (text : List ℕ) where
   to-moveto i q (x, b, (y, w, last p)) = (x, b, (y, w, inl p))
   to-moveto i q (x, b, (y, w, then {k = k} {m = m} p c u)) = (x, b, (y, w, inr (k, p, (m, c, u))))
 
-  of-moveto : (i q : ℕ) → moveto edition text i q → Moved i q
+  pub of-moveto : (i q : ℕ) → moveto edition text i q → Moved i q
   unfolding moveto moveto-argument-sequence
   of-moveto i q (x, b, (y, w, inl p)) = (x, b, (y, w, last p))
   of-moveto i q (x, b, (y, w, inr (k, p, (m, c, u)))) = (x, b, (y, w, then p c u))
 
   -- a drawto-command is a closepath, or a letter of a kind and its arguments
-  by-letter : (i q : ℕ) → drawto-command edition text i q → Byte text closeLetters i q ⊎ ((kind : Kind) × Drawn kind i q)
+  pub by-letter : (i q : ℕ) → drawto-command edition text i q → Byte text closeLetters i q ⊎ ((kind : Kind) × Drawn kind i q)
   unfolding drawto-command closepath lineto horizontal-lineto vertical-lineto curveto smooth-curveto quadratic-bezier-curveto smooth-quadratic-bezier-curveto elliptical-arc among
   by-letter i q (inl b) = inl b
   by-letter i q (inr (inl (x, b, u))) = inr (Pair, (x, wider tt b, u))

@@ -49,7 +49,7 @@ gap-joined Svg11 text i j k w u = joined w u
 gap-joined Svg2 text i j k w u = w ∙ u
 
 -- it is white space
-gap-white : (edition : Edition) (text : List ℕ) (i j : ℕ) → gap edition text i j → star (wsp edition text) i j
+pub gap-white : (edition : Edition) (text : List ℕ) (i j : ℕ) → gap edition text i j → star (wsp edition text) i j
 gap-white Svg11 text i j w = w
 gap-white Svg2 text i j w = none w
 
@@ -167,7 +167,7 @@ module _ (edition : Edition) (text : List ℕ) where
 
 -- ---- before the first command
 
-white-found : (edition : Edition) (text : List ℕ) (i k : ℕ) → k ≡ pastWhiteIn edition text i → longest (star (wsp edition text)) i k
+pub white-found : (edition : Edition) (text : List ℕ) (i k : ℕ) → k ≡ pastWhiteIn edition text i → longest (star (wsp edition text)) i k
 white-found edition text i k e = subst (λ (y : ℕ). longest (star (wsp edition text)) i y) (sym e) (run-found (whiteOf edition) text i)
 
 -- the white space before a rest is all that there is
@@ -175,10 +175,10 @@ led : (edition : Edition) (text : List ℕ) {alone begun : Bool} (k : ℕ) → k
     → Rest edition text alone begun i → i ≡ k
 led edition text k e i w r = run-same (white-found edition text 0 k e) w (due-white edition text r)
 
-abbrev Started : Edition → List ℕ → ℕ → Type 0
+abbrev pub Started : Edition → List ℕ → ℕ → Type 0
 Started edition text k = Rest edition text (aloneOf edition k) false k
 
-to-started : (edition : Edition) (text : List ℕ) (k : ℕ) → k ≡ pastWhiteIn edition text 0 → Matches edition text → Started edition text k
+pub to-started : (edition : Edition) (text : List ℕ) (k : ℕ) → k ≡ pastWhiteIn edition text 0 → Matches edition text → Started edition text k
 unfolding Matches svg-path moveto-drawto-command-groups
 to-started Svg11 text k e (a, w, (b, inl gs, u)) =
     let r = groups Svg11 text gs (length text, u, ended refl) in

@@ -1,20 +1,22 @@
 //! The list of recorded verdicts that the program replay_strict runs through strict reading.
 //!
-//! A record is 64 bytes: y or n, the text's length as two digits, the text, blanks up to 60 bytes, and a line's end.
+//! A record is 64 bytes: the edition's number, y or n, the text's length as two digits, the text, blanks up to 59 bytes, and a line's
+//! end.
 
-use crate::bnf::{Grammar, PATH};
+use crate::bnf::Grammar;
 use crate::compare::Report;
-use crate::strict::{Derivations, Paths, Said, Text, ours};
+use crate::strict::{Derivations, EDITIONS, Paths, Said, Text, ours};
+use kihavute::Edition;
 
 // the longest text that a record holds
-const LONGEST: usize = 60;
+const LONGEST: usize = 59;
 
 // derived texts and damaged copies for each letter
 const WANTED: usize = 6;
 
 // what the documents and the grammar's notes decide, and where a mistake would show: also a sign on a radius, on a rotation,
-// in an exponent and where a second group begins
-const TELLING: [&[u8]; 85] = [
+// in an exponent and where a second group begins; and what parts the editions
+const TELLING: [&[u8]; 98] = [
     b"",
     b" ",
     b"\t\r\n ",
@@ -98,25 +100,43 @@ const TELLING: [&[u8]; 85] = [
     b"M0 0A1 1 0 0 1 3 4 1 1 0 1 0 5 6",
     b"M0 0A1 1 0 10 3 4",
     b"M0 0A1 1 0 1 3 4",
+    b"M5 5 L6 6",
+    b"M5 5L 6 6",
+    b"M5 5 6 6",
+    b" M5 5 6 6",
+    b" M5 5L6 6",
+    b" M5 5M6 6",
+    b" M5 5Z",
+    b"\x0CM5 5",
+    b"M\x0C5\x0C,\x0C5",
+    b"M5 5M6 6L1 1ZM7 7",
+    b"M1e3 0",
+    b"M1.e3 0",
+    b"M0 0A1 1 9 0 0-3+4",
     b"M0 0X",
     b"M0 0\xFF",
 ];
 
-/// The records, with the general parser's verdicts, and how many there are.
+/// The records, with the general parser's verdicts under both editions, and how many there are.
 pub fn list(report: &mut Report, seed: u64) -> (Vec<u8>, u64) {
-    let grammar = Grammar::read(PATH);
-    let paths = Paths::new(&grammar);
-    let texts = chosen(&paths, Derivations::new(&grammar, seed));
-    let list = texts.iter().flat_map(|text| line(&text.0, paths.says(&text.0))).collect();
-    let count = texts.len() as u64;
-    report.group("verdicts, recorded", texts.into_iter(), |text| ours(&text.0), |text| paths.says(&text.0));
+    let (mut list, mut count) = (Vec::new(), 0);
+    for (edition, name) in EDITIONS {
+        let grammar = Grammar::of(edition);
+        let paths = Paths::new(&grammar, edition, name);
+        let texts = chosen(&paths, Derivations::new(&grammar, seed));
+        list.extend(texts.iter().flat_map(|text| line(&text.0, edition, paths.says(&text.0))));
+        count += texts.len() as u64;
+        let name = format!("{name}, verdicts, recorded");
+        report.group(&name, texts.into_iter(), |text| ours(&text.0, edition), |text| paths.says(&text.0));
+    }
     (list, count)
 }
 
-fn line(text: &[u8], said: Said) -> Vec<u8> {
-    let mut line = format!("{}{:02}", if said.0 { 'y' } else { 'n' }, text.len()).into_bytes();
+fn line(text: &[u8], edition: Edition, said: Said) -> Vec<u8> {
+    let said = if said.0 { 'y' } else { 'n' };
+    let mut line = format!("{}{said}{:02}", edition as u32, text.len()).into_bytes();
     line.extend(text);
-    line.resize(LONGEST + 3, b' ');
+    line.resize(LONGEST + 4, b' ');
     line.push(b'\n');
     line
 }
