@@ -5,8 +5,9 @@ use Prim.Native.Nat.{ℕ}
 use lib.Ieee.{Float, nan, binary32, ofBits, neg, add, sub, mul, lt, le}
 use Rattle.answers.specs.declared.refusals.Refusal.the-variants.{NotFinite}
 use Rattle.floats.specs.Floats.{zeroF, epsilonF}
-use Rattle.root.specs.Root.{sqrtOf}
-use Rattle.math.specs.Math.{pointOf, dotOf, subOf, lengthOf, distanceOf}
+use Rattle.root.specs.Root.{rootOf}
+use Rattle.lengths.specs.Length as lengths
+use Rattle.math.specs.Math.{pointOf, subOf, lengthOf, distanceOf}
 use Rattle.bezier.specs.declared.curves.Verdict.the-variants as Verdict
 use Rattle.bezier.specs.Curves.{verdictOf}
 use Rattle.ellipse.specs.Ends.{sizeOf}
@@ -26,14 +27,24 @@ rotations-judged :
 unfolding inRange mostDegrees sizeOf zeroF ofBits neg lt le
 rotations-judged = (refl, refl, refl, refl, refl)
 
--- "`M0 0L2e19 0` is 11 at 0": the square overflows
-line-overflows : madeLineOf (pointOf (bits 0) (bits 0)) (pointOf (bits 0x5f8a_c723) (bits 0)) .verdict ≡ Verdict.Refused (NotFinite 0)
-unfolding madeLineOf lineLengthOf distanceOf lengthOf subOf dotOf sqrtOf verdictOf ofBits add sub mul
-line-overflows = refl
+-- document 02's long leg, 2e19, whose square is beyond f32: it is had, and its length is 2e19
+long-line-made : madeLineOf (pointOf (bits 0) (bits 0)) (pointOf (bits 0x5f8a_c723) (bits 0)) .verdict ≡ Verdict.Accepted
+unfolding madeLineOf lineLengthOf distanceOf lengthOf lengths.lengthOf subOf rootOf verdictOf ofBits add sub mul
+long-line-made = refl
+
+-- 3e38 both ways: each difference is an f32, and the length is beyond the largest
+length-overflows : madeLineOf (pointOf (bits 0) (bits 0)) (pointOf (bits 0x7f61_b1e6) (bits 0x7f61_b1e6)) .verdict ≡ Verdict.Refused (NotFinite 0)
+unfolding madeLineOf lineLengthOf distanceOf lengthOf lengths.lengthOf subOf rootOf verdictOf ofBits add sub mul
+length-overflows = refl
+
+-- from -3e38 to 3e38: the difference is beyond f32, in which it is taken
+difference-overflows : madeLineOf (pointOf (bits 0xff61_b1e6) (bits 0)) (pointOf (bits 0x7f61_b1e6) (bits 0)) .verdict ≡ Verdict.Refused (NotFinite 0)
+unfolding madeLineOf lineLengthOf distanceOf lengthOf lengths.lengthOf subOf rootOf verdictOf ofBits add sub mul
+difference-overflows = refl
 
 -- a NaN chord with ordinary radii is no fallback; a tiny radius of either sign is one
 fallbacks-told :
     (isFallback (record { start = pointOf nan (bits 0); radii = pointOf (bits 0x3f80_0000) (bits 0x3f80_0000); «x_axis_rotation» = bits 0; «large_arc» = false; sweep = false; end = pointOf (bits 0) (bits 0) }) ≡ false)
     × (isFallback (record { start = pointOf nan (bits 0); radii = pointOf (bits 0x3f80_0000) (bits 0xb400_0000); «x_axis_rotation» = bits 0; «large_arc» = false; sweep = false; end = pointOf (bits 0) (bits 0) }) ≡ true)
-unfolding isFallback epsilonF sizeOf zeroF distanceOf lengthOf subOf dotOf sqrtOf ofBits neg add sub mul lt le
+unfolding isFallback epsilonF sizeOf zeroF distanceOf lengthOf lengths.lengthOf subOf rootOf ofBits neg add sub mul lt le
 fallbacks-told = (refl, refl)

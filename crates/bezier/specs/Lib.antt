@@ -2,3 +2,4 @@
 pub mod Curves
 pub mod Quads
 pub mod Cubics
+pub mod Rows

@@ -5,20 +5,20 @@ use crate::curves::Verdict;
 use crate::curves::tidied;
 use crate::curves::verdict_of;
 use crate::inner;
+use crate::rows::cubic_differences;
 use angles::rotation_deg;
 use answers::Refusal;
 use floats::tidy;
+use lengths::lengths;
 use math::Point;
 use math::add;
 use math::clamp01;
-use math::distance;
 use math::lerp_point;
 use math::scale;
 use math::sub;
 use table::Progress;
 use table::RawParameter;
 use table::Table;
-use table::inner::mark;
 use table::number_of;
 use table::table_is_sound;
 use table::table_of;
@@ -76,16 +76,9 @@ pub fn cubic_derivative(
 fn cubic_steps(start: Point, control1: Point, control2: Point, end: Point) -> [f32; 31]
     ensures { λ r. ⌜ r ≡ stepsOf (cubicSampleOf start control1 control2 end) 31 ⌝ }
 {
-    let mut steps = [0.0f32; 31];
-    let mut previous = cubic_sample(start, control1, control2, end, mark(0, 31));
-    let mut k = 0usize;
-    while k < 31 {
-        let current = cubic_sample(start, control1, control2, end, mark(k + 1, 31));
-        steps[k] = distance(previous, current);
-        previous = current;
-        k += 1;
-    }
-    steps
+    let x = cubic_differences(start.x, control1.x, control2.x, end.x);
+    let y = cubic_differences(start.y, control1.y, control2.y, end.y);
+    lengths(&x, &y)
 }
 
 // The table of the curve.

@@ -4,6 +4,7 @@ mod cubics;
 mod curves;
 pub mod inner;
 mod quads;
+mod rows;
 
 pub use cubics::CubicBezierCurve;
 pub use cubics::MadeCubic;

@@ -5,20 +5,20 @@ use crate::curves::Verdict;
 use crate::curves::tidied;
 use crate::curves::verdict_of;
 use crate::inner;
+use crate::rows::quad_differences;
 use angles::rotation_deg;
 use answers::Refusal;
 use floats::tidy;
+use lengths::lengths;
 use math::Point;
 use math::add;
 use math::clamp01;
-use math::distance;
 use math::lerp_point;
 use math::scale;
 use math::sub;
 use table::Progress;
 use table::RawParameter;
 use table::Table;
-use table::inner::mark;
 use table::number_of;
 use table::table_is_sound;
 use table::table_of;
@@ -58,16 +58,9 @@ pub fn quad_derivative(start: Point, control: Point, end: Point, raw: RawParamet
 fn quad_steps(start: Point, control: Point, end: Point) -> [f32; 31]
     ensures { λ r. ⌜ r ≡ stepsOf (quadSampleOf start control end) 31 ⌝ }
 {
-    let mut steps = [0.0f32; 31];
-    let mut previous = quad_sample(start, control, end, mark(0, 31));
-    let mut k = 0usize;
-    while k < 31 {
-        let current = quad_sample(start, control, end, mark(k + 1, 31));
-        steps[k] = distance(previous, current);
-        previous = current;
-        k += 1;
-    }
-    steps
+    let x = quad_differences(start.x, control.x, end.x);
+    let y = quad_differences(start.y, control.y, end.y);
+    lengths(&x, &y)
 }
 
 // The table of the curve.

@@ -2,7 +2,7 @@
 use mathlib.Core.Bool.{cond}
 use lib.Ieee.{Float, binary32, ofBits, add, sub, mul, div, le}
 use Rattle.floats.specs.Floats.{zeroF, epsilonF}
-use Rattle.root.specs.Root.{sqrtOf}
+use Rattle.lengths.specs.Length as lengths
 use Rattle.math.specs.declared.points.Point.{Point}
 
 -- ---- constants
@@ -53,10 +53,9 @@ scaleOf v s = pointOf (mul binary32 (v .x) s) (mul binary32 (v .y) s)
 unfoldable pub dotOf : Point → Point → Float
 dotOf a b = add binary32 (mul binary32 (a .x) (b .x)) (mul binary32 (a .y) (b .y))
 
--- the root of a vector's product with itself: the one place that says what a length is
+-- through f64, by document 02, L9: crate `lengths` says what a length is
 unfoldable pub lengthOf : Point → Float
-unfolding dotOf
-lengthOf v = sqrtOf (dotOf v v)
+lengthOf v = lengths.lengthOf (v .x) (v .y)
 
 unfoldable pub distanceOf : Point → Point → Float
 unfolding lengthOf subOf

@@ -42,11 +42,11 @@ pub fn dot(a: Point, b: Point) -> f32
     a.x * b.x + a.y * b.y
 }
 
-// Infinite where a square overflows, and 0 where both squares are below the smallest value.
+// Worked out in f64 and rounded to f32 at the end: infinite only where the length itself is above the largest f32.
 pub fn length(v: Point) -> f32
     ensures { λ r. ⌜ r ≡ lengthOf v ⌝ }
 {
-    root::sqrt(dot(v, v))
+    lengths::length(v.x, v.y)
 }
 
 pub fn distance(a: Point, b: Point) -> f32

@@ -13,8 +13,8 @@ use lib.Ieee.Scale.{finite}
 use Rattle.floats.specs.Floats.{zeroF}
 use Rattle.floats.proofs.Tests.{decide}
 use Rattle.floats.proofs.Order.{le→not-lt}
-use Rattle.root.specs.Root.{sqrtOf}
-use Rattle.root.proofs.Laws.{sqrt-not-below-zero}
+use Rattle.lengths.specs.Length as lengths
+use Rattle.lengths.proofs.Laws.{length-not-below-zero}
 use Rattle.math.specs.declared.points.Point.{Point}
 use Rattle.math.specs.Math.{lengthOf, distanceOf}
 use Rattle.table.specs.Lookup.{at}
@@ -29,13 +29,16 @@ nan-not-below : (x y : Float) → T (isNan x) → T (not (lt x y))
 unfolding isNan lt
 nan-not-below nan y h = tt
 
-root-not-below : (x : Float) → T (not (lt (sqrtOf x) zeroF))
+length-not-below : (x y : Float) → T (not (lt (lengths.lengthOf x y) zeroF))
 unfolding zeroF
-root-not-below x = elim (decide (isNan (sqrtOf x))) [ inl h ↦ nan-not-below (sqrtOf x) zeroF h | inr h ↦ le→not-lt zeroF (sqrtOf x) (sqrt-not-below-zero x h) ]
+length-not-below x y = elim (decide (isNan (lengths.lengthOf x y))) [
+  | inl h ↦ nan-not-below (lengths.lengthOf x y) zeroF h
+  | inr h ↦ le→not-lt zeroF (lengths.lengthOf x y) (length-not-below-zero x y h)
+]
 
 pub distance-not-below : (a b : Point) → T (not (lt (distanceOf a b) zeroF))
 unfolding distanceOf lengthOf
-distance-not-below a b = root-not-below _
+distance-not-below a b = length-not-below _ _
 
 -- ---- so that the sums are a sound table
 module _ (formula : Float → Point) (n : ℕ) where

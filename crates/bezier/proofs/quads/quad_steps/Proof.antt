@@ -1,35 +1,28 @@
--- The invariant: the steps before k are in, and `previous` is sample k (`Stepping`). The measure is the steps left. Assumes nothing.
+-- The two rows are the differences of the samples' coordinates, and their lengths the steps (`steps-are`). Assumes nothing.
 use borrow.Author.Needs.{needs}
-use mathlib.Core.Path.{_≡_, refl, ap, _∙_}
-use Prim.Native.Nat.{_-_}
+use native.Mathlib.Omega.{arith}
+use mathlib.Core.Path.{ap, _∙_}
+use mathlib.Core.List.{List}
+use lib.ListN.{length, getD}
+use lib.Ieee.{Float, nan}
+use Rattle.lengths.proofs.Lists.{lengths-count, lengths-at}
+use Rattle.math.specs.Math.{lerpPointOf}
 use Rattle.table_samples.specs.Samples.{sampleAt}
-use Rattle.table_samples.proofs.Stepping.{Stepping, stepping-start, stepping-more, stepping-done}
+use Rattle.table_samples.proofs.Steps.{steps-are}
 use Rattle.bezier.specs.Quads.{quadSampleOf}
 use Rattle.bezier.proofs.quads.quad_steps.Statement.{statement}
 use Rattle.bezier.proofs.quads.quad_steps.Tie as tie
 
-abbrev Inv-loop : tie.InvT-loop
-Inv-loop start control end steps₀ previous₀ k₀ steps previous k = Stepping (quadSampleOf start control end) 31 steps previous k
-
-abbrev μ-loop : tie.MeasureT-loop
-μ-loop start control end steps₀ previous₀ k₀ steps previous k = 31 - k
-
-loop-holds : tie.Need-loop-holds Inv-loop μ-loop
-unfolding sampleAt
-loop-holds c = stepping-start _ refl (c .quad-sample .ensures ∙ ap (quadSampleOf _ _ _) (c .before .mark .ensures))
-
-loop-again : tie.Need-loop-again Inv-loop μ-loop
-unfolding sampleAt
-loop-again c =
-    let at-loop = c .before .before .before .before in
-    stepping-more (at-loop .loop .inv) (c .before .before .before .loop-test .taken) _ _ (c .before .quad-sample2 .ensures ∙ ap (quadSampleOf _ _ _) (c .before .before .mark2 .ensures)) (c .distance .ensures)
-
-returns : tie.Need-returns Inv-loop μ-loop
-returns c = stepping-done (c .before .loop .inv) (c .loop-test .left)
+returns : tie.Need-returns
+unfolding sampleAt quadSampleOf lerpPointOf
+returns c =
+    let x = c .before .before .before .before .quad-differences in
+    let y = c .before .before .before .quad-differences2 in
+    let e = c .lengths .ensures in
+    steps-are (quadSampleOf _ _ _) (x .result) (y .result) _ 31 (ap length e ∙ lengths-count 31 _ _) (λ k h. x .ensures k (omega (arith, h))) (λ k h. y .ensures k (omega (arith, h)))
+    (λ k h. ap (λ (z : List Float). getD z k nan) e ∙ lengths-at 31 _ _ k h)
 
 pub quad-steps-spec : {M : Type 1} → statement M
 quad-steps-spec =
     tie.close
-    (tie.spec Inv-loop μ-loop (λ c κs. search needs) (λ c κs. search needs) loop-holds (λ c. search needs)
-    (λ c κs. search needs) (λ c κs. search needs) (λ c κs. search needs) (λ c. search needs) (λ c. search needs)
-    (λ c. search needs) (λ c. search needs) loop-again returns)
+    (tie.spec (λ c κs. search needs) (λ c κs. search needs) (λ c κs. search needs) returns)
