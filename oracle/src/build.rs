@@ -399,16 +399,17 @@ pub fn compare_drawings(report: &mut Report) {
 
 // document 01's cases, and the order of refusals; what is expected is written here
 fn compare_known(report: &mut Report) {
-    let cases: [(&str, Result<usize, (u32, u64)>); 14] = [
+    let cases: [(&str, Result<usize, (u32, u64)>); 15] = [
         ("", Ok(0)),
         ("M0 0L1e19 0", Ok(1)),
-        ("M0 0L2e19 0", Err((11, 0))),
-        ("M0 0L3 4L2e19 0", Err((11, 1))),
+        ("M0 0L2e19 0", Ok(1)),
+        ("M-3e38 0L3e38 0", Err((11, 0))),
+        ("M0 0L3 4L3e38 3e38", Err((11, 1))),
         ("M0 0A1 1 3600 0 0 1 1", Ok(1)),
         ("M0 0A1 1 3600.0002441406250 0 0 1 1", Err((10, 0))),
         ("M0 0A1 1 4000 0 0 1e39 4", Err((10, 0))),
         ("M0 0A0 1 4000 0 0 3 4", Ok(1)),
-        ("M0 0L2e19 0A1 1 4000 0 0 3 4", Err((11, 0))),
+        ("M0 0L3e38 3e38A1 1 4000 0 0 3 4", Err((11, 0))),
         ("ZL1 2", Ok(0)),
         ("ZL1 2L3 4Z", Ok(2)),
         ("M1 2Z", Ok(1)),

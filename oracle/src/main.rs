@@ -7,6 +7,7 @@ mod build;
 mod compare;
 mod decimal;
 mod earley;
+mod lengths;
 mod math;
 mod morph;
 mod query;
@@ -38,6 +39,7 @@ fn main() -> ExitCode {
         ["gate"] => {
             math::compare(&mut report, &math::FAMILY, SEED, 200_000);
             math::compare(&mut report, &trig::FAMILY, SEED, 100_000);
+            lengths::compare(&mut report, SEED, 200_000);
             table::compare(&mut report, SEED, 20_000);
             strict::compare_some(&mut report, SEED);
             read::compare_some(&mut report, SEED);
@@ -62,6 +64,7 @@ fn main() -> ExitCode {
             Err(_) => return usage(),
         },
         ["trig"] => math::compare(&mut report, &trig::FAMILY, SEED, 2_000_000),
+        ["lengths"] => lengths::compare(&mut report, SEED, 62_500_000),
         ["table"] => table::compare(&mut report, SEED, 1_000_000),
         ["bezier"] => bezier::compare(&mut report, SEED, 250_000),
         ["arc"] => arc::compare(&mut report, SEED, 420_000),

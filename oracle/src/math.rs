@@ -187,8 +187,10 @@ const HELPERS: [Helper; 17] = [
     },
 ];
 
-// exact results halfway between two floats, below and above the even one; and roots that lie nearest to halfway
-const TIES: [(char, [u32; 5]); 20] = [
+// exact results halfway between two floats, below and above the even one; roots that lie nearest to halfway; and lengths: with a
+// square beyond f32, of one smallest step both ways, on a middle to either side, with an f64 root on a middle above and below which
+// the exact length lies, and beyond the largest
+const TIES: [(char, [u32; 5]); 27] = [
     ('r', [0x3F7F_FFFF, 0, 0, 0, 0]),
     ('r', [0x3F80_0001, 0, 0, 0, 0]),
     ('r', [0x3F80_0003, 0, 0, 0, 0]),
@@ -207,6 +209,13 @@ const TIES: [(char, [u32; 5]); 20] = [
     ('l', [0x4B80_0001, 0x4B80_0002, 0x3F00_0000, 0, 0]),
     ('L', [0x4B80_0000, 0x4B80_0001, 0x4B80_0001, 0x4B80_0002, 0x3F00_0000]),
     ('n', [0x4580_0000, 0x3F80_0000, 0, 0, 0]),
+    ('n', [0x5F8A_C723, 0, 0, 0, 0]),
+    ('n', [0x0000_0001, 0x0000_0001, 0, 0, 0]),
+    ('n', [0x4B7F_FFFF, 0x4600_0000, 0, 0, 0]),
+    ('n', [0x4B7F_FF0F, 0x48CF_DC80, 0, 0, 0]),
+    ('n', [0x4B32_FBFA, 0x4556_0E57, 0, 0, 0]),
+    ('n', [0x4B29_5A85, 0x4550_37AD, 0, 0, 0]),
+    ('n', [0x7F61_B1E6, 0x7F61_B1E6, 0, 0, 0]),
     ('w', [0x3F80_0000, 0x3F80_0000, 0x4580_0800, 0x4000_0000, 0]),
     ('u', [0x4580_0000, 0x3F80_0000, 0, 0, 0]),
 ];

@@ -1,9 +1,14 @@
-//! The four functions that the original's build without `std` takes from `libm`. Sine, cosine and atan2 are the proved
-//! library's own, so that both sides have the same three; the root is the machine's, so that it stands against the
-//! proved one.
+//! The four functions that the original's build without `std` takes from `libm`, and the f64 root of its length. Sine, cosine
+//! and atan2 are the proved library's own, so that both sides have the same three; the roots are the machine's, so that they
+//! stand against the proved ones.
 
 /// The machine's square root.
 pub fn sqrtf(x: f32) -> f32 {
+    x.sqrt()
+}
+
+/// The machine's square root of an f64.
+pub fn sqrt(x: f64) -> f64 {
     x.sqrt()
 }
 

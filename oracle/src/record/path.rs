@@ -24,9 +24,12 @@ const UNBUILT: usize = 50;
 const UNREAD: usize = 6;
 
 // what document 01 decides, and where a mistake would show
-const TELLING: [&str; 52] = [
+const TELLING: [&str; 56] = [
     "M0 0L1e19 0",
     "M0 0L2e19 0",
+    "M-3e38 0L3e38 0",
+    "M0 0L3e38 3e38",
+    "M0 0L1e-45 1e-45",
     "M0 0A1 1 3600 0 0 1 1",
     "M0 0A1 1 3600.0002441 0 0 1 1",
     "ZL1 2",
@@ -43,6 +46,7 @@ const TELLING: [&str; 52] = [
     "M1 1L1 1",
     "M-0-0L-0-0",
     "M0 0L3 4L2e19 0",
+    "M0 0L3 4L3e38 3e38",
     "M0 0L1e19 0L0 0L1e19 0",
     "M0 0A1 1-3600 0 0 1 1",
     "M0 0A1 1-3600.0002441 0 0 1 1",
@@ -50,8 +54,8 @@ const TELLING: [&str; 52] = [
     "M0 0A0 1 4000 0 0 3 4",
     "M0 0A1 0 4000 0 0 3 4",
     "M1 1A2 3 4000 0 0 1 1",
-    "M0 0L2e19 0A1 1 4000 0 0 3 4",
-    "M0 0A1 1 4000 0 0 3 4L2e19 0",
+    "M0 0L3e38 3e38A1 1 4000 0 0 3 4",
+    "M0 0A1 1 4000 0 0 3 4L3e38 3e38",
     "M0 0A5e9 5e9 0 0 1 3 4",
     "M0 0A-5-5 30 1 1 3 4",
     "M0 0A1 1 0 0 0 3 4",
@@ -62,7 +66,7 @@ const TELLING: [&str; 52] = [
     "M1e39 0Z",
     "M1e39 0",
     "M1e39 0m-1e39 0L1 1",
-    "M0 0L2e19 0X",
+    "M0 0L3e38 3e38X",
     "M0 0A1 1 4000 0 0 1 1L1",
     "M0 0Q1 2 3 4",
     "M0 0Q0 0 0 0",

@@ -10,7 +10,7 @@ use crate::strict::Text;
 const RANDOM: u64 = 60;
 
 // what document 01 decides, and where a mistake would show
-const TELLING: [&str; 72] = [
+const TELLING: [&str; 73] = [
     // document 01's example, and the same with CR LF between its commands and at its end
     "3\nM0 0L3 4",
     "3\nM0 0\r\nL3 4\r\n",
@@ -54,9 +54,10 @@ const TELLING: [&str; 72] = [
     "3\nM0 0A0 1 4000 0 0 3 4",
     "3\nM0 0L1e19 0",
     "3\nM0 0L2e19 0",
-    "3\nM0 0L3 4L2e19 0",
-    "3\nM0 0L2e19 0A1 1 4000 0 0 3 4",
-    "3\nM0 0L2e19 0X",
+    "3\nM-3e38 0L3e38 0",
+    "3\nM0 0L3 4L3e38 3e38",
+    "3\nM0 0L3e38 3e38A1 1 4000 0 0 3 4",
+    "3\nM0 0L3e38 3e38X",
     "3\nM0 0A5e9 5e9 0 0 1 3 4",
     // infinity, NaN, zeros of both signs, the least number and what is nearest to it
     "2\nM1e39-1e39",
@@ -110,7 +111,7 @@ fn limits() -> Vec<Vec<u8>> {
         ("999\r\n", padded("M0 0H1", 4097)),
         ("2\n", commands(256)),
         ("2\n", commands(257)),
-        ("2\n", commands(257) + "h2e19"),
+        ("2\n", commands(257) + "l3e38 3e38"),
         ("2\n", commands(300) + "S"),
         ("3\n", "Z".repeat(256)),
         ("3\n", "Z".repeat(4096)),
