@@ -113,7 +113,8 @@ fn root() {
     row("root, latency", latency(&inputs, after, |x| first([x, x]).to_bits(), ours, theirs));
 }
 
-// legs of up to 16 km in metres
+// legs of up to 16 km in metres. The Rust's length is document 02's, by the machine's f64 root (oracle/original/build.rs). The library
+// works 31 lengths out at once within a curve's table alone, so that row is a quad's table by the length, its samples with it.
 fn length() {
     let metres = |bits: u32| (bits % (1 << 25)) as f32 / 1000.0 - 16_777.0;
     let inputs: Vec<[f32; 2]> = patterns().map(|bits| [metres(bits), metres(bits.rotate_left(16))]).collect();
@@ -121,6 +122,10 @@ fn length() {
     row("length, throughput", throughput(&inputs, ours, theirs));
     let after = |v: [f32; 2], zero| [f32::from_bits(v[0].to_bits() | zero), v[1]];
     row("length, latency", latency(&inputs, after, |v| first(v).to_bits(), ours, theirs));
+    let quads: Vec<[[f32; 2]; 3]> = inputs.chunks_exact(3).map(|p| [p[0], p[1], p[2]]).collect();
+    let ours = |p| kihavute::quad_length(&p).unwrap_or(0);
+    let whole = slow(&quads, ours, |p| original_quad(&p).arc_length().to_bits());
+    row("length, 31 at once", whole.map(|time| time / 31.0));
 }
 
 // against the machine's own: angles of up to two turns, and legs of up to 16 km in metres
@@ -410,7 +415,7 @@ fn splines() {
 }
 
 // 512 curves of some hundred metres. Each call of ours makes the curve anew, so the Rust's does too. A table is 31
-// distances, each with a root: the row "31 roots" says what they cost. The arc's Rust calls our sine, cosine and atan2.
+// distances: the row "31 lengths" says what they cost one by one. The arc's Rust calls our sine, cosine and atan2.
 fn curves() {
     let metres = |bits: u32| (bits % 1_000_000) as f32 / 1000.0;
     let bits: Vec<u32> = patterns().collect();
@@ -446,9 +451,10 @@ fn curves() {
     row("an arc, built", slow(&chords, ours, |c| original_arc(&c).arc_length().to_bits()));
     let ours = |c| first(kihavute::arc_position(&c, Progress(0.3)));
     row("an arc, built, position", slow(&chords, ours, |c| original_arc(&c).position(0.3)[0].to_bits()));
-    let inputs: Vec<f32> = points.iter().map(|p| p[0][0] + 1.0).collect();
-    let roots = |root: fn(f32) -> f32| move |x: f32| (0..31).fold(0.0, |sum, k| sum + root(x + k as f32)).to_bits();
-    row("31 roots", slow(&inputs, roots(kihavute::sqrt), roots(original_sqrt)));
+    let each = |p: [[f32; 2]; 4], k: u32| [p[0][0] + k as f32, p[0][1]];
+    let ours = |p| (0..31).fold(0u32, |sum, k| sum.wrapping_add(kihavute::length(each(p, k))));
+    let theirs = |p| (0..31).fold(0u32, |sum, k| sum.wrapping_add(original_length(each(p, k)).to_bits()));
+    row("31 lengths, one by one", slow(&points, ours, theirs));
 }
 
 #[inline(never)]
