@@ -132,10 +132,11 @@ uint64_t kihavute_scale(float x, float y, float factor);
 /* ax * bx + ay * by. */
 uint32_t kihavute_dot(float ax, float ay, float bx, float by);
 
-/* The root of x * x + y * y. It overflows to infinity from about 1.8e19 up, and squares below 2^-149 are lost. */
+/* The root of x * x + y * y, worked out in double and then rounded to float: squares, sum and root lose nothing to float's range, so
+ * that only a length above the largest float is infinite, and 2e19 and 1e-30 have their lengths. */
 uint32_t kihavute_length(float x, float y);
 
-/* The length of (bx - ax, by - ay). */
+/* The length of (bx - ax, by - ay), a difference of floats: infinite where that is. */
 uint32_t kihavute_distance(float ax, float ay, float bx, float by);
 
 /* (x / length, y / length), and (0, 0) where the length is at most 2^-23. */

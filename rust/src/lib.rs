@@ -264,7 +264,7 @@ pub fn dot(a: [f32; 2], b: [f32; 2]) -> Bits {
     kihavute_dot(a[0], a[1], b[0], b[1])
 }
 
-/// The root of the dot product of `v` with itself.
+/// The root of the sum of both squares, worked out in f64 and rounded to f32: infinite only above the largest f32.
 #[inline]
 pub fn length(v: [f32; 2]) -> Bits {
     kihavute_length(v[0], v[1])
@@ -1173,7 +1173,8 @@ mod tests {
         assert_eq!(line_tangent(&line), Ok(bits([0.6, 0.8])));
         assert_eq!(line_rotation_deg(&[[0.0, 0.0], [0.0, 2.0]]), Ok(90.0f32.to_bits()));
         assert_eq!(line_length(&line), Ok(5.0f32.to_bits()));
-        assert_eq!(line_length(&[[0.0, 0.0], [2e19, 0.0]]), Err(refused));
+        assert_eq!(line_length(&[[0.0, 0.0], [2e19, 0.0]]), Ok(2e19f32.to_bits()));
+        assert_eq!(line_length(&[[0.0, 0.0], [3e38, 3e38]]), Err(refused));
     }
 
     #[test]

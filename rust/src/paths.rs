@@ -223,7 +223,7 @@ mod tests {
         assert!(empty.is_empty() && empty.arc_length() == 0.0);
         assert_eq!(empty.place(Progress(0.5)), Ok(None));
         assert_eq!(empty.position(Progress(0.5)), Ok([0.0, 0.0]));
-        let refusal = Path::from_commands(b"ML", &[0.0, 0.0, 2e19, 0.0]).expect_err("its length is not finite");
+        let refusal = Path::from_commands(b"ML", &[0.0, 0.0, 3e38, 3e38]).expect_err("its length is not finite");
         assert_eq!(refusal.reason(), Reason::NotFinite { place: 0 });
     }
 

@@ -280,7 +280,7 @@ mod tests {
         let mut path = whole.clone();
         let mut refused =
             |one: fn(&mut Growing) -> Result<[usize; 4], Refusal>| path.append(one).expect_err("refused").reason();
-        assert_eq!(refused(|room| room.line_to([[0.0, 0.0], [2e19, 0.0]])), Reason::NotFinite { place: 5 });
+        assert_eq!(refused(|room| room.line_to([[0.0, 0.0], [3e38, 3e38]])), Reason::NotFinite { place: 5 });
         assert_eq!(refused(|room| room.push_segment(5, &[])), Reason::BadPath);
         assert_eq!(refused(|room| room.push_segment(0, &[0.0; 5])), Reason::BadPath);
         assert_eq!(

@@ -146,8 +146,18 @@ static void points(void) {
     /* fused, the sum would be -2^-46 */
     same("dot is not fused", kihavute_dot(1 + epsilon, -1, 1 - epsilon, 1), 0);
     same("length", kihavute_length(3, 4), bits(5));
-    same("length, overflow", kihavute_length(2e19f, 0), INFINITE);
-    same("length, underflow", kihavute_length(1e-23f, 0), 0);
+    /* through f64: a square beyond f32, and squares below its least */
+    same("length, a long leg", kihavute_length(2e19f, 0), 0x5F8AC723);
+    same("length, a tiny leg", kihavute_length(1e-23f, 0), bits(1e-23f));
+    same("length, the smallest step both ways", kihavute_length(kihavute_float(1), kihavute_float(1)), 1);
+    same("length, overflow", kihavute_length(3e38f, 3e38f), INFINITE);
+    /* a length on the middle of two floats goes to the even one, below it and above it */
+    same("length, a middle", kihavute_length(16777215, 8192), bits(16777216));
+    same("length, another middle", kihavute_length(16776975, 425700), bits(16782376));
+    /* the f64 root is a middle, above which, then below which, the exact length lies: rounded twice, the even one */
+    same("length, rounded twice", kihavute_length(11729914, 3424.896240234375f), bits(11729914));
+    same("length, rounded twice, above", kihavute_length(11098757, 3331.479736328125f), bits(11098758));
+    same("distance, overflow", kihavute_distance(-3e38f, 0, 3e38f, 0), INFINITE);
     same("distance", kihavute_distance(1, 2, 4, 6), bits(5));
     same("normalize", kihavute_normalize(3, 4), point(0.6f, 0.8f));
     same("normalize at 2^-23", kihavute_normalize(0, epsilon), 0);
@@ -487,9 +497,13 @@ static void lines(void) {
     fresh();
     answered("a long line", kihavute_line_length(0, 0, 1e19f, 0, answer, PLACES), 0, 1, (uint64_t[]){bits(1e19f)});
     fresh();
-    answered("a line too long", kihavute_line_length(0, 0, 2e19f, 0, answer, PLACES), 11, 1, (uint64_t[]){0});
+    answered("a longer line", kihavute_line_length(0, 0, 2e19f, 0, answer, PLACES), 0, 1, (uint64_t[]){0x5F8AC723});
     fresh();
-    answered("a line too long has no direction", kihavute_line_tangent(0, 0, 2e19f, 0, answer, PLACES), 11, 1, (uint64_t[]){0});
+    answered("a line too long", kihavute_line_length(0, 0, 3e38f, 3e38f, answer, PLACES), 11, 1, (uint64_t[]){0});
+    fresh();
+    answered("ends too far apart", kihavute_line_length(-3e38f, 0, 3e38f, 0, answer, PLACES), 11, 1, (uint64_t[]){0});
+    fresh();
+    answered("a line too long has no direction", kihavute_line_tangent(0, 0, 3e38f, 3e38f, answer, PLACES), 11, 1, (uint64_t[]){0});
     fresh();
     answered("a line of a NaN", kihavute_line_position(0, nan, 1, 0, 0.5f, answer, PLACES), 11, 1, (uint64_t[]){0});
     fresh();
@@ -558,7 +572,7 @@ static void arcs(void) {
     fresh();
     answered("a fallback's length", kihavute_arc_length(0, 0, 0, 1, past, 0, 1, 3, 4, answer, PLACES), 0, 1, (uint64_t[]){bits(5)});
     fresh();
-    answered("a fallback too long", kihavute_arc_length(0, 0, 0, 1, past, 0, 1, 2e19f, 0, answer, PLACES), 11, 1, (uint64_t[]){0});
+    answered("a fallback too long", kihavute_arc_length(0, 0, 0, 1, past, 0, 1, 3e38f, 3e38f, answer, PLACES), 11, 1, (uint64_t[]){0});
 }
 
 /* the code returned, and what stands in the first place of an answer that held 77 */
@@ -902,10 +916,16 @@ static void shapes(void) {
     fresh();
     answered("no room", kihavute_resample(line, 6, 7, out, 12, answer, PLACES), 8, 1, (uint64_t[]){14});
     fresh();
-    answered("an endless line", kihavute_resample((float[]){0, 0, 1, 0, 2e19f, 0}, 6, 7, out, 12, answer, PLACES), 11, 1, (uint64_t[]){2});
+    answered("an endless line", kihavute_resample((float[]){0, 0, 1, 0, 3e38f, 3e38f}, 6, 7, out, 12, answer, PLACES), 11, 1, (uint64_t[]){2});
     fresh();
     answered("a line, a short answer", kihavute_resample(line, 6, 5, out, 12, answer, 7), 255, 0, NULL);
     holds("refused, so as it was", out, 12, NULL, 0);
+    fresh();
+    /* its total times 2 is infinite: a target beyond the end picks the last point */
+    answered("a line near the largest", kihavute_resample((float[]){0, 0, 2e38f, 0}, 4, 4, out, 12, answer, PLACES), 0, 1, (uint64_t[]){8});
+    same("its third point", point(out[4], out[5]), point(2e38f, 0));
+    same("its last point", point(out[6], out[7]), point(2e38f, 0));
+    nines(out, 12);
     fresh();
     answered("one endless point", kihavute_resample((float[]){INFINITY, NAN}, 2, 1, out, 12, answer, PLACES), 0, 1, (uint64_t[]){2});
     same("its NaN", bits(out[1]), NAN_BITS);
@@ -1036,10 +1056,13 @@ static void paths(void) {
     answered("a table one short", built("M0 0Q1 1 2 0", 4, 24, 32, 4), 8, 4, (uint64_t[]){1, 6, 33, 1});
     same("nothing written", kinds[0], 9);
     answered("1e19", built("M0 0L1e19 0", 4, 24, 70, 4), 0, 4, (uint64_t[]){1, 4, 0, 1});
-    answered("2e19", built("M0 0L2e19 0", 4, 24, 70, 4), 11, 1, (uint64_t[]){0});
+    answered("2e19", built("M0 0L2e19 0", 4, 24, 70, 4), 0, 4, (uint64_t[]){1, 4, 0, 1});
+    same("its length", bits(lengths[0]), 0x5F8AC723);
+    answered("a difference beyond the largest", built("M-3e38 0L3e38 0", 4, 24, 70, 4), 11, 1, (uint64_t[]){0});
+    answered("a length beyond the largest", built("M0 0L3e38 3e38", 4, 24, 70, 4), 11, 1, (uint64_t[]){0});
     answered("3600 degrees", built("M0 0A1 1 3600 0 0 1 1", 4, 24, 70, 4), 0, 4, (uint64_t[]){1, 11, 33, 1});
     answered("the next above", built("M0 0A1 1 3600.0003 0 0 1 1", 4, 24, 70, 4), 10, 1, (uint64_t[]){0});
-    answered("a reading refusal after one of building", built("M0 0L2e19 0X", 4, 24, 70, 4), 6, 2, (uint64_t[]){'X', 11});
+    answered("a reading refusal after one of building", built("M0 0L3e38 3e38X", 4, 24, 70, 4), 6, 2, (uint64_t[]){'X', 14});
 }
 
 /* what stands in the four buffers past these counts is still 9 */
@@ -1093,7 +1116,7 @@ static void appending(void) {
     fresh();
     answered("a line without room", kihavute_line_to(BUFFERS, 3, 0, 0, 3, 4, answer, PLACES), 8, 4, (uint64_t[]){4, 25, 33, 4});
     fresh();
-    answered("a line of no end", kihavute_line_to(BUFFERS, 3, 0, 0, 2e19f, 0, answer, PLACES), 11, 1, (uint64_t[]){3});
+    answered("a line of no end", kihavute_line_to(BUFFERS, 3, 0, 0, 3e38f, 3e38f, answer, PLACES), 11, 1, (uint64_t[]){3});
     fresh();
     answered("an arc turned too far", kihavute_arc_to(BUFFERS, 3, 0, 0, 1, 1, 3601, 0, 0, 1, 1, answer, PLACES), 10, 1, (uint64_t[]){3});
     fresh();
