@@ -1,5 +1,4 @@
 -- The laws of size: what rounding, sums, products, roots, samples, tables and whole paths of calm points stay within.
-pub mod Within
 pub mod Tested
 pub mod Roots
 pub mod Lengths

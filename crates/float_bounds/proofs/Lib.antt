@@ -1,0 +1,2 @@
+-- The laws of sizes.
+pub mod Within

@@ -1,0 +1,2 @@
+-- A rotation without its full turns.
+pub mod Rotation
