@@ -2,6 +2,7 @@
 use mathlib.Core.Path.{_≡_}
 use mathlib.Core.Bool.{Bool, true, false}
 use lib.Ieee.{Float, binary32, ofBits, le}
+use lib.Ieee.Scale.{finite}
 use Rattle.floats.specs.Floats.{epsilonF}
 use Rattle.math.specs.Math.{distanceOf}
 use Rattle.bezier.specs.declared.curves.Placed.the-variants as Placed
@@ -10,7 +11,7 @@ use Rattle.ellipse.specs.declared.ends.Chord.{Chord}
 use Rattle.ellipse.specs.Ends.{sizeOf}
 use Rattle.arc.specs.declared.arcs.EllipticalArc.{EllipticalArc}
 use Rattle.arc.specs.Lines.{lineLengthOf, linePositionOf, lineTangentOf}
-use Rattle.arc.specs.Arcs.{isFallback, inRange, chordLine, fallenBack, fitted, outOfRange, madeArcOf, arcPositionOf, arcTangentOf, arcPlacedOf, arcHeadingOf, arcLengthOf}
+use Rattle.arc.specs.Arcs.{isFallback, chordLine, fallenBack, fitted, outOfRange, madeArcOf, arcPositionOf, arcTangentOf, arcPlacedOf, arcHeadingOf, arcLengthOf}
 
 -- ---- whether an arc falls back, by what is compared with 2^-23
 module _ (chord : Chord) (gap : Float) (is-gap : gap ≡ distanceOf (chord .start) (chord .end)) where
@@ -33,7 +34,7 @@ module _ (chord : Chord) (b : Bool) (tested : b ≡ isFallback chord) where
   unfolding madeArcOf
   made-fallback h = rw (← tested, h)
 
-  module _ (d : Bool) (ranged : d ≡ inRange (chord .«x_axis_rotation»)) where
+  module _ (d : Bool) (ranged : d ≡ finite (chord .«x_axis_rotation»)) where
     pub made-fitted : b ≡ false → d ≡ true → fitted chord ≡ madeArcOf chord
     unfolding madeArcOf
     made-fitted h g = rw (← tested, h, ← ranged, g)

@@ -2,6 +2,7 @@
 use mathlib.Core.Path.{_≡_, refl}
 use mathlib.Core.Bool.{true, false}
 use Prim.Native.Nat.{ℕ}
+use lib.Ieee.Scale.{finite}
 use lib.Ieee.{Float, nan, binary32, ofBits, neg, add, sub, mul, lt, le}
 use Rattle.answers.specs.declared.refusals.Refusal.the-variants.{NotFinite}
 use Rattle.floats.specs.Floats.{zeroF, epsilonF}
@@ -12,20 +13,21 @@ use Rattle.bezier.specs.declared.curves.Verdict.the-variants as Verdict
 use Rattle.bezier.specs.Curves.{verdictOf}
 use Rattle.ellipse.specs.Ends.{sizeOf}
 use Rattle.arc.specs.Lines.{lineLengthOf, madeLineOf}
-use Rattle.arc.specs.Arcs.{isFallback, inRange, mostDegrees}
+use Rattle.arc.specs.Arcs.{isFallback}
 
 abbrev bits : ℕ → Float
 bits n = ofBits binary32 n
 
--- "Rotation 3600 builds, the next f32 above is 10.", below 0 as above, and a NaN with it
+-- "The f32 above 3600 builds", and so does the largest f32; 10 is for infinity, of either sign, and for a NaN
 rotations-judged :
-    (inRange (bits 0x4561_0000) ≡ true)
-    × (inRange (bits 0x4561_0001) ≡ false)
-    × (inRange (bits 0xc561_0000) ≡ true)
-    × (inRange (bits 0xc561_0001) ≡ false)
-    × (inRange nan ≡ false)
-unfolding inRange mostDegrees sizeOf zeroF ofBits neg lt le
-rotations-judged = (refl, refl, refl, refl, refl)
+    (finite (bits 0x4561_0001) ≡ true)
+    × (finite (bits 0x7f7f_ffff) ≡ true)
+    × (finite (bits 0xff7f_ffff) ≡ true)
+    × (finite (bits 0x7f80_0000) ≡ false)
+    × (finite (bits 0xff80_0000) ≡ false)
+    × (finite nan ≡ false)
+unfolding ofBits
+rotations-judged = (refl, refl, refl, refl, refl, refl)
 
 -- document 02's long leg, 2e19, whose square is beyond f32: it is had, and its length is 2e19
 long-line-made : madeLineOf (pointOf (bits 0) (bits 0)) (pointOf (bits 0x5f8a_c723) (bits 0)) .verdict ≡ Verdict.Accepted

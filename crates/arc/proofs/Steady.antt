@@ -6,6 +6,7 @@ use Prim.Native.Nat.{ℕ}
 use native.Mathlib.Omega.{arith}
 use lib.Dec.{T}
 use lib.Ieee.{Float}
+use lib.Ieee.Scale.{finite}
 use Rattle.table.specs.declared.tables.Table.{Table}
 use Rattle.table.specs.Lookup.{lastOf}
 use Rattle.table_order.specs.Stated.{F32Table}
@@ -18,7 +19,7 @@ use Rattle.ellipse.specs.declared.ends.Arc.{Arc}
 use Rattle.ellipse.specs.Ends.{fromEndsOf}
 use Rattle.ellipse.specs.Shape.{pointOn}
 use Rattle.arc.specs.declared.arcs.MadeArc.{MadeArc}
-use Rattle.arc.specs.Arcs.{isFallback, inRange, fallenBack, fitted, outOfRange, madeArcOf, arcRaw, arcPositionOf}
+use Rattle.arc.specs.Arcs.{isFallback, fallenBack, fitted, outOfRange, madeArcOf, arcRaw, arcPositionOf}
 
 -- ---- a stored table
 pub arc-steady : (table : Table) → F32Table (table .entries) (table .total) → Steady (lastOf (table .entries)) (table .entries) (table .total) (arcRaw table)
@@ -44,7 +45,7 @@ whole-by chord false false accepted curved = let z : _≡_ {A = ℕ} 0 1 = cc in
 
 made-arc-whole : (chord : Chord) → Whole (madeArcOf chord)
 unfolding madeArcOf
-made-arc-whole chord = whole-by chord (isFallback chord) (inRange (chord .«x_axis_rotation»))
+made-arc-whole chord = whole-by chord (isFallback chord) (finite (chord .«x_axis_rotation»))
 
 module _ (chord : Chord) (accepted : madeArcOf chord .verdict ≡ Verdict.Accepted) (curved : madeArcOf chord .arc .«line_fallback» ≡ false) where
   pub made-arc-table : F32Table (madeArcOf chord .arc .table .entries) (madeArcOf chord .arc .table .total)

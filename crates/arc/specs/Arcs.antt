@@ -2,7 +2,8 @@
 use mathlib.Core.Bool.{Bool, true, false, _||_, cond}
 use mathlib.Core.List.{List}
 use lib.ListN.{replicate}
-use lib.Ieee.{Float, binary32, ofBits, le}
+use lib.Ieee.{Float, le}
+use lib.Ieee.Scale.{finite}
 use Rattle.answers.specs.declared.refusals.Refusal.the-variants.{RotationRange}
 use Rattle.floats.specs.Floats.{zeroF, oneF, epsilonF}
 use Rattle.math.specs.declared.points.Point.{Point}
@@ -32,15 +33,6 @@ use Rattle.arc.specs.Lines.{lineOf, lineLengthOf, linePositionOf, lineTa
 unfoldable pub isFallback : Chord → Bool
 unfolding epsilonF
 isFallback chord = le (distanceOf (chord .start) (chord .end)) epsilonF || le (sizeOf (chord .radii .x)) epsilonF || le (sizeOf (chord .radii .y)) epsilonF
-
--- 3600
-unfoldable pub mostDegrees : Float
-mostDegrees = ofBits binary32 0x4561_0000
-
--- "a non-fallback arc's rotation is NaN or beyond 3600 degrees in size" where this is false
-unfoldable pub inRange : Float → Bool
-unfolding mostDegrees
-inRange rotation = le (sizeOf rotation) mostDegrees
 
 -- `line_fallback`: the ends and the rotation are kept, the rest is 0
 unfoldable pub fallbackShape : Chord → Arc
@@ -92,8 +84,8 @@ outOfRange chord =
 
 -- `from_svg`: the fallback first; "10 before 11"
 unfoldable pub madeArcOf : Chord → MadeArc
-unfolding isFallback inRange fallenBack fitted outOfRange
-madeArcOf chord = cond (isFallback chord) (fallenBack chord) (cond (inRange (chord .«x_axis_rotation»)) (fitted chord) (outOfRange chord))
+unfolding isFallback fallenBack fitted outOfRange
+madeArcOf chord = cond (isFallback chord) (fallenBack chord) (cond (finite (chord .«x_axis_rotation»)) (fitted chord) (outOfRange chord))
 
 -- ---- its queries
 

@@ -16,8 +16,11 @@ use ellipse::Chord;
 use ellipse::direction;
 use ellipse::from_ends;
 use ellipse::point;
+use ellipse::point_turned;
 use ellipse::size;
+use ellipse::turn_of;
 use floats::EPSILON;
+use floats::is_finite;
 use floats::tidy;
 use math::Point;
 use math::distance;
@@ -27,10 +30,11 @@ use table::Table;
 use table::inner::mark;
 use table::table_is_sound;
 use table::table_of;
+use trig::SinCos;
 ghost use mathlib.Core.Path.{_≡_};
 ghost use Rattle.table_samples.specs.Samples.{stepsOf, tableOf};
-ghost use Rattle.ellipse.specs.Shape.{pointOn, directionOn};
-ghost use Rattle.arc.specs.Arcs.{isFallback, inRange, fallbackShape, noTable, chordLine, fallenBack, fitted, outOfRange, madeArcOf, arcLengthOf, arcPlacedOf, arcHeadingOf, inDegrees, arcTurnedOf};
+ghost use Rattle.ellipse.specs.Shape.{pointTurned, pointOn, directionOn};
+ghost use Rattle.arc.specs.Arcs.{isFallback, fallbackShape, noTable, chordLine, fallenBack, fitted, outOfRange, madeArcOf, arcLengthOf, arcPlacedOf, arcHeadingOf, inDegrees, arcTurnedOf};
 
 // An arc, with its running lengths unless it is a line fallback. `arc` makes one whose table is sound.
 pub struct EllipticalArc {
@@ -62,13 +66,6 @@ pub fn is_fallback(chord: Chord) -> bool
     size(radii.y) <= EPSILON
 }
 
-// Whether an ellipse may be turned by so many degrees. A NaN may not.
-pub fn rotation_in_range(x_axis_rotation: f32) -> bool
-    ensures { λ r. ⌜ r ≡ inRange «x_axis_rotation» ⌝ }
-{
-    size(x_axis_rotation) <= 3600.0
-}
-
 // The point at a raw parameter.
 pub fn arc_sample(shape: Arc, raw: RawParameter) -> Point
     ensures { λ r. ⌜ r ≡ pointOn shape (raw .value) ⌝ }
@@ -83,15 +80,22 @@ pub fn arc_heading(shape: Arc, raw: RawParameter) -> Point
     tidied(direction(shape, raw))
 }
 
-// The distances from each of the 32 samples to the next.
-fn arc_steps(shape: Arc) -> [f32; 31]
-    ensures { λ r. ⌜ r ≡ stepsOf (pointOn shape) 31 ⌝ }
+// The point at a raw parameter, with the arc's turn lent.
+fn turned_sample(shape: Arc, turn: SinCos, raw: RawParameter) -> Point
+    ensures { λ r. ⌜ r ≡ pointTurned shape turn (raw .value) ⌝ }
+{
+    tidied(point_turned(shape, turn, raw))
+}
+
+// The distances from each of the 32 samples to the next. They share the turn, so that it is taken once for all.
+fn arc_steps(shape: Arc, turn: SinCos) -> [f32; 31]
+    ensures { λ r. ⌜ r ≡ stepsOf (pointTurned shape turn) 31 ⌝ }
 {
     let mut steps = [0.0f32; 31];
-    let mut previous = arc_sample(shape, mark(0, 31));
+    let mut previous = turned_sample(shape, turn, mark(0, 31));
     let mut k = 0usize;
     while k < 31 {
-        let current = arc_sample(shape, mark(k + 1, 31));
+        let current = turned_sample(shape, turn, mark(k + 1, 31));
         steps[k] = distance(previous, current);
         previous = current;
         k += 1;
@@ -103,7 +107,7 @@ fn arc_steps(shape: Arc) -> [f32; 31]
 pub fn arc_table(shape: Arc) -> Table
     ensures { λ r. ⌜ r ≡ tableOf (pointOn shape) ⌝ }
 {
-    table_of(arc_steps(shape))
+    table_of(arc_steps(shape, turn_of(shape.x_axis_rotation)))
 }
 
 // The numbers of a line fallback: its ends and its rotation, and zeros.
@@ -172,7 +176,7 @@ fn fitted(chord: Chord) -> MadeArc
     MadeArc { verdict, arc }
 }
 
-// The refusal of a rotation.
+// The refusal of a rotation that is infinite or a NaN.
 fn out_of_range(chord: Chord) -> MadeArc
     ensures { λ r. ⌜ r ≡ outOfRange chord ⌝ }
 {
@@ -189,15 +193,15 @@ fn out_of_range(chord: Chord) -> MadeArc
     }
 }
 
-// An arc through both ends, or its line fallback. A rotation out of range is refused, then a length that is infinite or a NaN; a
-// lone segment is segment 0. Where the numbers do not suffice the arc misses its ends, as the Rust's does.
+// An arc through both ends, or its line fallback. A rotation that is infinite or a NaN is refused, then such a length; a lone
+// segment is segment 0. Any other rotation is kept as it is given. Where the numbers do not suffice the arc misses its ends, as the Rust's does.
 pub fn arc(chord: Chord) -> MadeArc
     ensures { λ r. ⌜ r ≡ madeArcOf chord ⌝ }
 {
     if is_fallback(chord) {
         return fallen_back(chord);
     }
-    if rotation_in_range(chord.x_axis_rotation) {
+    if is_finite(chord.x_axis_rotation) {
         return fitted(chord);
     }
     out_of_range(chord)

@@ -18,7 +18,6 @@ pub use arcs::chord_line;
 pub use arcs::fallback_shape;
 pub use arcs::is_fallback;
 pub use arcs::no_table;
-pub use arcs::rotation_in_range;
 pub use lines::LineSegment;
 pub use lines::MadeLine;
 pub use lines::line;

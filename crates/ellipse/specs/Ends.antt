@@ -4,12 +4,13 @@ use mathlib.Core.Bool.{Bool, true, false, Bool·beq, cond}
 use lib.Ieee.{Float, binary32, ofBits, neg, add, sub, mul, div, lt, le}
 use Rattle.floats.specs.Floats.{zeroF, oneF, epsilonF, maxOf}
 use Rattle.root.specs.Root.{sqrtOf}
-use Rattle.trig_rule.specs.Steps.{sineOf, cosineOf}
+use Rattle.trig.specs.declared.SinCos.{SinCos}
 use Rattle.math.specs.declared.points.Point.{Point}
-use Rattle.math.specs.Math.{piF, pointOf, scaleOf, degToRadOf}
+use Rattle.math.specs.Math.{piF, pointOf, scaleOf}
 use Rattle.angles.specs.Angles.{minusOneF, angleBetweenOf}
 use Rattle.ellipse.specs.declared.ends.Chord.{Chord}
 use Rattle.ellipse.specs.declared.ends.Arc.{Arc}
+use Rattle.ellipse.specs.Turn.{turnOf}
 
 -- 0.5 and 2
 unfoldable pub halfF : Float
@@ -122,11 +123,12 @@ turnedOf angle false = cond (lt zeroF angle) (sub binary32 angle wholeTurnF) ang
 
 -- the arc from its ends. Each local is named once, so that the equations above read in F.6's order.
 module _ (chord : Chord) where
-  abbrev pub phiOf : Float
-  phiOf = degToRadOf (chord .«x_axis_rotation»)
+  -- sin_phi and cos_phi
+  abbrev pub turn : SinCos
+  turn = turnOf (chord .«x_axis_rotation»)
 
   abbrev pub primed : Point
-  primed = primedOf (sineOf phiOf) (cosineOf phiOf) (chord .start) (chord .end)
+  primed = primedOf (turn .sin) (turn .cos) (chord .start) (chord .end)
 
   abbrev pub fitted : Point
   fitted = fittedOf (sizesOf (chord .radii)) primed
@@ -146,7 +148,7 @@ fromEndsOf chord =
     record {
       start = chord .start;
       end = chord .end;
-      center = centerOf (sineOf (phiOf chord)) (cosineOf (phiOf chord)) (middle chord) (chord .start) (chord .end);
+      center = centerOf (turn chord .sin) (turn chord .cos) (middle chord) (chord .start) (chord .end);
       radii = fitted chord;
       «x_axis_rotation» = chord .«x_axis_rotation»;
       «start_angle» = angleBetweenOf (pointOf oneF zeroF) (towards chord);

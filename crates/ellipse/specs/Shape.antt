@@ -1,10 +1,12 @@
 -- Points and directions on the ellipse of an arc: `sample` and `tangent` of poly.rs (source document 002; F.6.3). Definitions only.
 use lib.Ieee.{Float, binary32, neg, add, sub, mul}
 use Rattle.floats.specs.Floats.{clamp01Of}
+use Rattle.trig.specs.declared.SinCos.{SinCos}
 use Rattle.trig_rule.specs.Steps.{sineOf, cosineOf}
 use Rattle.math.specs.declared.points.Point.{Point}
-use Rattle.math.specs.Math.{pointOf, degToRadOf, normalizeOf}
+use Rattle.math.specs.Math.{pointOf, normalizeOf}
 use Rattle.ellipse.specs.declared.ends.Arc.{Arc}
+use Rattle.ellipse.specs.Turn.{turnOf}
 
 -- a·b·c, the first product rounded before the second
 abbrev pub product : Float → Float → Float → Float
@@ -24,25 +26,25 @@ slopeOf delta radii sin-phi cos-phi sin-angle cos-angle =
     (mul binary32 delta (sub binary32 (product (neg cos-phi) (radii .x) sin-angle) (product sin-phi (radii .y) cos-angle)))
     (mul binary32 delta (add binary32 (product (neg sin-phi) (radii .x) sin-angle) (product cos-phi (radii .y) cos-angle)))
 
-module _ (arc : Arc) where
-  -- phi: the rotation in radians
-  abbrev pub phiOn : Float
-  phiOn = degToRadOf (arc .«x_axis_rotation»)
+-- the angle at a share t of the turn
+abbrev pub angleAt : Arc → Float → Float
+angleAt arc t = add binary32 (arc .«start_angle») (mul binary32 (arc .«delta_angle») t)
 
-  -- the angle at a share t of the turn
-  abbrev pub angleAt : Float → Float
-  angleAt t = add binary32 (arc .«start_angle») (mul binary32 (arc .«delta_angle») t)
-
--- sample: the share is clamped
-unfoldable pub pointOn : Arc → Float → Point
+-- sample: the share is clamped. Every sample of one arc has the same turn.
+unfoldable pub pointTurned : Arc → SinCos → Float → Point
 unfolding onEllipse
-pointOn arc t =
+pointTurned arc turn t =
     let angle = angleAt arc (clamp01Of t) in
-    onEllipse (arc .center) (arc .radii) (sineOf (phiOn arc)) (cosineOf (phiOn arc)) (sineOf angle) (cosineOf angle)
+    onEllipse (arc .center) (arc .radii) (turn .sin) (turn .cos) (sineOf angle) (cosineOf angle)
+
+unfoldable pub pointOn : Arc → Float → Point
+unfolding pointTurned
+pointOn arc t = pointTurned arc (turnOf (arc .«x_axis_rotation»)) t
 
 -- tangent: the share as it is
 unfoldable pub directionOn : Arc → Float → Point
 unfolding slopeOf
 directionOn arc t =
     let angle = angleAt arc t in
-    normalizeOf (slopeOf (arc .«delta_angle») (arc .radii) (sineOf (phiOn arc)) (cosineOf (phiOn arc)) (sineOf angle) (cosineOf angle))
+    let turn = turnOf (arc .«x_axis_rotation») in
+    normalizeOf (slopeOf (arc .«delta_angle») (arc .radii) (turn .sin) (turn .cos) (sineOf angle) (cosineOf angle))

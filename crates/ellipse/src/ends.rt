@@ -2,6 +2,7 @@
 ghost use mathlib.Core.Path.{_≡_};
 ghost use mathlib.Core.Bool.{Bool·beq};
 ghost use Rattle.ellipse.specs.Ends.{sizeOf, sizesOf, primedOf, lambdaOf, fittedOf, facingOf, coefOf, middleOf, centerOf, towardsOf, awayOf, turnedOf, fromEndsOf};
+use crate::turn::turn_of;
 use math::Point;
 
 // What the text of an arc gives: its ends, its radii as written, its rotation in degrees, its flags.
@@ -159,15 +160,15 @@ fn alike(a: bool, b: bool) -> bool
     if a { b } else { !b }
 }
 
-// The arc through both ends, F.6.5. The rotation turns the ellipse by any number of degrees; a
-// radius is taken without its sign.
+// The arc through both ends, F.6.5. The rotation turns the ellipse by any number of degrees and is kept as it is given, full turns
+// too; a radius is taken without its sign.
 pub fn from_ends(chord: Chord) -> Arc
     ensures { λ r. ⌜ r ≡ fromEndsOf chord ⌝ }
 {
     let start = chord.start;
     let end = chord.end;
     let sweep = chord.sweep;
-    let turn = trig::sin_cos(math::deg_to_rad(chord.x_axis_rotation));
+    let turn = turn_of(chord.x_axis_rotation);
     let p = primed(turn.sin, turn.cos, start, end);
     let radii = fitted(sizes(chord.radii), p);
     let m = middle(coef(radii, p, alike(chord.large_arc, sweep)), radii, p);

@@ -3,6 +3,7 @@
 // directions on the ellipse. Lengths are in path units, angles in radians but for the rotation.
 mod ends;
 mod shape;
+mod turn;
 
 pub use ends::Arc;
 pub use ends::Chord;
@@ -10,3 +11,5 @@ pub use ends::from_ends;
 pub use ends::size;
 pub use shape::direction;
 pub use shape::point;
+pub use shape::point_turned;
+pub use turn::turn_of;

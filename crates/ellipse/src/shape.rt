@@ -1,7 +1,8 @@
 // Points and directions on the ellipse of an arc.
 ghost use mathlib.Core.Path.{_≡_};
-ghost use Rattle.ellipse.specs.Shape.{onEllipse, slopeOf, pointOn, directionOn};
+ghost use Rattle.ellipse.specs.Shape.{onEllipse, slopeOf, pointTurned, pointOn, directionOn};
 use crate::ends::Arc;
+use crate::turn::turn_of;
 use math::Point;
 use table::RawParameter;
 use table::number_of;
@@ -28,15 +29,21 @@ fn slope(delta: f32, radii: Point, turn: SinCos, angle: SinCos) -> Point
 }
 
 // The point where a share t of the turn is done, the raw parameter: at the angle start_angle + delta_angle·t. t is
-// clamped, a NaN is 0.
-pub fn point(arc: Arc, raw: RawParameter) -> Point
-    ensures { λ r. ⌜ r ≡ pointOn arc (raw .value) ⌝ }
+// clamped, a NaN is 0. Sine and cosine of the rotation are lent, so that many points of one arc take them once.
+pub fn point_turned(arc: Arc, turn: SinCos, raw: RawParameter) -> Point
+    ensures { λ r. ⌜ r ≡ pointTurned arc turn (raw .value) ⌝ }
 {
     let center = arc.center;
     let radii = arc.radii;
     let angle = trig::sin_cos(arc.start_angle + arc.delta_angle * floats::clamp01(number_of(raw)));
-    let turn = trig::sin_cos(math::deg_to_rad(arc.x_axis_rotation));
     on_ellipse(center, radii, turn, angle)
+}
+
+// That point of an arc by itself.
+pub fn point(arc: Arc, raw: RawParameter) -> Point
+    ensures { λ r. ⌜ r ≡ pointOn arc (raw .value) ⌝ }
+{
+    point_turned(arc, turn_of(arc.x_axis_rotation), raw)
 }
 
 // The direction there: the derivative in t, normalized. t is taken as it is.
@@ -45,6 +52,6 @@ pub fn direction(arc: Arc, raw: RawParameter) -> Point
 {
     let radii = arc.radii;
     let angle = trig::sin_cos(arc.start_angle + arc.delta_angle * number_of(raw));
-    let turn = trig::sin_cos(math::deg_to_rad(arc.x_axis_rotation));
+    let turn = turn_of(arc.x_axis_rotation);
     math::normalize(slope(arc.delta_angle, radii, turn, angle))
 }

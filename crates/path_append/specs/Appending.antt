@@ -16,7 +16,7 @@ use Rattle.answers.specs.Answers.{Answer, accepted, refused, listed}
 use Rattle.table.specs.Spots as Spots
 use Rattle.ellipse.specs.declared.ends.Chord.{Chord}
 use Rattle.ellipse.specs.Ends.{fromEndsOf}
-use Rattle.arc.specs.Arcs.{isFallback, inRange, fallbackShape}
+use Rattle.arc.specs.Arcs.{isFallback, fallbackShape}
 use Rattle.path_segment.specs.declared.segments.PathSegment.{PathSegment}
 use Rattle.path_segment.specs.declared.segments.PathSegment.the-variants as Segment
 use Rattle.path_segment.specs.Segments.{kindOf, widthOf, tablesOf, fieldsOf, lengthFor}
@@ -41,12 +41,12 @@ inUse kinds numbers tables lengths count =
 
 -- ---- what is judged
 
--- 10: "a non-fallback arc's rotation is NaN or beyond 3600 degrees in size" where this is false
+-- 10 is "for a rotation that is NaN or infinite, on an arc that is no fallback": where this is false
 abbrev pub mayTurn : PathSegment → Bool
 mayTurn (Segment.Line line) = true
 mayTurn (Segment.Quad start control end) = true
 mayTurn (Segment.Cubic start control1 control2 end) = true
-mayTurn (Segment.Arc shape) = inRange (shape .«x_axis_rotation»)
+mayTurn (Segment.Arc shape) = finite (shape .«x_axis_rotation»)
 mayTurn (Segment.Fallback shape) = true
 
 -- the new running length, one sum rounded once

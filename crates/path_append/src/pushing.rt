@@ -5,7 +5,6 @@ use crate::used::numbers_used;
 use crate::used::tables_used;
 use answers::Refusal;
 use answers::Values;
-use arc::rotation_in_range;
 use floats::is_finite;
 use path_segment::PathSegment;
 use path_segment::has_table;
@@ -45,7 +44,7 @@ fn may_turn(segment: PathSegment) -> bool
             control2: _,
             end: _,
         } => true,
-        PathSegment::Arc(shape) => rotation_in_range(shape.x_axis_rotation),
+        PathSegment::Arc(shape) => is_finite(shape.x_axis_rotation),
         PathSegment::Fallback(_) => true,
     }
 }
@@ -119,7 +118,7 @@ fn judge(
 }
 
 // Appends a segment to the path that the first `count` segments are. The tables are made anew from its numbers. Refused are, in this
-// order: what is no stored path, a count above 65,536, a rotation out of range, a running length that is not finite, too short a buffer.
+// order: what is no stored path, a count above 65,536, a rotation that is infinite or a NaN, a running length that is, too short a buffer.
 pub fn push_segment(
     kinds: &mut [u8],
     numbers: &mut [f32],

@@ -1,5 +1,6 @@
 -- What one command draws (source document 002, `from_commands`; document 01, "Lengths, tables and lookup", "Building"). Definitions only.
 use mathlib.Core.Bool.{Bool, true, false, cond}
+use lib.Ieee.Scale.{finite}
 use Rattle.math.specs.Math.{originF}
 use Rattle.math.specs.declared.points.Point.{Point}
 use Rattle.commands.specs.declared.command.PathCommand.{PathCommand}
@@ -7,7 +8,7 @@ use Rattle.commands.specs.declared.command.PathCommand.the-variants.{MoveTo, Li
 use Rattle.ellipse.specs.Ends.{fromEndsOf}
 use Rattle.ellipse.specs.declared.ends.Chord.{Chord}
 use Rattle.arc.specs.Lines.{lineOf}
-use Rattle.arc.specs.Arcs.{isFallback, inRange, fallbackShape}
+use Rattle.arc.specs.Arcs.{isFallback, fallbackShape}
 use Rattle.path_segment.specs.declared.segments.PathSegment.{PathSegment}
 use Rattle.path_segment.specs.declared.segments.PathSegment.the-variants.{Line, Quad, Cubic, Arc, Fallback}
 use Rattle.path_drawing.specs.declared.pens.Pen.{Pen}
@@ -34,9 +35,9 @@ drawnOf pen end = record { current = end; start = pen .start; placed = true }
 abbrev pub strokeOf : Bool → PathSegment → Pen → Drawn
 strokeOf placed segment next = cond placed (Segment segment next) (Moved next)
 
--- `EllipticalArc::from_svg`: the line fallback, which may have any rotation; else 10 is "a non-fallback arc's rotation is NaN or beyond 3600 degrees in size"
+-- `EllipticalArc::from_svg`: the line fallback, which may have any rotation; else 10 is "for a rotation that is NaN or infinite"
 unfoldable pub arcOf : Chord → Pen → Drawn
-arcOf chord next = cond (isFallback chord) (Segment (Fallback (fallbackShape chord)) next) (cond (inRange (chord .«x_axis_rotation»)) (Segment (Arc (fromEndsOf chord)) next) OutOfRange)
+arcOf chord next = cond (isFallback chord) (Segment (Fallback (fallbackShape chord)) next) (cond (finite (chord .«x_axis_rotation»)) (Segment (Arc (fromEndsOf chord)) next) OutOfRange)
 
 -- the same for an arc, of which nothing is judged without a current point
 unfoldable pub arcStrokeOf : Bool → Chord → Pen → Drawn

@@ -7,10 +7,10 @@ use crate::pens::moved;
 use arc::LineSegment;
 use arc::fallback_shape;
 use arc::is_fallback;
-use arc::rotation_in_range;
 use commands::PathCommand;
 use ellipse::Chord;
 use ellipse::from_ends;
+use floats::is_finite;
 use math::Point;
 use path_segment::PathSegment;
 
@@ -19,7 +19,7 @@ pub enum Drawn {
     Moved(Pen),
     // A segment, and the pen after it.
     Segment { segment: PathSegment, next: Pen },
-    // An arc that is no line fallback has a rotation out of range.
+    // The rotation of an arc that is no line fallback is infinite or a NaN.
     OutOfRange,
 }
 
@@ -43,7 +43,7 @@ fn arc_drawn(chord: Chord, next: Pen) -> Drawn
             next,
         };
     }
-    if rotation_in_range(chord.x_axis_rotation) {
+    if is_finite(chord.x_axis_rotation) {
         return Drawn::Segment {
             segment: PathSegment::Arc(from_ends(chord)),
             next,

@@ -18,7 +18,7 @@ use Rattle.commands.specs.declared.command.PathCommand.the-variants.{MoveTo, Li
 use Rattle.ellipse.specs.declared.ends.Chord.{Chord}
 use Rattle.ellipse.specs.Ends.{fromEndsOf}
 use Rattle.arc.specs.Lines.{lineOf}
-use Rattle.arc.specs.Arcs.{isFallback, inRange, fallbackShape}
+use Rattle.arc.specs.Arcs.{isFallback, fallbackShape}
 use Rattle.path_segment.specs.Segments.{fieldsOf, lengthFor}
 use Rattle.path_segment.specs.declared.segments.PathSegment.{PathSegment}
 use Rattle.path_segment.specs.declared.segments.PathSegment.the-variants.{Line, Quad, Cubic, Arc, Fallback}
@@ -99,7 +99,7 @@ module _ (pen : Pen) (calm : CalmPen pen) where
       (λ b. cubic-short (pen .current) control1 control2 end (calm .current) (and-l (isCalm control1) (isCalm control2) both) (and-r (isCalm control1) (isCalm control2) both) e)
   fine (ArcTo radii rotation large sweep end) n =
       let chord : Chord = record { start = pen .current; radii = radii; «x_axis_rotation» = rotation; «large_arc» = large; sweep = sweep; end = end } in
-      arc-fine (pen .placed) (isFallback chord) (inRange rotation) chord (drawnOf pen end) (record { current = n; start = calm .start }) (calm .current) n
+      arc-fine (pen .placed) (isFallback chord) (finite rotation) chord (drawnOf pen end) (record { current = n; start = calm .start }) (calm .current) n
   fine ClosePath n = close-fine (pen .placed)
 
 -- ---- the count goes on where the judging does

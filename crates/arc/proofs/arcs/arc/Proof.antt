@@ -9,10 +9,10 @@ returns : tie.Need-returns
 returns c = c .fallen-back .ensures ∙ made-fallback _ _ (c .before .before .is-fallback .ensures) (c .before .if1 .taken)
 
 returns-2 : tie.Need-returns-2
-returns-2 c = c .fitted .ensures ∙ made-fitted _ _ (c .before .before .before .before .is-fallback .ensures) _ (c .before .before .rotation-in-range .ensures) (c .before .before .before .if1 .left) (c .before .if2 .taken)
+returns-2 c = c .fitted .ensures ∙ made-fitted _ _ (c .before .before .before .before .is-fallback .ensures) _ (c .before .before .is-finite .ensures) (c .before .before .before .if1 .left) (c .before .if2 .taken)
 
 returns-3 : tie.Need-returns-3
-returns-3 c = c .out-of-range .ensures ∙ made-refused _ _ (c .before .before .before .before .is-fallback .ensures) _ (c .before .before .rotation-in-range .ensures) (c .before .before .before .if1 .left) (c .before .if2 .left)
+returns-3 c = c .out-of-range .ensures ∙ made-refused _ _ (c .before .before .before .before .is-fallback .ensures) _ (c .before .before .is-finite .ensures) (c .before .before .before .if1 .left) (c .before .if2 .left)
 
 pub arc-spec : {M : Type 1} → statement M
 arc-spec =

@@ -7,12 +7,32 @@ use Rattle.ellipse.proofs.ends.from_ends.Tie as tie
 
 returns : tie.Need-returns
 unfolding fromEndsOf zeroF oneF
-returns c = rw (c .turned .ensures, c .before .angle-between2 .ensures, c .before .before .angle-between .ensures, c .before .before .before .center .ensures, c .before .before .before .before .away .ensures, c .before .before .before .before .before .towards .ensures, c .before .before .before .before .before .before .middle .ensures, c .before .before .before .before .before .before .before .coef .ensures, c .before .before .before .before .before .before .before .before .alike .ensures, c .before .before .before .before .before .before .before .before .before .fitted .ensures, c .before .before .before .before .before .before .before .before .before .before .sizes .ensures, c .before .before .before .before .before .before .before .before .before .before .before .primed .ensures, c .before .before .before .before .before .before .before .before .before .before .before .before .sin-cos .ensures .0, c .before .before .before .before .before .before .before .before .before .before .before .before .sin-cos .ensures .1, c .before .before .before .before .before .before .before .before .before .before .before .before .before .deg-to-rad .ensures)
+returns c =
+    let angled = c .before .before in
+    let sided = angled .before .before .before in
+    let factor = sided .before .before in
+    let grown = factor .before .before in
+    let turn = grown .before .before .before in
+    rw (
+      c .turned .ensures,
+      c .before .angle-between2 .ensures,
+      angled .angle-between .ensures,
+      angled .before .center .ensures,
+      angled .before .before .away .ensures,
+      sided .towards .ensures,
+      sided .before .middle .ensures,
+      factor .coef .ensures,
+      factor .before .alike .ensures,
+      grown .fitted .ensures,
+      grown .before .sizes .ensures,
+      grown .before .before .primed .ensures,
+      turn .turn-of .ensures,
+    )
 
 pub from-ends-spec : {M : Type 1} → statement M
 from-ends-spec =
     tie.close
     (tie.spec (λ c κs. search needs) (λ c κs. search needs) (λ c κs. search needs) (λ c κs. search needs)
     (λ c κs. search needs) (λ c κs. search needs) (λ c κs. search needs) (λ c κs. search needs) (λ c κs. search needs)
-    (λ c κs. search needs) (λ c κs. search needs) (λ c κs. search needs) (λ c κs. search needs) (λ c κs. search needs)
+    (λ c κs. search needs) (λ c κs. search needs) (λ c κs. search needs) (λ c κs. search needs)
     returns)

@@ -9,12 +9,12 @@ returns : tie.Need-returns
 unfolding directionOn
 returns c =
     let turned = c .before .before in
-    let angled = turned .before .before in
+    let angled = turned .before in
     c .normalize .ensures
-    ∙ rw (c .before .slope .ensures, turned .sin-cos2 .ensures .0, turned .sin-cos2 .ensures .1, turned .before .deg-to-rad .ensures, angled .sin-cos .ensures .0, angled .sin-cos .ensures .1, angled .before .before .before .number-of .ensures)
+    ∙ rw (c .before .slope .ensures, turned .turn-of .ensures, angled .sin-cos .ensures .0, angled .sin-cos .ensures .1, angled .before .before .before .number-of .ensures)
 
 pub direction-spec : {M : Type 1} → statement M
 direction-spec =
     tie.close
     (tie.spec (λ c κs. search needs) (λ c κs. search needs) (λ c κs. search needs) (λ c κs. search needs)
-    (λ c κs. search needs) (λ c κs. search needs) returns)
+    (λ c κs. search needs) returns)

@@ -4,7 +4,7 @@ use Rattle.path_append.proofs.pushing.may_turn.Statement.{statement}
 use Rattle.path_append.proofs.pushing.may_turn.Tie as tie
 
 returns-4 : tie.Need-returns-4
-returns-4 c = rw (c .before .before .segment .given .1) (c .rotation-in-range .ensures)
+returns-4 c = rw (c .before .before .segment .given .1) (c .is-finite .ensures)
 
 pub may-turn-spec : {M : Type 1} → statement M
 may-turn-spec =

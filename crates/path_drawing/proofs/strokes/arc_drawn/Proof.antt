@@ -11,11 +11,11 @@ returns c = rw (sym (c .before .before .is-fallback .ensures) ∙ c .before .if1
 
 returns-2 : tie.Need-returns-2
 unfolding arcOf
-returns-2 c = rw (sym (c .before .before .before .before .is-fallback .ensures) ∙ c .before .before .before .if1 .left, sym (c .before .before .rotation-in-range .ensures) ∙ c .before .if2 .taken, c .from-ends .ensures)
+returns-2 c = rw (sym (c .before .before .before .before .is-fallback .ensures) ∙ c .before .before .before .if1 .left, sym (c .before .before .is-finite .ensures) ∙ c .before .if2 .taken, c .from-ends .ensures)
 
 returns-3 : tie.Need-returns-3
 unfolding arcOf
-returns-3 c = rw (sym (c .before .before .before .is-fallback .ensures) ∙ c .before .before .if1 .left, sym (c .before .rotation-in-range .ensures) ∙ c .if2 .left)
+returns-3 c = rw (sym (c .before .before .before .is-fallback .ensures) ∙ c .before .before .if1 .left, sym (c .before .is-finite .ensures) ∙ c .if2 .left)
 
 pub arc-drawn-spec : {M : Type 1} → statement M
 arc-drawn-spec =
