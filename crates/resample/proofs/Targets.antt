@@ -19,18 +19,18 @@ use Rattle.floats.proofs.Held.{rounds-kind, rounds-real}
 use Rattle.resample.specs.Spacing.{targetAt}
 
 -- a count as an f32
-abbrev whole : ℕ → Float
+abbrev pub whole : ℕ → Float
 whole n = ofInt binary32 (pos n)
 
 -- ---- the infinity above
-top : (x : Float) → T (real x) → T (le x (inf false))
+pub top : (x : Float) → T (real x) → T (le x (inf false))
 unfolding le lt eq isNan
 top nan h = absurd h
 top (inf true) h = tt
 top (inf false) h = tt
 top (fin s m e) h = tt
 
-not-top : (x : Float) → T (nonneg x) → T (le (inf false) x) → ⊥
+pub not-top : (x : Float) → T (nonneg x) → T (le (inf false) x) → ⊥
 unfolding le lt eq
 not-top nan p h = p
 not-top (inf s) p h = p
@@ -58,16 +58,16 @@ module _ (last : ℕ) (some : 0 < last) (few : last ≤ 4095) where
   counted : last ≤ 2 ^ 24
   counted = le-trans few (omega arith)
 
-  last-nonneg : T (nonneg (whole last))
+  pub last-nonneg : T (nonneg (whole last))
   last-nonneg = whole-value binary32 last counted .0
 
-  last-above : 0 < num (whole last)
+  pub last-above : 0 < num (whole last)
   last-above = subst (λ (k : ℕ). 0 < k) (sym (sym (mul-one (num (whole last))) ∙ whole-value binary32 last counted .1)) (mul-pos some (den-pos (whole last)))
 
   quotient-real : (p : Float) → T (nonneg p) → T (real (div binary32 p (whole last)))
   quotient-real p h = rounds-real binary32 (div binary32 p (whole last)) (num p * den (whole last)) (num (whole last) * den p) (div-rounds binary32 p (whole last) h last-nonneg last-above)
 
-  quotient-mono : (p q : Float) → T (nonneg p) ⊎ (p ≡ inf false) → T (nonneg q) ⊎ (q ≡ inf false) → T (le p q) → T (le (div binary32 p (whole last)) (div binary32 q (whole last)))
+  pub quotient-mono : (p q : Float) → T (nonneg p) ⊎ (p ≡ inf false) → T (nonneg q) ⊎ (q ≡ inf false) → T (le p q) → T (le (div binary32 p (whole last)) (div binary32 q (whole last)))
   quotient-mono p q (inl a) (inl b) h =
       div-mono binary32 p q (whole last) (whole last) a b last-nonneg last-nonneg last-above last-above h (le-self (whole last) (nonneg-real (whole last) last-nonneg))
   quotient-mono p q (inl a) (inr b) h = rw b (top-divided (div binary32 p (whole last)) (whole last) (quotient-real p a) last-nonneg last-above)
