@@ -274,14 +274,14 @@ uint32_t kihavute_spline_table(const float *points, size_t points_len, float *ta
 
 /* A query is refused with 12 where the points are an odd list or more than 4,096, or where the table has another count
  * of entries, does not start at 0, falls or is not finite. Every entry is judged at each call.
- * The place at this progress: answer[0] gets the bits of x, answer[1] those of y; (0, 0) without points. */
-uint32_t kihavute_spline_position(const float *points, size_t points_len, const float *table, size_t table_len,
-                                  float progress, uint64_t *answer, size_t answer_len);
-
-/* The direction at this progress, of length 1: answer[0] gets the bits of x, answer[1] those of y. (0, 0) below two
- * points, and where the two samples a thousandth to each side tell nothing. */
-uint32_t kihavute_spline_tangent(const float *points, size_t points_len, const float *table, size_t table_len,
-                                 float progress, uint64_t *answer, size_t answer_len);
+ * What is flown at this progress, six values: answer[0] and [1] get the bits of the place's x and y, [2] and [3] those of the
+ * direction, which has the length 1, [4] the segment and [5] the bits of the raw parameter at which both were taken. Without
+ * points the place is (0, 0); the direction is (0, 0) below two points, and where the two samples a thousandth to each side
+ * tell nothing. A spline is one segment, 0; below two points the raw parameter is the progress, clamped. As progress rises
+ * the raw parameter never falls, from +0 at 0 to 1 at 1 (proved: docs/ORDER.md). */
+#define KIHAVUTE_NO_SEGMENT 4294967295 /* in answer[4]: no segment's number. A spline always has its one. */
+uint32_t kihavute_spline_flight(const float *points, size_t points_len, const float *table, size_t table_len,
+                                float progress, uint64_t *answer, size_t answer_len);
 
 /* The heading at this progress, in degrees from the x axis towards the y axis: answer[0] gets its bits. */
 uint32_t kihavute_spline_rotation_deg(const float *points, size_t points_len, const float *table, size_t table_len,

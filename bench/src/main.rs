@@ -405,12 +405,11 @@ fn splines() {
         let asked: Vec<(usize, f32)> =
             patterns().map(|bits| (bits as usize % 64, (bits >> 8) as f32 / 16_777_216.0)).collect();
         let table = |k: usize| splines[k].open_table().0;
-        let ours = |(k, t): (usize, f32)| kihavute::spline_position(own(starts[k]), table(k), Progress(t)).map_or(0, |p| p[0]);
-        let theirs = |(k, t): (usize, f32)| original_position(&splines[k], t)[0].to_bits();
-        row(&format!("place on {} spans", points - 1), throughput(&asked, ours, theirs));
-        let ours = |(k, t): (usize, f32)| kihavute::spline_tangent(own(starts[k]), table(k), Progress(t)).map_or(0, |p| p[0]);
-        let theirs = |(k, t): (usize, f32)| original_tangent(&splines[k], t)[0].to_bits();
-        row(&format!("direction on {} spans", points - 1), throughput(&asked, ours, theirs));
+        let ours = |(k, t): (usize, f32)| kihavute::spline_flight(own(starts[k]), table(k), Progress(t)).map_or(0, |f| f.position[0] ^ f.tangent[0]);
+        let theirs = |(k, t): (usize, f32)| {
+            original_position(&splines[k], t)[0].to_bits() ^ original_tangent(&splines[k], t)[0].to_bits()
+        };
+        row(&format!("place and direction on {} spans", points - 1), throughput(&asked, ours, theirs));
     }
 }
 

@@ -10,6 +10,7 @@ mod earley;
 mod lengths;
 mod math;
 mod morph;
+mod order;
 mod query;
 mod read;
 mod record;
@@ -51,6 +52,8 @@ fn main() -> ExitCode {
             build::compare(&mut report, SEED, 5_000);
             query::compare(&mut report, SEED, 500);
             query::compare_order(&mut report, SEED, 500);
+            order::compare_splines(&mut report, SEED, 500);
+            order::compare_resampled(&mut report, SEED, 5_000);
             segments::compare(&mut report, SEED, 1_000);
             morph::compare(&mut report, SEED, 2_000);
             stations::compare(&mut report, SEED, 1_000);
@@ -77,6 +80,14 @@ fn main() -> ExitCode {
             _ => return usage(),
         },
         ["query"] => query::compare(&mut report, SEED, 20_000),
+        ["order", "splines", seed, count] => match (seed.parse(), count.parse()) {
+            (Ok(seed), Ok(count)) => order::compare_splines(&mut report, seed, count),
+            _ => return usage(),
+        },
+        ["order", "resampled", seed, count] => match (seed.parse(), count.parse()) {
+            (Ok(seed), Ok(count)) => order::compare_resampled(&mut report, seed, count),
+            _ => return usage(),
+        },
         ["order", seed, count] => match (seed.parse(), count.parse()) {
             (Ok(seed), Ok(count)) => query::compare_order(&mut report, seed, count),
             _ => return usage(),

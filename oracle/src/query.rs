@@ -160,9 +160,10 @@ pub fn compare(report: &mut Report, seed: u64, count: u64) {
 // ---- demand 3
 
 // rising progresses of a batch, neighbours among them
-const RISING: usize = 1001;
+pub const RISING: usize = 1001;
 
-fn rising(stream: &mut Stream) -> Vec<Progress> {
+/// Rising progresses from 0 to 1.
+pub fn rising(stream: &mut Stream) -> Vec<Progress> {
     let mut all = vec![0.0, 1.0];
     while all.len() < RISING {
         let bits = match stream.below(3) {

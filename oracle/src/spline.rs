@@ -39,8 +39,8 @@ impl From<kihavute::Refusal> for Why {
 #[derive(Clone, PartialEq)]
 pub struct Answer<A>(pub Result<A, Why>);
 
-/// What a spline answers at a progress, as bits: position, tangent, heading and length.
-pub type Told = [u32; 6];
+/// What a spline answers at a progress, as bits: position, tangent, heading, length and raw parameter.
+pub type Told = [u32; 7];
 
 /// The entries of a made table, and what it answers; all as bits.
 #[derive(Clone, PartialEq)]
@@ -73,16 +73,36 @@ fn pairs(numbers: &[f32]) -> Vec<[f32; 2]> {
 /// What the proved library tells of a stored spline at a progress.
 pub fn ours_told(numbers: &[f32], table: &[f32], progress: u32) -> Result<Told, Why> {
     let t = kihavute::Progress(f32::from_bits(progress));
-    let [x, y] = kihavute::spline_position(numbers, table, t)?;
-    let [u, v] = kihavute::spline_tangent(numbers, table, t)?;
-    Ok([x, y, u, v, kihavute::spline_rotation_deg(numbers, table, t)?, kihavute::spline_length(numbers, table)?])
+    let kihavute::Flight { position: [x, y], tangent: [u, v], segment, raw } = kihavute::spline_flight(numbers, table, t)?;
+    if segment != Some(0) {
+        return Err(Broken("another segment than 0"));
+    }
+    let heading = kihavute::spline_rotation_deg(numbers, table, t)?;
+    Ok([x, y, u, v, heading, kihavute::spline_length(numbers, table)?, raw.value().to_bits()])
 }
 
-fn told(curve: &impl PathEvaluate, progress: u32) -> Told {
+/// Either type of the Rust, and its lookup.
+trait Curve: PathEvaluate {
+    fn raw(&self, t: f32) -> f32;
+}
+
+impl Curve for CatmullRomSpline {
+    fn raw(&self, t: f32) -> f32 {
+        self.open_raw_t(t)
+    }
+}
+
+impl Curve for PolyPath {
+    fn raw(&self, t: f32) -> f32 {
+        self.open_raw_t(t)
+    }
+}
+
+fn told(curve: &impl Curve, progress: u32) -> Told {
     let t = f32::from_bits(progress);
     let [x, y] = curve.position(t).map(alike);
     let [u, v] = curve.tangent(t).map(alike);
-    [x, y, u, v, alike(curve.rotation_deg(t)), alike(curve.arc_length())]
+    [x, y, u, v, alike(curve.rotation_deg(t)), alike(curve.arc_length()), alike(curve.raw(t))]
 }
 
 // what stands in a buffer that no call has written to
@@ -138,7 +158,7 @@ impl Points {
     }
 }
 
-fn made(entries: &[f32], curve: &impl PathEvaluate, progresses: &[u32]) -> Result<Made, Why> {
+fn made(entries: &[f32], curve: &impl Curve, progresses: &[u32]) -> Result<Made, Why> {
     if let Some(place) = entries.iter().position(|entry| !entry.is_finite()) {
         return Err(Refused(11, place as u64));
     }

@@ -137,8 +137,7 @@ answering! {
         sx: f32, sy: f32, rx: f32, ry: f32, rotation: f32, large: u32, sweep: u32, ex: f32, ey: f32, out: mut [f32]
     );
     fn kihavute_spline_table(points: [f32], table: mut [f32]);
-    fn kihavute_spline_position(points: [f32], table: [f32], progress: f32);
-    fn kihavute_spline_tangent(points: [f32], table: [f32], progress: f32);
+    fn kihavute_spline_flight(points: [f32], table: [f32], progress: f32);
     fn kihavute_spline_rotation_deg(points: [f32], table: [f32], progress: f32);
     fn kihavute_spline_length(points: [f32], table: [f32]);
     fn kihavute_number(text: [u8]);
@@ -565,24 +564,50 @@ pub fn spline_table(points: &[f32], table: &mut [f32]) -> Result<usize, Refusal>
     Ok(given[0] as usize)
 }
 
-/// Where the spline through these points with this table is at a progress.
-#[inline]
-pub fn spline_position(points: &[f32], table: &[f32], progress: Progress) -> Result<[Bits; 2], Refusal> {
-    // SAFETY: the slices are whole, and the answer is the call's own
-    let given = judged(|answer, places| unsafe {
-        kihavute_spline_position(points.as_ptr(), points.len(), table.as_ptr(), table.len(), progress.0, answer, places)
-    })?;
-    Ok([given[0] as Bits, given[1] as Bits])
+/// What is flown at a progress: where it is, where it heads, with the length 1, or (0, 0) where nothing tells; and the pair of
+/// segment, if there is one, and raw parameter at which both were taken.
+#[derive(Clone, Copy, Debug, PartialEq)]
+pub struct Flight {
+    pub position: [Bits; 2],
+    pub tangent: [Bits; 2],
+    pub segment: Option<usize>,
+    pub raw: RawParameter,
 }
 
-/// Where the spline heads at a progress, with the length 1.
+// what the header calls KIHAVUTE_NO_SEGMENT
+const NO_SEGMENT: u64 = 4294967295;
+
+impl Flight {
+    fn given(values: [u64; 8]) -> Self {
+        Self {
+            position: [values[0] as Bits, values[1] as Bits],
+            tangent: [values[2] as Bits, values[3] as Bits],
+            segment: (values[4] != NO_SEGMENT).then_some(values[4] as usize),
+            raw: RawParameter::of_bits(values[5] as Bits),
+        }
+    }
+}
+
+/// What is flown at a progress along the spline through these points with this table. A spline is one segment, 0.
+///
+/// ```
+/// use kihavute::{Progress, spline_flight, spline_table};
+///
+/// let points = [0.0, 0.0, 1.0, 0.0, 2.0, 0.0];
+/// let mut table = [0.0; 33];
+/// spline_table(&points, &mut table).unwrap();
+/// let flight = spline_flight(&points, &table, Progress(0.5)).unwrap();
+/// assert_eq!(flight.position.map(f32::from_bits), [1.0, 0.0]);
+/// assert_eq!(flight.segment, Some(0));
+/// assert_eq!(flight.raw.value(), 0.5);
+/// ```
 #[inline]
-pub fn spline_tangent(points: &[f32], table: &[f32], progress: Progress) -> Result<[Bits; 2], Refusal> {
+pub fn spline_flight(points: &[f32], table: &[f32], progress: Progress) -> Result<Flight, Refusal> {
     // SAFETY: the slices are whole, and the answer is the call's own
     let given = judged(|answer, places| unsafe {
-        kihavute_spline_tangent(points.as_ptr(), points.len(), table.as_ptr(), table.len(), progress.0, answer, places)
+        kihavute_spline_flight(points.as_ptr(), points.len(), table.as_ptr(), table.len(), progress.0, answer, places)
     })?;
-    Ok([given[0] as Bits, given[1] as Bits])
+    Ok(Flight::given(given))
 }
 
 /// Where the spline heads at a progress, in degrees.
@@ -1217,12 +1242,19 @@ mod tests {
         assert_eq!(table, [-77.0; 34]);
         assert_eq!(spline_table(&points, &mut table), Ok(33));
         assert_eq!(table[33], -77.0);
-        assert_eq!(spline_position(&points, &table[..33], Progress(0.5)), Ok(bits([1.0, 0.0])));
-        assert_eq!(spline_tangent(&points, &table[..33], Progress(0.5)), Ok(bits([1.0, 0.0])));
+        let halfway = Flight {
+            position: bits([1.0, 0.0]),
+            tangent: bits([1.0, 0.0]),
+            segment: Some(0),
+            raw: RawParameter::of_bits(0.5f32.to_bits()),
+        };
+        assert_eq!(spline_flight(&points, &table[..33], Progress(0.5)), Ok(halfway));
         assert_eq!(spline_rotation_deg(&points, &table[..33], Progress(0.5)), Ok(0));
         assert_eq!(spline_length(&points, &table[..33]), Ok(2.0f32.to_bits()));
         assert_eq!(spline_length(&points, &table), Err(Refusal::answered(12, [0; 8])));
-        assert_eq!(spline_position(&[], &[0.0], Progress(0.5)), Ok([0, 0]));
+        let nowhere = Flight { position: [0, 0], tangent: [0, 0], ..halfway };
+        assert_eq!(spline_flight(&[], &[0.0], Progress(0.5)), Ok(nowhere));
+        assert_eq!(spline_flight(&points, &table, Progress(0.5)), Err(Refusal::answered(12, [0; 8])));
     }
 
     #[test]

@@ -385,11 +385,9 @@ static void splines(void) {
     same("no points, the entry", bits(entries[0]), 0);
     table_left("no points", 1);
     fresh();
-    answered("no points, the place", kihavute_spline_position(straight, 0, entries, 1, 0.5f, answer, PLACES), 0, 2, (uint64_t[]){0, 0});
+    answered("no points", kihavute_spline_flight(straight, 0, entries, 1, 0.5f, answer, PLACES), 0, 6, (uint64_t[]){0, 0, 0, 0, 0, bits(0.5f)});
     fresh();
-    answered("one point, the place", kihavute_spline_position(leg, 2, entries, 1, 0.5f, answer, PLACES), 0, 2, (uint64_t[]){bits(1), bits(2)});
-    fresh();
-    answered("one point, the direction", kihavute_spline_tangent(leg, 2, entries, 1, 0.5f, answer, PLACES), 0, 2, (uint64_t[]){0, 0});
+    answered("one point", kihavute_spline_flight(leg, 2, entries, 1, 2, answer, PLACES), 0, 6, (uint64_t[]){bits(1), bits(2), 0, 0, 0, bits(1)});
 
     fresh_table();
     answered("a leg", kihavute_spline_table(leg, 4, entries, 17, answer, PLACES), 0, 1, (uint64_t[]){17});
@@ -397,22 +395,22 @@ static void splines(void) {
     fresh();
     answered("a leg's length", kihavute_spline_length(leg, 4, entries, 17, answer, PLACES), 0, 1, (uint64_t[]){bits(5)});
     fresh();
-    answered("a leg's place", kihavute_spline_position(leg, 4, entries, 17, 2, answer, 8), 0, 2, (uint64_t[]){bits(4), bits(6)});
+    answered("a leg's end", kihavute_spline_flight(leg, 4, entries, 17, 2, answer, 8), 0, 6, (uint64_t[]){bits(4), bits(6), bits(0.6f), bits(0.8f), 0, bits(1)});
     fresh();
-    answered("a leg's direction", kihavute_spline_tangent(leg, 4, entries, 17, nan, answer, PLACES), 0, 2, (uint64_t[]){bits(0.6f), bits(0.8f)});
+    answered("a leg at a NaN", kihavute_spline_flight(leg, 4, entries, 17, nan, answer, PLACES), 0, 6, (uint64_t[]){bits(1), bits(2), bits(0.6f), bits(0.8f), 0, 0});
 
     fresh_table();
     answered("three points", kihavute_spline_table(straight, 6, entries, ENTRIES, answer, PLACES), 0, 1, (uint64_t[]){33});
     same("three points, the middle", bits(entries[16]), bits(1));
     table_left("three points", 33);
     fresh();
-    answered("three points' place", kihavute_spline_position(straight, 6, entries, 33, 0.5f, answer, PLACES), 0, 2, (uint64_t[]){bits(1), 0});
+    answered("three points' middle", kihavute_spline_flight(straight, 6, entries, 33, 0.5f, answer, PLACES), 0, 6, (uint64_t[]){bits(1), 0, bits(1), 0, 0, bits(0.5f)});
     fresh();
     answered("three points' heading", kihavute_spline_rotation_deg(straight, 6, entries, 33, 0.5f, answer, PLACES), 0, 1, (uint64_t[]){0});
     fresh();
-    answered("a table one too long", kihavute_spline_position(straight, 6, entries, 34, 0.5f, answer, PLACES), 12, 0, NULL);
+    answered("a table one too long", kihavute_spline_flight(straight, 6, entries, 34, 0.5f, answer, PLACES), 12, 0, NULL);
     fresh();
-    answered("an odd list", kihavute_spline_tangent(straight, 5, entries, 17, 0.5f, answer, PLACES), 12, 0, NULL);
+    answered("an odd list", kihavute_spline_flight(straight, 5, entries, 17, 0.5f, answer, PLACES), 12, 0, NULL);
     fresh();
     answered("a short answer to a query", kihavute_spline_length(straight, 6, entries, 33, answer, 7), 255, 0, NULL);
     entries[32] = 0;
@@ -1293,13 +1291,9 @@ static void nulls(void) {
     fresh();
     answered("a spline's table of null into null", kihavute_spline_table(NULL, 0, NULL, 0, answer, PLACES), 8, 1, (uint64_t[]){1});
     fresh();
-    answered("null points", kihavute_spline_position(NULL, 0, zero, 1, half, answer, PLACES), 0, 2, (uint64_t[]){0, 0});
+    answered("null points", kihavute_spline_flight(NULL, 0, zero, 1, half, answer, PLACES), 0, 6, (uint64_t[]){0, 0, 0, 0, 0, bits(half)});
     fresh();
-    answered("a null table", kihavute_spline_position(NULL, 0, NULL, 0, half, answer, PLACES), 12, 0, NULL);
-    fresh();
-    answered("null points, their tangent", kihavute_spline_tangent(NULL, 0, zero, 1, half, answer, PLACES), 0, 2, (uint64_t[]){0, 0});
-    fresh();
-    answered("a null table, its tangent", kihavute_spline_tangent(NULL, 0, NULL, 0, half, answer, PLACES), 12, 0, NULL);
+    answered("a null table", kihavute_spline_flight(NULL, 0, NULL, 0, half, answer, PLACES), 12, 0, NULL);
     fresh();
     answered("null points, their heading", kihavute_spline_rotation_deg(NULL, 0, zero, 1, half, answer, PLACES), 0, 1, (uint64_t[]){0});
     fresh();
@@ -1400,8 +1394,7 @@ static void nulls(void) {
         kihavute_arc_shape(0, 0, 1, 1, 0, 0, 1, 2, 0, NULL, 0, NULL, 0),
         kihavute_arc_table(0, 0, 1, 1, 0, 0, 1, 2, 0, NULL, 0, NULL, 0),
         kihavute_spline_table(NULL, 0, NULL, 0, NULL, 0),
-        kihavute_spline_position(NULL, 0, zero, 1, half, NULL, 0),
-        kihavute_spline_tangent(NULL, 0, zero, 1, half, NULL, 0),
+        kihavute_spline_flight(NULL, 0, zero, 1, half, NULL, 0),
         kihavute_spline_rotation_deg(NULL, 0, zero, 1, half, NULL, 0),
         kihavute_spline_length(NULL, 0, zero, 1, NULL, 0),
         kihavute_resample(NULL, 0, 5, NULL, 0, NULL, 0),

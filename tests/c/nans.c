@@ -145,13 +145,9 @@ static void spline(float nan) {
 static void r_spline_table(float nan) {
     refused(kihavute_spline_table((float[]){0, nan, 3, 4}, 4, tables, 70, answer, PLACES), 11);
 }
-static void r_spline_position(float nan) {
+static void r_spline_flight(float nan) {
     spline(nan);
-    accepted(kihavute_spline_position(fields, 4, tables, 17, 0.5f, answer, PLACES)), is_nan(answer[1]);
-}
-static void r_spline_tangent(float nan) {
-    spline(nan);
-    accepted(kihavute_spline_tangent(fields, 4, tables, 17, 0.5f, answer, PLACES)), is_nan(answer[1]);
+    accepted(kihavute_spline_flight(fields, 4, tables, 17, 0.5f, answer, PLACES)), is_nan(answer[1]), is_nan(answer[3]), no_nan(answer[5]);
 }
 static void r_spline_rotation_deg(float nan) {
     spline(nan);
@@ -294,7 +290,7 @@ static const struct {
     NEVER(arc_table, "a length that is not finite is refused"),
     ROW(arc_shape),
     NEVER(spline_table, "an entry that is not finite is refused"),
-    ROW(spline_position), ROW(spline_tangent), ROW(spline_rotation_deg),
+    ROW(spline_flight), ROW(spline_rotation_deg),
     NEVER(spline_length, "a table with an entry that is not finite is refused"),
     ROW(resample), ROW(morph), ROW(morph_default), ROW(evaluate), ROW(bounds),
     NEVER(number, "a decimal is a number or infinite"),

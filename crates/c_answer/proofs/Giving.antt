@@ -15,6 +15,10 @@ use Rattle.bezier.specs.declared.curves.Placed.{Placed}
 use Rattle.bezier.specs.declared.curves.Placed.the-variants as Placed
 use Rattle.bezier.specs.declared.curves.Turned.{Turned}
 use Rattle.bezier.specs.declared.curves.Turned.the-variants as Turned
+use Rattle.flight.specs.declared.Flight.{Flight}
+use Rattle.flight.specs.declared.Flown.{Flown}
+use Rattle.flight.specs.declared.Flown.the-variants as Flown
+use Rattle.flight.specs.Flights.{segmentGiven, flightGiven}
 use Rattle.c_answer.specs.Given.{Given}
 use Rattle.c_answer.specs.Places.{placeGiven, turnGiven}
 
@@ -46,3 +50,19 @@ turn-given turned degrees bits own at = ap (λ (b : ℕ). accepted (b ∷ [])) o
 
 pub turn-refused : (turned : Turned) (refusal : Refusal) → Turned.Refused refusal ≡ turned → refused refusal ≡ turnGiven turned
 turn-refused turned refusal is = ap turnGiven is
+
+-- ---- what is flown
+pub flight-given :
+    (flown : Flown) (flight : Flight) (x y u v s r : ℕ)
+    → x ≡ bitsOf (flight .position .x)
+    → y ≡ bitsOf (flight .position .y)
+    → u ≡ bitsOf (flight .tangent .x)
+    → v ≡ bitsOf (flight .tangent .y)
+    → s ≡ segmentGiven (flight .segment)
+    → r ≡ bitsOf (flight .raw .value)
+    → Flown.At flight ≡ flown
+    → accepted (x ∷ y ∷ u ∷ v ∷ s ∷ r ∷ []) ≡ flightGiven flown
+flight-given flown flight x y u v s r own-x own-y own-u own-v own-s own-r at = rw (own-x, own-y, own-u, own-v, own-s, own-r) (ap flightGiven at)
+
+pub flight-refused : (flown : Flown) (refusal : Refusal) → Flown.Refused refusal ≡ flown → refused refusal ≡ flightGiven flown
+flight-refused flown refusal is = ap flightGiven is

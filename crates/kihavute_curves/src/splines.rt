@@ -1,11 +1,13 @@
 // Splines: the table of the points that are lent, and queries of points with their table.
 ghost use Rattle.spline_table.specs.Tables.{answerOf};
-ghost use Rattle.spline_query.specs.Queries.{splinePlacedOf, splineHeadingOf, splineTurnedOf, splineMeasuredOf};
+ghost use Rattle.spline_query.specs.Queries.{splineFlownOf, splineTurnedOf, splineMeasuredOf};
 ghost use Rattle.c_answer.specs.Given.{Given};
-ghost use Rattle.c_answer.specs.Places.{placeGiven, turnGiven};
+ghost use Rattle.spline_query.specs.Ordered.{SplineOrdered};
+ghost use Rattle.flight.specs.Flights.{flightGiven};
+ghost use Rattle.c_answer.specs.Places.{turnGiven};
 ghost use Rattle.kihavute_curves.specs.Splines.{SplineTableGiven, measureGiven};
 use answers::Values;
-use c_answer::give_place;
+use c_answer::give_flight;
 use c_answer::give_turn;
 use spline_query::Measured;
 use spline_table::Tabled;
@@ -51,32 +53,19 @@ pub extern "C" fn kihavute_spline_table(
     give_count(tabled, answer)
 }
 
-// Where a spline is at a progress.
+// What is flown at a progress along a spline: position and tangent as bits, the segment 0, the raw parameter as bits.
 #[no_mangle]
-pub extern "C" fn kihavute_spline_position(
+pub extern "C" fn kihavute_spline_flight(
     points: &[f32],
     table: &[f32],
     progress: f32,
     answer: &mut [u64],
 ) -> u32
-    ensures { λ r. ⌜ Given (placeGiven (splinePlacedOf (now (points .entry)) (now (table .entry)) progress)) (now (answer .entry)) r (now (answer .exit)) ⌝ }
+    ensures { λ r. ⌜ Given (flightGiven (splineFlownOf (now (points .entry)) (now (table .entry)) progress)) (now (answer .entry)) r (now (answer .exit)) ⌝ }
+    ensures { λ _. ⌜ SplineOrdered (splineFlownOf (now (points .entry)) (now (table .entry)) progress) (now (points .entry)) (now (table .entry)) ⌝ }
 {
-    let found = spline_query::spline_position(points, table, Progress { value: progress });
-    give_place(found, answer)
-}
-
-// Where a spline heads at a progress, with the length 1.
-#[no_mangle]
-pub extern "C" fn kihavute_spline_tangent(
-    points: &[f32],
-    table: &[f32],
-    progress: f32,
-    answer: &mut [u64],
-) -> u32
-    ensures { λ r. ⌜ Given (placeGiven (splineHeadingOf (now (points .entry)) (now (table .entry)) progress)) (now (answer .entry)) r (now (answer .exit)) ⌝ }
-{
-    let found = spline_query::spline_tangent(points, table, Progress { value: progress });
-    give_place(found, answer)
+    let flown = spline_query::spline_flight(points, table, Progress { value: progress });
+    give_flight(flown, answer)
 }
 
 // Where a spline heads at a progress, in degrees.

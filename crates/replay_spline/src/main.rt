@@ -3,31 +3,34 @@
 ghost use Prim.Native.Nat.{_+_, _≤_};
 ghost use mathlib.Core.Path.{_≡_};
 ghost use lib.ListN.{length};
+use flight::Flown;
+use flight::Found;
 use replay_records::first_of;
 use replay_records::float;
 use replay_records::has_bits;
 use replay_records::held;
 use replay_records::pattern;
-use replay_records::placed;
 use replay_records::read_numbers;
+use replay_records::same_point;
 use replay_records::turned;
 use spline_query::Measured;
 use spline_table::Tabled;
 use table::Progress;
+use table::number_of;
 
 // A block has points and five answers. Its first line has the count of the points' numbers, nine
 // numbers, the places lent for the table, the refusal's number or 0, what goes with that, and the
 // size of the table that is asked; the second has eight places of the lent table and what stands
 // there afterwards; the third a place that is then damaged, if it is below 64, and by what. Each of
-// the last four has a progress, the refusal's number or 0, position, tangent, heading and length. All
-// are patterns of eight hexadecimal digits.
-const BLOCK: usize = 576;
+// the last four has a progress, the refusal's number or 0, position, tangent, heading, length and raw
+// parameter. All are patterns of eight hexadecimal digits.
+const BLOCK: usize = 612;
 
 const ANSWERS: usize = 5;
 
 const QUERIES: usize = 4;
 
-const LINE: usize = 72;
+const LINE: usize = 81;
 
 fn main() {
     let mut space = io::large_buffer();
@@ -47,7 +50,7 @@ fn differing(text: &[u8]) -> u64 {
 
 // How many answers of the block at this place differ.
 fn missed(text: &[u8], at: usize) -> u64
-    requires { ⌜ at + 576 ≤ length (now text) ⌝ }
+    requires { ⌜ at + 612 ≤ length (now text) ⌝ }
     ensures { λ r. ⌜ r ≤ 5 ⌝ }
 {
     let numbers = numbers_at(text, at + 9);
@@ -65,7 +68,7 @@ fn missed(text: &[u8], at: usize) -> u64
 
 // 1 where making the table of the block at this place answered or stored something else, else 0.
 fn table_missed(text: &[u8], at: usize, answer: Tabled, table: [f32; 64]) -> u64
-    requires { ⌜ at + 576 ≤ length (now text) ⌝ }
+    requires { ⌜ at + 612 ≤ length (now text) ⌝ }
     requires { ⌜ 64 ≡ length table ⌝ }
     ensures { λ r. ⌜ r ≤ 1 ⌝ }
 {
@@ -86,7 +89,7 @@ fn queries_missed(
     table: [f32; 64],
     size: usize,
 ) -> u64
-    requires { ⌜ at + 288 ≤ length (now text) ⌝ }
+    requires { ⌜ at + 324 ≤ length (now text) ⌝ }
     requires { ⌜ 9 ≡ length numbers ⌝ }
     requires { ⌜ count ≤ 9 ⌝ }
     requires { ⌜ 64 ≡ length table ⌝ }
@@ -172,7 +175,7 @@ fn missed_at(
     table: [f32; 64],
     size: usize,
 ) -> u64
-    requires { ⌜ line + 72 ≤ length (now text) ⌝ }
+    requires { ⌜ line + 81 ≤ length (now text) ⌝ }
     requires { ⌜ 9 ≡ length numbers ⌝ }
     requires { ⌜ count ≤ 9 ⌝ }
     requires { ⌜ 64 ≡ length table ⌝ }
@@ -186,27 +189,20 @@ fn missed_at(
     }
 }
 
-// Whether position, tangent, heading and length are those of the line at `line`.
+// Whether position, tangent, raw parameter, heading and length are those of the line at `line`.
 fn told(text: &[u8], line: usize, numbers: &[f32], table: &[f32]) -> bool
-    requires { ⌜ line + 72 ≤ length (now text) ⌝ }
+    requires { ⌜ line + 81 ≤ length (now text) ⌝ }
 {
     let progress = Progress {
         value: float(pattern(text, line)),
     };
     let number = pattern(text, line + 9);
-    if !placed(
-        spline_query::spline_position(numbers, table, progress),
+    if !flown(
+        spline_query::spline_flight(numbers, table, progress),
         number,
-        pattern(text, line + 18),
-        pattern(text, line + 27),
-    ) {
-        return false;
-    }
-    if !placed(
-        spline_query::spline_tangent(numbers, table, progress),
-        number,
-        pattern(text, line + 36),
-        pattern(text, line + 45),
+        text,
+        line + 18,
+        pattern(text, line + 72),
     ) {
         return false;
     }
@@ -222,6 +218,33 @@ fn told(text: &[u8], line: usize, numbers: &[f32], table: &[f32]) -> bool
         number,
         pattern(text, line + 63),
     )
+}
+
+// Whether the point at `at` is the position, the one past it the tangent, and `raw` the parameter, on segment 0.
+fn flown(found: Flown, number: u32, text: &[u8], at: usize, raw: u32) -> bool
+    requires { ⌜ at + 36 ≤ length (now text) ⌝ }
+{
+    match found {
+        Flown::At(flight) => {
+            let own = flight.segment;
+            let position = flight.position;
+            let tangent = flight.tangent;
+            let parameter = flight.raw;
+            number == 0
+                && is_first(own)
+                && same_point(position, pattern(text, at), pattern(text, at + 9))
+                && same_point(tangent, pattern(text, at + 18), pattern(text, at + 27))
+                && has_bits(number_of(parameter), raw)
+        }
+        Flown::Refused(refusal) => answers::number(refusal) == number,
+    }
+}
+
+fn is_first(found: Found) -> bool {
+    match found {
+        Found::Segment(number) => number == 0,
+        Found::Nothing => false,
+    }
 }
 
 fn measured(found: Measured, number: u32, length: u32) -> bool {

@@ -1,2 +1,3 @@
--- What a stored spline gives.
+-- What a stored spline gives, and that it is given in order.
 pub mod Queries
+pub mod Ordered

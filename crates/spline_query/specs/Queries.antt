@@ -8,16 +8,15 @@ use lib.Dec.{T, leb, eqb}
 use lib.ListN.{length}
 use lib.Ieee.{Float}
 use Rattle.answers.specs.declared.refusals.Refusal.the-variants.{BadPath}
-use Rattle.math.specs.declared.points.Point.{Point}
 use Rattle.angles.specs.Angles.{rotationDegOf}
 use Rattle.table.specs.Lookup.{at, lastOf, rawOf}
 use Rattle.table.specs.Sound.{tableIsSound}
-use Rattle.bezier.specs.declared.curves.Placed.{Placed}
-use Rattle.bezier.specs.declared.curves.Placed.the-variants as Placed
+use Rattle.flight.specs.declared.Found.the-variants.{Segment}
+use Rattle.flight.specs.declared.Flight.{Flight}
+use Rattle.flight.specs.declared.Flown.{Flown}
+use Rattle.flight.specs.declared.Flown.the-variants as Flown
 use Rattle.bezier.specs.declared.curves.Turned.{Turned}
 use Rattle.bezier.specs.declared.curves.Turned.the-variants as Turned
-use Rattle.bezier.specs.declared.curves.Verdict.{Verdict}
-use Rattle.bezier.specs.declared.curves.Verdict.the-variants as Verdict
 use Rattle.polyline.specs.Points.{countOf}
 use Rattle.polyline.specs.Judging.{isOdd}
 use Rattle.spline.specs.Formula.{splineSampleOf, splineDirectionOf}
@@ -43,27 +42,19 @@ splineIsSound points table =
 abbrev pub splineRaw : List Float → Float → Float
 splineRaw table progress = rawOf table (splineTotal table) progress
 
--- `position`
-unfoldable pub splinePositionOf : List Float → List Float → Float → Point
-splinePositionOf points table progress = splineSampleOf points (splineRaw table progress)
-
--- `tangent`
-unfoldable pub splineTangentOf : List Float → List Float → Float → Point
-splineTangentOf points table progress = splineDirectionOf points (splineRaw table progress)
+-- `position` and `tangent` at one raw parameter; "A spline's segment is 0, also without points" (change request L4)
+unfoldable pub splineFlightOf : List Float → List Float → Float → Flight
+splineFlightOf points table progress =
+    let raw = splineRaw table progress in
+    record { position = splineSampleOf points raw; tangent = splineDirectionOf points raw; segment = Segment 0; raw = record { value = raw } }
 
 -- ---- "A path or spline query: 12 only."
-unfoldable pub splineVerdictOf : List Float → List Float → Verdict
-splineVerdictOf points table = cond (splineIsSound points table) Verdict.Accepted (Verdict.Refused BadPath)
-
-unfoldable pub splinePlacedOf : List Float → List Float → Float → Placed
-splinePlacedOf points table progress = cond (splineIsSound points table) (Placed.At (splinePositionOf points table progress)) (Placed.Refused BadPath)
-
-unfoldable pub splineHeadingOf : List Float → List Float → Float → Placed
-splineHeadingOf points table progress = cond (splineIsSound points table) (Placed.At (splineTangentOf points table progress)) (Placed.Refused BadPath)
+unfoldable pub splineFlownOf : List Float → List Float → Float → Flown
+splineFlownOf points table progress = cond (splineIsSound points table) (Flown.At (splineFlightOf points table progress)) (Flown.Refused BadPath)
 
 -- `rotation_deg` of the tangent, in degrees
 unfoldable pub splineTurnedOf : List Float → List Float → Float → Turned
-splineTurnedOf points table progress = cond (splineIsSound points table) (Turned.Degrees (rotationDegOf (splineTangentOf points table progress))) (Turned.Refused BadPath)
+splineTurnedOf points table progress = cond (splineIsSound points table) (Turned.Degrees (rotationDegOf (splineFlightOf points table progress .tangent))) (Turned.Refused BadPath)
 
 -- `arc_length`
 unfoldable pub splineMeasuredOf : List Float → List Float → Measured

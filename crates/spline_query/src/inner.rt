@@ -1,12 +1,14 @@
 // The queries without their tests, for callers that know the spline to be sound.
-use math::Point;
+use bezier::tidied;
+use flight::Flight;
+use flight::Found;
 use spline::inner::direction;
 use spline::inner::sample;
 use table::Progress;
 use table::RawParameter;
 use table::inner::raw_parameter_in;
 ghost use mathlib.Core.Path.{_≡_};
-ghost use Rattle.spline_query.specs.Queries.{SoundSpline, splineTotal, splineRaw, splinePositionOf, splineTangentOf};
+ghost use Rattle.spline_query.specs.Queries.{SoundSpline, splineTotal, splineRaw, splineFlightOf};
 
 // How long a spline is: its last entry.
 pub fn total(points: &[f32], table: &[f32]) -> f32
@@ -24,18 +26,18 @@ pub fn raw(points: &[f32], table: &[f32], progress: Progress) -> RawParameter
     raw_parameter_in(table, total(points, table), progress)
 }
 
-// Where a spline is at a progress.
-pub fn position(points: &[f32], table: &[f32], progress: Progress) -> Point
+// What is flown at a progress along a spline: the sample and the direction at one raw parameter. A spline is one segment.
+pub fn flight(points: &[f32], table: &[f32], progress: Progress) -> Flight
     requires { ⌜ SoundSpline (now points) (now table) ⌝ }
-    ensures { λ r. ⌜ r ≡ splinePositionOf (now (points .entry)) (now (table .entry)) (progress .value) ⌝ }
+    ensures { λ r. ⌜ r ≡ splineFlightOf (now (points .entry)) (now (table .entry)) (progress .value) ⌝ }
 {
-    sample(points, raw(points, table, progress))
-}
-
-// Where a spline heads at a progress, with the length 1, or (0, 0) where nothing tells.
-pub fn tangent(points: &[f32], table: &[f32], progress: Progress) -> Point
-    requires { ⌜ SoundSpline (now points) (now table) ⌝ }
-    ensures { λ r. ⌜ r ≡ splineTangentOf (now (points .entry)) (now (table .entry)) (progress .value) ⌝ }
-{
-    direction(points, raw(points, table, progress))
+    let at = raw(points, table, progress);
+    let position = tidied(sample(points, at));
+    let tangent = tidied(direction(points, at));
+    Flight {
+        position,
+        tangent,
+        segment: Found::Segment(0),
+        raw: at,
+    }
 }

@@ -5,9 +5,7 @@ mod queries;
 mod soundness;
 
 pub use queries::Measured;
+pub use queries::spline_flight;
 pub use queries::spline_length;
-pub use queries::spline_position;
 pub use queries::spline_rotation_deg;
-pub use queries::spline_tangent;
-pub use soundness::check_spline;
 pub use soundness::spline_is_sound;

@@ -3,13 +3,13 @@ use crate::inner;
 use crate::soundness::spline_is_sound;
 use angles::rotation_deg;
 use answers::Refusal;
-use bezier::Placed;
 use bezier::Turned;
-use bezier::tidied;
+use flight::Flown;
 use floats::tidy;
 use table::Progress;
 ghost use mathlib.Core.Path.{_≡_};
-ghost use Rattle.spline_query.specs.Queries.{splinePlacedOf, splineHeadingOf, splineTurnedOf, splineMeasuredOf};
+ghost use Rattle.spline_query.specs.Ordered.{SplineOrdered};
+ghost use Rattle.spline_query.specs.Queries.{splineFlownOf, splineTurnedOf, splineMeasuredOf};
 
 // A length in path units, or why there is none.
 pub enum Measured {
@@ -17,25 +17,17 @@ pub enum Measured {
     Refused(Refusal),
 }
 
-// Where a spline is at a progress: (0, 0) without points, the point itself with one. An unsound spline is refused.
-pub fn spline_position(points: &[f32], table: &[f32], progress: Progress) -> Placed
-    ensures { λ r. ⌜ r ≡ splinePlacedOf (now (points .entry)) (now (table .entry)) (progress .value) ⌝ }
+// Where a spline is at a progress, where it heads, and the pair at which both were taken. The segment is 0, also without points;
+// below two points the raw parameter is the clamped progress, the position the point itself or (0, 0), the tangent (0, 0). An
+// unsound spline is refused.
+pub fn spline_flight(points: &[f32], table: &[f32], progress: Progress) -> Flown
+    ensures { λ r. ⌜ r ≡ splineFlownOf (now (points .entry)) (now (table .entry)) (progress .value) ⌝ }
+    ensures { λ r. ⌜ SplineOrdered r (now (points .entry)) (now (table .entry)) ⌝ }
 {
     if spline_is_sound(points, table) {
-        return Placed::At(tidied(inner::position(points, table, progress)));
+        return Flown::At(inner::flight(points, table, progress));
     }
-    Placed::Refused(Refusal::BadPath)
-}
-
-// Where a spline heads at a progress, with the length 1, or (0, 0) below two points and where nothing tells. An unsound spline is
-// refused.
-pub fn spline_tangent(points: &[f32], table: &[f32], progress: Progress) -> Placed
-    ensures { λ r. ⌜ r ≡ splineHeadingOf (now (points .entry)) (now (table .entry)) (progress .value) ⌝ }
-{
-    if spline_is_sound(points, table) {
-        return Placed::At(tidied(inner::tangent(points, table, progress)));
-    }
-    Placed::Refused(Refusal::BadPath)
+    Flown::Refused(Refusal::BadPath)
 }
 
 // Where a spline heads at a progress, in degrees from the x axis towards the y axis, or 0 where nothing tells. An unsound spline
@@ -44,7 +36,8 @@ pub fn spline_rotation_deg(points: &[f32], table: &[f32], progress: Progress) ->
     ensures { λ r. ⌜ r ≡ splineTurnedOf (now (points .entry)) (now (table .entry)) (progress .value) ⌝ }
 {
     if spline_is_sound(points, table) {
-        return Turned::Degrees(tidy(rotation_deg(inner::tangent(points, table, progress))));
+        let there = inner::flight(points, table, progress);
+        return Turned::Degrees(tidy(rotation_deg(there.tangent)));
     }
     Turned::Refused(Refusal::BadPath)
 }

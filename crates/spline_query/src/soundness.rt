@@ -1,10 +1,8 @@
 // The check of a stored spline.
-use answers::Refusal;
-use bezier::Verdict;
 use spline_table::inner::last_entry;
 use table::entries_are_sound;
 ghost use mathlib.Core.Path.{_≡_};
-ghost use Rattle.spline_query.specs.Queries.{splineIsSound, splineVerdictOf};
+ghost use Rattle.spline_query.specs.Queries.{splineIsSound};
 
 // Whether the points are an even list of at most 4,096, and the table has 16 entries for each span and one more, starts at 0, is
 // finite and never falls.
@@ -24,14 +22,4 @@ pub fn spline_is_sound(points: &[f32], table: &[f32]) -> bool
         return entries_are_sound(table, total);
     }
     false
-}
-
-// The check as an answer.
-pub fn check_spline(points: &[f32], table: &[f32]) -> Verdict
-    ensures { λ r. ⌜ r ≡ splineVerdictOf (now (points .entry)) (now (table .entry)) ⌝ }
-{
-    if spline_is_sound(points, table) {
-        return Verdict::Accepted;
-    }
-    Verdict::Refused(Refusal::BadPath)
 }

@@ -66,4 +66,9 @@ impl PolyPath {
     pub fn open_table(&self) -> (&[f32], f32) {
         self.spline.open_table()
     }
+
+    /// The raw parameter at this progress.
+    pub fn open_raw_t(&self, t: f32) -> f32 {
+        self.spline.open_raw_t(t)
+    }
 }

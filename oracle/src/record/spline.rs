@@ -87,7 +87,7 @@ fn one(report: &mut Report, kind: Kind, block: usize, stream: &mut Stream) -> St
         let answer = stored.theirs();
         let (number, told) = match &answer {
             Ok(told) => (0, *told),
-            Err(Why::Refused(number, _)) => (*number, [0; 6]),
+            Err(Why::Refused(number, _)) => (*number, [0; 7]),
             Err(Why::Broken(what)) => panic!("{what}"),
         };
         let mut line = vec![progress, number];

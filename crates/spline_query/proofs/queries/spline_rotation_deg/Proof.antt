@@ -1,6 +1,7 @@
 -- The check decides; the heading is the tangent's. Assumes nothing.
 use borrow.Author.Needs.{needs}
 use mathlib.Core.Path.{ap, _∙_}
+use Rattle.flight.specs.declared.Flight.{Flight}
 use Rattle.angles.specs.Angles.{rotationDegOf}
 use Rattle.bezier.specs.declared.curves.Turned.the-variants as Turned
 use Rattle.spline_query.proofs.Checking.{taken, refused, tested-sound}
@@ -8,13 +9,13 @@ use Rattle.spline_query.specs.Queries.{splineTurnedOf}
 use Rattle.spline_query.proofs.queries.spline_rotation_deg.Statement.{statement}
 use Rattle.spline_query.proofs.queries.spline_rotation_deg.Tie as tie
 
-tangent-requires : tie.Need-tangent-requires
-tangent-requires c κs = tested-sound _ _ _ (c .before .spline-is-sound .ensures) (c .if1 .taken)
+flight-requires : tie.Need-flight-requires
+flight-requires c κs = tested-sound _ _ _ (c .before .spline-is-sound .ensures) (c .if1 .taken)
 
 returns : tie.Need-returns
 unfolding splineTurnedOf
 returns c =
-    let degrees = c .tidy .ensures ∙ c .before .rotation-deg .ensures ∙ ap rotationDegOf (c .before .before .tangent .ensures) in
+    let degrees = c .tidy .ensures ∙ c .before .rotation-deg .ensures ∙ ap (λ (there : Flight). rotationDegOf (there .tangent)) (c .before .before .flight .ensures) in
     ap Turned.Degrees degrees ∙ taken _ _ _ (c .before .before .before .before .spline-is-sound .ensures) _ _ (c .before .before .before .if1 .taken)
 
 returns-2 : tie.Need-returns-2
@@ -24,4 +25,4 @@ returns-2 c = refused _ _ _ (c .before .spline-is-sound .ensures) _ _ (c .if1 .l
 pub spline-rotation-deg-spec : {M : Type 1} → statement M
 spline-rotation-deg-spec =
     tie.close
-    (tie.spec (λ c κs. search needs) tangent-requires (λ c κs. search needs) (λ c κs. search needs) returns returns-2)
+    (tie.spec (λ c κs. search needs) flight-requires (λ c κs. search needs) (λ c κs. search needs) returns returns-2)

@@ -1,0 +1,1 @@
+-- The answer at a progress has no laws of its own.

@@ -1,0 +1,2 @@
+-- How the answer at a progress leaves through C.
+pub mod Flights
