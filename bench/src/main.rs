@@ -222,8 +222,8 @@ fn per_byte_of(texts: [&[&[u8]]; 2], ours: impl Fn(&[u8]) -> usize, theirs: impl
 fn drawings() {
     let Some(drawings) = Drawings::new() else { return };
     let mut texts = drawings.texts();
-    texts.retain(|text| kihavute::strict(text) == kihavute::Strict::Yes);
-    let ours = |text: &[u8]| usize::from(kihavute::strict(text) == kihavute::Strict::Yes);
+    texts.retain(|text| kihavute::strict(text, kihavute::Edition::Svg11) == kihavute::Strict::Yes);
+    let ours = |text: &[u8]| usize::from(kihavute::strict(text, kihavute::Edition::Svg11) == kihavute::Strict::Yes);
     row("strict, drawings, a byte", per_byte(&texts, ours, original_reads));
 }
 
@@ -280,7 +280,7 @@ fn other_readers(_: &[&[u8]], _: &dyn Fn(&[u8]) -> usize) {
 fn strict() {
     let text = b"M12.5 3.25c-4.14 0-7.5 3.36-7.5 7.5 0 1.94.74 3.7 1.95 5.03L3 20l1 1 4.23-3.95A7.46 7.46 0 0 0 1.5 8z";
     let inputs: Vec<&[u8]> = std::iter::repeat_n(&text[..], 64).collect();
-    let ours = |text: &[u8]| u32::from(kihavute::strict(text) == kihavute::Strict::Yes);
+    let ours = |text: &[u8]| u32::from(kihavute::strict(text, kihavute::Edition::Svg11) == kihavute::Strict::Yes);
     let theirs = |text: &[u8]| original_reads(text) as u32;
     row("strict reading, 100 bytes", throughput(&inputs, ours, theirs));
 }

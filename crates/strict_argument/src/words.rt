@@ -122,7 +122,7 @@ pub fn read_rotation(text: &[u8], at: usize, edition: Edition) -> usize
     ensures { λ r. ⌜ Reads (rotation edition (now (text .entry))) at r ⌝ }
 {
     match edition {
-        Edition::Svg11 => number_11(text, at),
+        Edition::Svg11 => read_number(text, at, Edition::Svg11),
         Edition::Svg2 => read_radius(text, at, Edition::Svg2),
     }
 }

@@ -11,7 +11,9 @@ use Rattle.scan.specs.Bytes.{among, points}
 use Rattle.scan.specs.Runs.{stands}
 use Rattle.scan.proofs.ByteLaws.{clash}
 use Rattle.strict_grammar.specs.Spans.{Span, Byte, _·_, _∥_, opt, star, none, more, plus, longest, sequence, last, then, empty}
-use Rattle.strict_grammar.specs.Grammar.{whiteOf, wsp, digit, sign, digit-sequence, integer-constant, fractional-constant, floating-point-constant, nonnegative-number, number, moveto, drawto-command, drawto-commands, moveto-drawto-command-group, moveto-drawto-command-groups, svg-path, Matches}
+use Rattle.strict_grammar.specs.Grammar.{whiteOf, wsp, digit, sign, digit-sequence, fractional-constant, floating-point-constant}
+use Rattle.strict_grammar.specs.Grammar.{nonnegative-number, number, moveto, drawto-command, drawto-commands, moveto-drawto-command-group}
+use Rattle.strict_grammar.specs.Grammar.{moveto-drawto-command-groups, svg-path, Matches}
 use Rattle.strict_grammar.specs.declared.Edition.the-variants.{Svg11, Svg2}
 use Rattle.strict_grammar.proofs.SpanLaws.{star-stops, plus-star, star-or}
 use Rattle.strict_grammar.proofs.Numbers.{Unsigned, signed-longest, longest-signed}

@@ -396,11 +396,19 @@ module _ (text : List ℕ) (at : ℕ) where
     point-stands : stands text (pointOf text at) points ≡ true
     point-stands = ⊎-elim (λ h. h) (λ h. absurd (omega (arith, ltb-true (fractionOf text at) (markOf text at) after, no-point text at h, no-fraction text at h))) (either-way (stands text (pointOf text at) points))
 
+    behind : plus (Digit text) (pointOf text at + 1) (markOf text at)
+    behind =
+        star-plus (past-point text at point-stands .0) (omega (arith, ltb-true (fractionOf text at) (markOf text at) after, after-point text at point-stands))
+
+    fraction-word : fractional-constant Svg2 text (wholeOf text at) (markOf text at)
+    unfolding fractional-constant digit-sequence
+    fraction-word =
+        inl (pointOf text at, ⊎-elim inr inl (star-or (whole-run text at .0)), (pointOf text at + 1, standing points (pointOf text at) point-stands, behind))
+
     fraction-2 : TheUnsigned Svg2
-    unfolding floating-point-constant fractional-constant digit-sequence
+    unfolding floating-point-constant
     fraction-2 = (
-      subst (λ (y : ℕ). Unsigned Svg2 text (wholeOf text at) y) (sym ends-fraction)
-          (inr (inl (markOf text at, inl (pointOf text at, ⊎-elim inr inl (star-or (whole-run text at .0)), (pointOf text at + 1, standing points (pointOf text at) point-stands, star-plus (past-point text at point-stands .0) (omega (arith, ltb-true (fractionOf text at) (markOf text at) after, after-point text at point-stands)))), inr refl))),
+      subst (λ (y : ℕ). Unsigned Svg2 text (wholeOf text at) y) (sym ends-fraction) (inr (inl (markOf text at, fraction-word, inr refl))),
       λ k u. most k (shape-2 k u),
     )
       where

@@ -13,7 +13,8 @@ unfolding elliptical-arc-argument arc-from-radius arc-from-rotation arc-from-lar
 returns c =
     let edition = c .before .before .before .before .args .edition in
     let text = c .before .before .before .before .args .text .now in
-    step edition text (omega arith) (nonnegative-number edition text) (arc-from-radius edition text) (second-radius-starts edition text) _ _ _ _ (c .before .before .read-radius .ensures) (c .before .past-separator .ensures) (c .arc-from-radius .ensures)
+    step edition text (omega arith) (nonnegative-number edition text) (arc-from-radius edition text) (second-radius-starts edition text) _ _ _ _
+    (c .before .before .read-radius .ensures) (c .before .past-separator .ensures) (c .arc-from-radius .ensures)
 
 pub arc-spec : {M : Type 1} → statement M
 arc-spec =

@@ -13,7 +13,8 @@ unfolding arc-from-large-flag
 returns c =
     let edition = c .before .before .before .before .args .edition in
     let text = c .before .before .before .before .args .text .now in
-    step edition text (omega arith) (flag edition text) (arc-from-sweep-flag edition text) (sweep-flag-starts edition text) _ _ _ _ (c .before .before .read-flag .ensures) (c .before .past-separator .ensures) (c .arc-from-sweep-flag .ensures)
+    step edition text (omega arith) (flag edition text) (arc-from-sweep-flag edition text) (sweep-flag-starts edition text) _ _ _ _
+    (c .before .before .read-flag .ensures) (c .before .past-separator .ensures) (c .arc-from-sweep-flag .ensures)
 
 pub arc-from-large-flag-spec : {M : Type 1} → statement M
 arc-from-large-flag-spec =

@@ -15,7 +15,8 @@ returns c =
     let edition = c .before .before .before .before .args .edition in
     let text = c .before .before .before .before .args .text .now in
     must-separate edition text (opt (comma-wsp edition text) · arc-from-sweep-flag edition text) _ _
-    (step edition text (omega arith) (rotation edition text) (arc-from-large-flag edition text) (large-flag-starts edition text) _ _ _ _ (c .before .before .read-rotation .ensures) (c .before .past-separator .ensures) (c .arc-from-large-flag .ensures))
+    (step edition text (omega arith) (rotation edition text) (arc-from-large-flag edition text) (large-flag-starts edition text) _ _ _ _
+    (c .before .before .read-rotation .ensures) (c .before .past-separator .ensures) (c .arc-from-large-flag .ensures))
 
 pub arc-from-rotation-spec : {M : Type 1} → statement M
 arc-from-rotation-spec =

@@ -13,7 +13,8 @@ unfolding arc-from-sweep-flag
 returns c =
     let edition = c .before .before .before .before .args .edition in
     let text = c .before .before .before .before .args .text .now in
-    step edition text (omega arith) (flag edition text) (coordinate-pair edition text) (pair-starts edition text) _ _ _ _ (c .before .before .read-flag .ensures) (c .before .past-separator .ensures) (c .pair .ensures)
+    step edition text (omega arith) (flag edition text) (coordinate-pair edition text) (pair-starts edition text) _ _ _ _
+    (c .before .before .read-flag .ensures) (c .before .past-separator .ensures) (c .pair .ensures)
 
 pub arc-from-sweep-flag-spec : {M : Type 1} → statement M
 arc-from-sweep-flag-spec =

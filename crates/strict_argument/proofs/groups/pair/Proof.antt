@@ -12,7 +12,8 @@ unfolding coordinate-pair
 returns c =
     let edition = c .before .before .before .before .args .edition in
     let text = c .before .before .before .before .args .text .now in
-    step edition text (omega arith) (number edition text) (number edition text) (number-starts edition text) _ _ _ _ (c .before .before .read-number .ensures) (c .before .past-separator .ensures) (c .read-number2 .ensures)
+    step edition text (omega arith) (number edition text) (number edition text) (number-starts edition text) _ _ _ _
+    (c .before .before .read-number .ensures) (c .before .past-separator .ensures) (c .read-number2 .ensures)
 
 pub pair-spec : {M : Type 1} → statement M
 pair-spec =

@@ -11,7 +11,8 @@ returns : tie.Need-returns
 returns c =
     let edition = c .before .before .before .before .args .edition in
     let text = c .before .before .before .before .args .text .now in
-    step edition text (omega arith) (coordinate-pair edition text) (smooth-curveto-argument edition text) (two-pairs-starts edition text) _ _ _ _ (c .before .before .pair .ensures) (c .before .past-separator .ensures) (c .two-pairs .ensures)
+    step edition text (omega arith) (coordinate-pair edition text) (smooth-curveto-argument edition text) (two-pairs-starts edition text) _ _ _ _
+    (c .before .before .pair .ensures) (c .before .past-separator .ensures) (c .two-pairs .ensures)
 
 pub three-pairs-spec : {M : Type 1} → statement M
 three-pairs-spec =

@@ -16,7 +16,9 @@ returns c =
 returns-2 : tie.Need-returns-2
 returns-2 c =
     let a = c .before .before .before .before .before .args in
-    radius-taken (a .text .now) (omega arith) _ (a .edition) _ (sym (ap (λ (b : ℕ). among b signs) (c .before .before .before .byte-at .ensures)) ∙ (sym (c .before .before .is-sign .ensures) ∙ c .before .if1 .left)) (c .read-number .ensures)
+    radius-taken (a .text .now) (omega arith) _ (a .edition) _
+    (sym (ap (λ (b : ℕ). among b signs) (c .before .before .before .byte-at .ensures)) ∙ (sym (c .before .before .is-sign .ensures) ∙ c .before .if1 .left))
+    (c .read-number .ensures)
 
 pub read-radius-spec : {M : Type 1} → statement M
 read-radius-spec =

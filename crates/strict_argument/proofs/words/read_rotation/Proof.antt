@@ -6,7 +6,7 @@ use Rattle.strict_argument.proofs.words.read_rotation.Tie as tie
 
 returns : tie.Need-returns
 unfolding rotation
-returns c = rw (c .before .enum-told .given .1) (c .number-11 .ensures)
+returns c = rw (c .before .enum-told .given .1) (c .read-number .ensures)
 
 returns-2 : tie.Need-returns-2
 unfolding rotation
