@@ -338,9 +338,9 @@ static void curves(void) {
     fresh();
     answered("a quad's length, a short answer", kihavute_quad_length(1, 2, 1, 2, 1, 2, answer, 7), 255, 0, NULL);
     fresh();
-    answered("a quad too long", kihavute_quad_length(0, 0, 1e30f, 0, 2e30f, 0, answer, PLACES), 11, 1, (uint64_t[]){0});
+    answered("a quad too long", kihavute_quad_length(-3e38f, 0, 0, 0, 3e38f, 0, answer, PLACES), 11, 1, (uint64_t[]){0});
     fresh();
-    answered("a quad too long has no place", kihavute_quad_position(0, 0, 1e30f, 0, 2e30f, 0, 0.5f, answer, PLACES), 11, 1, (uint64_t[]){0});
+    answered("a quad too long has no place", kihavute_quad_position(-3e38f, 0, 0, 0, 3e38f, 0, 0.5f, answer, PLACES), 11, 1, (uint64_t[]){0});
     fresh();
     answered("a quad of a NaN", kihavute_quad_tangent(0, 0, nan, 0, 1, 0, 0.5f, answer, PLACES), 11, 1, (uint64_t[]){0});
 
@@ -377,7 +377,7 @@ static void table_left(const char *what, size_t count) {
 
 static void splines(void) {
     static float many[8194];
-    const float straight[] = {0, 0, 1, 0, 2, 0}, leg[] = {1, 2, 4, 6}, far[] = {0, 0, 1e30f, 0, 2e30f, 0};
+    const float straight[] = {0, 0, 1, 0, 2, 0}, leg[] = {1, 2, 4, 6}, far[] = {-3e38f, 0, 0, 0, 3e38f, 0};
     const float nan = kihavute_float(NAN_BITS);
 
     fresh_table();
@@ -460,8 +460,8 @@ static void curve_tables(void) {
     lent();
     answered("a quad's table without room", kihavute_quad_table(0, 0, 15.5f, 0, 31, 0, out, 32, answer, PLACES), 8, 1, (uint64_t[]){33});
     kept("no room leaves all places", 0);
-    answered("a quad too long, no room", (fresh(), kihavute_quad_table(0, 0, 1e30f, 0, 2e30f, 0, out, 0, answer, PLACES)), 11, 1, (uint64_t[]){0});
-    answered("a quad too long, a short answer", (fresh(), kihavute_quad_table(0, 0, 1e30f, 0, 2e30f, 0, out, 40, answer, 7)), 255, 0, NULL);
+    answered("a quad too long, no room", (fresh(), kihavute_quad_table(-3e38f, 0, 0, 0, 3e38f, 0, out, 0, answer, PLACES)), 11, 1, (uint64_t[]){0});
+    answered("a quad too long, a short answer", (fresh(), kihavute_quad_table(-3e38f, 0, 0, 0, 3e38f, 0, out, 40, answer, 7)), 255, 0, NULL);
     answered("a quad's table, a short answer", (fresh(), kihavute_quad_table(0, 0, 1, 0, 2, 0, out, 40, answer, 7)), 255, 0, NULL);
     kept("a refusal leaves all places", 0);
 
@@ -542,7 +542,7 @@ static void arcs(void) {
 
     /* the rotation: 3600 builds, the next float above is 10, unless the arc falls back */
     fresh();
-    answered("a rotation of 3600", kihavute_arc_length(0, 0, 5, 5, 3600, 0, 1, 3, 4, answer, PLACES), 0, 1, (uint64_t[]){0x40A78B2C});
+    answered("a rotation of 3600", kihavute_arc_length(0, 0, 5, 5, 3600, 0, 1, 3, 4, answer, PLACES), 0, 1, (uint64_t[]){0x40A78B2D});
     fresh();
     answered("a rotation above 3600", kihavute_arc_length(0, 0, 5, 5, past, 0, 1, 3, 4, answer, PLACES), 10, 1, (uint64_t[]){0});
     fresh();
