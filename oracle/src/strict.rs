@@ -154,7 +154,12 @@ fn all_texts(report: &mut Report, paths: &Paths, name: &str, about: &[(String, &
         yes += walk.yes;
         if let Some(text) = walk.different {
             equal = false;
-            report.group(name, [text].into_iter(), |text: &Text| ours(&text.0, paths.edition), |text| paths.says(&text.0));
+            report.group(
+                name,
+                [text].into_iter(),
+                |text: &Text| ours(&text.0, paths.edition),
+                |text| paths.says(&text.0),
+            );
         }
     }
     report.count(calls, equal);
@@ -272,7 +277,8 @@ pub fn compare_drawings(report: &mut Report) {
     let texts =
         || gathered.split(|byte| *byte == b'\n').filter(|text| !text.is_empty()).map(|text| Text(text.to_vec()));
     for_editions(|_, paths| {
-        let all = report.group("real drawings", texts(), |text| ours(&text.0, paths.edition), |text| paths.says(&text.0));
+        let all =
+            report.group("real drawings", texts(), |text| ours(&text.0, paths.edition), |text| paths.says(&text.0));
         let yes = texts().filter(|text| ours(&text.0, paths.edition).0).count();
         let (name, bytes) = (paths.edition_name, gathered.len());
         println!("  {name}, real drawings: {all} texts of {bytes} bytes, {yes} with a yes, {:.0} s", report.seconds());

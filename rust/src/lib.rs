@@ -903,8 +903,7 @@ pub fn number(text: &[u8]) -> Result<(Bits, usize), Refusal> {
 pub fn strict(text: &[u8], edition: Edition) -> Strict {
     let mut answer = [0; 8];
     // SAFETY: both pointers are good for the lengths beside them, and the library keeps neither.
-    let code =
-        unsafe { kihavute_strict(text.as_ptr(), text.len(), edition as u32, answer.as_mut_ptr(), answer.len()) };
+    let code = unsafe { kihavute_strict(text.as_ptr(), text.len(), edition as u32, answer.as_mut_ptr(), answer.len()) };
     match (code, answer[0]) {
         (0, 1) => Strict::Yes,
         (0, _) => Strict::No,
