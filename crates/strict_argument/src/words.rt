@@ -9,6 +9,7 @@ use scan::past_comma;
 use scan::past_digits;
 use scan::past_point;
 use scan::past_sign;
+use scan::past_white;
 use scan::scan_number;
 use strict_grammar::Edition;
 ghost use mathlib.Core.Path.{_≡_};
@@ -23,28 +24,34 @@ ghost use Rattle.strict_argument.specs.Reading.{Reads};
 // is read, so that a group whose first word is missing is missing with no test.
 pub const NOWHERE: usize = 0xffff_ffff_ffff_ffff;
 
-// White space, which a form feed is in SVG 2.
-fn is_space(byte: u8, edition: Edition) -> bool
-    ensures { λ r. ⌜ r ≡ among byte (whiteOf edition) ⌝ }
+// White space of SVG 2, which a form feed is.
+fn is_space_2(byte: u8) -> bool
+    ensures { λ r. ⌜ r ≡ among byte (whiteOf Svg2) ⌝ }
 {
-    match edition {
-        Edition::Svg11 => is_white(byte),
-        Edition::Svg2 => is_white(byte) | (byte == 12),
-    }
+    is_white(byte) | (byte == 12)
 }
 
-pub fn past_space(text: &[u8], at: usize, edition: Edition) -> usize
-    ensures { λ r. ⌜ r ≡ pastWhiteIn edition (now (text .entry)) at ⌝ }
+fn past_space_2(text: &[u8], at: usize) -> usize
+    ensures { λ r. ⌜ r ≡ pastWhiteIn Svg2 (now (text .entry)) at ⌝ }
 {
     let mut i = at;
     while i < text.len() {
-        if is_space(text[i], edition) {
+        if is_space_2(text[i]) {
             i += 1;
         } else {
             break;
         }
     }
     i
+}
+
+pub fn past_space(text: &[u8], at: usize, edition: Edition) -> usize
+    ensures { λ r. ⌜ r ≡ pastWhiteIn edition (now (text .entry)) at ⌝ }
+{
+    match edition {
+        Edition::Svg11 => past_white(text, at),
+        Edition::Svg2 => past_space_2(text, at),
+    }
 }
 
 // Past what may stand between two commands: white space, and in SVG 2 nothing.
