@@ -7,6 +7,7 @@ use lib.Ieee.{Float}
 use lib.ListN.{length}
 use Rattle.answers.specs.declared.refusals.Refusal.{Refusal}
 use Rattle.answers.specs.Answers.{accepted, refused}
+use Rattle.path_stored.specs.Buffers.{Buffers}
 use Rattle.path_batch.specs.declared.batches.Batch.{Batch}
 use Rattle.path_batch.specs.declared.batches.Batch.the-variants as Batch
 use Rattle.path_batch.specs.Batches.{batchAnswer, Places, Positions}
@@ -24,10 +25,10 @@ module _ (batch : Batch) where
   pub batch-refused : (refusal : Refusal) → Batch.Refused refusal ≡ batch → refused refusal ≡ batchAnswer batch
   batch-refused refusal is = ap batchAnswer is
 
-module _ (kinds : List ℕ) (fields tables lengths progresses : List Float) (answer : List ℕ) where
+module _ (b : Buffers) (progresses : List Float) (answer : List ℕ) where
   module _ (segments : List ℕ) (raws : List Float) where
     -- an answer that is too short: nothing is looked up
-    pub no-places : length answer < 8 → PlacesGiven kinds fields tables lengths progresses segments raws answer 255 segments raws answer
+    pub no-places : length answer < 8 → PlacesGiven b progresses segments raws answer 255 segments raws answer
     no-places h =
         let s = lt-ltb (length answer) 8 h in
         record { reported = record { code = rw s; places = rw s }; segmentsAfter = rw s; rawsAfter = rw s }
@@ -36,9 +37,9 @@ module _ (kinds : List ℕ) (fields tables lengths progresses : List Float) (ans
     pub places-reported :
         {segments′ : List ℕ} {raws′ : List Float} {answer′ : List ℕ} {returned : ℕ} (batch : Batch)
         → 8 ≤ length answer
-        → Places kinds fields tables lengths progresses segments raws batch segments′ raws′
+        → Places b progresses segments raws batch segments′ raws′
         → Given (batchAnswer batch) answer returned answer′
-        → PlacesGiven kinds fields tables lengths progresses segments raws answer returned segments′ raws′ answer′
+        → PlacesGiven b progresses segments raws answer returned segments′ raws′ answer′
     places-reported batch h p g =
         let s = le-ltb (length answer) 8 h in
         record { reported = given-same _ _ (ap batchAnswer (p .answer)) g; segmentsAfter = rw s (p .segmentsAfter); rawsAfter = rw s (p .rawsAfter) }
@@ -46,8 +47,8 @@ module _ (kinds : List ℕ) (fields tables lengths progresses : List Float) (ans
     -- any two allowed results are equal
     pub places-given-unique :
         (r s : ℕ) (segments₁ segments₂ : List ℕ) (raws₁ raws₂ : List Float) (answer₁ answer₂ : List ℕ)
-        → PlacesGiven kinds fields tables lengths progresses segments raws answer r segments₁ raws₁ answer₁
-        → PlacesGiven kinds fields tables lengths progresses segments raws answer s segments₂ raws₂ answer₂
+        → PlacesGiven b progresses segments raws answer r segments₁ raws₁ answer₁
+        → PlacesGiven b progresses segments raws answer s segments₂ raws₂ answer₂
         → (r ≡ s) × (segments₁ ≡ segments₂) × (raws₁ ≡ raws₂) × (answer₁ ≡ answer₂)
     places-given-unique r s segments₁ segments₂ raws₁ raws₂ answer₁ answer₂ p q = (
       p .reported .code ∙ sym (q .reported .code),
@@ -57,7 +58,7 @@ module _ (kinds : List ℕ) (fields tables lengths progresses : List Float) (ans
     )
 
   module _ (out : List Float) where
-    pub no-positions : length answer < 8 → PositionsGiven kinds fields tables lengths progresses out answer 255 out answer
+    pub no-positions : length answer < 8 → PositionsGiven b progresses out answer 255 out answer
     no-positions h =
         let s = lt-ltb (length answer) 8 h in
         record { reported = record { code = rw s; places = rw s }; outAfter = rw s }
@@ -65,16 +66,16 @@ module _ (kinds : List ℕ) (fields tables lengths progresses : List Float) (ans
     pub positions-reported :
         {out′ : List Float} {answer′ : List ℕ} {returned : ℕ} (batch : Batch)
         → 8 ≤ length answer
-        → Positions kinds fields tables lengths progresses out batch out′
+        → Positions b progresses out batch out′
         → Given (batchAnswer batch) answer returned answer′
-        → PositionsGiven kinds fields tables lengths progresses out answer returned out′ answer′
+        → PositionsGiven b progresses out answer returned out′ answer′
     positions-reported batch h p g =
         let s = le-ltb (length answer) 8 h in
         record { reported = given-same _ _ (ap batchAnswer (p .answer)) g; outAfter = rw s (p .outAfter) }
 
     pub positions-given-unique :
         (r s : ℕ) (out₁ out₂ : List Float) (answer₁ answer₂ : List ℕ)
-        → PositionsGiven kinds fields tables lengths progresses out answer r out₁ answer₁
-        → PositionsGiven kinds fields tables lengths progresses out answer s out₂ answer₂
+        → PositionsGiven b progresses out answer r out₁ answer₁
+        → PositionsGiven b progresses out answer s out₂ answer₂
         → (r ≡ s) × (out₁ ≡ out₂) × (answer₁ ≡ answer₂)
     positions-given-unique r s out₁ out₂ answer₁ answer₂ p q = (p .reported .code ∙ sym (q .reported .code), p .outAfter ∙ sym (q .outAfter), p .reported .places ∙ sym (q .reported .places))

@@ -7,14 +7,15 @@ use lib.ListN.{length}
 use lib.Ieee.{Float}
 use Rattle.answers.specs.declared.refusals.Refusal.the-variants.{BadPath}
 use Rattle.answers.specs.Answers.{accepted, refused}
+use Rattle.path_stored.specs.Buffers.{Buffers}
 use Rattle.path_stored.specs.Stored.{isStored}
 use Rattle.kihavute_paths.specs.StoredPaths.{checkGiven}
 
-module _ (kinds : List ℕ) (fields tables lengths : List Float) where
-  pub check-yes : isStored kinds fields tables lengths ≡ true → accepted (length kinds ∷ []) ≡ checkGiven kinds fields tables lengths
+module _ (b : Buffers) where
+  pub check-yes : isStored b ≡ true → accepted (length (b .kinds) ∷ []) ≡ checkGiven b
   unfolding checkGiven
   check-yes e = rw e
 
-  pub check-no : isStored kinds fields tables lengths ≡ false → refused BadPath ≡ checkGiven kinds fields tables lengths
+  pub check-no : isStored b ≡ false → refused BadPath ≡ checkGiven b
   unfolding checkGiven
   check-no e = rw e

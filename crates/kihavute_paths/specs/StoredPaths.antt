@@ -6,9 +6,10 @@ use lib.ListN.{length}
 use lib.Ieee.{Float}
 use Rattle.answers.specs.declared.refusals.Refusal.the-variants.{BadPath}
 use Rattle.answers.specs.Answers.{Answer, accepted, refused}
+use Rattle.path_stored.specs.Buffers.{Buffers}
 use Rattle.path_stored.specs.Stored.{isStored}
 
 -- the count of its segments, or 12
-unfoldable pub checkGiven : List ℕ → List Float → List Float → List Float → Answer
+unfoldable pub checkGiven : Buffers → Answer
 unfolding isStored
-checkGiven kinds fields tables lengths = cond (isStored kinds fields tables lengths) (accepted (length kinds ∷ [])) (refused BadPath)
+checkGiven b = cond (isStored b) (accepted (length (b .kinds) ∷ [])) (refused BadPath)

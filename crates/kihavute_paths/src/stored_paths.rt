@@ -1,4 +1,5 @@
 // Stored paths.
+ghost use Rattle.path_stored.specs.Buffers.{before};
 ghost use Rattle.c_answer.specs.Given.{Given};
 ghost use Rattle.kihavute_paths.specs.StoredPaths.{checkGiven};
 use answers::Refusal;
@@ -14,7 +15,7 @@ pub extern "C" fn kihavute_check(
     lengths: &[f32],
     answer: &mut [u64],
 ) -> u32
-    ensures { λ r. ⌜ Given (checkGiven (now (kinds .entry)) (now (fields .entry)) (now (tables .entry)) (now (lengths .entry))) (now (answer .entry)) r (now (answer .exit)) ⌝ }
+    ensures { λ r. ⌜ Given (checkGiven (before kinds fields tables lengths)) (now (answer .entry)) r (now (answer .exit)) ⌝ }
 {
     if path_stored::check_path(kinds, fields, tables, lengths) {
         return c_answer::accept(Values::One(kinds.len()), answer);

@@ -16,9 +16,10 @@ use Rattle.answers.specs.Answers.{accepted, refused, listed}
 use Rattle.floats.proofs.Tests.{passed}
 use Rattle.path_segment.specs.declared.segments.PathSegment.{PathSegment}
 use Rattle.path_segment.specs.Segments.{widthOf, segmentOf}
+use Rattle.path_stored.specs.Buffers.{Buffers}
 use Rattle.path_append.specs.declared.pushing.Appended.{Appended}
 use Rattle.path_append.specs.declared.pushing.Appended.the-variants as Appended
-use Rattle.path_append.specs.Appending.{numbersUsed, tablesUsed, appendedOf, answerOf, isAdded, kindsAfter, numbersAfter, tablesAfter, lengthsAfter, Append}
+use Rattle.path_append.specs.Appending.{appendedOf, answerOf, afterwards, Append}
 use Rattle.c_answer.specs.Given.{Given}
 use Rattle.c_answer.proofs.Giving.{given-same, given-short}
 use Rattle.kihavute_segments.specs.Appending.{isSegment, pushedOf, Appending, Appends, Pushes}
@@ -46,33 +47,22 @@ module _ (kind : ℕ) (numbers : List Float) where
       let count = eqb→eq (length numbers) (widthOf kind) (and-r (ltb kind 5) (eqb (length numbers) (widthOf kind)) (passed e)) in
       (ltb→lt kind 5 (and-l (ltb kind 5) (eqb (length numbers) (widthOf kind)) (passed e)), omega arith)
 
-module _ (count : ℕ) (kinds : List ℕ) (fields tables lengths : List Float) (answer : List ℕ) where
+module _ (count : ℕ) (b : Buffers) (answer : List ℕ) where
   -- an answer that is too short: nothing is appended
-  pub not-appended : (appended : Appended) (segment : PathSegment) → length answer < 8 → Appending appended segment count kinds fields tables lengths answer 255 kinds fields tables lengths answer
-  not-appended appended segment h =
-      let s = lt-ltb (length answer) 8 h in
-      record { reported = given-short (answerOf appended) answer h; kindsAre = rw s; fieldsAre = rw s; tablesAre = rw s; lengthsAre = rw s }
+  pub not-appended : (appended : Appended) (segment : PathSegment) → length answer < 8 → Appending appended segment count b answer 255 b answer
+  not-appended appended segment h = record { reported = given-short (answerOf appended) answer h; after = rw (lt-ltb (length answer) 8 h) }
 
-  push-is :
-      (kind : ℕ) (numbers : List Float) → isSegment kind numbers ≡ true → appendedOf kinds fields tables lengths count (segmentOf kind numbers) ≡ pushedOf kind numbers count kinds fields tables lengths
+  push-is : (kind : ℕ) (numbers : List Float) → isSegment kind numbers ≡ true → appendedOf b count (segmentOf kind numbers) ≡ pushedOf kind numbers count b
   unfolding pushedOf
   push-is kind numbers e = rw e
 
-  module _ {kinds′ : List ℕ} {fields′ tables′ lengths′ : List Float} {answer′ : List ℕ} {returned : ℕ} (h : 8 ≤ length answer) where
+  module _ {b′ : Buffers} {answer′ : List ℕ} {returned : ℕ} (h : 8 ≤ length answer) where
     -- else the entry's own promise, reported
-    pub appends-reported :
-        (segment : PathSegment) (r : Appended)
-        → Append kinds fields tables lengths count segment r kinds′ fields′ tables′ lengths′
-        → Given (answerOf r) answer returned answer′
-        → Appends segment count kinds fields tables lengths answer returned kinds′ fields′ tables′ lengths′ answer′
+    pub appends-reported : (segment : PathSegment) (r : Appended) → Append b count segment r b′ → Given (answerOf r) answer returned answer′ → Appends segment count b answer returned b′ answer′
     appends-reported segment r p g =
-        let s = le-ltb (length answer) 8 h in
         record {
           reported = given-same _ _ (ap answerOf (p .answer)) g;
-          kindsAre = rw s (p .kindsAre ∙ ap (λ (a : Appended). kindsAfter (isAdded a) count segment kinds) (p .answer));
-          fieldsAre = rw s (p .numbersAre ∙ ap (λ (a : Appended). numbersAfter (isAdded a) (numbersUsed kinds count) segment fields) (p .answer));
-          tablesAre = rw s (p .tablesAre ∙ ap (λ (a : Appended). tablesAfter (isAdded a) (tablesUsed kinds count) segment tables) (p .answer));
-          lengthsAre = rw s (p .lengthsAre ∙ ap (λ (a : Appended). lengthsAfter (isAdded a) count segment lengths) (p .answer));
+          after = rw (le-ltb (length answer) 8 h) (p .after ∙ ap (λ (a : Appended). afterwards a b count segment) (p .answer));
         }
 
     module _ (kind : ℕ) (numbers : List Float) where
@@ -80,12 +70,12 @@ module _ (count : ℕ) (kinds : List ℕ) (fields tables lengths : List Float) (
           (segment : PathSegment) (r : Appended)
           → isSegment kind numbers ≡ true
           → segment ≡ segmentOf kind numbers
-          → Append kinds fields tables lengths count segment r kinds′ fields′ tables′ lengths′
+          → Append b count segment r b′
           → Given (answerOf r) answer returned answer′
-          → Pushes kind numbers count kinds fields tables lengths answer returned kinds′ fields′ tables′ lengths′ answer′
+          → Pushes kind numbers count b answer returned b′ answer′
       pushes-reported segment r e same p g =
-          subst (λ (a : Appended). Appending a (segmentOf kind numbers) count kinds fields tables lengths answer returned kinds′ fields′ tables′ lengths′ answer′) (push-is kind numbers e)
-          (appends-reported (segmentOf kind numbers) r (subst (λ (s : PathSegment). Append kinds fields tables lengths count s r kinds′ fields′ tables′ lengths′) same p) g)
+          subst (λ (a : Appended). Appending a (segmentOf kind numbers) count b answer returned b′ answer′) (push-is kind numbers e)
+          (appends-reported (segmentOf kind numbers) r (subst (λ (s : PathSegment). Append b count s r b′) same p) g)
 
   -- what is no segment
   pub push-refused :
@@ -93,24 +83,15 @@ module _ (count : ℕ) (kinds : List ℕ) (fields tables lengths : List Float) (
       → isSegment kind numbers ≡ false
       → 8 ≤ length answer
       → Given (refused BadPath) answer returned answer′
-      → Pushes kind numbers count kinds fields tables lengths answer returned kinds fields tables lengths answer′
+      → Pushes kind numbers count b answer returned b answer′
   unfolding pushedOf
-  push-refused kind numbers e h g =
-      let s = le-ltb (length answer) 8 h in
-      record { reported = given-same _ _ (rw e refl) g; kindsAre = rw (s, e) refl; fieldsAre = rw (s, e) refl; tablesAre = rw (s, e) refl; lengthsAre = rw (s, e) refl }
+  push-refused kind numbers e h g = record { reported = given-same _ _ (rw e refl) g; after = rw (le-ltb (length answer) 8 h, e) refl }
 
   -- any two allowed results are equal
   pub appending-unique :
-      (appended : Appended) (segment : PathSegment) (r s : ℕ)
-      (kinds₁ kinds₂ : List ℕ) (fields₁ fields₂ tables₁ tables₂ lengths₁ lengths₂ : List Float) (answer₁ answer₂ : List ℕ)
-      → Appending appended segment count kinds fields tables lengths answer r kinds₁ fields₁ tables₁ lengths₁ answer₁
-      → Appending appended segment count kinds fields tables lengths answer s kinds₂ fields₂ tables₂ lengths₂ answer₂
-      → (r ≡ s) × (kinds₁ ≡ kinds₂) × (fields₁ ≡ fields₂) × (tables₁ ≡ tables₂) × (lengths₁ ≡ lengths₂) × (answer₁ ≡ answer₂)
-  appending-unique appended segment r s kinds₁ kinds₂ fields₁ fields₂ tables₁ tables₂ lengths₁ lengths₂ answer₁ answer₂ p q = (
-    p .reported .code ∙ sym (q .reported .code),
-    p .kindsAre ∙ sym (q .kindsAre),
-    p .fieldsAre ∙ sym (q .fieldsAre),
-    p .tablesAre ∙ sym (q .tablesAre),
-    p .lengthsAre ∙ sym (q .lengthsAre),
-    p .reported .places ∙ sym (q .reported .places),
-  )
+      (appended : Appended) (segment : PathSegment) (r s : ℕ) (b₁ b₂ : Buffers) (answer₁ answer₂ : List ℕ)
+      → Appending appended segment count b answer r b₁ answer₁
+      → Appending appended segment count b answer s b₂ answer₂
+      → (r ≡ s) × (b₁ ≡ b₂) × (answer₁ ≡ answer₂)
+  appending-unique appended segment r s b₁ b₂ answer₁ answer₂ p q =
+      (p .reported .code ∙ sym (q .reported .code), p .after ∙ sym (q .after), p .reported .places ∙ sym (q .reported .places))

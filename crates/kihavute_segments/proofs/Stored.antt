@@ -22,6 +22,7 @@ use Rattle.arc.specs.Arcs.{chordLine, arcPlacedOf, arcPositionOf, arcHeadingOf,
 use Rattle.path_segment.specs.declared.segments.PathSegment.{PathSegment}
 use Rattle.path_segment.specs.declared.segments.PathSegment.the-variants as Segment
 use Rattle.path_segment.specs.Segments.{kindOf, widthOf, tablesOf, hasTable, segmentOf}
+use Rattle.path_stored.specs.Buffers.{Buffers}
 use Rattle.path_stored.specs.Stored.{before, isStored, Numbered, segmentIn, tableIn}
 use Rattle.path_stored.proofs.Reading.{stored-numbered, stored-tabled, table-in-sound}
 use Rattle.path_part.specs.Parts.{quadWith, cubicWith, positionOf, tangentOf}
@@ -79,14 +80,21 @@ kind-is : (kinds : List ℕ) (fields : List Float) → Numbered kinds fields →
 unfolding segmentIn
 kind-is kinds fields numbered i inside = segment-kind (getD kinds i 0) (drop (before widthOf kinds i) fields) (numbered .known i inside)
 
-module _ (kinds : List ℕ) (fields tables lengths : List Float) (stored : isStored kinds fields tables lengths ≡ true) (i : ℕ) (inside : i < length kinds) (along : Float) where
-  sound : T (hasTable (kindOf (segmentIn kinds fields i))) → T (tableIsSound (tableIn kinds tables i .entries) (tableIn kinds tables i .total))
+module _ (b : Buffers) (stored : isStored b ≡ true) (i : ℕ) (inside : i < length (b .kinds)) (along : Float) where
+  abbrev segment : PathSegment
+  segment = segmentIn (b .kinds) (b .fields) i
+
+  abbrev own : Table
+  own = tableIn (b .kinds) (b .tables) i
+
+  sound : T (hasTable (kindOf segment)) → T (tableIsSound (own .entries) (own .total))
   sound has =
-      let kind = kind-is kinds fields (stored-numbered kinds fields tables lengths (passed stored)) i inside in
-      table-in-sound (stored-tabled kinds fields tables lengths (passed stored)) i inside (same-test (hasTable (getD kinds i 0)) true (λ _. tt) (λ _. subst (λ (k : ℕ). T (hasTable k)) kind has))
+      let kind = kind-is (b .kinds) (b .fields) (stored-numbered b (passed stored)) i inside in
+      let curve = same-test (hasTable (getD (b .kinds) i 0)) true (λ _. tt) (λ _. subst (λ (k : ℕ). T (hasTable k)) kind has) in
+      table-in-sound (stored-tabled b (passed stored)) i inside curve
 
-  pub stored-placed : IsPlaced (positionOf (segmentIn kinds fields i) (tableIn kinds tables i) along)
-  stored-placed = part-placed (tableIn kinds tables i) along (segmentIn kinds fields i) sound
+  pub stored-placed : IsPlaced (positionOf segment own along)
+  stored-placed = part-placed own along segment sound
 
-  pub stored-headed : IsPlaced (tangentOf (segmentIn kinds fields i) (tableIn kinds tables i) along)
-  stored-headed = part-headed (tableIn kinds tables i) along (segmentIn kinds fields i) sound
+  pub stored-headed : IsPlaced (tangentOf segment own along)
+  stored-headed = part-headed own along segment sound

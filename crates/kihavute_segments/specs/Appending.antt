@@ -13,9 +13,10 @@ use Rattle.math.specs.declared.points.Point.{Point}
 use Rattle.ellipse.specs.declared.ends.Chord.{Chord}
 use Rattle.path_segment.specs.declared.segments.PathSegment.{PathSegment}
 use Rattle.path_segment.specs.Segments.{widthOf, segmentOf}
+use Rattle.path_stored.specs.Buffers.{Buffers}
 use Rattle.path_append.specs.declared.pushing.Appended.{Appended}
 use Rattle.path_append.specs.declared.pushing.Appended.the-variants as Appended
-use Rattle.path_append.specs.Appending.{numbersUsed, tablesUsed, appendedOf, answerOf, isAdded, kindsAfter, numbersAfter, tablesAfter, lengthsAfter}
+use Rattle.path_append.specs.Appending.{appendedOf, answerOf, afterwards}
 use Rattle.c_answer.specs.Given.{Given}
 
 -- ---- what is appended
@@ -44,25 +45,20 @@ abbrev pub isSegment : ℕ → List Float → Bool
 isSegment kind numbers = ltb kind 5 && eqb (length numbers) (widthOf kind)
 
 -- 12 for what is no segment; else what appending it answers
-unfoldable pub pushedOf : ℕ → List Float → ℕ → List ℕ → List Float → List Float → List Float → Appended
-pushedOf kind numbers count kinds fields tables lengths =
-    cond (isSegment kind numbers) (appendedOf kinds fields tables lengths count (segmentOf kind numbers)) (Appended.Refused BadPath)
+unfoldable pub pushedOf : ℕ → List Float → ℕ → Buffers → Appended
+pushedOf kind numbers count b = cond (isSegment kind numbers) (appendedOf b count (segmentOf kind numbers)) (Appended.Refused BadPath)
 
 -- ---- what is given and stored
 
 -- the answer is reported, and the segment stored where it is accepted; with an answer that is too short nothing is appended
-pub record Appending (appended : Appended) (segment : PathSegment) (count : ℕ)
-    (kinds : List ℕ) (fields tables lengths : List Float) (answer : List ℕ) (returned : ℕ) (kinds′ : List ℕ) (fields′ tables′ lengths′ : List Float) (answer′ : List ℕ) : Type 0 where
+pub record Appending (appended : Appended) (segment : PathSegment) (count : ℕ) (b : Buffers) (answer : List ℕ) (returned : ℕ) (b′ : Buffers) (answer′ : List ℕ) : Type 0 where
   pub reported : Given (answerOf appended) answer returned answer′
-  pub kindsAre : kinds′ ≡ cond (short answer) kinds (kindsAfter (isAdded appended) count segment kinds)
-  pub fieldsAre : fields′ ≡ cond (short answer) fields (numbersAfter (isAdded appended) (numbersUsed kinds count) segment fields)
-  pub tablesAre : tables′ ≡ cond (short answer) tables (tablesAfter (isAdded appended) (tablesUsed kinds count) segment tables)
-  pub lengthsAre : lengths′ ≡ cond (short answer) lengths (lengthsAfter (isAdded appended) count segment lengths)
+  pub after : b′ ≡ cond (short answer) b (afterwards appended b count segment)
 
 -- a segment, judged as `path_append/specs/Appending.antt` says
-abbrev pub Appends : PathSegment → ℕ → List ℕ → List Float → List Float → List Float → List ℕ → ℕ → List ℕ → List Float → List Float → List Float → List ℕ → Type 0
-Appends segment count kinds fields tables lengths = Appending (appendedOf kinds fields tables lengths count segment) segment count kinds fields tables lengths
+abbrev pub Appends : PathSegment → ℕ → Buffers → List ℕ → ℕ → Buffers → List ℕ → Type 0
+Appends segment count b = Appending (appendedOf b count segment) segment count b
 
 -- a segment by its kind and its numbers
-abbrev pub Pushes : ℕ → List Float → ℕ → List ℕ → List Float → List Float → List Float → List ℕ → ℕ → List ℕ → List Float → List Float → List Float → List ℕ → Type 0
-Pushes kind numbers count kinds fields tables lengths = Appending (pushedOf kind numbers count kinds fields tables lengths) (segmentOf kind numbers) count kinds fields tables lengths
+abbrev pub Pushes : ℕ → List Float → ℕ → Buffers → List ℕ → ℕ → Buffers → List ℕ → Type 0
+Pushes kind numbers count b = Appending (pushedOf kind numbers count b) (segmentOf kind numbers) count b

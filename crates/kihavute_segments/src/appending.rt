@@ -2,6 +2,7 @@
 // first; then, and where the call is refused, no buffer is touched.
 ghost use mathlib.Core.Path.{_≡_};
 ghost use Rattle.c_answer.specs.Given.{Given};
+ghost use Rattle.path_stored.specs.Buffers.{after, before};
 ghost use Rattle.path_append.specs.Appending.{answerOf, arcSegment};
 ghost use Rattle.arc.specs.Lines.{lineOf};
 ghost use Rattle.path_segment.specs.declared.segments.PathSegment.the-variants.{Line, Quad, Cubic};
@@ -46,9 +47,8 @@ pub extern "C" fn kihavute_push_segment(
     numbers: &[f32],
     answer: &mut [u64],
 ) -> u32
-    ensures { λ r. ⌜ Pushes kind (now (numbers .entry)) count
-        (now (kinds .entry)) (now (fields .entry)) (now (tables .entry)) (now (lengths .entry)) (now (answer .entry))
-        r (now (kinds .exit)) (now (fields .exit)) (now (tables .exit)) (now (lengths .exit)) (now (answer .exit)) ⌝ }
+    ensures { λ r. ⌜ Pushes kind (now (numbers .entry)) count (before kinds fields tables lengths) (now (answer .entry))
+        r (after kinds fields tables lengths) (now (answer .exit)) ⌝ }
 {
     if answer.len() < 8 {
         return 255;
@@ -75,9 +75,8 @@ pub extern "C" fn kihavute_line_to(
     ey: f32,
     answer: &mut [u64],
 ) -> u32
-    ensures { λ r. ⌜ Appends (Line (lineOf (pointOf sx sy) (pointOf ex ey))) count
-        (now (kinds .entry)) (now (fields .entry)) (now (tables .entry)) (now (lengths .entry)) (now (answer .entry))
-        r (now (kinds .exit)) (now (fields .exit)) (now (tables .exit)) (now (lengths .exit)) (now (answer .exit)) ⌝ }
+    ensures { λ r. ⌜ Appends (Line (lineOf (pointOf sx sy) (pointOf ex ey))) count (before kinds fields tables lengths) (now (answer .entry))
+        r (after kinds fields tables lengths) (now (answer .exit)) ⌝ }
 {
     if answer.len() < 8 {
         return 255;
@@ -104,9 +103,8 @@ pub extern "C" fn kihavute_quad_to(
     ey: f32,
     answer: &mut [u64],
 ) -> u32
-    ensures { λ r. ⌜ Appends (Quad (pointOf sx sy) (pointOf cx cy) (pointOf ex ey)) count
-        (now (kinds .entry)) (now (fields .entry)) (now (tables .entry)) (now (lengths .entry)) (now (answer .entry))
-        r (now (kinds .exit)) (now (fields .exit)) (now (tables .exit)) (now (lengths .exit)) (now (answer .exit)) ⌝ }
+    ensures { λ r. ⌜ Appends (Quad (pointOf sx sy) (pointOf cx cy) (pointOf ex ey)) count (before kinds fields tables lengths) (now (answer .entry))
+        r (after kinds fields tables lengths) (now (answer .exit)) ⌝ }
 {
     if answer.len() < 8 {
         return 255;
@@ -136,9 +134,8 @@ pub extern "C" fn kihavute_cubic_to(
     ey: f32,
     answer: &mut [u64],
 ) -> u32
-    ensures { λ r. ⌜ Appends (Cubic (pointOf sx sy) (pointOf ax ay) (pointOf bx by) (pointOf ex ey)) count
-        (now (kinds .entry)) (now (fields .entry)) (now (tables .entry)) (now (lengths .entry)) (now (answer .entry))
-        r (now (kinds .exit)) (now (fields .exit)) (now (tables .exit)) (now (lengths .exit)) (now (answer .exit)) ⌝ }
+    ensures { λ r. ⌜ Appends (Cubic (pointOf sx sy) (pointOf ax ay) (pointOf bx by) (pointOf ex ey)) count (before kinds fields tables lengths) (now (answer .entry))
+        r (after kinds fields tables lengths) (now (answer .exit)) ⌝ }
 {
     if answer.len() < 8 {
         return 255;
@@ -171,9 +168,8 @@ pub extern "C" fn kihavute_arc_to(
     ey: f32,
     answer: &mut [u64],
 ) -> u32
-    ensures { λ r. ⌜ Appends (arcSegment (chordOf sx sy rx ry rotation large sweep ex ey)) count
-        (now (kinds .entry)) (now (fields .entry)) (now (tables .entry)) (now (lengths .entry)) (now (answer .entry))
-        r (now (kinds .exit)) (now (fields .exit)) (now (tables .exit)) (now (lengths .exit)) (now (answer .exit)) ⌝ }
+    ensures { λ r. ⌜ Appends (arcSegment (chordOf sx sy rx ry rotation large sweep ex ey)) count (before kinds fields tables lengths) (now (answer .entry))
+        r (after kinds fields tables lengths) (now (answer .exit)) ⌝ }
 {
     if answer.len() < 8 {
         return 255;

@@ -5,6 +5,7 @@ ghost use Prim.Native.Nat.{_≤_};
 ghost use lib.ListN.{length};
 ghost use Rattle.answers.specs.Report.{written};
 ghost use Rattle.path_segment.specs.Segments.{kindOf};
+ghost use Rattle.path_stored.specs.Buffers.{before};
 ghost use Rattle.path_stored.specs.Queries.{countedOf, emptinessOf, measuredOf, partOf, countedAnswer, emptinessAnswer, measuredAnswer};
 ghost use Rattle.c_answer.specs.Given.{Given};
 ghost use Rattle.kihavute_segments.specs.Segments.{placesOf, numbersOf, SegmentGiven, positionGiven, tangentGiven, rotationGiven};
@@ -33,7 +34,7 @@ pub extern "C" fn kihavute_len(
     lengths: &[f32],
     answer: &mut [u64],
 ) -> u32
-    ensures { λ r. ⌜ Given (countedAnswer (countedOf (now (kinds .entry)) (now (fields .entry)) (now (tables .entry)) (now (lengths .entry))))
+    ensures { λ r. ⌜ Given (countedAnswer (countedOf (before kinds fields tables lengths)))
         (now (answer .entry)) r (now (answer .exit)) ⌝ }
 {
     match path_stored::len(kinds, fields, tables, lengths) {
@@ -51,7 +52,7 @@ pub extern "C" fn kihavute_is_empty(
     lengths: &[f32],
     answer: &mut [u64],
 ) -> u32
-    ensures { λ r. ⌜ Given (emptinessAnswer (emptinessOf (now (kinds .entry)) (now (fields .entry)) (now (tables .entry)) (now (lengths .entry))))
+    ensures { λ r. ⌜ Given (emptinessAnswer (emptinessOf (before kinds fields tables lengths)))
         (now (answer .entry)) r (now (answer .exit)) ⌝ }
 {
     match path_stored::is_empty(kinds, fields, tables, lengths) {
@@ -70,7 +71,7 @@ pub extern "C" fn kihavute_path_length(
     lengths: &[f32],
     answer: &mut [u64],
 ) -> u32
-    ensures { λ r. ⌜ Given (measuredAnswer (measuredOf (now (kinds .entry)) (now (fields .entry)) (now (tables .entry)) (now (lengths .entry))))
+    ensures { λ r. ⌜ Given (measuredAnswer (measuredOf (before kinds fields tables lengths)))
         (now (answer .entry)) r (now (answer .exit)) ⌝ }
 {
     match path_stored::arc_length(kinds, fields, tables, lengths) {
@@ -135,7 +136,7 @@ pub extern "C" fn kihavute_segment(
     out: &mut [f32],
     answer: &mut [u64],
 ) -> u32
-    ensures { λ r. ⌜ SegmentGiven (partOf (now (kinds .entry)) (now (fields .entry)) (now (tables .entry)) (now (lengths .entry)) i)
+    ensures { λ r. ⌜ SegmentGiven (partOf (before kinds fields tables lengths) i)
         (now (out .entry)) (now (answer .entry)) r (now (out .exit)) (now (answer .exit)) ⌝ }
 {
     if answer.len() < 8 {
@@ -156,7 +157,7 @@ pub extern "C" fn kihavute_segment_position(
     along: f32,
     answer: &mut [u64],
 ) -> u32
-    ensures { λ r. ⌜ Given (positionGiven (partOf (now (kinds .entry)) (now (fields .entry)) (now (tables .entry)) (now (lengths .entry)) i) along)
+    ensures { λ r. ⌜ Given (positionGiven (partOf (before kinds fields tables lengths) i) along)
         (now (answer .entry)) r (now (answer .exit)) ⌝ }
 {
     let part = path_stored::segment(kinds, fields, tables, lengths, i);
@@ -182,7 +183,7 @@ pub extern "C" fn kihavute_segment_tangent(
     along: f32,
     answer: &mut [u64],
 ) -> u32
-    ensures { λ r. ⌜ Given (tangentGiven (partOf (now (kinds .entry)) (now (fields .entry)) (now (tables .entry)) (now (lengths .entry)) i) along)
+    ensures { λ r. ⌜ Given (tangentGiven (partOf (before kinds fields tables lengths) i) along)
         (now (answer .entry)) r (now (answer .exit)) ⌝ }
 {
     let part = path_stored::segment(kinds, fields, tables, lengths, i);
@@ -208,7 +209,7 @@ pub extern "C" fn kihavute_segment_rotation(
     along: f32,
     answer: &mut [u64],
 ) -> u32
-    ensures { λ r. ⌜ Given (rotationGiven (partOf (now (kinds .entry)) (now (fields .entry)) (now (tables .entry)) (now (lengths .entry)) i) along)
+    ensures { λ r. ⌜ Given (rotationGiven (partOf (before kinds fields tables lengths) i) along)
         (now (answer .entry)) r (now (answer .exit)) ⌝ }
 {
     let part = path_stored::segment(kinds, fields, tables, lengths, i);

@@ -19,13 +19,14 @@ use Rattle.table.specs.Spots as Spots
 use Rattle.path_segment.specs.declared.segments.PathSegment.{PathSegment}
 use Rattle.path_segment.specs.Segments.{kindOf, widthOf, tablesOf, fieldsOf, lengthFor}
 use Rattle.path_segment.proofs.Reading.{fields-width}
-use Rattle.path_stored.specs.Layout.{tableStored}
+use Rattle.path_stored.specs.Buffers.{Buffers}
+use Rattle.path_stored.specs.Layout.{tableStored, extended}
 use Rattle.path_stored.specs.Stored.{before, mostSegments, isStored, Stored}
 use Rattle.path_stored.proofs.Rule.{stored-rule, rule-stored}
 use Rattle.path_stored.proofs.Extending.{all-more, stored-size, stored-more}
 use Rattle.path_append.specs.declared.pushing.Appended.{Appended}
 use Rattle.path_append.specs.declared.pushing.Appended.the-variants as Appended
-use Rattle.path_append.specs.Appending.{numbersUsed, tablesUsed, inUse, mayTurn, grownOf, needsOf, hasRoom, fittingOf, appendedOf, isAdded, kindsAfter, numbersAfter, tablesAfter, lengthsAfter, Append, Room}
+use Rattle.path_append.specs.Appending.{numbersUsed, tablesUsed, firstOf, inUse, mayTurn, grownOf, needsOf, hasRoom, fittingOf, appendedOf, isAdded, storedAt, afterwards, Append, Room}
 use Rattle.path_append.proofs.InUse.{before-take}
 
 -- ---- an accepted call passed every test
@@ -46,34 +47,35 @@ tests count needs true true true false r e = absurd (false≢true e)
 tests count needs true true true true false e = absurd (false≢true e)
 tests count needs true true true true true e = (tt, tt, tt, tt, tt)
 
-module _ (kinds : List ℕ) (numbers tables lengths : List Float) (count : ℕ) (segment : PathSegment) where
+module _ (b : Buffers) (count : ℕ) (segment : PathSegment) where
   pub record Passed : Type 0 where
-    pub used : T (inUse kinds numbers tables lengths count)
+    pub used : T (inUse b count)
     pub few : T (ltb count mostSegments)
-    pub fine : T (finite (grownOf lengths count segment))
-    pub room : T (hasRoom kinds numbers tables lengths count segment)
+    pub fine : T (finite (grownOf (b .lengths) count segment))
+    pub room : T (hasRoom b count segment)
 
-  pub added-passed : isAdded (appendedOf kinds numbers tables lengths count segment) ≡ true → Passed
+  pub added-passed : isAdded (appendedOf b count segment) ≡ true → Passed
   unfolding appendedOf fittingOf
   added-passed e =
-      let t = tests count (needsOf kinds count segment) (inUse kinds numbers tables lengths count) (ltb count mostSegments) (mayTurn segment) (finite (grownOf lengths count segment)) (hasRoom kinds numbers tables lengths count segment) e in
+      let fine = finite (grownOf (b .lengths) count segment) in
+      let t = tests count (needsOf (b .kinds) count segment) (inUse b count) (ltb count mostSegments) (mayTurn segment) fine (hasRoom b count segment) e in
       record { used = t .0; few = t .1; fine = t .3; room = t .4 }
 
-  pub passed-room : Passed → Room kinds (length numbers) (length tables) (length lengths) count segment
+  pub passed-room : Passed → Room b count segment
   unfolding hasRoom
   passed-room p =
-      let a = ltb count (length kinds) in
-      let b = leb (numbersUsed kinds count + widthOf (kindOf segment)) (length numbers) in
-      let c = leb (tablesUsed kinds count + 33 * tablesOf (kindOf segment)) (length tables) in
-      let d = ltb count (length lengths) in
-      let abc = and-l (a && b && c) d (p .room) in
-      let ab = and-l (a && b) c abc in
+      let k = ltb count (length (b .kinds)) in
+      let n = leb (numbersUsed (b .kinds) count + widthOf (kindOf segment)) (length (b .fields)) in
+      let m = leb (tablesUsed (b .kinds) count + 33 * tablesOf (kindOf segment)) (length (b .tables)) in
+      let l = ltb count (length (b .lengths)) in
+      let knm = and-l (k && n && m) l (p .room) in
+      let kn = and-l (k && n) m knm in
       record {
         few = ltb→lt count mostSegments (p .few);
-        forKind = ltb→lt count (length kinds) (and-l a b ab);
-        forNumbers = leb→le _ (length numbers) (and-r a b ab);
-        forTable = leb→le _ (length tables) (and-r (a && b) c abc);
-        forLength = ltb→lt count (length lengths) (and-r (a && b && c) d (p .room));
+        forKind = ltb→lt count (length (b .kinds)) (and-l k n kn);
+        forNumbers = leb→le _ (length (b .fields)) (and-r k n kn);
+        forTable = leb→le _ (length (b .tables)) (and-r (k && n) m knm);
+        forLength = ltb→lt count (length (b .lengths)) (and-r (k && n && m) l (p .room));
       }
 
 -- ---- lists with something stored after their first places
@@ -104,67 +106,55 @@ used-more f kinds count kind inside =
     ∙ ap (λ k. k + f kind) (ap (before f (take count kinds)) (length-take-le count kinds (omega arith)) ∙ before-take f kinds count)
 
 -- ---- the path with the segment is a stored path
-module _ (kinds : List ℕ) (numbers tables lengths : List Float) (count : ℕ) (segment : PathSegment) (value : T (fits binary32 (Spots.before lengths count))) where
-  stored-then :
-      Stored (take count kinds) (take (numbersUsed kinds count) numbers) (take (tablesUsed kinds count) tables) (take count lengths)
-      → T (finite (grownOf lengths count segment)) → Room kinds (length numbers) (length tables) (length lengths) count segment
-      → T (isStored (take count kinds ++ kindOf segment ∷ []) (take (numbersUsed kinds count) numbers ++ fieldsOf segment) (take (tablesUsed kinds count) tables ++ tableStored segment) (take count lengths ++ grownOf lengths count segment ∷ []))
+module _ (b : Buffers) (count : ℕ) (segment : PathSegment) (value : T (fits binary32 (Spots.before (b .lengths) count))) where
+  abbrev path : Buffers
+  path = firstOf b count
+
+  stored-then : Stored path → T (finite (grownOf (b .lengths) count segment)) → Room b count segment → T (isStored (extended path segment))
   unfolding grownOf
   stored-then s fine room =
       let h = room .forLength in
       let k = room .forKind in
       let few = room .few in
-      let e = total-take lengths count (omega arith) in
-      let size = length-take-le count kinds (omega arith) in
-      rule-stored _ _ _ _
-      (subst (λ x. Stored (take count kinds ++ kindOf segment ∷ []) (take (numbersUsed kinds count) numbers ++ fieldsOf segment) (take (tablesUsed kinds count) tables ++ tableStored segment) (take count lengths ++ add binary32 x (lengthFor segment) ∷ [])) e
-      (stored-more (take count kinds) (take (numbersUsed kinds count) numbers) (take (tablesUsed kinds count) tables) (take count lengths) s
-      (subst (λ x. T (fits binary32 x)) (sym e) value) segment (omega arith)
-      (subst (λ x. T (finite (add binary32 x (lengthFor segment)))) (sym e) fine)))
+      let e = total-take (b .lengths) count (omega arith) in
+      let size = length-take-le count (b .kinds) (omega arith) in
+      rule-stored (extended path segment)
+      (stored-more s (subst (λ x. T (fits binary32 x)) (sym e) value) segment (subst (λ x. T (finite (add binary32 x (lengthFor segment)))) (sym e) fine) (omega arith))
 
-  pub append-stored :
-      (r : Appended) (kinds′ : List ℕ) (numbers′ tables′ lengths′ : List Float)
-      → Append kinds numbers tables lengths count segment r kinds′ numbers′ tables′ lengths′ → isAdded r ≡ true
-      → T (inUse kinds′ numbers′ tables′ lengths′ (count + 1))
-  unfolding inUse
-  append-stored r kinds′ numbers′ tables′ lengths′ a added =
-      let p = added-passed kinds numbers tables lengths count segment (subst (λ x. isAdded x ≡ true) (a .answer) added) in
-      let room = passed-room kinds numbers tables lengths count segment p in
-      let whole = leb count (length kinds) in
-      let s = stored-rule _ _ _ _ (and-r whole _ (p .used)) in
-      let forNumbers : numbersUsed kinds count + length (fieldsOf segment) ≤ length numbers = rw (fields-width segment) (room .forNumbers) in
-      let forTable : tablesUsed kinds count + length (tableStored segment) ≤ length tables = rw (stored-size segment) (room .forTable) in
-      let ek : kinds′ ≡ set kinds count (kindOf segment) = a .kindsAre ∙ ap (λ b. cond b (set kinds count (kindOf segment)) kinds) added in
-      let en : numbers′ ≡ sets numbers (numbersUsed kinds count) (fieldsOf segment) = a .numbersAre ∙ ap (λ b. cond b (sets numbers (numbersUsed kinds count) (fieldsOf segment)) numbers) added in
-      let et : tables′ ≡ sets tables (tablesUsed kinds count) (tableStored segment) = a .tablesAre ∙ ap (λ b. cond b (sets tables (tablesUsed kinds count) (tableStored segment)) tables) added in
-      let el : lengths′ ≡ set lengths count (grownOf lengths count segment) = a .lengthsAre ∙ ap (λ b. cond b (set lengths count (grownOf lengths count segment)) lengths) added in
-      let un : numbersUsed kinds′ (count + 1) ≡ numbersUsed kinds count + length (fieldsOf segment) =
-      ap (λ l. numbersUsed l (count + 1)) ek ∙ used-more widthOf kinds count (kindOf segment) (room .forKind) ∙ ap (λ k. numbersUsed kinds count + k) (sym (fields-width segment)) in
-      let ut : tablesUsed kinds′ (count + 1) ≡ tablesUsed kinds count + length (tableStored segment) =
-      ap (λ l. tablesUsed l (count + 1)) ek ∙ shares (before tablesOf kinds count) (tablesOf (kindOf segment)) _ _ (used-more tablesOf kinds count (kindOf segment) (room .forKind)) (stored-size segment) in
-      let k = ap (take (count + 1)) ek ∙ take-set kinds (kindOf segment) count (room .forKind) in
-      let n = ap (λ i. take i numbers′) un ∙ ap (take (numbersUsed kinds count + length (fieldsOf segment))) en ∙ take-sets numbers (fieldsOf segment) (numbersUsed kinds count) forNumbers in
-      let t = ap (λ i. take i tables′) ut ∙ ap (take (tablesUsed kinds count + length (tableStored segment))) et ∙ take-sets tables (tableStored segment) (tablesUsed kinds count) forTable in
-      let l = ap (take (count + 1)) el ∙ take-set lengths (grownOf lengths count segment) count (room .forLength) in
-      let long : length kinds′ ≡ length kinds = ap length ek ∙ length-set kinds count (kindOf segment) in
+  -- what is stored is the path in use with the segment
+  first-more : Room b count segment → firstOf (storedAt b count segment) (count + 1) ≡ extended path segment
+  unfolding grownOf
+  first-more room =
+      let h = room .forLength in
       let inside = room .forKind in
-      and-i (leb (count + 1) (length kinds′)) _ (le→leb (count + 1) (length kinds′) (omega arith))
-      (rw (k, n, t, l) (stored-then s (p .fine) room))
+      let forNumbers : numbersUsed (b .kinds) count + length (fieldsOf segment) ≤ length (b .fields) = rw (fields-width segment) (room .forNumbers) in
+      let forTable : tablesUsed (b .kinds) count + length (tableStored segment) ≤ length (b .tables) = rw (stored-size segment) (room .forTable) in
+      let un : numbersUsed (storedAt b count segment .kinds) (count + 1) ≡ numbersUsed (b .kinds) count + length (fieldsOf segment) =
+      used-more widthOf (b .kinds) count (kindOf segment) inside ∙ ap (λ k. numbersUsed (b .kinds) count + k) (sym (fields-width segment)) in
+      let ut : tablesUsed (storedAt b count segment .kinds) (count + 1) ≡ tablesUsed (b .kinds) count + length (tableStored segment) =
+      shares (before tablesOf (b .kinds) count) (tablesOf (kindOf segment)) _ _ (used-more tablesOf (b .kinds) count (kindOf segment) inside) (stored-size segment) in
+      let k = take-set (b .kinds) (kindOf segment) count inside in
+      let n = take-sets (b .fields) (fieldsOf segment) (numbersUsed (b .kinds) count) forNumbers in
+      let t = take-sets (b .tables) (tableStored segment) (tablesUsed (b .kinds) count) forTable in
+      let l = take-set (b .lengths) (grownOf (b .lengths) count segment) count h in
+      rw (un, ut, k, n, t, l, total-take (b .lengths) count (omega arith))
     where
       shares : (a b x y : ℕ) → x ≡ a + b → y ≡ 33 * b → 33 * x ≡ 33 * a + y
       shares a b x y p q = omega arith
 
+  pub append-stored : {r : Appended} {b′ : Buffers} → Append b count segment r b′ → isAdded r ≡ true → T (inUse b′ (count + 1))
+  unfolding inUse
+  append-stored {r} {b′} a added =
+      let p = added-passed b count segment (subst (λ x. isAdded x ≡ true) (a .answer) added) in
+      let room = passed-room b count segment p in
+      let s = stored-rule path (and-r (leb count (length (b .kinds))) _ (p .used)) in
+      let e : b′ ≡ storedAt b count segment = a .after ∙ ap (λ x. cond x (storedAt b count segment) b) added in
+      let long : length (set (b .kinds) count (kindOf segment)) ≡ length (b .kinds) = length-set (b .kinds) count (kindOf segment) in
+      let inside = room .forKind in
+      rw e
+      (and-i (leb (count + 1) (length (storedAt b count segment .kinds))) _ (le→leb (count + 1) (length (storedAt b count segment .kinds)) (omega arith))
+      (rw (first-more room) (stored-then s (p .fine) room)))
+
 -- ---- any two allowed results are equal
-pub append-unique :
-    (kinds : List ℕ) (numbers tables lengths : List Float) (count : ℕ) (segment : PathSegment)
-    (r s : Appended) (k₁ k₂ : List ℕ) (n₁ n₂ t₁ t₂ l₁ l₂ : List Float)
-    → Append kinds numbers tables lengths count segment r k₁ n₁ t₁ l₁ → Append kinds numbers tables lengths count segment s k₂ n₂ t₂ l₂
-    → (r ≡ s) × (k₁ ≡ k₂) × (n₁ ≡ n₂) × (t₁ ≡ t₂) × (l₁ ≡ l₂)
-append-unique kinds numbers tables lengths count segment r s k₁ k₂ n₁ n₂ t₁ t₂ l₁ l₂ a b =
-    let e : r ≡ s = a .answer ∙ sym (b .answer) in (
-      e,
-      a .kindsAre ∙ ap (λ x. kindsAfter (isAdded x) count segment kinds) e ∙ sym (b .kindsAre),
-      a .numbersAre ∙ ap (λ x. numbersAfter (isAdded x) (numbersUsed kinds count) segment numbers) e ∙ sym (b .numbersAre),
-      a .tablesAre ∙ ap (λ x. tablesAfter (isAdded x) (tablesUsed kinds count) segment tables) e ∙ sym (b .tablesAre),
-      a .lengthsAre ∙ ap (λ x. lengthsAfter (isAdded x) count segment lengths) e ∙ sym (b .lengthsAre),
-    )
+pub append-unique : {b : Buffers} {count : ℕ} {segment : PathSegment} {r s : Appended} {b₁ b₂ : Buffers} → Append b count segment r b₁ → Append b count segment s b₂ → (r ≡ s) × (b₁ ≡ b₂)
+append-unique {b} {count} {segment} p q = let e = p .answer ∙ sym (q .answer) in (e, p .after ∙ ap (λ x. afterwards x b count segment) e ∙ sym (q .after))

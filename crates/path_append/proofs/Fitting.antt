@@ -2,56 +2,73 @@
 use Prim.Native.Nat.{ℕ, _+_, _*_, _≤_, _<_}
 use mathlib.Core.Path.{_≡_, refl, sym, ap, _∙_, subst}
 use mathlib.Core.Bool.{Bool, true, false, _&&_, cond}
-use mathlib.Core.List.{List}
 use borrow.Author.Tests.{lt-ltb, le-ltb, le-leb, lt-leb}
 use lib.Dec.{ltb, leb}
-use lib.Ieee.{Float}
 use lib.ListN.{length}
 use Rattle.answers.specs.declared.refusals.Values.the-variants.{Four}
 use Rattle.answers.specs.declared.refusals.Refusal.the-variants.{NoRoom}
 use Rattle.path_segment.specs.declared.segments.PathSegment.{PathSegment}
 use Rattle.path_segment.specs.Segments.{kindOf, widthOf, tablesOf}
+use Rattle.path_stored.specs.Buffers.{Buffers}
 use Rattle.path_append.specs.declared.pushing.Appended.{Appended}
 use Rattle.path_append.specs.declared.pushing.Appended.the-variants as Appended
 use Rattle.path_append.specs.Appending.{numbersUsed, tablesUsed, needsOf, hasRoom, fittingOf}
 
-module _
-    (kinds : List ℕ) (numbers tables lengths : List Float) (count : ℕ) (segment : PathSegment) (n m : ℕ)
-    (en : n ≡ numbersUsed kinds count + widthOf (kindOf segment)) (em : m ≡ tablesUsed kinds count + 33 * tablesOf (kindOf segment)) where
-  needs-are : Four (count + 1) n m (count + 1) ≡ needsOf kinds count segment
-  unfolding needsOf
-  needs-are = ap (λ x. Four (count + 1) x m (count + 1)) en ∙ ap (λ x. Four (count + 1) (numbersUsed kinds count + widthOf (kindOf segment)) x (count + 1)) em
+module _ (b : Buffers) (count : ℕ) (segment : PathSegment) where
+  abbrev numbersWith : ℕ
+  numbersWith = numbersUsed (b .kinds) count + widthOf (kindOf segment)
 
-  by-room :
-      (b : Bool) → hasRoom kinds numbers tables lengths count segment ≡ b
-      → cond b (Appended.Added (needsOf kinds count segment)) (Appended.Refused (NoRoom (needsOf kinds count segment))) ≡ fittingOf kinds numbers tables lengths count segment
+  abbrev tablesWith : ℕ
+  tablesWith = tablesUsed (b .kinds) count + 33 * tablesOf (kindOf segment)
+
+  -- what is counted of the segment with those in use
+  pub record Counted (n m : ℕ) : Type 0 where
+    pub numbersAre : n ≡ numbersWith
+    pub tablesAre : m ≡ tablesWith
+
+  pub counted : {n₁ n₂ m₁ m₂ kind : ℕ} → n₁ ≡ numbersUsed (b .kinds) count → n₂ ≡ widthOf kind → m₁ ≡ tablesUsed (b .kinds) count → m₂ ≡ 33 * tablesOf kind → kind ≡ kindOf segment
+      → Counted (n₁ + n₂) (m₁ + m₂)
+  counted n w m t k = record { numbersAre = rw (n, w, k); tablesAre = rw (m, t, k) }
+
+  by-room : (room : Bool) → hasRoom b count segment ≡ room
+      → cond room (Appended.Added (needsOf (b .kinds) count segment)) (Appended.Refused (NoRoom (needsOf (b .kinds) count segment))) ≡ fittingOf b count segment
   unfolding fittingOf
-  by-room b e = ap (λ x. cond x (Appended.Added (needsOf kinds count segment)) (Appended.Refused (NoRoom (needsOf kinds count segment)))) (sym e)
+  by-room room e = ap (λ x. cond x (Appended.Added (needsOf (b .kinds) count segment)) (Appended.Refused (NoRoom (needsOf (b .kinds) count segment)))) (sym e)
 
-  short : hasRoom kinds numbers tables lengths count segment ≡ false → Appended.Refused (NoRoom (Four (count + 1) n m (count + 1))) ≡ fittingOf kinds numbers tables lengths count segment
-  short e = ap (λ x. Appended.Refused (NoRoom x)) needs-are ∙ by-room false e
+module _ {b : Buffers} {count : ℕ} {segment : PathSegment} {n m : ℕ} (is : Counted b count segment n m) where
+  needs-are : Four (count + 1) n m (count + 1) ≡ needsOf (b .kinds) count segment
+  unfolding needsOf
+  needs-are = rw (is .numbersAre, is .tablesAre)
 
-  pub no-kind : length kinds ≤ count → Appended.Refused (NoRoom (Four (count + 1) n m (count + 1))) ≡ fittingOf kinds numbers tables lengths count segment
-  no-kind h = short (unfold hasRoom in simp (le-ltb count (length kinds) h))
+  abbrev Short : Type 0
+  Short = Appended.Refused (NoRoom (Four (count + 1) n m (count + 1))) ≡ fittingOf b count segment
 
-  module _ (a : count < length kinds) where
-    pub no-numbers : length numbers < n → Appended.Refused (NoRoom (Four (count + 1) n m (count + 1))) ≡ fittingOf kinds numbers tables lengths count segment
-    no-numbers h = short (unfold hasRoom in simp (lt-ltb count (length kinds) a, lt-leb (numbersUsed kinds count + widthOf (kindOf segment)) (length numbers) (subst (λ x. length numbers < x) en h)))
+  short : hasRoom b count segment ≡ false → Short
+  short e = ap (λ x. Appended.Refused (NoRoom x)) needs-are ∙ by-room b count segment false e
 
-    module _ (b : n ≤ length numbers) where
-      numbered : leb (numbersUsed kinds count + widthOf (kindOf segment)) (length numbers) ≡ true
-      numbered = le-leb _ _ (subst (λ x. x ≤ length numbers) en b)
+  pub no-kind : length (b .kinds) ≤ count → Short
+  no-kind h = short (unfold hasRoom in simp (le-ltb count (length (b .kinds)) h))
 
-      pub no-table : length tables < m → Appended.Refused (NoRoom (Four (count + 1) n m (count + 1))) ≡ fittingOf kinds numbers tables lengths count segment
+  module _ (kind : count < length (b .kinds)) where
+    pub no-numbers : length (b .fields) < n → Short
+    no-numbers h = short (unfold hasRoom in simp (lt-ltb count (length (b .kinds)) kind, lt-leb (numbersWith b count segment) (length (b .fields)) (subst (λ x. length (b .fields) < x) (is .numbersAre) h)))
+
+    module _ (fits : n ≤ length (b .fields)) where
+      numbered : leb (numbersWith b count segment) (length (b .fields)) ≡ true
+      numbered = le-leb _ _ (subst (λ x. x ≤ length (b .fields)) (is .numbersAre) fits)
+
+      pub no-table : length (b .tables) < m → Short
       no-table h =
-          short (unfold hasRoom in simp (lt-ltb count (length kinds) a, numbered, lt-leb (tablesUsed kinds count + 33 * tablesOf (kindOf segment)) (length tables) (subst (λ x. length tables < x) em h)))
+          short (unfold hasRoom in
+          simp (lt-ltb count (length (b .kinds)) kind, numbered, lt-leb (tablesWith b count segment) (length (b .tables)) (subst (λ x. length (b .tables) < x) (is .tablesAre) h)))
 
-      module _ (d : m ≤ length tables) where
-        tabled : leb (tablesUsed kinds count + 33 * tablesOf (kindOf segment)) (length tables) ≡ true
-        tabled = le-leb _ _ (subst (λ x. x ≤ length tables) em d)
+      module _ (holds : m ≤ length (b .tables)) where
+        tabled : leb (tablesWith b count segment) (length (b .tables)) ≡ true
+        tabled = le-leb _ _ (subst (λ x. x ≤ length (b .tables)) (is .tablesAre) holds)
 
-        pub no-length : length lengths ≤ count → Appended.Refused (NoRoom (Four (count + 1) n m (count + 1))) ≡ fittingOf kinds numbers tables lengths count segment
-        no-length h = short (unfold hasRoom in simp (lt-ltb count (length kinds) a, numbered, tabled, le-ltb count (length lengths) h))
+        pub no-length : length (b .lengths) ≤ count → Short
+        no-length h = short (unfold hasRoom in simp (lt-ltb count (length (b .kinds)) kind, numbered, tabled, le-ltb count (length (b .lengths)) h))
 
-        pub roomy : count < length lengths → Appended.Added (Four (count + 1) n m (count + 1)) ≡ fittingOf kinds numbers tables lengths count segment
-        roomy h = ap Appended.Added needs-are ∙ by-room true (unfold hasRoom in simp (lt-ltb count (length kinds) a, numbered, tabled, lt-ltb count (length lengths) h))
+        pub roomy : count < length (b .lengths) → Appended.Added (Four (count + 1) n m (count + 1)) ≡ fittingOf b count segment
+        roomy h =
+            ap Appended.Added needs-are ∙ by-room b count segment true (unfold hasRoom in simp (lt-ltb count (length (b .kinds)) kind, numbered, tabled, lt-ltb count (length (b .lengths)) h))

@@ -7,15 +7,15 @@ use native.Mathlib.Omega.{arith}
 use borrow.Author.Tests.{le-leb, lt-leb}
 use lib.Dec.{T, leb, leb→le}
 use lib.Ieee.Fits.{and-l, and-r}
-use lib.Ieee.{Float}
 use lib.ListN.{length, take, length-take}
 use lib.Seq.{length-take-le}
 use Rattle.path_segment.specs.Segments.{widthOf, tablesOf}
 use Rattle.path_segment.proofs.Widths.{width-most}
+use Rattle.path_stored.specs.Buffers.{Buffers, buffers}
 use Rattle.path_stored.specs.Stored.{before, mostSegments, isStored, Stored}
 use Rattle.path_stored.proofs.Counting.{before-most, tables-at-most}
 use Rattle.path_stored.proofs.Rule.{stored-rule}
-use Rattle.path_append.specs.Appending.{numbersUsed, tablesUsed, inUse}
+use Rattle.path_append.specs.Appending.{numbersUsed, tablesUsed, firstOf, inUse}
 
 -- what the first segments have is the same in their own part
 pub before-take : (f : ℕ → ℕ) (kinds : List ℕ) (n : ℕ) → before f (take n kinds) n ≡ before f kinds n
@@ -37,58 +37,52 @@ refuted : (b : Bool) → (T b → ⊥) → b ≡ false
 refuted true h = absurd (h tt)
 refuted false h = refl
 
-module _ (kinds : List ℕ) (numbers tables lengths : List Float) (count : ℕ) where
-  -- the path in use
-  abbrev Used : Type 0
-  Used = Stored (take count kinds) (take (numbersUsed kinds count) numbers) (take (tablesUsed kinds count) tables) (take count lengths)
-
-  pub few-kinds : length kinds < count → false ≡ inUse kinds numbers tables lengths count
+module _ (b : Buffers) (count : ℕ) where
+  pub few-kinds : length (b .kinds) < count → false ≡ inUse b count
   unfolding inUse
-  few-kinds h = simp (lt-leb count (length kinds) h)
+  few-kinds h = simp (lt-leb count (length (b .kinds)) h)
 
-  not-used : count ≤ length kinds → (Used → ⊥) → false ≡ inUse kinds numbers tables lengths count
+  not-used : count ≤ length (b .kinds) → (Stored (firstOf b count) → ⊥) → false ≡ inUse b count
   unfolding inUse
-  not-used h none =
-      simp (le-leb count (length kinds) h, refuted (isStored (take count kinds) (take (numbersUsed kinds count) numbers) (take (tablesUsed kinds count) tables) (take count lengths)) (λ t. none (stored-rule (take count kinds) (take (numbersUsed kinds count) numbers) (take (tablesUsed kinds count) tables) (take count lengths) t)))
+  not-used h none = simp (le-leb count (length (b .kinds)) h, refuted (isStored (firstOf b count)) (λ t. none (stored-rule (firstOf b count) t)))
 
-  size : count ≤ length kinds → length (take count kinds) ≡ count
-  size h = length-take-le count kinds h
+  size : count ≤ length (b .kinds) → length (take count (b .kinds)) ≡ count
+  size h = length-take-le count (b .kinds) h
 
-  all-of : (f : ℕ → ℕ) → count ≤ length kinds → before f (take count kinds) (length (take count kinds)) ≡ before f kinds count
-  all-of f h = ap (before f (take count kinds)) (size h) ∙ before-take f kinds count
+  all-of : (f : ℕ → ℕ) → count ≤ length (b .kinds) → before f (take count (b .kinds)) (length (take count (b .kinds))) ≡ before f (b .kinds) count
+  all-of f h = ap (before f (take count (b .kinds))) (size h) ∙ before-take f (b .kinds) count
 
-  pub many-kinds : count ≤ length kinds → mostSegments < count → false ≡ inUse kinds numbers tables lengths count
+  pub many-kinds : count ≤ length (b .kinds) → mostSegments < count → false ≡ inUse b count
   many-kinds h g = not-used h (λ s. let e = size h in let f = s .few in omega arith)
 
-  pub few-lengths : count ≤ length kinds → length lengths < count → false ≡ inUse kinds numbers tables lengths count
-  few-lengths h g = not-used h (λ s. let e = size h in let f = s .one in omega (arith, length-take count lengths))
+  pub few-lengths : count ≤ length (b .kinds) → length (b .lengths) < count → false ≡ inUse b count
+  few-lengths h g = not-used h (λ s. let e = size h in let f = s .one in omega (arith, length-take count (b .lengths)))
 
-  pub few-numbers : count ≤ length kinds → length numbers < numbersUsed kinds count → false ≡ inUse kinds numbers tables lengths count
-  few-numbers h g = not-used h (λ s. let e = s .numbers ∙ all-of widthOf h in omega (arith, length-take (numbersUsed kinds count) numbers))
+  pub few-numbers : count ≤ length (b .kinds) → length (b .fields) < numbersUsed (b .kinds) count → false ≡ inUse b count
+  few-numbers h g = not-used h (λ s. let e = s .numbers ∙ all-of widthOf h in omega (arith, length-take (numbersUsed (b .kinds) count) (b .fields)))
 
-  pub few-tables : count ≤ length kinds → length tables < tablesUsed kinds count → false ≡ inUse kinds numbers tables lengths count
-  few-tables h g = not-used h (λ s. let e = s .counted ∙ ap (λ n. 33 * n) (all-of tablesOf h) in omega (arith, length-take (tablesUsed kinds count) tables))
+  pub few-tables : count ≤ length (b .kinds) → length (b .tables) < tablesUsed (b .kinds) count → false ≡ inUse b count
+  few-tables h g = not-used h (λ s. let e = s .counted ∙ ap (λ n. 33 * n) (all-of tablesOf h) in omega (arith, length-take (tablesUsed (b .kinds) count) (b .tables)))
 
   -- else the check decides
-  pub checked :
-      (b : Bool) (n m : ℕ) → n ≡ numbersUsed kinds count → m ≡ tablesUsed kinds count → count ≤ length kinds
-      → b ≡ isStored (take count kinds) (take n numbers) (take m tables) (take count lengths) → b ≡ inUse kinds numbers tables lengths count
+  pub checked : (t : Bool) (n m : ℕ) → n ≡ numbersUsed (b .kinds) count → m ≡ tablesUsed (b .kinds) count → count ≤ length (b .kinds)
+      → t ≡ isStored (buffers (take count (b .kinds)) (take n (b .fields)) (take m (b .tables)) (take count (b .lengths))) → t ≡ inUse b count
   unfolding inUse
-  checked b n m en em h e = simp (le-leb count (length kinds) h, sym en, sym em) e
+  checked t n m en em h e = simp (le-leb count (length (b .kinds)) h, sym en, sym em) e
 
   -- what a path in use has
   pub record Whole : Type 0 where
     pub few : count ≤ mostSegments
-    pub withKinds : count ≤ length kinds
-    pub withLengths : count ≤ length lengths
+    pub withKinds : count ≤ length (b .kinds)
+    pub withLengths : count ≤ length (b .lengths)
 
-  pub used-whole : T (inUse kinds numbers tables lengths count) → Whole
+  pub used-whole : T (inUse b count) → Whole
   unfolding inUse
   used-whole t =
-      let stored = isStored (take count kinds) (take (numbersUsed kinds count) numbers) (take (tablesUsed kinds count) tables) (take count lengths) in
-      let h = leb→le count (length kinds) (and-l (leb count (length kinds)) stored t) in
-      let s = stored-rule (take count kinds) (take (numbersUsed kinds count) numbers) (take (tablesUsed kinds count) tables) (take count lengths) (and-r (leb count (length kinds)) stored t) in
+      let stored = isStored (firstOf b count) in
+      let h = leb→le count (length (b .kinds)) (and-l (leb count (length (b .kinds))) stored t) in
+      let s = stored-rule (firstOf b count) (and-r (leb count (length (b .kinds))) stored t) in
       let e = size h in
       let f = s .few in
       let o = s .one in
-      record { few = omega arith; withKinds = h; withLengths = omega (arith, length-take count lengths) }
+      record { few = omega arith; withKinds = h; withLengths = omega (arith, length-take count (b .lengths)) }

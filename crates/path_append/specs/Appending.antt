@@ -20,6 +20,7 @@ use Rattle.arc.specs.Arcs.{isFallback, fallbackShape}
 use Rattle.path_segment.specs.declared.segments.PathSegment.{PathSegment}
 use Rattle.path_segment.specs.declared.segments.PathSegment.the-variants as Segment
 use Rattle.path_segment.specs.Segments.{kindOf, widthOf, tablesOf, fieldsOf, lengthFor}
+use Rattle.path_stored.specs.Buffers.{Buffers, buffers}
 use Rattle.path_stored.specs.Layout.{tableStored}
 use Rattle.path_stored.specs.Stored.{before, mostSegments, isStored}
 use Rattle.path_append.specs.declared.pushing.Appended.{Appended}
@@ -34,10 +35,14 @@ numbersUsed kinds count = before widthOf kinds count
 abbrev pub tablesUsed : List ℕ → ℕ → ℕ
 tablesUsed kinds count = 33 * before tablesOf kinds count
 
+-- the first `count` segments of the buffers
+abbrev pub firstOf : Buffers → ℕ → Buffers
+firstOf b count =
+    buffers (take count (b .kinds)) (take (numbersUsed (b .kinds) count) (b .fields)) (take (tablesUsed (b .kinds) count) (b .tables)) (take count (b .lengths))
+
 -- so many kinds are there, and what they say is a stored path
-unfoldable pub inUse : List ℕ → List Float → List Float → List Float → ℕ → Bool
-inUse kinds numbers tables lengths count =
-    leb count (length kinds) && isStored (take count kinds) (take (numbersUsed kinds count) numbers) (take (tablesUsed kinds count) tables) (take count lengths)
+unfoldable pub inUse : Buffers → ℕ → Bool
+inUse b count = leb count (length (b .kinds)) && isStored (firstOf b count)
 
 -- ---- what is judged
 
@@ -59,29 +64,26 @@ needsOf kinds count segment =
     Four (count + 1) (numbersUsed kinds count + widthOf (kindOf segment)) (tablesUsed kinds count + 33 * tablesOf (kindOf segment)) (count + 1)
 
 -- no lent output is too short
-unfoldable pub hasRoom : List ℕ → List Float → List Float → List Float → ℕ → PathSegment → Bool
-hasRoom kinds numbers tables lengths count segment =
-    ltb count (length kinds)
-    && leb (numbersUsed kinds count + widthOf (kindOf segment)) (length numbers)
-    && leb (tablesUsed kinds count + 33 * tablesOf (kindOf segment)) (length tables)
-    && ltb count (length lengths)
+unfoldable pub hasRoom : Buffers → ℕ → PathSegment → Bool
+hasRoom b count segment =
+    ltb count (length (b .kinds))
+    && leb (numbersUsed (b .kinds) count + widthOf (kindOf segment)) (length (b .fields))
+    && leb (tablesUsed (b .kinds) count + 33 * tablesOf (kindOf segment)) (length (b .tables))
+    && ltb count (length (b .lengths))
 
 -- 8, where all else is right
-unfoldable pub fittingOf : List ℕ → List Float → List Float → List Float → ℕ → PathSegment → Appended
+unfoldable pub fittingOf : Buffers → ℕ → PathSegment → Appended
 unfolding needsOf hasRoom
-fittingOf kinds numbers tables lengths count segment =
-    cond (hasRoom kinds numbers tables lengths count segment) (Appended.Added (needsOf kinds count segment)) (Appended.Refused (NoRoom (needsOf kinds count segment)))
+fittingOf b count segment = cond (hasRoom b count segment) (Appended.Added (needsOf (b .kinds) count segment)) (Appended.Refused (NoRoom (needsOf (b .kinds) count segment)))
 
 -- 12, 13 with the count of segments that there would be, 10, 11 with the new segment's number, 8
-unfoldable pub appendedOf : List ℕ → List Float → List Float → List Float → ℕ → PathSegment → Appended
+unfoldable pub appendedOf : Buffers → ℕ → PathSegment → Appended
 unfolding inUse grownOf fittingOf
-appendedOf kinds numbers tables lengths count segment =
-    cond (inUse kinds numbers tables lengths count)
+appendedOf b count segment =
+    cond (inUse b count)
     (cond (ltb count mostSegments)
     (cond (mayTurn segment)
-    (cond (finite (grownOf lengths count segment))
-    (fittingOf kinds numbers tables lengths count segment)
-    (Appended.Refused (NotFinite count)))
+    (cond (finite (grownOf (b .lengths) count segment)) (fittingOf b count segment) (Appended.Refused (NotFinite count)))
     (Appended.Refused (RotationRange count)))
     (Appended.Refused (Range (count + 1))))
     (Appended.Refused BadPath)
@@ -97,40 +99,27 @@ isAdded (Appended.Refused refusal) = false
 
 -- ---- what is written
 
--- "A refusal writes to no output."; else the segment's own places and no others
-abbrev pub kindsAfter : Bool → ℕ → PathSegment → List ℕ → List ℕ
-kindsAfter added count segment kinds = cond added (set kinds count (kindOf segment)) kinds
+-- the segment's own places and no others
+abbrev pub storedAt : Buffers → ℕ → PathSegment → Buffers
+storedAt b count segment =
+    buffers (set (b .kinds) count (kindOf segment)) (sets (b .fields) (numbersUsed (b .kinds) count) (fieldsOf segment))
+    (sets (b .tables) (tablesUsed (b .kinds) count) (tableStored segment)) (set (b .lengths) count (grownOf (b .lengths) count segment))
 
-abbrev pub numbersAfter : Bool → ℕ → PathSegment → List Float → List Float
-numbersAfter added at segment numbers = cond added (sets numbers at (fieldsOf segment)) numbers
+-- "A refusal writes to no output."
+abbrev pub afterwards : Appended → Buffers → ℕ → PathSegment → Buffers
+afterwards appended b count segment = cond (isAdded appended) (storedAt b count segment) b
 
-abbrev pub tablesAfter : Bool → ℕ → PathSegment → List Float → List Float
-tablesAfter added at segment tables = cond added (sets tables at (tableStored segment)) tables
-
-abbrev pub lengthsAfter : Bool → ℕ → PathSegment → List Float → List Float
-lengthsAfter added count segment lengths = cond added (set lengths count (grownOf lengths count segment)) lengths
-
-pub record Append (kinds : List ℕ) (numbers tables lengths : List Float) (count : ℕ) (segment : PathSegment) (r : Appended) (kinds′ : List ℕ) (numbers′ tables′ lengths′ : List Float) : Type 0 where
-  pub answer : r ≡ appendedOf kinds numbers tables lengths count segment
-  pub kindsAre : kinds′ ≡ kindsAfter (isAdded r) count segment kinds
-  pub numbersAre : numbers′ ≡ numbersAfter (isAdded r) (numbersUsed kinds count) segment numbers
-  pub tablesAre : tables′ ≡ tablesAfter (isAdded r) (tablesUsed kinds count) segment tables
-  pub lengthsAre : lengths′ ≡ lengthsAfter (isAdded r) count segment lengths
+pub record Append (b : Buffers) (count : ℕ) (segment : PathSegment) (r : Appended) (b′ : Buffers) : Type 0 where
+  pub answer : r ≡ appendedOf b count segment
+  pub after : b′ ≡ afterwards r b count segment
 
 -- what storing asks: room for the segment after those in use
-pub record Room (kinds : List ℕ) (numbers tables lengths : ℕ) (count : ℕ) (segment : PathSegment) : Type 0 where
+pub record Room (b : Buffers) (count : ℕ) (segment : PathSegment) : Type 0 where
   pub few : count < mostSegments
-  pub forKind : count < length kinds
-  pub forNumbers : numbersUsed kinds count + widthOf (kindOf segment) ≤ numbers
-  pub forTable : tablesUsed kinds count + 33 * tablesOf (kindOf segment) ≤ tables
-  pub forLength : count < lengths
-
--- the segment is stored after those in use
-pub record Stores (kinds : List ℕ) (numbers tables lengths : List Float) (count : ℕ) (segment : PathSegment) (kinds′ : List ℕ) (numbers′ tables′ lengths′ : List Float) : Type 0 where
-  pub kindsAre : kinds′ ≡ set kinds count (kindOf segment)
-  pub numbersAre : numbers′ ≡ sets numbers (numbersUsed kinds count) (fieldsOf segment)
-  pub tablesAre : tables′ ≡ sets tables (tablesUsed kinds count) (tableStored segment)
-  pub lengthsAre : lengths′ ≡ set lengths count (grownOf lengths count segment)
+  pub forKind : count < length (b .kinds)
+  pub forNumbers : numbersUsed (b .kinds) count + widthOf (kindOf segment) ≤ length (b .fields)
+  pub forTable : tablesUsed (b .kinds) count + 33 * tablesOf (kindOf segment) ≤ length (b .tables)
+  pub forLength : count < length (b .lengths)
 
 -- a table is stored, where the segment has one, and the segment's length is told
 pub record TableStored (at : ℕ) (segment : PathSegment) (tables : List Float) (r : Float) (tables′ : List Float) : Type 0 where

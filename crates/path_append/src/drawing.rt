@@ -10,6 +10,7 @@ use math::Point;
 use path_segment::PathSegment;
 ghost use mathlib.Core.Path.{_≡_};
 ghost use Rattle.arc.specs.Lines.{lineOf};
+ghost use Rattle.path_stored.specs.Buffers.{after, before};
 ghost use Rattle.path_append.specs.Appending.{Append, arcSegment};
 
 // Appends the line from start to end.
@@ -22,7 +23,7 @@ pub fn line_to(
     start: Point,
     end: Point,
 ) -> Appended
-    ensures { λ r. ⌜ Append (now (kinds .entry)) (now (numbers .entry)) (now (tables .entry)) (now (lengths .entry)) count (PathSegment.Line (lineOf start end)) r (now (kinds .exit)) (now (numbers .exit)) (now (tables .exit)) (now (lengths .exit)) ⌝ }
+    ensures { λ r. ⌜ Append (before kinds numbers tables lengths) count (PathSegment.Line (lineOf start end)) r (after kinds numbers tables lengths) ⌝ }
 {
     let segment = PathSegment::Line(LineSegment { start, end });
     push_segment(kinds, numbers, tables, lengths, count, segment)
@@ -39,7 +40,7 @@ pub fn quad_to(
     control: Point,
     end: Point,
 ) -> Appended
-    ensures { λ r. ⌜ Append (now (kinds .entry)) (now (numbers .entry)) (now (tables .entry)) (now (lengths .entry)) count (PathSegment.Quad start control end) r (now (kinds .exit)) (now (numbers .exit)) (now (tables .exit)) (now (lengths .exit)) ⌝ }
+    ensures { λ r. ⌜ Append (before kinds numbers tables lengths) count (PathSegment.Quad start control end) r (after kinds numbers tables lengths) ⌝ }
 {
     let segment = PathSegment::Quad {
         start,
@@ -61,7 +62,7 @@ pub fn cubic_to(
     control2: Point,
     end: Point,
 ) -> Appended
-    ensures { λ r. ⌜ Append (now (kinds .entry)) (now (numbers .entry)) (now (tables .entry)) (now (lengths .entry)) count (PathSegment.Cubic start control1 control2 end) r (now (kinds .exit)) (now (numbers .exit)) (now (tables .exit)) (now (lengths .exit)) ⌝ }
+    ensures { λ r. ⌜ Append (before kinds numbers tables lengths) count (PathSegment.Cubic start control1 control2 end) r (after kinds numbers tables lengths) ⌝ }
 {
     let segment = PathSegment::Cubic {
         start,
@@ -91,7 +92,7 @@ pub fn arc_to(
     count: usize,
     chord: Chord,
 ) -> Appended
-    ensures { λ r. ⌜ Append (now (kinds .entry)) (now (numbers .entry)) (now (tables .entry)) (now (lengths .entry)) count (arcSegment chord) r (now (kinds .exit)) (now (numbers .exit)) (now (tables .exit)) (now (lengths .exit)) ⌝ }
+    ensures { λ r. ⌜ Append (before kinds numbers tables lengths) count (arcSegment chord) r (after kinds numbers tables lengths) ⌝ }
 {
     push_segment(kinds, numbers, tables, lengths, count, arc_segment(chord))
 }

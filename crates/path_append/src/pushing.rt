@@ -16,6 +16,7 @@ ghost use mathlib.Core.Path.{_≡_};
 ghost use Prim.Native.Nat.{_*_, _≤_, _<_};
 ghost use lib.ListN.{length};
 ghost use Rattle.path_segment.specs.Segments.{tablesOf};
+ghost use Rattle.path_stored.specs.Buffers.{after, before};
 ghost use Rattle.path_stored.specs.Stored.{mostSegments};
 ghost use Rattle.path_append.specs.Appending.{mayTurn, fittingOf, appendedOf, Append};
 
@@ -70,7 +71,7 @@ fn fitting(
 ) -> Appended
     requires { ⌜ count < mostSegments ⌝ }
     requires { ⌜ count ≤ length (now kinds) ⌝ }
-    ensures { λ r. ⌜ r ≡ fittingOf (now (kinds .entry)) (now (numbers .entry)) (now (tables .entry)) (now (lengths .entry)) count segment ⌝ }
+    ensures { λ r. ⌜ r ≡ fittingOf (before kinds numbers tables lengths) count segment ⌝ }
 {
     let own = kind(segment);
     let n = numbers_used(kinds, count) + width(own);
@@ -100,7 +101,7 @@ fn judge(
     count: usize,
     segment: PathSegment,
 ) -> Appended
-    ensures { λ r. ⌜ r ≡ appendedOf (now (kinds .entry)) (now (numbers .entry)) (now (tables .entry)) (now (lengths .entry)) count segment ⌝ }
+    ensures { λ r. ⌜ r ≡ appendedOf (before kinds numbers tables lengths) count segment ⌝ }
 {
     if is_in_use(kinds, numbers, tables, lengths, count) {
         if 65536 <= count {
@@ -127,7 +128,7 @@ pub fn push_segment(
     count: usize,
     segment: PathSegment,
 ) -> Appended
-    ensures { λ r. ⌜ Append (now (kinds .entry)) (now (numbers .entry)) (now (tables .entry)) (now (lengths .entry)) count segment r (now (kinds .exit)) (now (numbers .exit)) (now (tables .exit)) (now (lengths .exit)) ⌝ }
+    ensures { λ r. ⌜ Append (before kinds numbers tables lengths) count segment r (after kinds numbers tables lengths) ⌝ }
 {
     let answer = judge(kinds, numbers, tables, lengths, count, segment);
     match answer {

@@ -10,10 +10,12 @@ use path_segment::kind;
 use path_segment::segment_length;
 use path_segment::segment_table;
 use table::inner::length_before;
+ghost use mathlib.Core.Path.{_≡_};
 ghost use Prim.Native.Nat.{_+_, _*_, _≤_};
 ghost use lib.ListN.{length};
 ghost use Rattle.path_segment.specs.Segments.{kindOf, tablesOf};
-ghost use Rattle.path_append.specs.Appending.{Room, Stores, TableStored};
+ghost use Rattle.path_stored.specs.Buffers.{after, before, lent};
+ghost use Rattle.path_append.specs.Appending.{Room, TableStored, storedAt};
 
 // Stores a segment's table from `at` on, where it has one, and gives the segment's length.
 fn store_table(tables: &mut [f32], at: usize, segment: PathSegment) -> f32
@@ -37,8 +39,8 @@ pub(crate) fn store(
     count: usize,
     segment: PathSegment,
 )
-    requires { ⌜ Room (now kinds) (length (now numbers)) (length (now tables)) (length (now lengths)) count segment ⌝ }
-    ensures { λ _. ⌜ Stores (now (kinds .entry)) (now (numbers .entry)) (now (tables .entry)) (now (lengths .entry)) count segment (now (kinds .exit)) (now (numbers .exit)) (now (tables .exit)) (now (lengths .exit)) ⌝ }
+    requires { ⌜ Room (lent kinds numbers tables lengths) count segment ⌝ }
+    ensures { λ _. ⌜ after kinds numbers tables lengths ≡ storedAt (before kinds numbers tables lengths) count segment ⌝ }
 {
     let n = numbers_used(kinds, count);
     let m = tables_used(kinds, count);

@@ -5,6 +5,7 @@ use path_stored::inner::tables_before;
 ghost use mathlib.Core.Path.{_≡_};
 ghost use Prim.Native.Nat.{_≤_};
 ghost use lib.ListN.{length};
+ghost use Rattle.path_stored.specs.Buffers.{before};
 ghost use Rattle.path_stored.specs.Stored.{mostSegments};
 ghost use Rattle.path_append.specs.Appending.{numbersUsed, tablesUsed, inUse};
 
@@ -34,7 +35,7 @@ pub(crate) fn is_in_use(
     lengths: &[f32],
     count: usize,
 ) -> bool
-    ensures { λ r. ⌜ r ≡ inUse (now (kinds .entry)) (now (numbers .entry)) (now (tables .entry)) (now (lengths .entry)) count ⌝ }
+    ensures { λ r. ⌜ r ≡ inUse (before kinds numbers tables lengths) count ⌝ }
 {
     if kinds.len() < count {
         return false;

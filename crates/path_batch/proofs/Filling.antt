@@ -13,10 +13,12 @@ use Rattle.floats.specs.Floats.{zeroF}
 use Rattle.math.specs.Math.{originF}
 use Rattle.table.specs.declared.tables.Spot.{Spot}
 use Rattle.table.specs.Spots.{spotOf}
+use Rattle.path_stored.specs.Buffers.{Buffers}
 use Rattle.path_place.specs.declared.cursors.Cursor.{Cursor}
 use Rattle.path_place.specs.Cursors.{cursorOf, Moving}
 use Rattle.path_place.proofs.Standing.{cursor-own, spot-among}
 use Rattle.path_query.specs.Flights.{flightOf, Flyable}
+use Rattle.path_query.proofs.Answering.{flight-none}
 use Rattle.path_query.proofs.Seats.{some-place}
 use Rattle.path_batch.specs.Batches.{each, numbersOf, numbersFor}
 
@@ -34,12 +36,12 @@ looking-first {kinds} e some = let own = cursor-own kinds 0 e in record { upto =
 pub looking-next : {kinds : List ℕ} {progresses : List Float} {k : ℕ} (at : Cursor) (i : ℕ) → at ≡ cursorOf kinds i → i < length kinds → k < length progresses → Looking kinds progresses at (k + 1)
 looking-next {kinds} at i e inside more = let own = cursor-own kinds i e in record { upto = omega arith; is = own .1; inside = omega arith }
 
-module _ {kinds : List ℕ} {fields tables lengths progresses : List Float} {at : Cursor} {k : ℕ} (f : Flyable kinds fields tables lengths) (l : Looking kinds progresses at k) where
+module _ {b : Buffers} {progresses : List Float} {at : Cursor} {k : ℕ} (f : Flyable b) (l : Looking (b .kinds) progresses at k) where
   -- the spot's segment is one of the path's
-  pub among : (p : Float) {spot : Spot} → spot ≡ spotOf lengths p → spot .segment < length kinds
+  pub among : (p : Float) {spot : Spot} → spot ≡ spotOf (b .lengths) p → spot .segment < length (b .kinds)
   among p e = rw e (spot-among (some-place f) p)
 
-  pub looking-moves : (p : Float) {spot : Spot} → spot ≡ spotOf lengths p → Moving kinds at (spot .segment)
+  pub looking-moves : (p : Float) {spot : Spot} → spot ≡ spotOf (b .lengths) p → Moving (b .kinds) at (spot .segment)
   looking-moves p e = let h = among p e in let few = f .path .few in let stood = l .inside in record { few = few; is = l .is; stood = omega arith; inside = omega arith }
 
 -- ---- one element for each progress
@@ -87,36 +89,36 @@ put-four l at a b c d =
 pub four-put : (l : List Float) (at : ℕ) (a b c d w x y z : Float) → a ≡ w → b ≡ x → c ≡ y → d ≡ z → set (set (set (set l at a) (at + 1) b) (at + 2) c) (at + 3) d ≡ sets l at (w ∷ x ∷ y ∷ z ∷ [])
 four-put l at a b c d w x y z e f g h = rw (e, f, g, h) (put-four l at w x y z)
 
-module _ (kinds : List ℕ) (fields tables lengths : List Float) where
-  numbers-suc : (ps : List Float) (k : ℕ) → k < length ps → numbersFor kinds fields tables lengths (take (suc k) ps) ≡ numbersFor kinds fields tables lengths (take k ps) ++ numbersOf (flightOf kinds fields tables lengths (getD ps k nan))
+module _ (b : Buffers) where
+  numbers-suc : (ps : List Float) (k : ℕ) → k < length ps → numbersFor b (take (suc k) ps) ≡ numbersFor b (take k ps) ++ numbersOf (flightOf b (getD ps k nan))
   unfolding numbersFor
   numbers-suc [] k inside = absurd (omega arith)
   numbers-suc (p ∷ ps) zero inside = refl
-  numbers-suc (p ∷ ps) (suc k) inside = ap (λ (rest : List Float). numbersOf (flightOf kinds fields tables lengths p) ++ rest) (numbers-suc ps k (omega arith))
+  numbers-suc (p ∷ ps) (suc k) inside = ap (λ (rest : List Float). numbersOf (flightOf b p) ++ rest) (numbers-suc ps k (omega arith))
 
-  numbers-length : (ps : List Float) → length (numbersFor kinds fields tables lengths ps) ≡ 4 * length ps
+  numbers-length : (ps : List Float) → length (numbersFor b ps) ≡ 4 * length ps
   unfolding numbersFor
   numbers-length [] = refl
   numbers-length (p ∷ ps) = let h = numbers-length ps in omega arith
 
-  numbers-taken : (ps : List Float) (k : ℕ) → k ≤ length ps → length (numbersFor kinds fields tables lengths (take k ps)) ≡ 4 * k
+  numbers-taken : (ps : List Float) (k : ℕ) → k ≤ length ps → length (numbersFor b (take k ps)) ≡ 4 * k
   numbers-taken ps k inside = numbers-length (take k ps) ∙ ap (λ (n : ℕ). 4 * n) (length-take-le k ps inside)
 
-  pub numbers-size : (ps before : List Float) (k : ℕ) → k ≤ length ps → 4 * length ps ≤ length before → length (written (numbersFor kinds fields tables lengths (take k ps)) before) ≡ length before
-  numbers-size ps before k inside room = let n = numbers-taken ps k inside in length-written (numbersFor kinds fields tables lengths (take k ps)) before (omega arith)
+  pub numbers-size : (ps before : List Float) (k : ℕ) → k ≤ length ps → 4 * length ps ≤ length before → length (written (numbersFor b (take k ps)) before) ≡ length before
+  numbers-size ps before k inside room = let n = numbers-taken ps k inside in length-written (numbersFor b (take k ps)) before (omega arith)
 
-  pub numbers-next : (ps before out : List Float) (k : ℕ) (vs : List Float) → k < length ps → 4 * length ps ≤ length before → out ≡ written (numbersFor kinds fields tables lengths (take k ps)) before
-      → vs ≡ numbersOf (flightOf kinds fields tables lengths (getD ps k nan)) → sets out (4 * k) vs ≡ written (numbersFor kinds fields tables lengths (take (k + 1) ps)) before
+  pub numbers-next : (ps before out : List Float) (k : ℕ) (vs : List Float) → k < length ps → 4 * length ps ≤ length before → out ≡ written (numbersFor b (take k ps)) before
+      → vs ≡ numbersOf (flightOf b (getD ps k nan)) → sets out (4 * k) vs ≡ written (numbersFor b (take (k + 1) ps)) before
   numbers-next ps before out k vs inside room e values =
       let upto : k ≤ length ps = omega arith in
       let n = numbers-taken ps k upto in
-      let w = numbersOf (flightOf kinds fields tables lengths (getD ps k nan)) in
-      let more : length (numbersFor kinds fields tables lengths (take k ps)) + length w ≤ length before = omega arith in
+      let w = numbersOf (flightOf b (getD ps k nan)) in
+      let more : length (numbersFor b (take k ps)) + length w ≤ length before = omega arith in
       ap (λ (l : List Float). sets l (4 * k) vs) e
-      ∙ ap (λ (i : ℕ). sets (written (numbersFor kinds fields tables lengths (take k ps)) before) i vs) (sym n)
-      ∙ ap (λ (v : List Float). sets (written (numbersFor kinds fields tables lengths (take k ps)) before) (length (numbersFor kinds fields tables lengths (take k ps))) v) values
-      ∙ written-more (numbersFor kinds fields tables lengths (take k ps)) w before more
-      ∙ ap (λ (l : List Float). written l before) (sym (numbers-suc ps k inside) ∙ ap (λ (i : ℕ). numbersFor kinds fields tables lengths (take i ps)) (sym (add-one k)))
+      ∙ ap (λ (i : ℕ). sets (written (numbersFor b (take k ps)) before) i vs) (sym n)
+      ∙ ap (λ (v : List Float). sets (written (numbersFor b (take k ps)) before) (length (numbersFor b (take k ps))) v) values
+      ∙ written-more (numbersFor b (take k ps)) w before more
+      ∙ ap (λ (l : List Float). written l before) (sym (numbers-suc ps k inside) ∙ ap (λ (i : ℕ). numbersFor b (take i ps)) (sym (add-one k)))
 
 -- ---- zeros
 
@@ -141,9 +143,9 @@ zeros-next before out k room e =
     ∙ ap (λ (l : List Float). written l before) (zeros-suc k ∙ ap (λ (i : ℕ). replicate i zeroF) (sym (add-one k)))
 
 -- a path without segments gives zeros
-pub numbers-none : (fields tables lengths ps : List Float) → replicate (4 * length ps) zeroF ≡ numbersFor [] fields tables lengths ps
-unfolding numbersFor flightOf originF
-numbers-none fields tables lengths [] = refl
-numbers-none fields tables lengths (p ∷ ps) =
+pub numbers-none : (b : Buffers) (ps : List Float) → length (b .kinds) ≡ 0 → replicate (4 * length ps) zeroF ≡ numbersFor b ps
+unfolding numbersFor originF
+numbers-none b [] none = refl
+numbers-none b (p ∷ ps) none =
     let four : 4 * suc (length ps) ≡ suc (suc (suc (suc (4 * length ps)))) = omega arith in
-    rw four (ap (λ (rest : List Float). zeroF ∷ zeroF ∷ zeroF ∷ zeroF ∷ rest) (numbers-none fields tables lengths ps))
+    rw (four, ← flight-none b p none) (ap (λ (rest : List Float). zeroF ∷ zeroF ∷ zeroF ∷ zeroF ∷ rest) (numbers-none b ps none))

@@ -19,7 +19,7 @@ use Rattle.commands.specs.declared.command.PathCommand.{PathCommand}
 use Rattle.commands.specs.declared.inner.Decoded.{Decoded}
 use Rattle.commands.specs.declared.inner.Decoded.the-variants.{Command, Bad}
 use Rattle.path_segment.specs.declared.segments.PathSegment.{PathSegment}
-use Rattle.path_stored.specs.Layout.{kindsOf, fieldsOfAll, tablesOfAll, runningOf, lengthsOfAll}
+use Rattle.path_stored.specs.Layout.{runningOf, lengthsOfAll, laidOut}
 use Rattle.path_stored.specs.Stored.{isStored}
 use Rattle.path_stored.proofs.Extending.{laid-out}
 use Rattle.path_drawing.specs.Drawing.{freshOf, drawOf}
@@ -69,7 +69,7 @@ sound-from (command ∷ commands) k before pen list e = by-drawn (sound-from com
 -- what commands build is a stored path
 pub built-stored :
     (commands : List PathCommand) (list : List PathSegment) → length commands ≤ 65536 → buildOf commands ≡ path list
-    → T (isStored (kindsOf list) (fieldsOfAll list) (tablesOfAll list) (lengthsOfAll list))
+    → T (isStored (laidOut list))
 unfolding Sound buildOf lengthsOfAll
 built-stored commands list few e =
     let s = sound-from commands 0 zeroF freshOf list e in
@@ -114,16 +114,16 @@ roomed-path lent (path own) list e = by-room (isShort (countsOf own) lent) e
 -- "what it builds always passes check_path"
 pub build-path-stored :
     (letters : List ℕ) (numbers : List Float) (lent : Counts) (list : List PathSegment) → buildPathOf letters numbers lent ≡ path list
-    → T (isStored (kindsOf list) (fieldsOfAll list) (tablesOfAll list) (lengthsOfAll list))
+    → T (isStored (laidOut list))
 unfolding buildPathOf
 build-path-stored letters numbers lent list = by-count (ltb 65536 (length letters)) refl
   where
-    by-listing : length letters ≤ 65536 → (l : Listing) → listed 0 letters numbers ≡ l → builtBy l ≡ path list → T (isStored (kindsOf list) (fieldsOfAll list) (tablesOfAll list) (lengthsOfAll list))
+    by-listing : length letters ≤ 65536 → (l : Listing) → listed 0 letters numbers ≡ l → builtBy l ≡ path list → T (isStored (laidOut list))
     by-listing few (wellFormed commands) f g = built-stored commands list (omega (arith, listed-count letters 0 numbers commands f)) g
     by-listing few (malformed k) f g = let z : _≡_ {A = ℕ} 0 1 = cc in absurd (omega arith)
 
     by-count :
         (b : Bool) → ltb 65536 (length letters) ≡ b → cond b (refusal (Range (length letters))) (roomed lent (builtBy (listed 0 letters numbers))) ≡ path list
-        → T (isStored (kindsOf list) (fieldsOfAll list) (tablesOfAll list) (lengthsOfAll list))
+        → T (isStored (laidOut list))
     by-count true f g = let z : _≡_ {A = ℕ} 0 1 = cc in absurd (omega arith)
     by-count false f g = by-listing (ltb-false 65536 (length letters) f) (listed 0 letters numbers) refl (roomed-path lent (builtBy (listed 0 letters numbers)) list g)

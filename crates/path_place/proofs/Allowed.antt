@@ -15,8 +15,9 @@ use Rattle.floats.proofs.Tests.{clashing, cond-yes}
 use Rattle.floats.proofs.Order.{le-le-trans}
 use Rattle.table_order.proofs.Theorems.{path-order, path-starts, path-ends, carried}
 use Rattle.path_segment.specs.Segments.{hasTable}
+use Rattle.path_stored.specs.Buffers.{Buffers}
 use Rattle.path_place.specs.declared.places.Place.{Place}
-use Rattle.path_place.specs.Places.{placed, tablePlace, rawIn, rawFor, rawWithin, placeOf}
+use Rattle.path_place.specs.Places.{placed, tablePlace, rawIn, rawFor, rawWithin, placeIn, placeOf}
 use Rattle.path_place.specs.Demand.{Demand3, tableOn}
 use Rattle.path_place.proofs.Demand3.{F32Stored, spot-counts, path-held, demand-3}
 use Rattle.path_place.proofs.Refuting.{Lookup}
@@ -24,32 +25,32 @@ use Rattle.path_place.proofs.Refused.{unchanged}
 
 -- Where each table is at most 2^-23 long, as a table of zeros is, the lookup that hands its progress on unchanged is the lookup of the code: "Total at most 2^-23: raw is the clamped progress." A
 -- path whose tables are zeros is a stored path; that no builder makes one of a curve with a length is demand 2's, by the sums.
-abbrev pub Short : List ℕ → List Float → Type 0
-Short kinds tables = (i : ℕ) → T (hasTable (getD kinds i 0)) → T (le (tableOn kinds tables i .total) epsilonF)
+abbrev pub Short : Buffers → Type 0
+Short b = (i : ℕ) → T (hasTable (getD (b .kinds) i 0)) → T (le (tableOn b i .total) epsilonF)
 
-pub short-is-unchanged : (kinds : List ℕ) (tables lengths : List Float) → Short kinds tables → (p : Float) → placeOf kinds tables lengths p ≡ unchanged kinds tables lengths p
-unfolding placeOf rawWithin rawFor rawIn rawOf
-short-is-unchanged kinds tables lengths short p = ap (placed (spot .segment)) (by-kind (hasTable (getD kinds (spot .segment) 0)) (short (spot .segment)))
+pub short-is-unchanged : (b : Buffers) → Short b → (p : Float) → placeOf b p ≡ unchanged b p
+unfolding placeIn rawWithin rawFor rawIn rawOf
+short-is-unchanged b short p = ap (placed (spot .segment)) (by-kind (hasTable (getD (b .kinds) (spot .segment) 0)) (short (spot .segment)))
   where
     spot : Spot
-    spot = spotOf lengths p
+    spot = spotOf (b .lengths) p
 
     along : Float
     along = spot .progress .value
 
     own : Float
-    own = rawIn tables (tablePlace kinds (spot .segment)) along
+    own = rawIn (b .tables) (tablePlace (b .kinds) (spot .segment)) along
 
     total : Float
-    total = tableOn kinds tables (spot .segment) .total
+    total = tableOn b (spot .segment) .total
 
     by-kind : (curve : Bool) → (T curve → T (le total epsilonF)) → cond curve own (clamp01Of along) ≡ cond curve (clamp01Of along) (clamp01Of along)
     by-kind true small = cond-yes (le total epsilonF) _ _ (small tt)
     by-kind false small = refl
 
-pub unchanged-kept : {kinds : List ℕ} {fields tables lengths : List Float} → F32Stored kinds fields tables lengths → 0 < length kinds → T (lt epsilonF (pathTotal lengths))
-    → Short kinds tables → Demand3 kinds tables lengths (unchanged kinds tables lengths)
-unchanged-kept {kinds} {fields} {tables} {lengths} f some long short = subst (Demand3 kinds tables lengths) (fun-ext (short-is-unchanged kinds tables lengths short)) (demand-3 f some long)
+pub unchanged-kept : {b : Buffers} → F32Stored b → 0 < length (b .kinds) → T (lt epsilonF (pathTotal (b .lengths)))
+    → Short b → Demand3 b (unchanged b)
+unchanged-kept {b} f some long short = subst (Demand3 b) (fun-ext (short-is-unchanged b short)) (demand-3 f some long)
 
 -- On a line the demand asks only order, ends and the running lengths: a lookup that jumps from a line's 0 to its 1 meets it on every path without a table. What the raw parameter of a line is,
 -- "its clamped local progress", is demand 2's, which the contracts hold to the bit.
@@ -57,7 +58,7 @@ abbrev pub jump : ℕ → Float → Float
 jump i along = cond (le along zeroF) zeroF oneF
 
 abbrev pub jumping : Lookup
-jumping kinds tables lengths p = placed (spotOf lengths p .segment) (jump (spotOf lengths p .segment) (spotOf lengths p .progress .value))
+jumping b p = placed (spotOf (b .lengths) p .segment) (jump (spotOf (b .lengths) p .segment) (spotOf (b .lengths) p .progress .value))
 
 jump-order : (i : ℕ) (x y : Float) → T (le x y) → T (le (jump i x) (jump i y))
 jump-order i x y h = by-tests (le x zeroF) (le y zeroF) (λ n. n) (λ n. n)
@@ -76,19 +77,19 @@ jump-ends : jump 0 oneF ≡ oneF
 unfolding zeroF oneF ofBits le lt eq
 jump-ends = refl
 
-pub jumping-kept : {kinds : List ℕ} {fields tables lengths : List Float} → F32Stored kinds fields tables lengths → 0 < length kinds → T (lt epsilonF (pathTotal lengths))
-    → ((i : ℕ) → T (not (hasTable (getD kinds i 0)))) → Demand3 kinds tables lengths (jumping kinds tables lengths)
-unfolding placeOf
-jumping-kept {kinds} {fields} {tables} {lengths} f some long bare =
+pub jumping-kept : {b : Buffers} → F32Stored b → 0 < length (b .kinds) → T (lt epsilonF (pathTotal (b .lengths)))
+    → ((i : ℕ) → T (not (hasTable (getD (b .kinds) i 0)))) → Demand3 b (jumping b)
+unfolding placeIn
+jumping-kept {b} f some long bare =
     let d = demand-3 f some long in
     let path = path-held f some in
     record {
-      counts = λ p. ap jumped (spot-counts lengths p);
+      counts = λ p. ap jumped (spot-counts (b .lengths) p);
       order = λ p q h. carried jump jump-order _ _ _ _ (path-order path p q h);
       starts = ap jumped (path-starts path long) ∙ ap (placed 0) jump-starts;
-      ends = ap jumped (path-ends path) ∙ ap (placed (lastOf lengths)) jump-ends ∙ ap (λ (i : ℕ). placed i oneF) (let one = f .stored .one in omega arith);
+      ends = ap jumped (path-ends path) ∙ ap (placed (lastOf (b .lengths))) jump-ends ∙ ap (λ (i : ℕ). placed i oneF) (let one = f .stored .one in omega arith);
       enclosed = d .enclosed;
-      swept = λ p inside has far. absurd (clashing (hasTable (getD kinds (spotOf lengths p .segment) 0)) has (bare (spotOf lengths p .segment)));
+      swept = λ p inside has far. absurd (clashing (hasTable (getD (b .kinds) (spotOf (b .lengths) p .segment) 0)) has (bare (spotOf (b .lengths) p .segment)));
     }
   where
     jumped : Spot → Place

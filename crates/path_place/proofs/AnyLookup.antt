@@ -23,8 +23,9 @@ use Rattle.table_order.proofs.Variants.{wayAlong}
 use Rattle.table_order.proofs.Contraction.{contractedClamped}
 use Rattle.table_order.proofs.Kept.{contracted-steady as by-shares}
 use Rattle.path_segment.specs.Segments.{hasTable}
+use Rattle.path_stored.specs.Buffers.{Buffers}
 use Rattle.path_place.specs.declared.places.Place.{Place}
-use Rattle.path_place.specs.Places.{placed, placeOf}
+use Rattle.path_place.specs.Places.{placed, placeIn}
 use Rattle.path_place.specs.Demand.{SweptBy, Demand3, targetAlong, localOf, tableOn}
 use Rattle.path_place.proofs.Tables.{entries-last, has-inside, table-there}
 use Rattle.path_place.proofs.Pairs.{table-held, picked-inside}
@@ -37,69 +38,69 @@ use Rattle.path_place.proofs.Refused.{withWay}
 abbrev pub WaySteady : (List Float → Float → Float → Float) → Type 0
 WaySteady way = (xs : List Float) (total : Float) → F32Table xs total → lastOf xs ≡ 31 → Steady 31 xs total (way xs total)
 
-module _ (way : List Float → Float → Float → Float) (is : WaySteady way) {kinds : List ℕ} {fields tables lengths : List Float} (f : F32Stored kinds fields tables lengths) where
+module _ (way : List Float → Float → Float → Float) (is : WaySteady way) {b : Buffers} (f : F32Stored b) where
   abbrev own : ℕ → Float → Float
-  own i along = way (tableOn kinds tables i .entries) (tableOn kinds tables i .total) along
+  own i along = way (tableOn b i .entries) (tableOn b i .total) along
 
   abbrev rawBy : ℕ → Float → Float
-  rawBy i along = cond (hasTable (getD kinds i 0)) (own i along) (clamp01Of along)
+  rawBy i along = cond (hasTable (getD (b .kinds) i 0)) (own i along) (clamp01Of along)
 
   abbrev placeBy : Spot → Place
   placeBy spot = placed (spot .segment) (rawBy (spot .segment) (spot .progress .value))
 
   abbrev Own : ℕ → Type 0
-  Own i = Steady 31 (tableOn kinds tables i .entries) (tableOn kinds tables i .total) (way (tableOn kinds tables i .entries) (tableOn kinds tables i .total))
+  Own i = Steady 31 (tableOn b i .entries) (tableOn b i .total) (way (tableOn b i .entries) (tableOn b i .total))
 
-  held : (i : ℕ) → T (hasTable (getD kinds i 0)) → Own i
-  held i has = let there = table-there (f .stored) i (has-inside kinds i has) has in is _ _ (table-held (f .tableValues) there) (entries-last there)
+  held : (i : ℕ) → T (hasTable (getD (b .kinds) i 0)) → Own i
+  held i has = let there = table-there (f .stored) i (has-inside (b .kinds) i has) has in is _ _ (table-held (f .tableValues) there) (entries-last there)
 
   by-order : (i : ℕ) (x y : Float) → T (le x y) → T (le (rawBy i x) (rawBy i y))
-  by-order i x y h = by-kind (hasTable (getD kinds i 0)) (held i)
+  by-order i x y h = by-kind (hasTable (getD (b .kinds) i 0)) (held i)
     where
       by-kind : (curve : Bool) → (T curve → Own i) → T (le (cond curve (own i x) (clamp01Of x)) (cond curve (own i y) (clamp01Of y)))
       by-kind true steady = steady tt .order x y (clamp01-mono x y h)
       by-kind false steady = clamp01-mono x y h
 
   by-starts : (i : ℕ) → rawBy i zeroF ≡ zeroF
-  by-starts i = by-kind (hasTable (getD kinds i 0)) (held i)
+  by-starts i = by-kind (hasTable (getD (b .kinds) i 0)) (held i)
     where
       by-kind : (curve : Bool) → (T curve → Own i) → cond curve (own i zeroF) (clamp01Of zeroF) ≡ zeroF
       by-kind true steady = steady tt .starts
       by-kind false steady = clamped-zero
 
   by-ends : (i : ℕ) → rawBy i oneF ≡ oneF
-  by-ends i = by-kind (hasTable (getD kinds i 0)) (held i)
+  by-ends i = by-kind (hasTable (getD (b .kinds) i 0)) (held i)
     where
       by-kind : (curve : Bool) → (T curve → Own i) → cond curve (own i oneF) (clamp01Of oneF) ≡ oneF
       by-kind true steady = steady tt .ends
       by-kind false steady = clamped-one
 
-  pub steady-meets : 0 < length kinds → T (lt epsilonF (pathTotal lengths)) → Demand3 kinds tables lengths (withWay way kinds tables lengths)
-  unfolding placeOf
+  pub steady-meets : 0 < length (b .kinds) → T (lt epsilonF (pathTotal (b .lengths))) → Demand3 b (withWay way b)
+  unfolding placeIn
   steady-meets some long =
       let path = path-held f some in
       let d = demand-3 f some long in
-      let last : lastOf lengths ≡ length kinds - 1 = (let one = f .stored .one in omega arith) in
+      let last : lastOf (b .lengths) ≡ length (b .kinds) - 1 = (let one = f .stored .one in omega arith) in
       record {
-        counts = λ p. ap placeBy (spot-counts lengths p);
+        counts = λ p. ap placeBy (spot-counts (b .lengths) p);
         order = λ p q h. carried rawBy by-order _ _ _ _ (path-order path p q h);
         starts = ap placeBy (path-starts path long) ∙ ap (placed 0) (by-starts 0);
-        ends = ap placeBy (path-ends path) ∙ ap (placed (lastOf lengths)) (by-ends (lastOf lengths)) ∙ ap (λ (i : ℕ). placed i oneF) last;
+        ends = ap placeBy (path-ends path) ∙ ap (placed (lastOf (b .lengths))) (by-ends (lastOf (b .lengths))) ∙ ap (λ (i : ℕ). placed i oneF) last;
         enclosed = d .enclosed;
-        swept = λ p inside. subst (SweptBy kinds tables lengths p) (sym (ap placeBy (picked p inside))) (λ has far. within (wanted p) (localOf lengths p (wanted p)) has far);
+        swept = λ p inside. subst (SweptBy b p) (sym (ap placeBy (picked p inside))) (λ has far. within (wanted p) (localOf (b .lengths) p (wanted p)) has far);
       }
     where
       wanted : Float → ℕ
-      wanted p = firstNotBelow (targetAlong lengths p) lengths
+      wanted p = firstNotBelow (targetAlong (b .lengths) p) (b .lengths)
 
-      picked : (p : Float) → Inside (pathTotal lengths) (targetAlong lengths p) → spotOf lengths p ≡ spotWithin lengths (targetAlong lengths p) (wanted p)
-      picked p inside = picked-inside lengths p long (inside .above) (inside .below)
+      picked : (p : Float) → Inside (pathTotal (b .lengths)) (targetAlong (b .lengths) p) → spotOf (b .lengths) p ≡ spotWithin (b .lengths) (targetAlong (b .lengths) p) (wanted p)
+      picked p inside = picked-inside (b .lengths) p long (inside .above) (inside .below)
 
-      within : (i : ℕ) (along : Float) → T (hasTable (getD kinds i 0)) → let table = tableOn kinds tables i in
+      within : (i : ℕ) (along : Float) → T (hasTable (getD (b .kinds) i 0)) → let table = tableOn b i in
           T (lt epsilonF (table .total)) → Swept 31 (table .entries) (table .total) (targetOf (table .total) along) (rawBy i along)
       within i along has far =
-          let table = tableOn kinds tables i in
-          subst (Swept 31 (table .entries) (table .total) (targetOf (table .total) along)) (sym (cond-yes (hasTable (getD kinds i 0)) _ _ has)) (held i has .swept along far)
+          let table = tableOn b i in
+          subst (Swept 31 (table .entries) (table .total) (targetOf (table .total) along)) (sym (cond-yes (hasTable (getD (b .kinds) i 0)) _ _ has)) (held i has .swept along far)
 
 -- ---- the contraction with its clamp: target - lower as total * progress - lower rounded once
 
@@ -110,6 +111,6 @@ pub contracted-steady : WaySteady contracted
 contracted-steady xs total f last = subst (λ (n : ℕ). Steady n xs total (contracted xs total)) last (by-shares f)
 
 -- so the letter's sentence allows it
-pub contraction-kept : {kinds : List ℕ} {fields tables lengths : List Float} → F32Stored kinds fields tables lengths → 0 < length kinds → T (lt epsilonF (pathTotal lengths))
-    → Demand3 kinds tables lengths (withWay contracted kinds tables lengths)
+pub contraction-kept : {b : Buffers} → F32Stored b → 0 < length (b .kinds) → T (lt epsilonF (pathTotal (b .lengths)))
+    → Demand3 b (withWay contracted b)
 contraction-kept f = steady-meets contracted contracted-steady f

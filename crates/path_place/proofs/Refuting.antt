@@ -25,8 +25,9 @@ use Rattle.path_stored.specs.Stored.{areKnown, tablesAreSound, isStored}
 use Rattle.path_stored.specs.Stored as Stored
 use Rattle.path_stored.proofs.Rule.{stored-rule}
 use Rattle.path_stored.proofs.Values.{F32s}
+use Rattle.path_stored.specs.Buffers.{Buffers}
 use Rattle.path_place.specs.declared.places.Place.{Place}
-use Rattle.path_place.specs.Places.{tablePlace, rawIn, rawFor, rawWithin, placeOf}
+use Rattle.path_place.specs.Places.{tablePlace, rawIn, rawFor, rawWithin, placeIn, placeOf}
 use Rattle.path_place.specs.Demand.{Demand3, tableOn, targetAlong, localOf}
 use Rattle.path_place.proofs.Demand3.{demand-3}
 
@@ -63,7 +64,7 @@ unfolding allFit isStored areKnown tablesAreSound tablePlace hasTable tablesOf w
 check = Unit {0}
 
 unfoldable pub lookups : Type 0
-unfolding spotOf spotAt before pathTotal firstNotBelow firstAbove targetOf shareOf markOf placeOf rawWithin rawFor rawIn rawOf
+unfolding spotOf spotAt before pathTotal firstNotBelow firstAbove targetOf shareOf markOf placeIn rawWithin rawFor rawIn rawOf
 lookups = Unit {0}
 
 unfoldable pub computing : Type 0
@@ -73,23 +74,23 @@ computing = Unit {0}
 -- ---- what a refutation is
 
 abbrev pub Lookup : Type 0
-Lookup = List ℕ → List Float → List Float → Float → Place
+Lookup = Buffers → Float → Place
 
 -- a stored path of f32 values with a segment, longer than 2^-23
-abbrev pub isPath : List ℕ → List Float → List Float → List Float → List Bool
-isPath kinds fields tables lengths = isStored kinds fields tables lengths ∷ allFit tables ∷ allFit lengths ∷ ltb 0 (length kinds) ∷ lt epsilonF (pathTotal lengths) ∷ []
+abbrev pub isPath : Buffers → List Bool
+isPath b = isStored b ∷ allFit (b .tables) ∷ allFit (b .lengths) ∷ ltb 0 (length (b .kinds)) ∷ lt epsilonF (pathTotal (b .lengths)) ∷ []
 
 -- on which the lookup does not meet the demand
-pub record Refused (lookup : Lookup) (kinds : List ℕ) (fields tables lengths : List Float) : Type 0 where
-  pub path : T (allPass (isPath kinds fields tables lengths))
-  pub refused : Demand3 kinds tables lengths (lookup kinds tables lengths) → ⊥
+pub record Refused (lookup : Lookup) (b : Buffers) : Type 0 where
+  pub path : T (allPass (isPath b))
+  pub refused : Demand3 b (lookup b) → ⊥
 
 -- the lookup of the code meets it on the same path
-pub kept : {lookup : Lookup} {kinds : List ℕ} {fields tables lengths : List Float} → Refused lookup kinds fields tables lengths → Demand3 kinds tables lengths (placeOf kinds tables lengths)
-kept {lookup} {kinds} {fields} {tables} {lengths} r =
-    let test : (k : ℕ) → T (getD (isPath kinds fields tables lengths) k true) = pass (isPath kinds fields tables lengths) (r .path) in
-    demand-3 (record { stored = stored-rule kinds fields tables lengths (test 0); tableValues = all-fit tables (test 1); lengthValues = all-fit lengths (test 2) })
-    (ltb→lt 0 (length kinds) (test 3)) (test 4)
+pub kept : {lookup : Lookup} {b : Buffers} → Refused lookup b → Demand3 b (placeOf b)
+kept {lookup} {b} r =
+    let test : (k : ℕ) → T (getD (isPath b) k true) = pass (isPath b) (r .path) in
+    demand-3 (record { stored = stored-rule b (test 0); tableValues = all-fit (b .tables) (test 1); lengthValues = all-fit (b .lengths) (test 2) })
+    (ltb→lt 0 (length (b .kinds)) (test 3)) (test 4)
 
 -- Three ways to be wrong.
 
@@ -98,43 +99,43 @@ pub steps-back : (i : ℕ) (x y : Float) → T (not (le x y)) → NoStepBack i x
 steps-back i x y n (inl l) = absurd (omega (arith, l))
 steps-back i x y n (inr e) = clashing (le x y) (e .1) n
 
-module _ (lookup : Lookup) (kinds : List ℕ) (tables lengths : List Float) (p : Float) where
+module _ (lookup : Lookup) (b : Buffers) (p : Float) where
   abbrev pub pair : Place
-  pair = lookup kinds tables lengths p
+  pair = lookup b p
 
   abbrev pub raw : Float
-  raw = lookup kinds tables lengths p .raw .value
+  raw = lookup b p .raw .value
 
   -- 2. The running lengths of the segment given do not enclose the target, which lies inside.
   abbrev pub strays : List Bool
   strays =
-      let target = targetAlong lengths p in
-      lt zeroF target ∷ lt target (pathTotal lengths) ∷ not (lt (before lengths (pair .segment)) target && not (lt (at lengths (pair .segment)) target)) ∷ []
+      let target = targetAlong (b .lengths) p in
+      lt zeroF target ∷ lt target (pathTotal (b .lengths)) ∷ not (lt (before (b .lengths) (pair .segment)) target && not (lt (at (b .lengths) (pair .segment)) target)) ∷ []
 
-  pub strays-refused : T (allPass strays) → Demand3 kinds tables lengths (lookup kinds tables lengths) → ⊥
+  pub strays-refused : T (allPass strays) → Demand3 b (lookup b) → ⊥
   strays-refused h d =
       let test : (k : ℕ) → T (getD strays k true) = pass strays h in
-      let target = targetAlong lengths p in
+      let target = targetAlong (b .lengths) p in
       let enclosed = d .enclosed p (record { above = test 0; below = test 1 }) in
-      let lower = lt (before lengths (pair .segment)) target in
-      let upper = not (lt (at lengths (pair .segment)) target) in
+      let lower = lt (before (b .lengths) (pair .segment)) target in
+      let upper = not (lt (at (b .lengths) (pair .segment)) target) in
       clashing (lower && upper) (and-i lower upper (enclosed .lower) (enclosed .upper)) (test 2)
 
   -- 3. The target lies inside, on the path and in the table of the segment given; the entries k - 1 and k enclose it; and the raw parameter is not between their places.
   abbrev pub table : Table
-  table = tableOn kinds tables (pair .segment)
+  table = tableOn b (pair .segment)
 
   abbrev pub target : Float
-  target = targetOf (table .total) (localOf lengths p (pair .segment))
+  target = targetOf (table .total) (localOf (b .lengths) p (pair .segment))
 
   abbrev pub between : ℕ → Bool
   between k = le (markOf 31 (k - 1)) raw && le raw (markOf 31 k)
 
   abbrev pub misplaces : ℕ → List Bool
   misplaces k =
-      lt zeroF (targetAlong lengths p)
-      ∷ lt (targetAlong lengths p) (pathTotal lengths)
-      ∷ hasTable (getD kinds (pair .segment) 0)
+      lt zeroF (targetAlong (b .lengths) p)
+      ∷ lt (targetAlong (b .lengths) p) (pathTotal (b .lengths))
+      ∷ hasTable (getD (b .kinds) (pair .segment) 0)
       ∷ lt epsilonF (table .total)
       ∷ lt zeroF target
       ∷ lt target (table .total)
@@ -146,7 +147,7 @@ module _ (lookup : Lookup) (kinds : List ℕ) (tables lengths : List Float) (p :
       ∷ not (between k)
       ∷ []
 
-  pub misplaces-refused : (k : ℕ) → T (allPass (misplaces k)) → Demand3 kinds tables lengths (lookup kinds tables lengths) → ⊥
+  pub misplaces-refused : (k : ℕ) → T (allPass (misplaces k)) → Demand3 b (lookup b) → ⊥
   misplaces-refused k h d =
       let test : (i : ℕ) → T (getD (misplaces k) i true) = pass (misplaces k) h in
       let chosen = d .swept p (record { above = test 0; below = test 1 }) (test 2) (test 3) .chosen (record { above = test 4; below = test 5 }) in

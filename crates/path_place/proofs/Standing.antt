@@ -18,7 +18,7 @@ use Rattle.table.proofs.Lengths.{path-sound, total-nonneg}
 use Rattle.table.proofs.Target.{target-real}
 use Rattle.path_place.specs.declared.cursors.Cursor.{Cursor}
 use Rattle.path_place.specs.Cursors.{cursorOf, Onward, Moving}
-use Rattle.path_place.specs.Places.{tablePlace, rawWithin, placed, placeAt, placeOf, SomePlace, Standing}
+use Rattle.path_place.specs.Places.{tablePlace, rawWithin, placed, placeAt, placeIn, SomePlace, Standing}
 
 -- ---- the segment of a spot
 
@@ -76,7 +76,7 @@ module _ {kinds : List ℕ} {tables lengths : List Float} (f : SomePlace kinds t
 
 -- what the lookup has found is the pair of the progress
 pub place-is : (kinds : List ℕ) (tables lengths : List Float) (p : Float) (spot : Spot) (at : Cursor) (raw : RawParameter) → spot ≡ spotOf lengths p → at ≡ cursorOf kinds (spot .segment)
-    → raw .value ≡ rawWithin kinds tables (at .segment) (spot .progress .value) → record { segment = spot .segment; raw = raw } ≡ placeOf kinds tables lengths p
-unfolding placeOf
+    → raw .value ≡ rawWithin kinds tables (at .segment) (spot .progress .value) → record { segment = spot .segment; raw = raw } ≡ placeIn kinds tables lengths p
+unfolding placeIn
 place-is kinds tables lengths p spot at raw same own e =
     ap (placed (spot .segment)) (e ∙ ap (λ (i : ℕ). rawWithin kinds tables i (spot .progress .value)) (cursor-own kinds (spot .segment) own .0)) ∙ ap (placeAt kinds tables) same

@@ -11,6 +11,7 @@ use Rattle.table.specs.Lookup.{lastOf}
 use Rattle.table.specs.Sound.{SoundTable}
 use Rattle.path_segment.specs.Segments.{tablesOf, hasTable, tableAt}
 use Rattle.path_segment.proofs.Widths.{one-table}
+use Rattle.path_stored.specs.Buffers.{Buffers}
 use Rattle.path_stored.specs.Stored.{before, Stored}
 use Rattle.path_stored.proofs.Counting.{before-fits}
 use Rattle.path_place.specs.Places.{tablePlace, TableThere, Findable}
@@ -45,13 +46,13 @@ table-counted kinds i inside has =
     let fits = before-fits tablesOf kinds i inside in
     omega arith
 
-module _ {kinds : List ℕ} {fields tables lengths : List Float} (s : Stored kinds fields tables lengths) where
-  pub table-there : (i : ℕ) → i < length kinds → T (hasTable (getD kinds i 0)) → TableThere tables (tablePlace kinds i)
+module _ {b : Buffers} (s : Stored b) where
+  pub table-there : (i : ℕ) → i < length (b .kinds) → T (hasTable (getD (b .kinds) i 0)) → TableThere (b .tables) (tablePlace (b .kinds) i)
   unfolding tablePlace
   table-there i inside has =
-      let counted = table-counted kinds i inside has in
-      record { room = let all = s .counted in omega arith; sound = s .each (before tablesOf kinds i) counted }
+      let counted = table-counted (b .kinds) i inside has in
+      record { room = let all = s .counted in omega arith; sound = s .each (before tablesOf (b .kinds) i) counted }
 
   -- a stored path can be looked up
-  pub findable : Findable kinds tables lengths
+  pub findable : Findable (b .kinds) (b .tables) (b .lengths)
   findable = record { few = s .few; one = s .one; rising = s .rising; tabled = table-there }

@@ -1,4 +1,4 @@
--- Demand 3 of the letter, over any lookup on a stored path: `Demand3 kinds tables lengths place` says that `place`, which gives a pair of segment number and raw parameter for a progress,
+-- Demand 3 of the letter, over any lookup on a stored path: `Demand3 b place` says that `place`, which gives a pair of segment number and raw parameter for a progress,
 -- meets it on the buffers. The record speaks of that pair and of the buffers: it names no lookup of `Places.antt`. Its order is the letter's; the quotes are its sentences. What one table asks,
 -- `Inside`, `Enclose` and `Swept`, is in table_order/specs/Swept.antt. `demand-3` of proofs/Demand3.antt proves it of `placeOf`; proofs/Refused.antt shows what it forbids. Segments and entries
 -- count from 0; lengths are f32 values in path units. Definitions only.
@@ -15,6 +15,7 @@ use Rattle.table.specs.Spots.{before, pathTotal}
 use Rattle.table_order.specs.Stated.{NoStepBack}
 use Rattle.table_order.specs.Swept.{Inside, Enclose, Swept}
 use Rattle.path_segment.specs.Segments.{hasTable, tableAt}
+use Rattle.path_stored.specs.Buffers.{Buffers}
 use Rattle.path_place.specs.declared.places.Place.{Place}
 use Rattle.path_place.specs.Places.{placed, tablePlace}
 
@@ -30,25 +31,25 @@ abbrev pub localOf : List Float → Float → ℕ → Float
 localOf lengths progress i = shareOf (before lengths i) (at lengths i) (targetAlong lengths progress)
 
 -- the table of the segment i, among the tables
-abbrev pub tableOn : List ℕ → List Float → ℕ → Table
-tableOn kinds tables i = tableAt tables (tablePlace kinds i)
+abbrev pub tableOn : Buffers → ℕ → Table
+tableOn b i = tableAt (b .tables) (tablePlace (b .kinds) i)
 
 -- ---- the pair given at a progress
 
 -- the running lengths of the segment given enclose the target
-abbrev pub EnclosedBy : List Float → Float → Place → Type 0
-EnclosedBy lengths progress pair = Enclose (before lengths (pair .segment)) (at lengths (pair .segment)) (targetAlong lengths progress)
+abbrev pub EnclosedBy : Buffers → Float → Place → Type 0
+EnclosedBy b progress pair = Enclose (before (b .lengths) (pair .segment)) (at (b .lengths) (pair .segment)) (targetAlong (b .lengths) progress)
 
 -- where the segment given has a table longer than 2^-23: at the target of the local progress, the raw parameter given is where the table's 32 entries put it
-abbrev pub SweptBy : List ℕ → List Float → List Float → Float → Place → Type 0
-SweptBy kinds tables lengths progress pair =
-    let table = tableOn kinds tables (pair .segment) in
-    let target = targetOf (table .total) (localOf lengths progress (pair .segment)) in
-    T (hasTable (getD kinds (pair .segment) 0)) → T (lt epsilonF (table .total)) → Swept 31 (table .entries) (table .total) target (pair .raw .value)
+abbrev pub SweptBy : Buffers → Float → Place → Type 0
+SweptBy b progress pair =
+    let table = tableOn b (pair .segment) in
+    let target = targetOf (table .total) (localOf (b .lengths) progress (pair .segment)) in
+    T (hasTable (getD (b .kinds) (pair .segment) 0)) → T (lt epsilonF (table .total)) → Swept 31 (table .entries) (table .total) target (pair .raw .value)
 
 -- ---- the demand
 
-pub record Demand3 (kinds : List ℕ) (tables lengths : List Float) (place : Float → Place) : Type 0 where
+pub record Demand3 (b : Buffers) (place : Float → Place) : Type 0 where
   -- "Progress that is NaN counts as 0, the rest is clamped."
   pub counts : (p : Float) → place p ≡ place (clamp01Of p)
   -- "As progress rises from 0 to 1, the pair of segment number and raw parameter .. never steps back"
@@ -56,8 +57,8 @@ pub record Demand3 (kinds : List ℕ) (tables lengths : List Float) (place : Flo
   -- "it starts at the first segment's 0"
   pub starts : place zeroF ≡ placed 0 zeroF
   -- "and ends at the last one's 1"
-  pub ends : place oneF ≡ placed (length kinds - 1) oneF
+  pub ends : place oneF ≡ placed (length (b .kinds) - 1) oneF
   -- "Where the target (total times progress, rounded) is above 0 and below the total, the running lengths of the segment given enclose it: the one before (or 0) is below it, its own is not."
-  pub enclosed : (p : Float) → Inside (pathTotal lengths) (targetAlong lengths p) → EnclosedBy lengths p (place p)
+  pub enclosed : (p : Float) → Inside (pathTotal (b .lengths)) (targetAlong (b .lengths) p) → EnclosedBy b p (place p)
   -- "The same holds in each curve's table longer than 2^-23, where the raw parameter also lies between the places of the two chosen entries, i/31 rounded."
-  pub swept : (p : Float) → Inside (pathTotal lengths) (targetAlong lengths p) → SweptBy kinds tables lengths p (place p)
+  pub swept : (p : Float) → Inside (pathTotal (b .lengths)) (targetAlong (b .lengths) p) → SweptBy b p (place p)

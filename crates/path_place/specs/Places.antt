@@ -13,6 +13,7 @@ use Rattle.table.specs.Lookup.{rawOf}
 use Rattle.table.specs.Sound.{tableIsSound, lengthsAreSound}
 use Rattle.table.specs.Spots.{spotOf}
 use Rattle.path_segment.specs.Segments.{tablesOf, hasTable, tableAt}
+use Rattle.path_stored.specs.Buffers.{Buffers}
 use Rattle.path_stored.specs.Stored.{before, mostSegments}
 use Rattle.path_place.specs.declared.cursors.Cursor.{Cursor}
 use Rattle.path_place.specs.declared.places.Place.{Place}
@@ -49,9 +50,13 @@ abbrev pub placeAt : List ℕ → List Float → Spot → Place
 placeAt kinds tables spot = placed (spot .segment) (rawWithin kinds tables (spot .segment) (spot .progress .value))
 
 -- the pick over the running lengths, then the segment's own lookup
-unfoldable pub placeOf : List ℕ → List Float → List Float → Float → Place
+unfoldable pub placeIn : List ℕ → List Float → List Float → Float → Place
 unfolding rawWithin
-placeOf kinds tables lengths progress = placeAt kinds tables (spotOf lengths progress)
+placeIn kinds tables lengths progress = placeAt kinds tables (spotOf lengths progress)
+
+-- which asks nothing of the fields
+abbrev pub placeOf : Buffers → Float → Place
+placeOf b progress = placeIn (b .kinds) (b .tables) (b .lengths) progress
 
 -- ---- what the lookups of `inner` ask
 

@@ -14,7 +14,7 @@ ghost use mathlib.Core.Path.{_≡_};
 ghost use lib.Dec.{T};
 ghost use Rattle.path_segment.specs.Segments.{hasTable};
 ghost use Rattle.path_place.specs.Cursors.{Moving, cursorOf};
-ghost use Rattle.path_place.specs.Places.{SomePlace, Standing, TableThere, placeOf, rawFor, rawIn, rawWithin};
+ghost use Rattle.path_place.specs.Places.{SomePlace, Standing, TableThere, placeIn, rawFor, rawIn, rawWithin};
 
 // The raw parameter of a local progress in the table that starts at a place.
 pub fn raw_in(tables: &[f32], place: usize, along: Progress) -> RawParameter
@@ -61,7 +61,7 @@ pub fn moved(kinds: &[u8], from: Cursor, segment: usize) -> Cursor
 // The place of a progress along a path with a segment.
 pub fn place(kinds: &[u8], tables: &[f32], lengths: &[f32], progress: Progress) -> Place
     requires { ⌜ SomePlace (now kinds) (now tables) (now lengths) ⌝ }
-    ensures { λ r. ⌜ r ≡ placeOf (now (kinds .entry)) (now (tables .entry)) (now (lengths .entry)) (progress .value) ⌝ }
+    ensures { λ r. ⌜ r ≡ placeIn (now (kinds .entry)) (now (tables .entry)) (now (lengths .entry)) (progress .value) ⌝ }
 {
     let found = spot(lengths, progress);
     let segment = found.segment;

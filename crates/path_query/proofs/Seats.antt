@@ -12,10 +12,11 @@ use Rattle.table.specs.Spots.{spotOf}
 use Rattle.bezier.specs.Curves.{aheadOf}
 use Rattle.path_segment.specs.declared.segments.PathSegment.{PathSegment}
 use Rattle.path_segment.specs.Segments.{kindOf, widthOf, hasTable, segmentOf}
+use Rattle.path_stored.specs.Buffers.{Buffers}
 use Rattle.path_stored.specs.Stored.{before, Numbered, Stored, segmentIn}
 use Rattle.path_place.specs.declared.cursors.Cursor.{Cursor}
 use Rattle.path_place.specs.Cursors.{cursorOf}
-use Rattle.path_place.specs.Places.{placeOf, rawIn, rawWithin, TableThere, SomePlace}
+use Rattle.path_place.specs.Places.{placeIn, rawIn, rawWithin, TableThere, SomePlace}
 use Rattle.path_place.proofs.Tables.{findable}
 use Rattle.path_place.proofs.Standing.{cursor-own, cursor-tables, standing}
 use Rattle.path_heading.specs.Headings.{sampleOf, headingOf}
@@ -51,19 +52,19 @@ seated-table {kinds} {fields} {tables} {at} s segment same has =
 
 -- ---- a path with a segment
 
-module _ {kinds : List ℕ} {fields tables lengths : List Float} (f : Flyable kinds fields tables lengths) where
-  pub some-place : SomePlace kinds tables lengths
+module _ {b : Buffers} (f : Flyable b) where
+  pub some-place : SomePlace (b .kinds) (b .tables) (b .lengths)
   some-place = record { some = f .some; path = findable (f .path) }
 
-  pub seated : {at : Cursor} {i : ℕ} → at ≡ cursorOf kinds i → i < length kinds → Seated kinds fields tables at
+  pub seated : {at : Cursor} {i : ℕ} → at ≡ cursorOf (b .kinds) i → i < length (b .kinds) → Seated (b .kinds) (b .fields) (b .tables) at
   seated e inside = record { standing = standing some-place e inside; numbered = record { few = f .path .few; known = f .path .known; numbers = f .path .numbers } }
 
 -- what passes the check and has a segment
-module _ {kinds : List ℕ} {fields tables lengths : List Float} (s : Stored kinds fields tables lengths) (some : 0 < length kinds) where
-  pub a-flight : Flyable kinds fields tables lengths
+module _ {b : Buffers} (s : Stored b) (some : 0 < length (b .kinds)) where
+  pub a-flight : Flyable b
   a-flight = record { some = some; path = s }
 
-  pub a-place : SomePlace kinds tables lengths
+  pub a-place : SomePlace (b .kinds) (b .tables) (b .lengths)
   a-place = some-place a-flight
 
 -- ---- what is worked out
@@ -75,7 +76,7 @@ module _ (kinds : List ℕ) (fields tables : List Float) (at : Cursor) (along : 
   unfolding flownWithin
   flown-is segment raw position tangent own s r p t = rw (p, t, s, r, cursor-tables kinds (at .segment) own)
 
-pub flight-is : (kinds : List ℕ) (fields tables lengths : List Float) (p : Float) (spot : Spot) (at : Cursor) → spot ≡ spotOf lengths p → at ≡ cursorOf kinds (spot .segment)
-    → flownWithin kinds fields tables (at .segment) (spot .progress .value) ≡ flownOf kinds fields tables lengths p
-unfolding flownWithin flownOf placeOf
-flight-is kinds fields tables lengths p spot at same own = rw (cursor-own kinds (spot .segment) own .0, same)
+pub flight-is : (b : Buffers) (p : Float) (spot : Spot) (at : Cursor) → spot ≡ spotOf (b .lengths) p → at ≡ cursorOf (b .kinds) (spot .segment)
+    → flownWithin (b .kinds) (b .fields) (b .tables) (at .segment) (spot .progress .value) ≡ flownOf b p
+unfolding flownWithin flownOf placeIn
+flight-is b p spot at same own = rw (cursor-own (b .kinds) (spot .segment) own .0, same)

@@ -1,7 +1,7 @@
 -- What the queries answer (document 01, "A path or spline query: 12 only."). Definitions only.
-use Prim.Native.Nat.{ℕ}
 use mathlib.Core.Bool.{cond}
-use mathlib.Core.List.{List, [], _∷_}
+use lib.Dec.{eqb}
+use lib.ListN.{length}
 use lib.Ieee.{Float}
 use Rattle.answers.specs.declared.refusals.Refusal.the-variants.{BadPath}
 use Rattle.angles.specs.Angles.{rotationDegOf}
@@ -9,6 +9,7 @@ use Rattle.bezier.specs.declared.curves.Placed.{Placed}
 use Rattle.bezier.specs.declared.curves.Placed.the-variants as Placed
 use Rattle.bezier.specs.declared.curves.Turned.{Turned}
 use Rattle.bezier.specs.declared.curves.Turned.the-variants as Turned
+use Rattle.path_stored.specs.Buffers.{Buffers}
 use Rattle.path_stored.specs.Stored.{isStored}
 use Rattle.path_place.specs.Places.{placeOf}
 use Rattle.path_query.specs.declared.flights.Flight.{Flight}
@@ -18,16 +19,14 @@ use Rattle.path_query.specs.declared.queries.Located.the-variants as Loc
 use Rattle.path_query.specs.Flights.{flightOf}
 
 -- "No segments" is an answer of its own
-unfoldable pub locatedIn : List ℕ → List Float → List Float → Float → Located
-locatedIn [] tables lengths progress = Located.NoSegment
-locatedIn (kind ∷ kinds) tables lengths progress = Located.At (placeOf (kind ∷ kinds) tables lengths progress)
+abbrev pub locatedIn : Buffers → Float → Located
+locatedIn b progress = cond (eqb (length (b .kinds)) 0) Located.NoSegment (Located.At (placeOf b progress))
 
-unfoldable pub locatedOf : List ℕ → List Float → List Float → List Float → Float → Located
-unfolding locatedIn
-locatedOf kinds fields tables lengths progress = cond (isStored kinds fields tables lengths) (locatedIn kinds tables lengths progress) (Located.Refused BadPath)
+unfoldable pub locatedOf : Buffers → Float → Located
+locatedOf b progress = cond (isStored b) (locatedIn b progress) (Located.Refused BadPath)
 
-unfoldable pub flewOf : List ℕ → List Float → List Float → List Float → Float → Flight
-flewOf kinds fields tables lengths progress = cond (isStored kinds fields tables lengths) (Flight.At (flightOf kinds fields tables lengths progress)) (Flight.Refused BadPath)
+unfoldable pub flewOf : Buffers → Float → Flight
+flewOf b progress = cond (isStored b) (Flight.At (flightOf b progress)) (Flight.Refused BadPath)
 
 abbrev pub positionFrom : Flight → Placed
 positionFrom (Flight.At flown) = Placed.At (flown .position)
@@ -42,14 +41,14 @@ abbrev pub turnFrom : Flight → Turned
 turnFrom (Flight.At flown) = Turned.Degrees (rotationDegOf (flown .tangent))
 turnFrom (Flight.Refused refusal) = Turned.Refused refusal
 
-unfoldable pub positionedOf : List ℕ → List Float → List Float → List Float → Float → Placed
+unfoldable pub positionedOf : Buffers → Float → Placed
 unfolding flewOf
-positionedOf kinds fields tables lengths progress = positionFrom (flewOf kinds fields tables lengths progress)
+positionedOf b progress = positionFrom (flewOf b progress)
 
-unfoldable pub headedOf : List ℕ → List Float → List Float → List Float → Float → Placed
+unfoldable pub headedOf : Buffers → Float → Placed
 unfolding flewOf
-headedOf kinds fields tables lengths progress = tangentFrom (flewOf kinds fields tables lengths progress)
+headedOf b progress = tangentFrom (flewOf b progress)
 
-unfoldable pub turnedOf : List ℕ → List Float → List Float → List Float → Float → Turned
+unfoldable pub turnedOf : Buffers → Float → Turned
 unfolding flewOf
-turnedOf kinds fields tables lengths progress = turnFrom (flewOf kinds fields tables lengths progress)
+turnedOf b progress = turnFrom (flewOf b progress)

@@ -11,6 +11,7 @@ use path_segment::inner::segment_at;
 use table::Progress;
 use table::inner::spot;
 ghost use mathlib.Core.Path.{_≡_};
+ghost use Rattle.path_stored.specs.Buffers.{before, lent};
 ghost use Rattle.path_stored.specs.Stored.{segmentIn};
 ghost use Rattle.path_query.specs.Flights.{Flyable, Seated, flownOf, flownWithin};
 
@@ -49,8 +50,8 @@ pub fn flown(
     lengths: &[f32],
     progress: Progress,
 ) -> Flown
-    requires { ⌜ Flyable (now kinds) (now fields) (now tables) (now lengths) ⌝ }
-    ensures { λ r. ⌜ r ≡ flownOf (now (kinds .entry)) (now (fields .entry)) (now (tables .entry)) (now (lengths .entry)) (progress .value) ⌝ }
+    requires { ⌜ Flyable (lent kinds fields tables lengths) ⌝ }
+    ensures { λ r. ⌜ r ≡ flownOf (before kinds fields tables lengths) (progress .value) ⌝ }
 {
     let found = spot(lengths, progress);
     let along = found.progress;

@@ -33,7 +33,8 @@ use Rattle.path_segment.specs.declared.segments.PathSegment.{PathSegment}
 use Rattle.path_segment.specs.declared.segments.PathSegment.the-variants as Segment
 use Rattle.path_segment.specs.Segments.{kindOf, widthOf, tablesOf, hasTable, fieldsOf, tableAt, tableNumbers, tableFor, lengthFor}
 use Rattle.path_segment.proofs.Reading.{fields-width}
-use Rattle.path_stored.specs.Layout.{kindsOf, fieldsOfAll, tableStored, tablesOfAll, runningOf, lengthsOfAll}
+use Rattle.path_stored.specs.Buffers.{Buffers}
+use Rattle.path_stored.specs.Layout.{kindsOf, fieldsOfAll, tableStored, tablesOfAll, runningOf, lengthsOfAll, nothing, extended, extendedBy, laidOut}
 use Rattle.path_stored.specs.Stored.{mostSegments, isStored, Stored}
 use Rattle.path_stored.specs.Stored as Stored
 use Rattle.path_stored.proofs.Testing.{soundAt}
@@ -173,35 +174,46 @@ known-more (k ∷ kinds) kind f h (suc i) l = known-more kinds kind (λ j g. f (
 one-more : {A : Type 0} (xs : List A) (x : A) → length (xs ++ x ∷ []) ≡ length xs + 1
 one-more xs x = length-append xs (x ∷ [])
 
-module _ (kinds : List ℕ) (fields tables lengths : List Float) (stored : Stored kinds fields tables lengths) (value : T (fits binary32 (pathTotal lengths))) where
-  abbrev pub total-with : PathSegment → Float
-  total-with segment = add binary32 (pathTotal lengths) (lengthFor segment)
+-- the path's total with a segment more
+abbrev pub totalWith : Buffers → PathSegment → Float
+totalWith b segment = add binary32 (pathTotal (b .lengths)) (lengthFor segment)
 
-  rising-more : (segment : PathSegment) → T (finite (total-with segment)) → T (lengthsAreSound (lengths ++ total-with segment ∷ []))
-  rising-more segment h =
-      let total-nn = total-nonneg (path-sound lengths (stored .rising)) in
-      lengths-more lengths (total-with segment) (stored .rising) h
-      (add-above binary32 (pathTotal lengths) (lengthFor segment) (record { fit = value; nn = total-nn }) (length-nonneg segment (finite-parts binary32 (pathTotal lengths) (lengthFor segment) h .1)))
+module _ {b : Buffers} (stored : Stored b) (value : T (fits binary32 (pathTotal (b .lengths)))) (segment : PathSegment) (fine : T (finite (totalWith b segment))) where
+  own-finite : T (finite (lengthFor segment))
+  own-finite = finite-parts binary32 (pathTotal (b .lengths)) (lengthFor segment) fine .1
 
-  each-more : (segment : PathSegment) → T (finite (total-with segment)) → (n : ℕ) → n < Stored.before tablesOf (kinds ++ kindOf segment ∷ []) (length (kinds ++ kindOf segment ∷ [])) → T (soundAt (tables ++ tableStored segment) n)
-  each-more segment h n l = go (native.Mathlib.Decide.decLt n (Stored.before tablesOf kinds (length kinds)))
+  rising-more : T (lengthsAreSound (b .lengths ++ totalWith b segment ∷ []))
+  rising-more =
+      let total-nn = total-nonneg (path-sound (b .lengths) (stored .rising)) in
+      lengths-more (b .lengths) (totalWith b segment) (stored .rising) fine
+      (add-above binary32 (pathTotal (b .lengths)) (lengthFor segment) (record { fit = value; nn = total-nn }) (length-nonneg segment own-finite))
+
+  abbrev tableCount : ℕ
+  tableCount = Stored.before tablesOf (b .kinds) (length (b .kinds))
+
+  each-more : (n : ℕ) → n < Stored.before tablesOf (b .kinds ++ kindOf segment ∷ []) (length (b .kinds ++ kindOf segment ∷ [])) → T (soundAt (b .tables ++ tableStored segment) n)
+  each-more n l = go (native.Mathlib.Decide.decLt n tableCount)
     where
-      go : Dec (n < Stored.before tablesOf kinds (length kinds)) → T (soundAt (tables ++ tableStored segment) n)
-      go (yes a) = table-before tables (tableStored segment) n (Stored.before tablesOf kinds (length kinds)) (stored .counted) a (stored .each n a)
-      go (no a) =
-          new-table tables (Stored.before tablesOf kinds (length kinds)) (stored .counted) segment (finite-parts binary32 (pathTotal lengths) (lengthFor segment) h .1) n
-          (subst (λ m. n < m) (all-more tablesOf kinds (kindOf segment)) l) (omega arith)
+      go : Dec (n < tableCount) → T (soundAt (b .tables ++ tableStored segment) n)
+      go (yes a) = table-before (b .tables) (tableStored segment) n tableCount (stored .counted) a (stored .each n a)
+      go (no a) = new-table (b .tables) tableCount (stored .counted) segment own-finite n (subst (λ m. n < m) (all-more tablesOf (b .kinds) (kindOf segment)) l) (omega arith)
 
-  pub stored-more : (segment : PathSegment) → length kinds < mostSegments → T (finite (total-with segment))
-      → Stored (kinds ++ kindOf segment ∷ []) (fields ++ fieldsOf segment) (tables ++ tableStored segment) (lengths ++ total-with segment ∷ [])
-  stored-more segment room h = record {
+  pub stored-more : length (b .kinds) < mostSegments → Stored (extended b segment)
+  stored-more room = record {
     few = rw one-more (omega arith);
-    known = known-more kinds (kindOf segment) (stored .known) (kind-known segment);
-    numbers = length-append fields (fieldsOf segment) ∙ ap (λ n. n + length (fieldsOf segment)) (stored .numbers) ∙ ap (λ n. Stored.before widthOf kinds (length kinds) + n) (fields-width segment) ∙ sym (all-more widthOf kinds (kindOf segment));
-    counted = length-append tables (tableStored segment) ∙ shares (length tables) (length (tableStored segment)) _ _ (stored .counted) (stored-size segment) ∙ ap (λ n. 33 * n) (sym (all-more tablesOf kinds (kindOf segment)));
-    each = each-more segment h;
-    one = one-more lengths (total-with segment) ∙ ap (λ n. n + 1) (stored .one) ∙ sym (one-more kinds (kindOf segment));
-    rising = rising-more segment h;
+    known = known-more (b .kinds) (kindOf segment) (stored .known) (kind-known segment);
+    numbers =
+        length-append (b .fields) (fieldsOf segment)
+        ∙ ap (λ n. n + length (fieldsOf segment)) (stored .numbers)
+        ∙ ap (λ n. Stored.before widthOf (b .kinds) (length (b .kinds)) + n) (fields-width segment)
+        ∙ sym (all-more widthOf (b .kinds) (kindOf segment));
+    counted =
+        length-append (b .tables) (tableStored segment)
+        ∙ shares (length (b .tables)) (length (tableStored segment)) _ _ (stored .counted) (stored-size segment)
+        ∙ ap (λ n. 33 * n) (sym (all-more tablesOf (b .kinds) (kindOf segment)));
+    each = each-more;
+    one = one-more (b .lengths) (totalWith b segment) ∙ ap (λ n. n + 1) (stored .one) ∙ sym (one-more (b .kinds) (kindOf segment));
+    rising = rising-more;
   }
     where
       shares : (a b m n : ℕ) → a ≡ 33 * m → b ≡ 33 * n → a + b ≡ 33 * (m + n)
@@ -212,26 +224,36 @@ module _ (kinds : List ℕ) (fields tables lengths : List Float) (stored : Store
 join : {A : Type 0} (xs ys zs : List A) → xs ++ ys ++ zs ≡ xs ++ (ys ++ zs)
 join xs ys zs = append-assoc xs ys zs
 
-pub stored-list :
-    (segments : List PathSegment) (kinds : List ℕ) (fields tables lengths : List Float)
-    → Stored kinds fields tables lengths → T (fits binary32 (pathTotal lengths))
-    → length kinds + length segments ≤ mostSegments → T (allFinite (runningOf (pathTotal lengths) segments))
-    → Stored (kinds ++ kindsOf segments) (fields ++ fieldsOfAll segments) (tables ++ tablesOfAll segments) (lengths ++ runningOf (pathTotal lengths) segments)
+-- one segment and then the others are all of them
+extended-all : (b : Buffers) (segment : PathSegment) (segments : List PathSegment) → pathTotal (b .lengths ++ totalWith b segment ∷ []) ≡ totalWith b segment
+    → extendedBy (extended b segment) segments ≡ extendedBy b (segment ∷ segments)
+unfolding kindsOf fieldsOfAll tablesOfAll runningOf
+extended-all b segment segments e =
+    rw (
+      e,
+      join (b .kinds) (kindOf segment ∷ []) (kindsOf segments),
+      join (b .fields) (fieldsOf segment) (fieldsOfAll segments),
+      join (b .tables) (tableStored segment) (tablesOfAll segments),
+      join (b .lengths) (totalWith b segment ∷ []) (runningOf (totalWith b segment) segments),
+    )
+
+pub stored-list : (segments : List PathSegment) (b : Buffers) → Stored b → T (fits binary32 (pathTotal (b .lengths))) → length (b .kinds) + length segments ≤ mostSegments
+    → T (allFinite (runningOf (pathTotal (b .lengths)) segments)) → Stored (extendedBy b segments)
 unfolding kindsOf fieldsOfAll tablesOfAll runningOf allFinite
-stored-list [] kinds fields tables lengths stored value room fine = rw (append-nil kinds, append-nil fields, append-nil tables, append-nil lengths) stored
-stored-list (segment ∷ segments) kinds fields tables lengths stored value room fine =
-    let total = add binary32 (pathTotal lengths) (lengthFor segment) in
-    let now = stored-more kinds fields tables lengths stored value segment (omega arith) (and-l (finite total) (allFinite (runningOf total segments)) fine) in
-    let e : pathTotal (lengths ++ total ∷ []) ≡ total = total-more lengths total in
-    let rest = stored-list segments (kinds ++ kindOf segment ∷ []) (fields ++ fieldsOf segment) (tables ++ tableStored segment) (lengths ++ total ∷ []) now
-    (subst (λ x. T (fits binary32 x)) (sym e) (add-fits binary32 (pathTotal lengths) (lengthFor segment)))
+stored-list [] b stored value room fine = rw (append-nil (b .kinds), append-nil (b .fields), append-nil (b .tables), append-nil (b .lengths)) stored
+stored-list (segment ∷ segments) b stored value room fine =
+    let total = totalWith b segment in
+    let next = stored-more stored value segment (and-l (finite total) (allFinite (runningOf total segments)) fine) (omega arith) in
+    let e : pathTotal (b .lengths ++ total ∷ []) ≡ total = total-more (b .lengths) total in
+    let rest = stored-list segments (extended b segment) next
+    (subst (λ x. T (fits binary32 x)) (sym e) (add-fits binary32 (pathTotal (b .lengths)) (lengthFor segment)))
     (rw one-more (omega arith))
     (subst (λ x. T (allFinite (runningOf x segments))) (sym e) (and-r (finite total) (allFinite (runningOf total segments)) fine)) in
-    rw (e, join kinds (kindOf segment ∷ []) (kindsOf segments), join fields (fieldsOf segment) (fieldsOfAll segments), join tables (tableStored segment) (tablesOfAll segments), join lengths (total ∷ []) (runningOf total segments)) at rest
+    subst Stored (extended-all b segment segments e) rest
 
 -- ---- from nothing
 
-pub nothing-stored : Stored [] [] [] []
+pub nothing-stored : Stored nothing
 unfolding lengthsAreSound allFinite climbs Stored.before
 nothing-stored = record { few = omega arith; known = λ i h. absurd (omega arith); numbers = refl; counted = refl; each = λ n h. absurd (omega arith); one = refl; rising = tt }
 
@@ -240,10 +262,6 @@ unfolding pathTotal before zeroF
 zero-fits = ofBits-fits binary32 0
 
 -- a list of segments with finite running lengths is laid out as a stored path
-pub laid-out :
-    (segments : List PathSegment) → length segments ≤ mostSegments → T (allFinite (lengthsOfAll segments))
-    → T (isStored (kindsOf segments) (fieldsOfAll segments) (tablesOfAll segments) (lengthsOfAll segments))
+pub laid-out : (segments : List PathSegment) → length segments ≤ mostSegments → T (allFinite (lengthsOfAll segments)) → T (isStored (laidOut segments))
 unfolding lengthsOfAll
-laid-out segments few fine =
-    rule-stored (kindsOf segments) (fieldsOfAll segments) (tablesOfAll segments) (runningOf zeroF segments)
-    (unfold pathTotal before in stored-list segments [] [] [] [] nothing-stored zero-fits (omega arith) fine)
+laid-out segments few fine = rule-stored (laidOut segments) (unfold pathTotal before in stored-list segments nothing nothing-stored zero-fits (omega arith) fine)

@@ -1,4 +1,5 @@
 -- Laws of the stored path.
+pub mod Buffers
 pub mod Counting
 pub mod Testing
 pub mod Rule

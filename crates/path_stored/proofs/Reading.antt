@@ -10,16 +10,17 @@ use lib.ListN.{length, getD}
 use Rattle.table.specs.Sound.{tableIsSound}
 use Rattle.path_segment.specs.Segments.{widthOf, tablesOf, hasTable, tableAt}
 use Rattle.path_segment.proofs.Widths.{one-table}
+use Rattle.path_stored.specs.Buffers.{Buffers}
 use Rattle.path_stored.specs.Stored.{before, isStored, Stored, Numbered, Tabled, tableIn}
 use Rattle.path_stored.proofs.Counting.{before-fits}
 use Rattle.path_stored.proofs.Rule.{stored-rule}
 
-module _ (kinds : List ℕ) (fields tables lengths : List Float) (stored : T (isStored kinds fields tables lengths)) where
-  pub stored-numbered : Numbered kinds fields
-  stored-numbered = let s = stored-rule kinds fields tables lengths stored in record { few = s .few; known = s .known; numbers = s .numbers }
+module _ (b : Buffers) (stored : T (isStored b)) where
+  pub stored-numbered : Numbered (b .kinds) (b .fields)
+  stored-numbered = let s = stored-rule b stored in record { few = s .few; known = s .known; numbers = s .numbers }
 
-  pub stored-tabled : Tabled kinds tables
-  stored-tabled = let s = stored-rule kinds fields tables lengths stored in record { few = s .few; counted = s .counted; each = s .each }
+  pub stored-tabled : Tabled (b .kinds) (b .tables)
+  stored-tabled = let s = stored-rule b stored in record { few = s .few; counted = s .counted; each = s .each }
 
 -- its numbers are there
 pub segment-numbers : {kinds : List ℕ} {fields : List Float} → Numbered kinds fields → (i : ℕ) → i < length kinds → before widthOf kinds i + widthOf (getD kinds i 0) ≤ length fields

@@ -11,6 +11,7 @@ use lib.Ieee.Fits.{and-i, and-l, and-r}
 use lib.ListN.{length, getD}
 use Rattle.table.specs.Sound.{lengthsAreSound}
 use Rattle.path_segment.specs.Segments.{widthOf, tablesOf}
+use Rattle.path_stored.specs.Buffers.{Buffers}
 use Rattle.path_stored.specs.Stored.{mostSegments, before, areKnown, tablesAreSound, isStored, Stored}
 use Rattle.path_stored.proofs.Testing.{soundAt}
 
@@ -61,29 +62,36 @@ module _ (a b c d e f g : Bool) where
       (and-i (a && b && c && d && e) f (and-i (a && b && c && d) e (and-i (a && b && c) d (and-i (a && b) c (and-i a b ta tb) tc) td) te) tf)
       tg
 
-module _ (kinds : List ℕ) (fields tables lengths : List Float) where
-  pub stored-rule : T (isStored kinds fields tables lengths) → Stored kinds fields tables lengths
+module _ (b : Buffers) where
+  abbrev count : ℕ
+  count = length (b .kinds)
+
+  pub stored-rule : T (isStored b) → Stored b
   unfolding isStored
   stored-rule t =
-      let s = seven (leb (length kinds) mostSegments) (areKnown kinds) (eqb (length fields) (before widthOf kinds (length kinds))) (eqb (length tables) (33 * before tablesOf kinds (length kinds))) (tablesAreSound tables (before tablesOf kinds (length kinds))) (eqb (length lengths) (length kinds)) (lengthsAreSound lengths) t in
+      let s = seven (leb count mostSegments) (areKnown (b .kinds))
+      (eqb (length (b .fields)) (before widthOf (b .kinds) count)) (eqb (length (b .tables)) (33 * before tablesOf (b .kinds) count))
+      (tablesAreSound (b .tables) (before tablesOf (b .kinds) count)) (eqb (length (b .lengths)) count) (lengthsAreSound (b .lengths)) t in
       record {
-        few = leb→le (length kinds) mostSegments (s .0);
-        known = known-each kinds (s .1);
-        numbers = eqb→eq (length fields) (before widthOf kinds (length kinds)) (s .2);
-        counted = eqb→eq (length tables) (33 * before tablesOf kinds (length kinds)) (s .3);
-        each = sound-each tables (before tablesOf kinds (length kinds)) (s .4);
-        one = eqb→eq (length lengths) (length kinds) (s .5);
+        few = leb→le count mostSegments (s .0);
+        known = known-each (b .kinds) (s .1);
+        numbers = eqb→eq (length (b .fields)) (before widthOf (b .kinds) count) (s .2);
+        counted = eqb→eq (length (b .tables)) (33 * before tablesOf (b .kinds) count) (s .3);
+        each = sound-each (b .tables) (before tablesOf (b .kinds) count) (s .4);
+        one = eqb→eq (length (b .lengths)) count (s .5);
         rising = s .6;
       }
 
-  pub rule-stored : Stored kinds fields tables lengths → T (isStored kinds fields tables lengths)
+  pub rule-stored : Stored b → T (isStored b)
   unfolding isStored
   rule-stored s =
-      all-seven (leb (length kinds) mostSegments) (areKnown kinds) (eqb (length fields) (before widthOf kinds (length kinds))) (eqb (length tables) (33 * before tablesOf kinds (length kinds))) (tablesAreSound tables (before tablesOf kinds (length kinds))) (eqb (length lengths) (length kinds)) (lengthsAreSound lengths)
-      (le→leb (length kinds) mostSegments (s .few))
-      (known-all kinds (s .known))
-      (equal (length fields) (before widthOf kinds (length kinds)) (s .numbers))
-      (equal (length tables) (33 * before tablesOf kinds (length kinds)) (s .counted))
-      (sound-all tables (before tablesOf kinds (length kinds)) (s .each))
-      (equal (length lengths) (length kinds) (s .one))
+      all-seven (leb count mostSegments) (areKnown (b .kinds))
+      (eqb (length (b .fields)) (before widthOf (b .kinds) count)) (eqb (length (b .tables)) (33 * before tablesOf (b .kinds) count))
+      (tablesAreSound (b .tables) (before tablesOf (b .kinds) count)) (eqb (length (b .lengths)) count) (lengthsAreSound (b .lengths))
+      (le→leb count mostSegments (s .few))
+      (known-all (b .kinds) (s .known))
+      (equal (length (b .fields)) (before widthOf (b .kinds) count) (s .numbers))
+      (equal (length (b .tables)) (33 * before tablesOf (b .kinds) count) (s .counted))
+      (sound-all (b .tables) (before tablesOf (b .kinds) count) (s .each))
+      (equal (length (b .lengths)) count (s .one))
       (s .rising)

@@ -5,8 +5,10 @@ use mathlib.Core.Bool.{cond}
 use mathlib.Core.List.{List, [], _∷_, _++_}
 use lib.Ieee.{Float, binary32, add}
 use Rattle.floats.specs.Floats.{zeroF}
+use Rattle.table.specs.Spots.{pathTotal}
 use Rattle.path_segment.specs.declared.segments.PathSegment.{PathSegment}
 use Rattle.path_segment.specs.Segments.{kindOf, fieldsOf, hasTable, tableFor, tableNumbers, lengthFor}
+use Rattle.path_stored.specs.Buffers.{Buffers, buffers}
 
 -- a byte each
 unfoldable pub kindsOf : List PathSegment → List ℕ
@@ -35,3 +37,19 @@ runningOf start (segment ∷ segments) = add binary32 start (lengthFor segment) 
 unfoldable pub lengthsOfAll : List PathSegment → List Float
 unfolding runningOf
 lengthsOfAll segments = runningOf zeroF segments
+
+-- the buffers of a list, of none, and a path with one segment more or a list of them
+abbrev pub laidOut : List PathSegment → Buffers
+laidOut segments = buffers (kindsOf segments) (fieldsOfAll segments) (tablesOfAll segments) (lengthsOfAll segments)
+
+abbrev pub nothing : Buffers
+nothing = buffers [] [] [] []
+
+abbrev pub extended : Buffers → PathSegment → Buffers
+extended b segment =
+    buffers (b .kinds ++ kindOf segment ∷ []) (b .fields ++ fieldsOf segment) (b .tables ++ tableStored segment)
+    (b .lengths ++ add binary32 (pathTotal (b .lengths)) (lengthFor segment) ∷ [])
+
+abbrev pub extendedBy : Buffers → List PathSegment → Buffers
+extendedBy b segments =
+    buffers (b .kinds ++ kindsOf segments) (b .fields ++ fieldsOfAll segments) (b .tables ++ tablesOfAll segments) (b .lengths ++ runningOf (pathTotal (b .lengths)) segments)

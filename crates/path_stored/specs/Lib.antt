@@ -1,4 +1,5 @@
 -- The stored path: its layout, its check and what it answers. Definitions only.
+pub mod Buffers
 pub mod Layout
 pub mod Stored
 pub mod Queries

@@ -1,10 +1,9 @@
 -- What the entries answer of a stored path (document 01, "A path or spline query: 12 only."). Segments count from 0. Definitions only.
 use Prim.Native.Nat.{ℕ}
 use mathlib.Core.Bool.{cond}
-use mathlib.Core.List.{List, [], _∷_}
+use mathlib.Core.List.{[], _∷_}
 use lib.Dec.{ltb, eqb}
 use lib.ListN.{length}
-use lib.Ieee.{Float}
 use Rattle.answers.specs.declared.refusals.Refusal.the-variants.{BadPath}
 use Rattle.answers.specs.Answers.{Answer, accepted, refused}
 use Rattle.floats.specs.Floats.{bitsOf}
@@ -19,33 +18,34 @@ use Rattle.path_stored.specs.declared.queries.Measured.the-variants as M
 use Rattle.path_stored.specs.declared.queries.Found.{Found}
 use Rattle.path_stored.specs.declared.queries.Found.the-variants as Found
 use Rattle.path_stored.specs.declared.queries.Part.{Part}
+use Rattle.path_stored.specs.Buffers.{Buffers}
 use Rattle.path_stored.specs.Stored.{isStored, segmentIn, tableIn}
 
 -- `len`
-unfoldable pub countedOf : List ℕ → List Float → List Float → List Float → Counted
+unfoldable pub countedOf : Buffers → Counted
 unfolding isStored
-countedOf kinds fields tables lengths = cond (isStored kinds fields tables lengths) (Counted.Segments (length kinds)) (Counted.Refused BadPath)
+countedOf b = cond (isStored b) (Counted.Segments (length (b .kinds))) (Counted.Refused BadPath)
 
 -- `is_empty`
-unfoldable pub emptinessOf : List ℕ → List Float → List Float → List Float → Emptiness
+unfoldable pub emptinessOf : Buffers → Emptiness
 unfolding isStored
-emptinessOf kinds fields tables lengths = cond (isStored kinds fields tables lengths) (cond (eqb (length kinds) 0) Emptiness.Empty Emptiness.NotEmpty) (Emptiness.Refused BadPath)
+emptinessOf b = cond (isStored b) (cond (eqb (length (b .kinds)) 0) Emptiness.Empty Emptiness.NotEmpty) (Emptiness.Refused BadPath)
 
 -- `arc_length`: "A path's total is its last running length; 0 stands before its first."
-unfoldable pub measuredOf : List ℕ → List Float → List Float → List Float → Measured
+unfoldable pub measuredOf : Buffers → Measured
 unfolding isStored pathTotal
-measuredOf kinds fields tables lengths = cond (isStored kinds fields tables lengths) (Measured.Length (pathTotal lengths)) (Measured.Refused BadPath)
+measuredOf b = cond (isStored b) (Measured.Length (pathTotal (b .lengths))) (Measured.Refused BadPath)
 
 -- `segments` at an index; past the last there is none
 unfoldable pub nothingOf : Found → Part
 unfolding noTable
 nothingOf found = record { found = found; table = noTable }
 
-unfoldable pub partOf : List ℕ → List Float → List Float → List Float → ℕ → Part
+unfoldable pub partOf : Buffers → ℕ → Part
 unfolding isStored segmentIn tableIn nothingOf
-partOf kinds fields tables lengths i =
-    cond (isStored kinds fields tables lengths)
-    (cond (ltb i (length kinds)) (record { found = Found.Segment (segmentIn kinds fields i); table = tableIn kinds tables i }) (nothingOf Found.NoSegment))
+partOf b i =
+    cond (isStored b)
+    (cond (ltb i (length (b .kinds))) (record { found = Found.Segment (segmentIn (b .kinds) (b .fields) i); table = tableIn (b .kinds) (b .tables) i }) (nothingOf Found.NoSegment))
     (nothingOf (Found.Refused BadPath))
 
 -- ---- in document 01's terms; a segment's are what a caller makes of it

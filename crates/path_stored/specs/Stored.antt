@@ -11,6 +11,7 @@ use Rattle.table.specs.Sound.{lengthsAreSound, tableIsSound}
 use Rattle.arc.specs.Arcs.{noTable}
 use Rattle.path_segment.specs.declared.segments.PathSegment.{PathSegment}
 use Rattle.path_segment.specs.Segments.{widthOf, tablesOf, hasTable, segmentOf, tableAt}
+use Rattle.path_stored.specs.Buffers.{Buffers}
 
 -- what the segments before number i have in all; i may be their count
 unfoldable pub before : (ℕ → ℕ) → List ℕ → ℕ → ℕ
@@ -34,27 +35,28 @@ tablesAreSound tables zero = true
 tablesAreSound tables (suc n) = tablesAreSound tables n && tableIsSound (tableAt tables (33 * n) .entries) (tableAt tables (33 * n) .total)
 
 -- the rule as a test
-unfoldable pub isStored : List ℕ → List Float → List Float → List Float → Bool
+unfoldable pub isStored : Buffers → Bool
 unfolding areKnown before tablesAreSound
-isStored kinds fields tables lengths =
-    leb (length kinds) mostSegments
-    && areKnown kinds
-    && eqb (length fields) (before widthOf kinds (length kinds))
-    && eqb (length tables) (33 * before tablesOf kinds (length kinds))
-    && tablesAreSound tables (before tablesOf kinds (length kinds))
-    && eqb (length lengths) (length kinds)
-    && lengthsAreSound lengths
+isStored b =
+    let count = length (b .kinds) in
+    leb count mostSegments
+    && areKnown (b .kinds)
+    && eqb (length (b .fields)) (before widthOf (b .kinds) count)
+    && eqb (length (b .tables)) (33 * before tablesOf (b .kinds) count)
+    && tablesAreSound (b .tables) (before tablesOf (b .kinds) count)
+    && eqb (length (b .lengths)) count
+    && lengthsAreSound (b .lengths)
 
 -- the same, to be read: "at most 65,536 segments of known kinds with exactly their numbers and tables; one running length each, finite, not below 0, never falling; each table
 -- starts at 0, is finite, never falls, and its total is its last entry"
-pub record Stored (kinds : List ℕ) (fields tables lengths : List Float) : Type 0 where
-  pub few : length kinds ≤ mostSegments
-  pub known : (i : ℕ) → i < length kinds → getD kinds i 0 < 5
-  pub numbers : length fields ≡ before widthOf kinds (length kinds)
-  pub counted : length tables ≡ 33 * before tablesOf kinds (length kinds)
-  pub each : (n : ℕ) → n < before tablesOf kinds (length kinds) → T (tableIsSound (tableAt tables (33 * n) .entries) (tableAt tables (33 * n) .total))
-  pub one : length lengths ≡ length kinds
-  pub rising : T (lengthsAreSound lengths)
+pub record Stored (b : Buffers) : Type 0 where
+  pub few : length (b .kinds) ≤ mostSegments
+  pub known : (i : ℕ) → i < length (b .kinds) → getD (b .kinds) i 0 < 5
+  pub numbers : length (b .fields) ≡ before widthOf (b .kinds) (length (b .kinds))
+  pub counted : length (b .tables) ≡ 33 * before tablesOf (b .kinds) (length (b .kinds))
+  pub each : (n : ℕ) → n < before tablesOf (b .kinds) (length (b .kinds)) → T (tableIsSound (tableAt (b .tables) (33 * n) .entries) (tableAt (b .tables) (33 * n) .total))
+  pub one : length (b .lengths) ≡ length (b .kinds)
+  pub rising : T (lengthsAreSound (b .lengths))
 
 -- ---- what is read of a segment
 

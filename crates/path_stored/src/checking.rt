@@ -6,6 +6,7 @@ use table::lengths_are_sound;
 ghost use mathlib.Core.Path.{_≡_};
 ghost use Prim.Native.Nat.{_≤_, _*_};
 ghost use lib.ListN.{length};
+ghost use Rattle.path_stored.specs.Buffers.{before};
 ghost use Rattle.path_stored.specs.Stored.{mostSegments, areKnown, tablesAreSound, isStored};
 
 // Whether all kinds are known.
@@ -44,8 +45,8 @@ fn tables_are_sound(tables: &[f32], n: usize) -> bool
 
 // Whether four buffers hold a stored path: at most 65,536 segments of known kinds with exactly their numbers and tables, one running
 // length each, and lengths and tables that a lookup takes.
-pub fn check_path(kinds: &[u8], numbers: &[f32], tables: &[f32], lengths: &[f32]) -> bool
-    ensures { λ r. ⌜ r ≡ isStored (now (kinds .entry)) (now (numbers .entry)) (now (tables .entry)) (now (lengths .entry)) ⌝ }
+pub fn check_path(kinds: &[u8], fields: &[f32], tables: &[f32], lengths: &[f32]) -> bool
+    ensures { λ r. ⌜ r ≡ isStored (before kinds fields tables lengths) ⌝ }
 {
     let count = kinds.len();
     if 65536 < count {
@@ -54,7 +55,7 @@ pub fn check_path(kinds: &[u8], numbers: &[f32], tables: &[f32], lengths: &[f32]
     if !are_known(kinds) {
         return false;
     }
-    if numbers.len() != numbers_before(kinds, count) {
+    if fields.len() != numbers_before(kinds, count) {
         return false;
     }
     let n = tables_before(kinds, count);

@@ -48,13 +48,13 @@ pub fn tables_before(kinds: &[u8], i: usize) -> usize
 }
 
 // Segment i.
-pub fn segment(kinds: &[u8], numbers: &[f32], i: usize) -> PathSegment
-    requires { ⌜ Numbered (now kinds) (now numbers) ⌝ }
+pub fn segment(kinds: &[u8], fields: &[f32], i: usize) -> PathSegment
+    requires { ⌜ Numbered (now kinds) (now fields) ⌝ }
     requires { ⌜ i < length (now kinds) ⌝ }
-    ensures { λ r. ⌜ r ≡ segmentIn (now (kinds .entry)) (now (numbers .entry)) i ⌝ }
+    ensures { λ r. ⌜ r ≡ segmentIn (now (kinds .entry)) (now (fields .entry)) i ⌝ }
 {
     let at = numbers_before(kinds, i);
-    segment_at(kinds[i], numbers, at)
+    segment_at(kinds[i], fields, at)
 }
 
 // Its table, which is sound. What stands for the table of a line and of a line fallback is not.

@@ -7,6 +7,7 @@ use arc::no_table;
 use path_segment::PathSegment;
 use table::Table;
 ghost use mathlib.Core.Path.{_≡_};
+ghost use Rattle.path_stored.specs.Buffers.{before};
 ghost use Rattle.path_stored.specs.Queries.{countedOf, emptinessOf, measuredOf, nothingOf, partOf};
 
 // How many segments a path has.
@@ -41,20 +42,20 @@ pub struct Part {
 }
 
 // How many segments there are.
-pub fn len(kinds: &[u8], numbers: &[f32], tables: &[f32], lengths: &[f32]) -> Counted
-    ensures { λ r. ⌜ r ≡ countedOf (now (kinds .entry)) (now (numbers .entry)) (now (tables .entry)) (now (lengths .entry)) ⌝ }
+pub fn len(kinds: &[u8], fields: &[f32], tables: &[f32], lengths: &[f32]) -> Counted
+    ensures { λ r. ⌜ r ≡ countedOf (before kinds fields tables lengths) ⌝ }
 {
-    if check_path(kinds, numbers, tables, lengths) {
+    if check_path(kinds, fields, tables, lengths) {
         return Counted::Segments(kinds.len());
     }
     Counted::Refused(Refusal::BadPath)
 }
 
 // Whether there are none.
-pub fn is_empty(kinds: &[u8], numbers: &[f32], tables: &[f32], lengths: &[f32]) -> Emptiness
-    ensures { λ r. ⌜ r ≡ emptinessOf (now (kinds .entry)) (now (numbers .entry)) (now (tables .entry)) (now (lengths .entry)) ⌝ }
+pub fn is_empty(kinds: &[u8], fields: &[f32], tables: &[f32], lengths: &[f32]) -> Emptiness
+    ensures { λ r. ⌜ r ≡ emptinessOf (before kinds fields tables lengths) ⌝ }
 {
-    if check_path(kinds, numbers, tables, lengths) {
+    if check_path(kinds, fields, tables, lengths) {
         if kinds.len() == 0 {
             return Emptiness::Empty;
         }
@@ -64,10 +65,10 @@ pub fn is_empty(kinds: &[u8], numbers: &[f32], tables: &[f32], lengths: &[f32]) 
 }
 
 // The path's length: its last running length, or 0 without a segment.
-pub fn arc_length(kinds: &[u8], numbers: &[f32], tables: &[f32], lengths: &[f32]) -> Measured
-    ensures { λ r. ⌜ r ≡ measuredOf (now (kinds .entry)) (now (numbers .entry)) (now (tables .entry)) (now (lengths .entry)) ⌝ }
+pub fn arc_length(kinds: &[u8], fields: &[f32], tables: &[f32], lengths: &[f32]) -> Measured
+    ensures { λ r. ⌜ r ≡ measuredOf (before kinds fields tables lengths) ⌝ }
 {
-    if check_path(kinds, numbers, tables, lengths) {
+    if check_path(kinds, fields, tables, lengths) {
         return Measured::Length(inner::total(lengths));
     }
     Measured::Refused(Refusal::BadPath)
@@ -82,12 +83,12 @@ fn nothing(found: Found) -> Part
 }
 
 // Segment i with its table.
-pub fn segment(kinds: &[u8], numbers: &[f32], tables: &[f32], lengths: &[f32], i: usize) -> Part
-    ensures { λ r. ⌜ r ≡ partOf (now (kinds .entry)) (now (numbers .entry)) (now (tables .entry)) (now (lengths .entry)) i ⌝ }
+pub fn segment(kinds: &[u8], fields: &[f32], tables: &[f32], lengths: &[f32], i: usize) -> Part
+    ensures { λ r. ⌜ r ≡ partOf (before kinds fields tables lengths) i ⌝ }
 {
-    if check_path(kinds, numbers, tables, lengths) {
+    if check_path(kinds, fields, tables, lengths) {
         if i < kinds.len() {
-            let found = Found::Segment(leaving(inner::segment(kinds, numbers, i)));
+            let found = Found::Segment(leaving(inner::segment(kinds, fields, i)));
             let table = inner::segment_table(kinds, tables, i);
             return Part { found, table };
         }

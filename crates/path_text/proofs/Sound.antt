@@ -9,7 +9,7 @@ use lib.Dec.{T, ltb}
 use lib.ListN.{length}
 use Rattle.answers.specs.declared.refusals.Refusal.the-variants.{TooLong}
 use Rattle.path_segment.specs.declared.segments.PathSegment.{PathSegment}
-use Rattle.path_stored.specs.Layout.{kindsOf, fieldsOfAll, tablesOfAll, lengthsOfAll}
+use Rattle.path_stored.specs.Layout.{laidOut}
 use Rattle.path_stored.specs.Stored.{isStored}
 use Rattle.svg.specs.Texts.{Outcome, commands, refusal as unread, commandsOf}
 use Rattle.svg.proofs.Texts.{commands-few}
@@ -21,16 +21,16 @@ use Rattle.path_text.specs.Builds.{builtFrom, buildTextOf}
 
 pub build-text-stored :
     (text : List ℕ) (lent : Counts) (list : List PathSegment) → buildTextOf text lent ≡ path list
-    → T (isStored (kindsOf list) (fieldsOfAll list) (tablesOfAll list) (lengthsOfAll list))
+    → T (isStored (laidOut list))
 unfolding buildTextOf
 build-text-stored text lent list = by-count (ltb 65536 (length text)) refl
   where
-    by-outcome : length text ≤ 65536 → (o : Outcome) → commandsOf text ≡ o → builtFrom o ≡ path list → T (isStored (kindsOf list) (fieldsOfAll list) (tablesOfAll list) (lengthsOfAll list))
+    by-outcome : length text ≤ 65536 → (o : Outcome) → commandsOf text ≡ o → builtFrom o ≡ path list → T (isStored (laidOut list))
     by-outcome few (commands own) f g = built-stored own list (omega (arith, commands-few text own f)) g
     by-outcome few (unread reason) f g = let z : _≡_ {A = ℕ} 0 1 = cc in absurd (omega arith)
 
     by-count :
         (b : Bool) → ltb 65536 (length text) ≡ b → cond b (refusal (TooLong (length text))) (roomed lent (builtFrom (commandsOf text))) ≡ path list
-        → T (isStored (kindsOf list) (fieldsOfAll list) (tablesOfAll list) (lengthsOfAll list))
+        → T (isStored (laidOut list))
     by-count true f g = let z : _≡_ {A = ℕ} 0 1 = cc in absurd (omega arith)
     by-count false f g = by-outcome (ltb-false 65536 (length text) f) (commandsOf text) refl (roomed-path lent (builtFrom (commandsOf text)) list g)

@@ -15,7 +15,8 @@ use Rattle.commands.specs.Stored.{lettersOf, numbersOf}
 use Rattle.commands.specs.declared.command.PathCommand.{PathCommand}
 use Rattle.svg.specs.Texts.{Outcome, commands, refusal as unread, Room, Filled}
 use Rattle.path_segment.specs.declared.segments.PathSegment.{PathSegment}
-use Rattle.path_stored.specs.Layout.{kindsOf, fieldsOfAll, tablesOfAll, lengthsOfAll}
+use Rattle.path_stored.specs.Buffers.{buffers}
+use Rattle.path_stored.specs.Layout.{kindsOf, fieldsOfAll, tablesOfAll, lengthsOfAll, laidOut}
 use Rattle.path_stored.specs.Stored.{Stored}
 use Rattle.path_stored.proofs.Rule.{stored-rule}
 use Rattle.path_drawing.specs.Building.{path, buildOf}
@@ -161,10 +162,10 @@ module _ (o : Outcome) (letters : List ℕ) (numbers : List Float) (k : Lent o l
       tables-held = let b = built-here in omega (arith, b .entries, tables-few (b .list), segments-few (k .list) (b .list) (b .is), k .few)
 
   module _ (kinds : List ℕ) (fields tables lengths : List Float) (here : Flight (k .list) kinds fields tables lengths) (count : ℕ) where
-    pub ready : 2 ≤ count → count ≤ 1000 → Ready kinds fields tables lengths count
+    pub ready : 2 ≤ count → count ≤ 1000 → Ready (buffers kinds fields tables lengths) count
     ready g h =
-        let s : Stored (kindsOf (here .list)) (fieldsOfAll (here .list)) (tablesOfAll (here .list)) (lengthsOfAll (here .list)) =
-        stored-rule _ _ _ _ (built-stored (k .list) (here .list) (omega (arith, k .few)) (here .is)) in
+        let s : Stored (laidOut (here .list)) =
+        stored-rule _ (built-stored (k .list) (here .list) (omega (arith, k .few)) (here .is)) in
         let few : length kinds ≤ 256 =
         omega (arith, ap length (here .own), kinds-count (here .list), segments-few (k .list) (here .list) (here .is), k .few) in
         record { stored = rw (here .own, here .numbers, here .entries, here .running) s; few = few; least = g; most = h }

@@ -13,7 +13,7 @@ use Rattle.floats.specs.Floats.{epsilonF}
 use Rattle.table.specs.Spots.{pathTotal}
 use Rattle.commands.specs.Stored.{lettersOf}
 use Rattle.path_segment.specs.declared.segments.PathSegment.{PathSegment}
-use Rattle.path_stored.specs.Layout.{kindsOf, fieldsOfAll, tablesOfAll, lengthsOfAll}
+use Rattle.path_stored.specs.Layout.{kindsOf, fieldsOfAll, tablesOfAll, lengthsOfAll, laidOut}
 use Rattle.path_stored.proofs.Rule.{stored-rule}
 use Rattle.path_stored.proofs.Values.{tables-fit, lengths-fit}
 use Rattle.path_place.proofs.Demand3.{F32Stored}
@@ -34,18 +34,18 @@ module _ (input : List ℕ) (a : Accepted input) where
   listing-sections =
       rw (a .asks, le-ltb 4096 (length (drop (a .next) input)) (a .short), a .reads, le-ltb 256 (length (lettersOf (a .list))) (a .few), a .builds) refl
 
-  built-values : F32Stored (kindsOf (a .segments)) (fieldsOfAll (a .segments)) (tablesOfAll (a .segments)) (lengthsOfAll (a .segments))
+  built-values : F32Stored (laidOut (a .segments))
   built-values =
       let count = letters-count (a .list) in
       let few = a .few in
       record {
-        stored = stored-rule _ _ _ _ (built-stored (a .list) (a .segments) (omega arith) (a .builds));
+        stored = stored-rule _ (built-stored (a .list) (a .segments) (omega arith) (a .builds));
         tableValues = tables-fit (a .segments);
         lengthValues = lengths-fit (a .segments);
       }
 
   pub listing-ordered : 0 < length (a .segments) → T (lt epsilonF (pathTotal (lengthsOfAll (a .segments))))
-      → OrderedStations (kindsOf (a .segments)) (fieldsOfAll (a .segments)) (tablesOfAll (a .segments)) (lengthsOfAll (a .segments)) (a .count)
+      → OrderedStations (laidOut (a .segments)) (a .count)
   listing-ordered some long =
       let ask = asked input (a .count) (a .next) 0 (a .asks) in
       let kinds = kinds-count (a .segments) in

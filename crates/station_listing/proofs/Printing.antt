@@ -6,6 +6,7 @@ use native.Mathlib.Omega.{arith}
 use lib.Ieee.{Float}
 use lib.ListN.{length}
 use Rattle.svg.specs.Texts.{Outcome, commands, refusal}
+use Rattle.path_stored.specs.Buffers.{buffers}
 use Rattle.station_lines.specs.Lines.{headerLine}
 use Rattle.station_lines.specs.Put.{PutWithin}
 use Rattle.station_lines.proofs.Putting.{within-as, within-then}
@@ -29,7 +30,7 @@ pub printed :
     → PutWithin 30 (headerLine segmentsWord (length kinds)) at₂ out₂ out₃ at₃
     → PutWithin 4608 (segmentLines kinds lengths) at₃ out₃ out₄ at₄
     → PutWithin 30 (headerLine stationsWord count) at₄ out₄ out₅ at₅
-    → PutWithin 44000 (stationLines kinds fields tables lengths count) at₅ out₅ out₆ r
+    → PutWithin 44000 (stationLines (buffers kinds fields tables lengths) count) at₅ out₅ out₆ r
     → Printed o kinds fields tables lengths count out₀ out₆ r
 unfolding sectionsOf
 printed (commands list) places kinds fields tables lengths count out₀ out₁ out₂ out₃ out₄ out₅ out₆ at₁ at₂ at₃ at₄ at₅ r k a b c d e f =

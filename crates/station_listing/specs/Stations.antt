@@ -12,6 +12,7 @@ use Rattle.answers.specs.declared.refusals.Refusal.the-variants.{TooLong, NoRoo
 use Rattle.commands.specs.Stored.{lettersOf, numbersOf}
 use Rattle.commands.specs.declared.command.PathCommand.{PathCommand}
 use Rattle.svg.specs.Texts.{Outcome, commands, refusal, commandsOf}
+use Rattle.path_stored.specs.Buffers.{buffers}
 use Rattle.path_stored.specs.Layout.{kindsOf, fieldsOfAll, tablesOfAll, lengthsOfAll}
 use Rattle.path_drawing.specs.Building.{Built, path, refusal as unbuilt, buildOf}
 use Rattle.text_reader.specs.Plans.{firstLineOf}
@@ -40,7 +41,7 @@ sectionsOf list kinds fields tables lengths count =
     ++ (headerLine segmentsWord (length kinds)
     ++ (segmentLines kinds lengths
     ++ (headerLine stationsWord count
-    ++ stationLines kinds fields tables lengths count))))
+    ++ stationLines (buffers kinds fields tables lengths) count))))
 
 -- what is built: its listing, or 10 or 11
 abbrev pub builtOf : ℕ → List PathCommand → Built → List ℕ

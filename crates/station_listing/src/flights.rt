@@ -2,6 +2,7 @@
 ghost use Prim.Native.Nat.{_≤_};
 ghost use lib.ListN.{drop};
 ghost use Rattle.svg.specs.Texts.{commandsOf};
+ghost use Rattle.path_stored.specs.Buffers.{lent};
 ghost use Rattle.station_sections.specs.Sections.{Ready};
 ghost use Rattle.station_listing.specs.Stations.{Sized, Numbered, Printed, Told};
 use path_build::Building;
@@ -25,7 +26,7 @@ fn print(
     tables: &[f32],
     lengths: &[f32],
 ) -> usize
-    requires { ⌜ Sized (commandsOf (drop start (now input))) places × Ready (now kinds) (now fields) (now tables) (now lengths) count ⌝ }
+    requires { ⌜ Sized (commandsOf (drop start (now input))) places × Ready (lent kinds fields tables lengths) count ⌝ }
     ensures { λ r. ⌜ Printed (commandsOf (drop start (now (input .entry)))) (now (kinds .entry)) (now (fields .entry)) (now (tables .entry)) (now (lengths .entry)) count (now (out .entry)) (now (out .exit)) r ⌝ }
 {
     let past_commands = put_header(out, 0, b"commands", places);

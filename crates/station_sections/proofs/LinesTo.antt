@@ -5,6 +5,7 @@ use mathlib.Core.List.{List, [], _∷_, _++_}
 use native.Mathlib.Omega.{arith}
 use native.Mathlib.Numerals.{add-one}
 use lib.Ieee.{Float, binary32, ofBits}
+use borrow.Author.Tests.{eq-eqb}
 use lib.ListN.{length}
 use Rattle.station_lines.specs.Put.{Put, PutWithin}
 use Rattle.station_lines.specs.Lines.{stationLine}
@@ -16,10 +17,12 @@ use Rattle.math.specs.declared.points.Point.{Point}
 use Rattle.table.specs.Sound.{SoundPath}
 use Rattle.table.specs.Spots.{spotOf}
 use Rattle.table.specs.declared.tables.Spot.{Spot}
+use Rattle.path_stored.specs.Buffers.{Buffers}
 use Rattle.path_stored.specs.Stored.{Stored}
 use Rattle.path_place.proofs.Standing.{spot-inside}
 use Rattle.path_query.specs.Flights.{Flyable, flownOf, flightOf}
 use Rattle.path_query.specs.declared.flights.Flown.{Flown}
+use Rattle.path_query.proofs.Answering.{some-kinds}
 use Rattle.station_sections.specs.Sections.{linesTo, Ready, progressOf, foundOf, stationOf}
 
 -- ---- the first n lines, each at most so long
@@ -54,33 +57,26 @@ to-all line most n from before out at whole k count e h =
 
 -- ---- a station
 
-module _ (kinds : List ℕ) (fields tables lengths : List Float) (n : ℕ) (r : Ready kinds fields tables lengths n) (some : 0 < length kinds) where
-  pub flyable : Flyable kinds fields tables lengths
+module _ {b : Buffers} {n : ℕ} (r : Ready b n) (some : 0 < length (b .kinds)) where
+  pub flyable : Flyable b
   flyable = record { some = some; path = r .stored }
 
-  pub sound-path : SoundPath lengths
+  pub sound-path : SoundPath (b .lengths)
   sound-path = record { some = omega (arith, r .stored .one); sound = r .stored .rising }
 
-  pub segment-few : (spot : Spot) (p : Float) → spot ≡ spotOf lengths p → spot .segment < 1000
+  pub segment-few : (spot : Spot) (p : Float) → spot ≡ spotOf (b .lengths) p → spot .segment < 1000
   segment-few spot p e =
-      let h : spot .segment ≡ spotOf lengths p .segment = ap (λ (s : Spot). s .segment) e in
-      omega (arith, spot-inside lengths sound-path p, r .stored .one, r .few)
+      let h : spot .segment ≡ spotOf (b .lengths) p .segment = ap (λ (s : Spot). s .segment) e in
+      omega (arith, spot-inside (b .lengths) sound-path p, r .stored .one, r .few)
 
 abbrev origin : Point
 origin = record { x = ofBits binary32 0; y = ofBits binary32 0 }
 
-pub station-none : (kinds : List ℕ) (fields tables lengths : List Float) (n k : ℕ) → length kinds ≡ 0 → stationLine k Nothing origin origin ≡ stationOf kinds fields tables lengths n k
+pub station-none : (b : Buffers) (n k : ℕ) → length (b .kinds) ≡ 0 → stationLine k Nothing origin origin ≡ stationOf b n k
 unfolding stationOf foundOf flightOf originF zeroF
-station-none [] fields tables lengths n k h = refl
-station-none (kind ∷ kinds) fields tables lengths n k h = absurd (omega arith)
+station-none b n k none = rw (eq-eqb _ _ none)
 
-pub station-some :
-    (kinds : List ℕ) (fields tables lengths : List Float) (n k : ℕ) (p : Float) (spot : Spot) (there : Flown)
-    → 0 < length kinds
-    → p ≡ progressOf n k
-    → spot ≡ spotOf lengths p
-    → there ≡ flownOf kinds fields tables lengths p
-    → stationLine k (Segment (spot .segment)) (there .position) (there .tangent) ≡ stationOf kinds fields tables lengths n k
+pub station-some : (b : Buffers) (n k : ℕ) (p : Float) (spot : Spot) (there : Flown) → 0 < length (b .kinds) → p ≡ progressOf n k → spot ≡ spotOf (b .lengths) p
+    → there ≡ flownOf b p → stationLine k (Segment (spot .segment)) (there .position) (there .tangent) ≡ stationOf b n k
 unfolding stationOf foundOf flightOf
-station-some [] fields tables lengths n k p spot there h e f g = absurd (omega arith)
-station-some (kind ∷ kinds) fields tables lengths n k p spot there h e f g = rw (g, f, e)
+station-some b n k p spot there some e f g = rw (some-kinds some, g, f, e)

@@ -29,9 +29,11 @@ use Rattle.table_order.proofs.Targets.{target-mono}
 use Rattle.table_order.proofs.Ends.{target-of-zero, target-of-one}
 use Rattle.table_order.proofs.Spots.{path-total-held}
 use Rattle.table_order.proofs.Theorems.{path-starts, path-ends}
-use Rattle.path_place.specs.Places.{placeAt, placeOf}
+use Rattle.path_stored.specs.Buffers.{Buffers}
+use Rattle.path_place.specs.Places.{placeAt, placeIn, placeOf}
 use Rattle.path_place.proofs.Demand3.{F32Stored, path-held, demand-3}
 use Rattle.path_query.specs.Flights.{flownOf, flightOf}
+use Rattle.path_query.proofs.Answering.{some-kinds}
 use Rattle.station_lines.specs.Lines.{stationLine}
 use Rattle.station_lines.specs.declared.lines.Found.the-variants.{Segment}
 use Rattle.station_sections.specs.Sections.{progressOf, foundOf, stationOf}
@@ -119,25 +121,24 @@ module _ {lengths : List Float} (path : F32Path lengths) (long : T (lt epsilonF 
 -- ---- the stations
 
 -- the line of a station, by its pair
-station-line : (kinds : List ℕ) (fields tables lengths : List Float) (n k : ℕ) → 0 < length kinds → let pair = placeOf kinds tables lengths (progressOf n k) in
-    let there = flownBy kinds fields tables lengths n k pair in
-    stationOf kinds fields tables lengths n k ≡ stationLine k (Segment (pair .segment)) (there .position) (there .tangent)
-unfolding stationOf foundOf flightOf flownOf placeOf
-station-line [] fields tables lengths n k some = absurd (omega arith)
-station-line (kind ∷ kinds) fields tables lengths n k some = refl
+station-line : (b : Buffers) (n k : ℕ) → 0 < length (b .kinds) → let pair = placeOf b (progressOf n k) in
+    let there = flownBy b n k pair in
+    stationOf b n k ≡ stationLine k (Segment (pair .segment)) (there .position) (there .tangent)
+unfolding stationOf foundOf flightOf flownOf placeIn
+station-line b n k some = rw (some-kinds some)
 
-module _ {kinds : List ℕ} {fields tables lengths : List Float} (f : F32Stored kinds fields tables lengths) (some : 0 < length kinds) (long : T (lt epsilonF (pathTotal lengths))) where
-  pub stations-ordered : (n : ℕ) → 2 ≤ n → n ≤ 1000 → OrderedStations kinds fields tables lengths n
-  unfolding placeOf
+module _ {b : Buffers} (f : F32Stored b) (some : 0 < length (b .kinds)) (long : T (lt epsilonF (pathTotal (b .lengths)))) where
+  pub stations-ordered : (n : ℕ) → 2 ≤ n → n ≤ 1000 → OrderedStations b n
+  unfolding placeIn
   stations-ordered n least most =
       let path = path-held f some in
       let demand = demand-3 f some long in
       let first = progressOf n 0 in
       let last = progressOf n (n - 1) in
       record {
-        pair = λ k. placeOf kinds tables lengths (progressOf n k);
-        printed = λ k. station-line kinds fields tables lengths n k some;
+        pair = λ k. placeOf b (progressOf n k);
+        printed = λ k. station-line b n k some;
         order = λ j k l inside. demand .order (progressOf n j) (progressOf n k) (clamp01-mono (progressOf n j) (progressOf n k) (progress-mono n least most j k l inside));
-        starts = ap (placeAt kinds tables) (spot-first path long first (progress-first n least most) ∙ sym (path-starts path long)) ∙ demand .starts;
-        ends = ap (placeAt kinds tables) (spot-last path long last (progress-last n least most) ∙ sym (path-ends path)) ∙ demand .ends;
+        starts = ap (placeAt (b .kinds) (b .tables)) (spot-first path long first (progress-first n least most) ∙ sym (path-starts path long)) ∙ demand .starts;
+        ends = ap (placeAt (b .kinds) (b .tables)) (spot-last path long last (progress-last n least most) ∙ sym (path-ends path)) ∙ demand .ends;
       }

@@ -1,10 +1,13 @@
 -- The sections of a listing that a built path gives (document 01, "The station tool"). Segments and stations count from 0. Definitions only.
 use Prim.Native.Nat.{ℕ, zero, suc, _-_, _≤_}
-use mathlib.Core.List.{List, [], _∷_, _++_}
+use mathlib.Core.Bool.{cond}
+use mathlib.Core.List.{List, [], _++_}
+use lib.Dec.{eqb}
 use lib.IntN.{pos}
 use lib.Ieee.{Float, nan, binary32, div, ofInt}
 use lib.ListN.{length, getD}
 use Rattle.table.specs.Spots.{spotOf}
+use Rattle.path_stored.specs.Buffers.{Buffers}
 use Rattle.path_stored.specs.Stored.{Stored}
 use Rattle.path_query.specs.Flights.{flightOf}
 use Rattle.station_lines.specs.Lines.{segmentLine, stationLine}
@@ -26,24 +29,23 @@ unfoldable pub progressOf : ℕ → ℕ → Float
 progressOf n k = div binary32 (ofInt binary32 (pos k)) (ofInt binary32 (pos (n - 1)))
 
 -- "segment number (a minus sign if none)": the segment that the path picks
-unfoldable pub foundOf : List ℕ → List Float → Float → Found
-foundOf [] lengths progress = Nothing
-foundOf (kind ∷ kinds) lengths progress = Segment (spotOf lengths progress .segment)
+unfoldable pub foundOf : Buffers → Float → Found
+foundOf b progress = cond (eqb (length (b .kinds)) 0) Nothing (Segment (spotOf (b .lengths) progress .segment))
 
 -- "Station k: k, segment number (a minus sign if none), x, y, tangent; progress is k/(n-1)."
-unfoldable pub stationOf : List ℕ → List Float → List Float → List Float → ℕ → ℕ → List ℕ
+unfoldable pub stationOf : Buffers → ℕ → ℕ → List ℕ
 unfolding foundOf
-stationOf kinds fields tables lengths n k =
-    let there = flightOf kinds fields tables lengths (progressOf n k) in
-    stationLine k (foundOf kinds lengths (progressOf n k)) (there .position) (there .tangent)
+stationOf b n k =
+    let there = flightOf b (progressOf n k) in
+    stationLine k (foundOf b (progressOf n k)) (there .position) (there .tangent)
 
-unfoldable pub stationLines : List ℕ → List Float → List Float → List Float → ℕ → List ℕ
+unfoldable pub stationLines : Buffers → ℕ → List ℕ
 unfolding linesTo stationOf
-stationLines kinds fields tables lengths n = linesTo (λ k. stationOf kinds fields tables lengths n k) n
+stationLines b n = linesTo (λ k. stationOf b n k) n
 
 -- a stored path of at most 256 segments, and 2 to 1,000 stations
-pub record Ready (kinds : List ℕ) (fields tables lengths : List Float) (count : ℕ) : Type 0 where
-  pub stored : Stored kinds fields tables lengths
-  pub few : length kinds ≤ 256
+pub record Ready (b : Buffers) (count : ℕ) : Type 0 where
+  pub stored : Stored b
+  pub few : length (b .kinds) ≤ 256
   pub least : 2 ≤ count
   pub most : count ≤ 1000

@@ -2,6 +2,7 @@
 ghost use mathlib.Core.Path.{_≡_};
 ghost use Prim.Native.Nat.{_+_, _≤_, _<_};
 ghost use lib.ListN.{length};
+ghost use Rattle.path_stored.specs.Buffers.{before, lent};
 ghost use Rattle.station_lines.specs.Put.{PutWithin};
 ghost use Rattle.station_sections.specs.Sections.{Ready, progressOf, segmentLines, stationOf, stationLines};
 use math::Point;
@@ -48,8 +49,8 @@ fn put_one(
     tables: &[f32],
     lengths: &[f32],
 ) -> usize
-    requires { ⌜ Ready (now kinds) (now fields) (now tables) (now lengths) count × (number < count) × (at + 44 ≤ 65536) ⌝ }
-    ensures { λ r. ⌜ PutWithin 44 (stationOf (now (kinds .entry)) (now (fields .entry)) (now (tables .entry)) (now (lengths .entry)) count number) at (now (out .entry)) (now (out .exit)) r ⌝ }
+    requires { ⌜ Ready (lent kinds fields tables lengths) count × (number < count) × (at + 44 ≤ 65536) ⌝ }
+    ensures { λ r. ⌜ PutWithin 44 (stationOf (before kinds fields tables lengths) count number) at (now (out .entry)) (now (out .exit)) r ⌝ }
 {
     if kinds.len() == 0 {
         let origin = Point { x: 0.0, y: 0.0 };
@@ -73,8 +74,8 @@ pub fn put_stations(
     tables: &[f32],
     lengths: &[f32],
 ) -> usize
-    requires { ⌜ Ready (now kinds) (now fields) (now tables) (now lengths) count × (from + 44000 ≤ 65536) ⌝ }
-    ensures { λ r. ⌜ PutWithin 44000 (stationLines (now (kinds .entry)) (now (fields .entry)) (now (tables .entry)) (now (lengths .entry)) count) from (now (out .entry)) (now (out .exit)) r ⌝ }
+    requires { ⌜ Ready (lent kinds fields tables lengths) count × (from + 44000 ≤ 65536) ⌝ }
+    ensures { λ r. ⌜ PutWithin 44000 (stationLines (before kinds fields tables lengths) count) from (now (out .entry)) (now (out .exit)) r ⌝ }
 {
     let mut at = from;
     let mut number = 0;

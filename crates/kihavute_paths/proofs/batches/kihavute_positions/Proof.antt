@@ -7,14 +7,14 @@ use Rattle.kihavute_paths.proofs.batches.kihavute_positions.Statement.{
 use Rattle.kihavute_paths.proofs.batches.kihavute_positions.Tie as tie
 
 returns : tie.Need-returns
-returns c = (no-positions _ _ _ _ _ _ _ (c .if1 .taken), λ long. absurd (omega (arith, c .if1 .taken, long)))
+returns c = (no-positions _ _ _ _ (c .if1 .taken), λ long. absurd (omega (arith, c .if1 .taken, long)))
 
 returns-2 : tie.Need-returns-2
 returns-2 c =
     let given = c .before .before in
     let filled = given .before .before .before .before in (
-      positions-reported _ _ _ _ _ _ _ _ (filled .before .before .if1 .left) (filled .positions .ensures .0) (given .give-batch .ensures),
-      λ long. ordered-flown-same _ _ _ _ _ _ (filled .positions .ensures .0 .answer) (filled .positions .ensures .1),
+      positions-reported _ _ _ _ _ (filled .before .before .if1 .left) (filled .positions .ensures .0) (given .give-batch .ensures),
+      λ long. ordered-flown-same _ _ _ (filled .positions .ensures .0 .answer) (filled .positions .ensures .1),
     )
 
 pub kihavute-positions-spec : {M : Type 1} → statement M

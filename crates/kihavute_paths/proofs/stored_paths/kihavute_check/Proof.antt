@@ -7,10 +7,10 @@ use Rattle.kihavute_paths.proofs.stored_paths.kihavute_check.Statement.
 use Rattle.kihavute_paths.proofs.stored_paths.kihavute_check.Tie as tie
 
 returns : tie.Need-returns
-returns c = given-same _ _ (check-yes _ _ _ _ (sym (c .before .before .before .before .before .check-path .ensures) ∙ c .before .before .before .before .if1 .taken)) (c .before .before .accept .ensures)
+returns c = given-same _ _ (check-yes _ (sym (c .before .before .before .before .before .check-path .ensures) ∙ c .before .before .before .before .if1 .taken)) (c .before .before .accept .ensures)
 
 returns-2 : tie.Need-returns-2
-returns-2 c = given-same _ _ (check-no _ _ _ _ (sym (c .before .before .before .before .before .check-path .ensures) ∙ c .before .before .before .before .if1 .left)) (c .before .before .refuse .ensures)
+returns-2 c = given-same _ _ (check-no _ (sym (c .before .before .before .before .before .check-path .ensures) ∙ c .before .before .before .before .if1 .left)) (c .before .before .refuse .ensures)
 
 pub kihavute-check-spec : {M : Type 1} → statement M
 kihavute-check-spec =

@@ -1,6 +1,7 @@
 -- `path_append::store` meets its contract: each buffer is written by one call or one store. Assumes nothing.
 use Rattle.path_append.proofs.Own.{grown-is}
 use Rattle.path_stored.specs.Layout.{tableStored}
+use Rattle.path_stored.proofs.Buffers.{buffers-are}
 use Rattle.path_segment.proofs.Reading.{fields-width}
 use Rattle.path_segment.specs.Segments.{fieldsOf}
 use lib.Seq.{sets}
@@ -11,17 +12,32 @@ use borrow.Author.Needs.{needs}
 use Rattle.path_append.proofs.storing.store.Statement.{statement}
 use Rattle.path_append.proofs.storing.store.Tie as tie
 
+-- ---- the points
+abbrev counted : tie.After-store-table → tie.After-numbers-used
+counted p = p .before .before .before .before
+
+abbrev start : tie.After-numbers-used → tie.Start
+start p = p .before .before .before .before .before .before
+
+-- ---- the answers
 put-segment-requires : tie.Need-put-segment-requires
-put-segment-requires c κs = omega (arith, c .before .before .before .before .before .before .before .before .before .before .before .before .before .before .before .pre .forNumbers, c .before .before .before .before .before .before .before .before .before .numbers-used .ensures, fields-width (c .before .before .before .before .before .before .before .before .before .before .before .before .before .before .before .args .segment))
+put-segment-requires c κs =
+    let n = counted (c .before .before .before .before .before) in
+    omega (arith, start n .pre .forNumbers, n .numbers-used .ensures, fields-width (start n .args .segment))
 
 returns : tie.Need-returns
-returns c = let a = c .before .before .before .before .before .before .before .before .before .before .before .before .before .before .before .before .before .before .before .before .args in let k = a .kinds .now in let n = a .numbers .now in let t = a .tables .now in let l = a .lengths .now in
-    record {
-      kindsAre = ap (set k (a .count)) (c .before .kind .ensures);
-      numbersAre = c .before .before .before .before .put-segment .ensures ∙ ap (λ x. sets n x (fieldsOf (a .segment))) (c .before .before .before .before .before .before .before .before .before .before .before .before .before .before .numbers-used .ensures);
-      tablesAre = c .before .before .before .before .before .before .before .before .before .before .store-table .ensures .tablesAre ∙ ap (λ x. sets t x (tableStored (a .segment))) (c .before .before .before .before .before .before .before .before .before .before .before .before .tables-used .ensures);
-      lengthsAre = ap (set l (a .count)) (c .tidy .ensures ∙ grown-is l (a .count) (a .segment) _ _ (c .before .before .before .before .before .before .length-before .ensures) (c .before .before .before .before .before .before .before .before .before .before .store-table .ensures .told));
-    }
+returns c =
+    let put = c .before .before .before .before in
+    let length-before = put .before .before in
+    let table = length-before .before .before .before .before in
+    let n = counted table in
+    let a = start n .args in
+    let kinds = ap (set (a .kinds .now) (a .count)) (c .before .kind .ensures) in
+    let fields = put .put-segment .ensures ∙ ap (λ x. sets (a .numbers .now) x (fieldsOf (a .segment))) (n .numbers-used .ensures) in
+    let tables = table .store-table .ensures .tablesAre ∙ ap (λ x. sets (a .tables .now) x (tableStored (a .segment))) (table .before .before .tables-used .ensures) in
+    let own = c .tidy .ensures ∙ grown-is (a .lengths .now) (a .count) (a .segment) _ _ (length-before .length-before .ensures) (table .store-table .ensures .told) in
+    let lengths = ap (set (a .lengths .now) (a .count)) own in
+    buffers-are kinds fields tables lengths
 
 pub store-spec : {M : Type 1} → statement M
 store-spec =

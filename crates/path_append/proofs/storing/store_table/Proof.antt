@@ -1,30 +1,45 @@
 -- `path_append::store_table` meets its contract: with a table and without one. Assumes nothing.
 use Rattle.path_append.proofs.Own.{table-total, stored-is, stored-none}
 use Rattle.path_segment.proofs.Widths.{one-table}
-use Rattle.path_segment.specs.Segments.{hasTable, tableNumbers}
+use Rattle.path_segment.specs.Segments.{kindOf, hasTable, tableNumbers}
 use lib.Seq.{sets}
 use native.Mathlib.Omega.{arith}
-use mathlib.Core.Path.{sym, ap, _∙_}
+use mathlib.Core.Path.{_≡_, sym, ap, _∙_}
 use borrow.Author.Needs.{needs}
 use Rattle.path_append.proofs.storing.store_table.Statement.{statement}
 use Rattle.path_append.proofs.storing.store_table.Tie as tie
 
+-- ---- the points
+abbrev start : tie.After-has-table → tie.Start
+start p = p .before .before .before
+
+abbrev has : (p : tie.After-has-table) → hasTable (kindOf (start p .args .segment)) ≡ p .has-table .result
+has p = ap hasTable (sym (p .before .kind .ensures)) ∙ sym (p .has-table .ensures)
+
+-- ---- the answers
 put-table-requires : tie.Need-put-table-requires
-put-table-requires c κs = omega (arith, one-table _ (ap hasTable (sym (c .before .before .before .before .kind .ensures)) ∙ sym (c .before .before .before .has-table .ensures) ∙ c .before .before .if1 .taken), c .before .before .before .before .before .before .pre)
+put-table-requires c κs = let asked = c .before .before .before in omega (arith, one-table _ (has asked ∙ c .before .before .if1 .taken), start asked .pre)
 
 returns : tie.Need-returns
 returns c =
-    let a = c .before .before .before .before .before .before .before .before .before .before .args in
-    let has = (ap hasTable (sym (c .before .before .before .before .before .before .before .before .kind .ensures)) ∙ sym (c .before .before .before .before .before .before .before .has-table .ensures) ∙ c .before .before .before .before .before .before .if1 .taken) in
+    let put = c .before .before .before in
+    let made = put .before .before in
+    let asked = made .before .before in
+    let a = start asked .args in
+    let curve = has asked ∙ made .before .if1 .taken in
     record {
-      told = c .tidy .ensures ∙ ap (λ t. t .total) (c .before .before .before .before .before .segment-table .ensures) ∙ table-total (a .segment) has;
-      tablesAre = c .before .before .before .put-table .ensures ∙ ap (λ t. sets (a .tables .now) (a .at) (tableNumbers t)) (c .before .before .before .before .before .segment-table .ensures) ∙ ap (sets (a .tables .now) (a .at)) (stored-is (a .segment) has);
+      told = c .tidy .ensures ∙ ap (λ t. t .total) (made .segment-table .ensures) ∙ table-total (a .segment) curve;
+      tablesAre =
+          put .put-table .ensures
+          ∙ ap (λ t. sets (a .tables .now) (a .at) (tableNumbers t)) (made .segment-table .ensures)
+          ∙ ap (sets (a .tables .now) (a .at)) (stored-is (a .segment) curve);
     }
 
 returns-2 : tie.Need-returns-2
 returns-2 c =
-    let a = c .before .before .before .before .before .args in
-    record { told = c .segment-length .ensures; tablesAre = ap (sets (a .tables .now) (a .at)) (stored-none (a .segment) (ap hasTable (sym (c .before .before .before .kind .ensures)) ∙ sym (c .before .before .has-table .ensures) ∙ c .before .if1 .left)) }
+    let asked = c .before .before in
+    let a = start asked .args in
+    record { told = c .segment-length .ensures; tablesAre = ap (sets (a .tables .now) (a .at)) (stored-none (a .segment) (has asked ∙ c .before .if1 .left)) }
 
 pub store-table-spec : {M : Type 1} → statement M
 store-table-spec =

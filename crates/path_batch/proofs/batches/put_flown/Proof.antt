@@ -19,7 +19,9 @@ same-length : tie.Need-same-length
 same-length c = simp length-set
 
 returns : tie.Need-returns
-returns c = four-put (c .before .before .before .before .before .before .before .args .out .now) _ _ _ _ _ _ _ _ _ (c .before .before .before .tidy .ensures) (c .before .before .tidy2 .ensures) (c .before .tidy3 .ensures) (c .tidy4 .ensures)
+returns c =
+    let start = c .before .before .before .before .before .before .before in
+    four-put (start .args .out .now) _ _ _ _ _ _ _ _ _ (c .before .before .before .tidy .ensures) (c .before .before .tidy2 .ensures) (c .before .tidy3 .ensures) (c .tidy4 .ensures)
 
 pub put-flown-spec : {M : Type 1} → statement M
 put-flown-spec =

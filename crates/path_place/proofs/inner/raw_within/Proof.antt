@@ -13,7 +13,10 @@ raw-for-requires c κs = let start = c .before .before .before in λ has. subst 
 
 returns : tie.Need-returns
 unfolding rawWithin
-returns c = let start = c .before .before .before .before in let a = start .args in c .raw-for .ensures ∙ ap (λ (place : ℕ). rawFor (getD (a .kinds .now) (a .at .segment) 0) (a .tables .now) place (a .along .value)) (cursor-tables _ _ (start .pre .is))
+returns c =
+    let start = c .before .before .before .before in
+    let a = start .args in
+    c .raw-for .ensures ∙ ap (λ (place : ℕ). rawFor (getD (a .kinds .now) (a .at .segment) 0) (a .tables .now) place (a .along .value)) (cursor-tables _ _ (start .pre .is))
 
 pub raw-within-spec : {M : Type 1} → statement M
 raw-within-spec =

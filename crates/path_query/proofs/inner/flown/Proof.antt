@@ -27,7 +27,7 @@ flown-within-requires c κs =
 returns : tie.Need-returns
 returns c =
     let spot = c .before .before .before .before .spot in
-    c .flown-within .ensures ∙ flight-is _ _ _ _ _ (spot .result) (c .before .forward .result) (spot .ensures) (c .before .forward .ensures)
+    c .flown-within .ensures ∙ flight-is _ _ (spot .result) (c .before .forward .result) (spot .ensures) (c .before .forward .ensures)
 
 pub flown-spec : {M : Type 1} → statement M
 flown-spec =

@@ -17,14 +17,13 @@ use Rattle.path_query.proofs.queries.flight.Tie as tie
 returns : tie.Need-returns
 unfolding originF zeroF
 returns c = (
-  flew-none _ _ _ _ _ _ (sym (c .before .before .check-path .ensures) ∙ c .before .if1 .taken) (c .if2 .taken) refl,
+  flew-none _ _ _ (sym (c .before .before .check-path .ensures) ∙ c .before .if1 .taken) (c .if2 .taken) refl,
   λ some. absurd (omega (arith, c .if2 .taken, some)),
 )
 
 flown-requires : tie.Need-flown-requires
 flown-requires c κs =
-    let a = c .before .before .before .before .before .before .before .args in
-    a-flight (stored-rule (a .kinds .now) (a .fields .now) (a .tables .now) (a .lengths .now) (passed (sym (c .before .before .check-path .ensures) ∙ c .before .if1 .taken))) (omega (arith, c .if2 .left))
+    a-flight (stored-rule _ (passed (sym (c .before .before .check-path .ensures) ∙ c .before .if1 .taken))) (omega (arith, c .if2 .left))
 
 returns-2 : tie.Need-returns-2
 returns-2 c =
@@ -33,12 +32,12 @@ returns-2 c =
     let a = checked .before .before .before .before .before .args in
     let stored = sym (checked .check-path .ensures) ∙ flown .before .before .if1 .taken in
     let some : 0 < length (a .kinds .now) = omega (arith, flown .before .if2 .left) in (
-      flew-some _ _ _ _ _ _ stored some (rw (c .before .tidied .ensures, c .tidied2 .ensures) (flown .flown .ensures)),
-      λ _. ordered (a .kinds .now) (a .fields .now) (a .tables .now) (a .lengths .now) stored some (checked .before .before .shared-slice-known3 .given) (checked .before .shared-slice-known4 .given),
+      flew-some _ _ _ stored some (rw (c .before .tidied .ensures, c .tidied2 .ensures) (flown .flown .ensures)),
+      λ _. ordered _ stored some (checked .before .before .shared-slice-known3 .given) (checked .before .shared-slice-known4 .given),
     )
 
 returns-3 : tie.Need-returns-3
-returns-3 c = (flew-bad _ _ _ _ _ (sym (c .before .check-path .ensures) ∙ c .if1 .left), tt)
+returns-3 c = (flew-bad _ _ (sym (c .before .check-path .ensures) ∙ c .if1 .left), tt)
 
 pub flight-spec : {M : Type 1} → statement M
 flight-spec =

@@ -17,7 +17,7 @@ segment-at-requires c κs =
 
 returns : tie.Need-returns
 unfolding segmentIn
-returns c = let a = c .before .before .before .before .before .args in c .segment-at .ensures ∙ ap (λ at. segmentOf (getD (a .kinds .now) (a .i) 0) (drop at (a .numbers .now))) (c .before .before .numbers-before .ensures)
+returns c = let a = c .before .before .before .before .before .args in c .segment-at .ensures ∙ ap (λ at. segmentOf (getD (a .kinds .now) (a .i) 0) (drop at (a .fields .now))) (c .before .before .numbers-before .ensures)
 
 pub segment-spec : {M : Type 1} → statement M
 segment-spec =

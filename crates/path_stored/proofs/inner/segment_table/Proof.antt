@@ -2,26 +2,34 @@
 use Rattle.path_stored.proofs.Reading.{segment-table}
 use Rattle.path_stored.proofs.Counting.{tables-at-most}
 use Rattle.path_stored.specs.Stored.{tableIn}
-use Rattle.path_segment.specs.Segments.{tableAt}
+use Rattle.path_segment.specs.Segments.{hasTable, tableAt}
+use lib.ListN.{getD}
+use mathlib.Core.Bool.{true}
 use native.Mathlib.Omega.{arith}
-use mathlib.Core.Path.{sym, ap, _∙_}
+use mathlib.Core.Path.{_≡_, sym, ap, _∙_}
 use Prim.Native.Nat.{_*_}
 use borrow.Author.Needs.{needs}
 use Rattle.path_stored.proofs.inner.segment_table.Statement.{statement}
 use Rattle.path_stored.proofs.inner.segment_table.Tie as tie
 
+-- a curve's table, after those of the curves before it
+abbrev start : tie.After-tables-before → tie.Start
+start p = p .before .before .before .before .before .before
+
+abbrev curve : (p : tie.After-tables-before) → hasTable (getD (start p .args .kinds .now) (start p .args .i) 0) ≡ true
+curve p = sym (p .before .before .has-table .ensures) ∙ p .before .if1 .taken
+
 mul-table-at : tie.Need-mul-table-at
-mul-table-at c = omega (arith, tables-at-most (c .before .before .before .before .before .before .args .kinds .now) (c .before .before .before .before .before .before .args .i), c .tables-before .ensures, c .before .before .before .before .before .before .pre .0 .few, c .before .before .before .before .before .before .pre .1)
+mul-table-at c = let s = start c in omega (arith, tables-at-most (s .args .kinds .now) (s .args .i), c .tables-before .ensures, s .pre .0 .few, s .pre .1)
 
 table-at-requires : tie.Need-table-at-requires
-table-at-requires c κs = omega (arith, segment-table (c .before .before .before .before .before .before .pre .0) (c .before .before .before .before .before .before .args .i) (c .before .before .before .before .before .before .pre .1) (sym (c .before .before .has-table .ensures) ∙ c .before .if1 .taken), c .tables-before .ensures)
+table-at-requires c κs = let s = start c in omega (arith, segment-table (s .pre .0) (s .args .i) (s .pre .1) (curve c), c .tables-before .ensures)
 
 returns : tie.Need-returns
 unfolding tableIn
 returns c =
-    let a = c .before .before .before .before .before .before .before .args in
-    let has = sym (c .before .before .before .has-table .ensures) ∙ c .before .before .if1 .taken in
-    rw has (c .table-at .ensures ∙ ap (λ n. tableAt (a .tables .now) (33 * n)) (c .before .tables-before .ensures))
+    let a = start (c .before) .args in
+    rw (curve (c .before)) (c .table-at .ensures ∙ ap (λ n. tableAt (a .tables .now) (33 * n)) (c .before .tables-before .ensures))
 
 returns-2 : tie.Need-returns-2
 unfolding tableIn

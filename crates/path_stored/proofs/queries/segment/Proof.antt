@@ -10,18 +10,12 @@ use Rattle.path_stored.proofs.queries.segment.Tie as tie
 
 segment-requires : tie.Need-segment-requires
 segment-requires c κs =
-    let a = c .before .before .before .before .before .before .before .args in (
-      stored-numbered (a .kinds .now) (a .numbers .now) (a .tables .now) (a .lengths .now) (passed (sym (c .before .before .check-path .ensures) ∙ c .before .if1 .taken)),
-      c .if2 .taken,
-    )
+    (stored-numbered _ (passed (sym (c .before .before .check-path .ensures) ∙ c .before .if1 .taken)), c .if2 .taken)
 
 segment-table-requires : tie.Need-segment-table-requires
 segment-table-requires c κs =
     let inside = c .before .before in
-    let a = inside .before .before .before .before .before .before .before .args in (
-      stored-tabled (a .kinds .now) (a .numbers .now) (a .tables .now) (a .lengths .now) (passed (sym (inside .before .before .check-path .ensures) ∙ inside .before .if1 .taken)),
-      inside .if2 .taken,
-    )
+    (stored-tabled _ (passed (sym (inside .before .before .check-path .ensures) ∙ inside .before .if1 .taken)), inside .if2 .taken)
 
 returns : tie.Need-returns
 unfolding partOf

@@ -8,20 +8,31 @@ use Rattle.station_sections.proofs.LinesTo.{segment-few, station-none, 
 use Rattle.station_sections.proofs.inner.put_one.Statement.{statement}
 use Rattle.station_sections.proofs.inner.put_one.Tie as tie
 
+-- ---- the points
+abbrev some : (p : tie.Else1) → 0 < length (p .before .before .before .before .before .before .args .kinds .now)
+some p = omega (arith, p .if1 .left)
+
+abbrev tested : tie.After-flown → tie.Else1
+tested p = p .before .before .before
+
+-- ---- the answers
 returns : tie.Need-returns
-returns c = within-as 44 _ (c .before .before .put-station .ensures .put) (station-none _ _ _ _ _ _ (c .before .before .before .before .if1 .taken)) (c .before .before .put-station .ensures .within)
+returns c =
+    let put = c .before .before .put-station .ensures in
+    within-as 44 _ (put .put) (station-none _ _ _ (c .before .before .before .before .if1 .taken)) (put .within)
 
 put-station-requires-2 : tie.Need-put-station-requires-2
 put-station-requires-2 c κs =
-    let some : 0 < length (c .before .before .before .before .before .before .before .before .before .before .before .before .args .kinds .now) = omega (arith, c .before .before .before .before .before .before .if1 .left) in
-    (omega (arith, c .before .before .before .before .before .before .before .before .before .before .before .before .pre .0 .most, c .before .before .before .before .before .before .before .before .before .before .before .before .pre .1), segment-few _ _ _ _ _ (c .before .before .before .before .before .before .before .before .before .before .before .before .pre .0) some _ _ (c .before .before .before .before .spot .ensures), omega arith)
+    let flown = c .before .before .before in
+    let pre = tested flown .before .before .before .before .before .before .pre in
+    (omega (arith, pre .0 .most, pre .1), segment-few (pre .0) (some (tested flown)) _ _ (flown .before .spot .ensures), omega arith)
 
 returns-2 : tie.Need-returns-2
 returns-2 c =
-    let some : 0 < length (c .before .before .before .before .before .before .before .before .before .before .before .before .before .before .before .args .kinds .now) = omega (arith, c .before .before .before .before .before .before .before .before .before .if1 .left) in
-    within-as 44 _ (c .before .before .put-station2 .ensures .put)
-    (station-some _ _ _ _ _ _ _ _ _ some (c .before .before .before .before .before .before .before .before .progress .ensures) (c .before .before .before .before .before .before .before .spot .ensures) (c .before .before .before .before .before .before .flown .ensures))
-    (c .before .before .put-station2 .ensures .within)
+    let put = c .before .before .put-station2 .ensures in
+    let flown = c .before .before .before .before .before .before in
+    let spot = flown .before in
+    within-as 44 _ (put .put) (station-some _ _ _ _ _ _ (some (tested flown)) (spot .before .progress .ensures) (spot .spot .ensures) (flown .flown .ensures)) (put .within)
 
 pub put-one-spec : {M : Type 1} → statement M
 put-one-spec =

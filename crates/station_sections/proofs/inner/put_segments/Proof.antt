@@ -30,7 +30,10 @@ same-length c = to-length _ _ _ _ _ _ _ (c .before .loop .inv .1)
 
 returns : tie.Need-returns Inv-loop μ-loop
 unfolding segmentLines
-returns c = to-all _ _ _ _ _ _ _ _ (c .before .loop .inv .1) (length (c .before .before .before .before .before .args .kinds .now)) (omega (arith, c .before .loop .inv .0, c .loop-test .left)) (omega (arith, c .before .before .before .before .before .pre))
+returns c =
+    let inv = c .before .loop .inv in
+    let start = c .before .before .before .before .before in
+    to-all _ _ _ _ _ _ _ _ (inv .1) (length (start .args .kinds .now)) (omega (arith, inv .0, c .loop-test .left)) (omega (arith, start .pre))
 
 pub put-segments-spec : {M : Type 1} → statement M
 put-segments-spec =

@@ -2,13 +2,14 @@
 use borrow.Author.Needs.{needs}
 use Prim.Native.Nat.{_-_, _≤_}
 use native.Mathlib.Omega.{arith}
+use Rattle.path_stored.specs.Buffers.{buffers}
 use Rattle.station_sections.specs.Sections.{stationOf, stationLines}
 use Rattle.station_sections.proofs.LinesTo.{PutTo, to-none, to-length, to-more, to-all}
 use Rattle.station_sections.proofs.inner.put_stations.Statement.{statement}
 use Rattle.station_sections.proofs.inner.put_stations.Tie as tie
 
 abbrev Inv-loop : tie.InvT-loop
-Inv-loop out₀ from count kinds fields tables lengths at₀ number₀ out at number = (number ≤ count) × PutTo (λ k. stationOf kinds fields tables lengths count k) 44 number from out₀ out at
+Inv-loop out₀ from count kinds fields tables lengths at₀ number₀ out at number = (number ≤ count) × PutTo (λ k. stationOf (buffers kinds fields tables lengths) count k) 44 number from out₀ out at
 
 abbrev μ-loop : tie.MeasureT-loop
 μ-loop out₀ from count kinds fields tables lengths at₀ number₀ out at number = count - number
@@ -18,7 +19,9 @@ loop-holds c = (omega arith, to-none _ _ _ _)
 
 put-one-requires : tie.Need-put-one-requires Inv-loop μ-loop
 put-one-requires c κs =
-    (c .before .before .before .before .before .before .before .before .pre .0, c .before .loop-test .taken, omega (arith, c .before .before .loop .inv .1 .within, c .before .before .before .before .before .before .before .before .pre .0 .most, c .before .before .before .before .before .before .before .before .pre .1))
+    let l = c .before .before in
+    let pre = l .before .before .before .before .before .before .pre in
+    (pre .0, c .before .loop-test .taken, omega (arith, l .loop .inv .1 .within, pre .0 .most, pre .1))
 
 loop-again : tie.Need-loop-again Inv-loop μ-loop
 loop-again c = (omega arith, to-more _ _ _ _ _ _ _ (c .before .before .before .before .before .loop .inv .1) _ _ (c .before .before .put-one .ensures))
@@ -28,7 +31,10 @@ same-length c = to-length _ _ _ _ _ _ _ (c .before .loop .inv .1)
 
 returns : tie.Need-returns Inv-loop μ-loop
 unfolding stationLines
-returns c = to-all _ _ _ _ _ _ _ _ (c .before .loop .inv .1) (c .before .before .before .before .before .before .before .args .count) (omega (arith, c .before .loop .inv .0, c .loop-test .left)) (omega (arith, c .before .before .before .before .before .before .before .pre .0 .most, c .before .loop .inv .0))
+returns c =
+    let inv = c .before .loop .inv in
+    let start = c .before .before .before .before .before .before .before in
+    to-all _ _ _ _ _ _ _ _ (inv .1) (start .args .count) (omega (arith, inv .0, c .loop-test .left)) (omega (arith, start .pre .0 .most, inv .0))
 
 pub put-stations-spec : {M : Type 1} → statement M
 put-stations-spec =
