@@ -6,8 +6,8 @@
  * Memory: every buffer is the caller's, before, during and after a call. A call reads what is lent as const, writes to what is
  *         not, and keeps no pointer. Calls at the same time may share what they read, and no output and no answer.
  * Limits: 65,536 bytes of text, 65,536 commands, 65,536 segments of a path, 4,096 points of a list; 4,096 bytes, 256 commands
- *         and 2 to 1,000 stations of a plan; angles of 64 radians for sine and cosine, rotations of 3,600 degrees.
- *         What lies beyond is refused, or a NaN where that is said.
+ *         and 2 to 1,000 stations of a plan; angles of 64 radians for sine and cosine. What lies beyond is refused,
+ *         or a NaN where that is said. The rotation of an arc is any finite number of degrees.
  * Stack:  at most 64 KiB, which is kihavute_stations; of the others that take a text kihavute_read some 20 KB, and the rest at most
  *         2 KiB. docs/RUNS.md has the table, and tests/c/stack.c holds each entry to its limit.
  * Units:  coordinates and lengths are in the unit of the path, times t are pure numbers, angles say theirs.
@@ -228,9 +228,10 @@ uint32_t kihavute_line_length(float sx, float sy, float ex, float ey, uint64_t *
 /* ---- Elliptical arcs ----
  * Each call makes the arc from (sx, sy) to (ex, ey) as a path's text gives it: the radii rx and ry, whose signs do not
  * count, the rotation of the ellipse in degrees, and two flags, of which 0 is no and any other number yes. Where the ends
- * are within 2^-23, or a radius is that small, the arc falls back to the line. Refused with 10, and answer[0] is 0, where
- * it does not and the rotation is a NaN or beyond 3600 in size; then with 11, and answer[0] is 0, where its length is
- * infinite or a NaN. An arc may miss its ends: docs/DIFFERENCES.md has by how much. */
+ * are within 2^-23, or a radius is that small, the arc falls back to the line. A rotation beyond 360 in size turns the
+ * ellipse by what is left of full turns, exactly: 765 as 45 does, -765 as -45. Refused with 10, and answer[0] is 0, where
+ * the arc does not fall back and the rotation is infinite or a NaN; then with 11, and answer[0] is 0, where its length is.
+ * An arc may miss its ends: docs/DIFFERENCES.md has by how much. */
 
 /* The place at this progress: answer[0] gets the bits of x, answer[1] those of y. */
 uint32_t kihavute_arc_position(float sx, float sy, float rx, float ry, float rotation, uint32_t large, uint32_t sweep,
@@ -417,9 +418,9 @@ uint32_t kihavute_check(const uint8_t *kinds, size_t kinds_len, const float *fie
 
 /* Builds the path of a command list: letters (M L Q C A Z) and their 2, 2, 4, 6, 7 or 0 numbers. answer[0] to answer[3] get how
  * many places of kinds, fields, tables and lengths are written from their starts; the others stay. Refused, with nothing written,
- * in this order: 13 above 65,536 commands (their count); 9 at the first bad command; 10 at a segment that is an arc beyond 3600
- * degrees in size and 11 at one where the running length becomes infinite or a NaN, segment by segment; 8 with the four counts
- * needed. */
+ * in this order: 13 above 65,536 commands (their count); 9 at the first bad command; 10 at a segment that is an arc whose rotation
+ * is infinite or a NaN and 11 at one where the running length becomes so, segment by segment; 8 with the four counts needed. An
+ * arc's rotation is stored as it is given, full turns too. */
 uint32_t kihavute_build(const uint8_t *letters, size_t letters_len, const float *numbers, size_t numbers_len,
                         uint8_t *kinds, size_t kinds_len, float *fields, size_t fields_len,
                         float *tables, size_t tables_len, float *lengths, size_t lengths_len,
@@ -437,8 +438,7 @@ uint32_t kihavute_build_text(const uint8_t *text, size_t text_len, uint8_t *kind
  * segment is stored after them, its table made from its numbers, and the running length added to. answer[0] to answer[3] get how
  * many places of kinds, fields, tables and lengths are in use then. Refused, with nothing written, in this order: 12 where the
  * first count segments are no stored path, 13 with count 65,536 (65,537, the segments that there would be), 10 with count for an
- * arc beyond 3600 degrees in size, 11 with count where the running length becomes infinite or a NaN, 8 with the four counts
- * needed. Start from count 0; each call checks the whole path that is there, so that a path of n segments costs n checks: for a
+ * arc whose rotation is infinite or a NaN, 11 with count where the running length becomes so, 8 with the four counts needed. Start from count 0; each call checks the whole path that is there, so that a path of n segments costs n checks: for a
  * whole plan take kihavute_build. The start is given each time: it need not be where the path ended. */
 
 /* Appends the line from (sx, sy) to (ex, ey). */

@@ -6,6 +6,7 @@ use crate::math::alike;
 use crate::samples::{SPECIALS, Stream};
 use crate::simple::{effort, simpler_floats};
 use crate::table;
+use crate::turns;
 use animato_path::bezier::PathEvaluate;
 use animato_path::poly::{EllipticalArc, LineSegment};
 use kihavute::Chord;
@@ -102,13 +103,13 @@ impl Arc {
         }
     }
 
-    /// The Rust's arc.
+    /// The Rust's arc, of what is left of the rotation.
     pub fn made(&self) -> EllipticalArc {
         let chord = self.chord();
         EllipticalArc::from_svg(
             chord.start,
             chord.radii,
-            chord.x_axis_rotation,
+            turns::rest(chord.x_axis_rotation),
             chord.large_arc,
             chord.sweep,
             chord.end,
@@ -134,13 +135,14 @@ impl Arc {
         })
     }
 
-    /// The Rust's answer where the rotation is in range and the length finite; elsewhere the Rust goes on, and document 01
-    /// refuses segment 0, the rotation first, unless the arc falls back to a line.
+    /// The Rust's answer where rotation and length are finite, with the rotation as it was given; elsewhere the Rust goes on, and
+    /// document 01 refuses segment 0, the rotation first, unless the arc falls back to a line.
     pub fn theirs(&self) -> Answer {
         let arc = self.made();
         let fell_back = arc.open_is_fallback();
-        let [rotation, from, by] = arc.open_angles();
-        if !fell_back && !(rotation.abs() <= 3600.0) {
+        let [_, from, by] = arc.open_angles();
+        let rotation = self.chord().x_axis_rotation;
+        if !fell_back && !rotation.is_finite() {
             return Refused(10, 0);
         }
         if !arc.arc_length().is_finite() {
@@ -201,11 +203,8 @@ fn degrees(stream: &mut Stream) -> f32 {
 // rotations at which the rule changes, and any
 fn any_degrees(stream: &mut Stream) -> f32 {
     match stream.below(8) {
-        0 => {
-            f32::from_bits([0x4561_0000, 0x4561_0001, 0x4560_FFFF, 0xC561_0000, 0xC561_0001][stream.below(5) as usize])
-        }
-        1 => f32::from_bits(SPECIALS[stream.below(SPECIALS.len() as u32) as usize]),
-        2..5 => sized(stream, 90, 50),
+        0..5 => turns::any(stream),
+        5 => sized(stream, 90, 50),
         _ => degrees(stream),
     }
 }
@@ -264,14 +263,20 @@ pub fn numbers(kind: Kind, stream: &mut Stream) -> [f32; 7] {
 /// The ends, the radius, the rotation's pattern, the flags, and the pattern of the length or the refusal's number.
 pub type Vector = ([f32; 4], f32, u32, [bool; 2], Result<u32, u32>);
 
-pub const VECTORS: [Vector; 7] = [
+pub const VECTORS: [Vector; 13] = [
     ([0.0, 0.0, 3.0, 4.0], 5e9, 0, [false, true], Err(11)),
     ([0.0, 0.0, 3.0, 4.0], 1e9, 0, [false, true], Ok(0)),
     ([0.0, 0.0, 3.0, 4.0], 1e20, 0, [false, false], Ok(0x61CC_2BAB)),
     ([0.0, 0.0, 0.01, 0.01], 0.02, 0, [false, true], Ok(0x3D80_9FE4)),
-    ([0.0, 0.0, 3.0, 4.0], 5.0, 0x4561_0000, [false, true], Ok(0x40A7_8B2D)),
-    ([0.0, 0.0, 3.0, 4.0], 5.0, 0x4561_0001, [false, true], Err(10)),
-    ([0.0, 0.0, 3.0, 4.0], 0.0, 0x4561_0001, [false, true], Ok(0x40A0_0000)),
+    ([0.0, 0.0, 3.0, 4.0], 5.0, 0x4561_0000, [false, true], Ok(0x40A7_8B2C)),
+    ([0.0, 0.0, 3.0, 4.0], 5.0, 0x4561_0001, [false, true], Ok(0x40A7_8B2D)),
+    ([0.0, 0.0, 3.0, 4.0], 5.0, 0x443F_4000, [false, true], Ok(0x40A7_8B2A)),
+    ([0.0, 0.0, 3.0, 4.0], 5.0, 0xC43F_4000, [false, true], Ok(0x40A7_8B2C)),
+    ([0.0, 0.0, 3.0, 4.0], 5.0, 0x7F7F_FFFF, [false, true], Ok(0x40A7_8B2C)),
+    ([0.0, 0.0, 3.0, 4.0], 5.0, 0x7F80_0000, [false, true], Err(10)),
+    ([0.0, 0.0, 3.0, 4.0], 5.0, 0x7FC0_0000, [false, true], Err(10)),
+    ([0.0, 0.0, 3.0, f32::INFINITY], 5.0, 0x457A_0000, [false, true], Err(11)),
+    ([0.0, 0.0, 3.0, 4.0], 0.0, 0xFF80_0000, [false, true], Ok(0x40A0_0000)),
 ];
 
 /// The arc of a vector, at its start.

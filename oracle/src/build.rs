@@ -5,7 +5,8 @@ use crate::math::alike;
 use crate::read;
 use crate::samples::{SPECIALS, Stream};
 use crate::smooth;
-use animato_path::poly::{CompoundPath, PathCommand, PathSegment};
+use crate::turns;
+use animato_path::poly::{PathCommand, PathSegment};
 use std::fmt;
 
 /// What a path is built of.
@@ -78,8 +79,14 @@ pub fn stored(commands: &[PathCommand]) -> (Vec<u8>, Vec<f32>) {
     (letters, numbers)
 }
 
-/// The Rust's segment in its stored form.
-pub fn lay(segment: &PathSegment, kinds: &mut Vec<u8>, fields: &mut Vec<u32>, tables: &mut Vec<u32>) {
+/// The Rust's segment in its stored form, an arc with the rotation that was given for it.
+pub fn lay(
+    segment: &PathSegment,
+    given: Option<f32>,
+    kinds: &mut Vec<u8>,
+    fields: &mut Vec<u32>,
+    tables: &mut Vec<u32>,
+) {
     let mut points = |points: &[[f32; 2]]| fields.extend(points.as_flattened().iter().map(|x| alike(*x)));
     let (kind, table) = match segment {
         PathSegment::Line(line) => {
@@ -96,7 +103,8 @@ pub fn lay(segment: &PathSegment, kinds: &mut Vec<u8>, fields: &mut Vec<u32>, ta
         }
         PathSegment::Arc(arc) => {
             points(&[arc.start(), arc.end(), arc.center(), arc.radii()]);
-            fields.extend(arc.open_angles().map(alike));
+            let [rotation, from, by] = arc.open_angles();
+            fields.extend([given.unwrap_or(rotation), from, by].map(alike));
             if arc.open_is_fallback() { (4, None) } else { (3, Some(arc.open_table())) }
         }
     };
@@ -108,20 +116,23 @@ pub fn lay(segment: &PathSegment, kinds: &mut Vec<u8>, fields: &mut Vec<u32>, ta
 
 // the Rust's path; where document 01 refuses, the first segment decides, and a rotation before a length
 fn theirs(commands: &[PathCommand]) -> Answer {
-    let path = CompoundPath::from_commands(commands);
+    let path = turns::path(commands);
+    let mut rotations = turns::given(commands);
     let (mut kinds, mut fields, mut tables) = (Vec::new(), Vec::new(), Vec::new());
     let (lengths, _) = path.open_lengths();
     for (number, (segment, length)) in path.segments().iter().zip(lengths).enumerate() {
+        let mut given = None;
         if let PathSegment::Arc(arc) = segment {
-            let [rotation, _, _] = arc.open_angles();
-            if !arc.open_is_fallback() && !(rotation.abs() <= 3600.0) {
+            let rotation = rotations.next().expect("each arc was given");
+            if !arc.open_is_fallback() && !rotation.is_finite() {
                 return Refused(10, [number as u64, 0, 0, 0]);
             }
+            given = Some(rotation);
         }
         if !length.is_finite() {
             return Refused(11, [number as u64, 0, 0, 0]);
         }
-        lay(segment, &mut kinds, &mut fields, &mut tables);
+        lay(segment, given, &mut kinds, &mut fields, &mut tables);
     }
     Path { kinds, fields, tables, lengths: lengths.iter().map(|x| alike(*x)).collect() }
 }
@@ -270,8 +281,7 @@ pub fn command(stream: &mut Stream, kind: u32) -> PathCommand {
         7..11 => PathCommand::ArcTo {
             radii: point(stream),
             x_axis_rotation: match stream.below(6) {
-                0 => 3600.0,
-                1 => f32::from_bits(0x4561_0001),
+                0 | 1 => turns::any(stream),
                 2 => number(stream, kind),
                 _ => stream.below(721) as f32 - 360.0,
             },
@@ -366,7 +376,7 @@ impl Due {
                 if counts.iter().zip(room).any(|(count, room)| *count > room) {
                     return refused(8, values);
                 }
-                let total = alike(CompoundPath::from_commands(&commands).open_lengths().1);
+                let total = alike(turns::path(&commands).open_lengths().1);
                 Due { number: 0, values, total, kinds, numbers: [fields, tables, lengths] }
             }
             Refused(number, [segment, ..]) => refused(number, vec![segment]),
@@ -399,17 +409,20 @@ pub fn compare_drawings(report: &mut Report) {
 
 // document 01's cases, and the order of refusals; what is expected is written here
 fn compare_known(report: &mut Report) {
-    let cases: [(&str, Result<usize, (u32, u64)>); 15] = [
+    let cases: [(&str, Result<usize, (u32, u64)>); 18] = [
         ("", Ok(0)),
         ("M0 0L1e19 0", Ok(1)),
         ("M0 0L2e19 0", Ok(1)),
         ("M-3e38 0L3e38 0", Err((11, 0))),
         ("M0 0L3 4L3e38 3e38", Err((11, 1))),
         ("M0 0A1 1 3600 0 0 1 1", Ok(1)),
-        ("M0 0A1 1 3600.0002441406250 0 0 1 1", Err((10, 0))),
-        ("M0 0A1 1 4000 0 0 1e39 4", Err((10, 0))),
-        ("M0 0A0 1 4000 0 0 3 4", Ok(1)),
-        ("M0 0L3e38 3e38A1 1 4000 0 0 3 4", Err((11, 0))),
+        ("M0 0A1 1 3600.0002441406250 0 0 1 1", Ok(1)),
+        ("M0 0A1 1 -3e38 0 0 1 1", Ok(1)),
+        ("M0 0A1 1 1e39 0 0 1 1", Err((10, 0))),
+        ("M0 0A1 1 4000 0 0 1e39 4", Err((11, 0))),
+        ("M0 0A1 1 1e39 0 0 1e39 4", Err((10, 0))),
+        ("M0 0A0 1 1e39 0 0 3 4", Ok(1)),
+        ("M0 0L3e38 3e38A1 1 1e39 0 0 3 4", Err((11, 0))),
         ("ZL1 2", Ok(0)),
         ("ZL1 2L3 4Z", Ok(2)),
         ("M1 2Z", Ok(1)),

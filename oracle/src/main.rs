@@ -25,6 +25,7 @@ mod stored;
 mod strict;
 mod table;
 mod trig;
+mod turns;
 mod words;
 
 use compare::Report;

@@ -5,8 +5,9 @@ use crate::build;
 use crate::compare::{Input, Report};
 use crate::math::alike;
 use crate::samples::{Stream, worked_out};
+use crate::turns;
 use animato_path::bezier::PathEvaluate;
-use animato_path::poly::{CompoundPath, PathCommand};
+use animato_path::poly::PathCommand;
 use kihavute::{Path, Progress};
 use std::fmt;
 
@@ -37,7 +38,7 @@ impl Asked {
         if let Some((number, _)) = build::refused(&self.commands) {
             return Refused(number);
         }
-        let path = CompoundPath::from_commands(&self.commands);
+        let path = turns::path(&self.commands);
         let at = |t: f32| {
             let found = path.open_place_at(t);
             let raw = found.map_or(0.0, |(_, raw)| raw);
@@ -128,7 +129,7 @@ impl Input for Asked {
 
 // 100 of them: the ends, what is out of range, those whose targets meet running lengths or their neighbours, and others
 fn progresses(stream: &mut Stream, commands: &[PathCommand]) -> Vec<f32> {
-    let path = CompoundPath::from_commands(commands);
+    let path = turns::path(commands);
     let (lengths, total) = path.open_lengths();
     let mut all = vec![0.0, 1.0, -0.0, f32::NAN, -1.0, 2.0, f32::INFINITY, f32::NEG_INFINITY, f32::MIN_POSITIVE];
     for length in lengths {

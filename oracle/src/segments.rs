@@ -4,6 +4,7 @@ use crate::build;
 use crate::compare::{Input, Report};
 use crate::math::alike;
 use crate::samples::Stream;
+use crate::turns;
 use animato_path::bezier::PathEvaluate;
 use animato_path::poly::{CompoundPath, PathCommand, PathSegment};
 use kihavute::{Chord, Growing, Path, Progress, Refusal, Stored};
@@ -49,13 +50,22 @@ const FLOAT: u32 = 0xC0DE_F00D;
 const MOST: [usize; 4] = [1, 11, 33, 1];
 
 impl One {
+    // the rotation that is given for an arc
+    fn given(&self) -> Option<f32> {
+        match self {
+            One::Arc(c) => Some(c.x_axis_rotation),
+            One::Whole(one) => one.given(),
+            _ => None,
+        }
+    }
+
     // the Rust's own call
     fn onto(&self, path: CompoundPath) -> CompoundPath {
         match self {
             One::Line([start, end]) => path.line_to(*start, *end),
             One::Quad([start, control, end]) => path.quad_to(*start, *control, *end),
             One::Cubic([start, control1, control2, end]) => path.cubic_to(*start, *control1, *control2, *end),
-            One::Arc(c) => path.arc_to(c.start, c.radii, c.x_axis_rotation, c.large_arc, c.sweep, c.end),
+            One::Arc(c) => path.arc_to(c.start, c.radii, turns::rest(c.x_axis_rotation), c.large_arc, c.sweep, c.end),
             One::Whole(one) => path.push_segment(one.segment()),
         }
     }
@@ -72,7 +82,7 @@ impl One {
             One::Arc(chord) => room.arc_to(chord),
             One::Whole(one) => {
                 let (mut kinds, mut fields, mut tables) = (vec![], vec![], vec![]);
-                build::lay(&one.segment(), &mut kinds, &mut fields, &mut tables);
+                build::lay(&one.segment(), one.given(), &mut kinds, &mut fields, &mut tables);
                 let numbers: Vec<f32> = fields.into_iter().map(f32::from_bits).collect();
                 room.push_segment(kinds[0], &numbers)
             }
@@ -81,17 +91,20 @@ impl One {
 }
 
 // what document 01 has for a segment that is the Rust path's last: 10 before 11
-fn refused(path: &CompoundPath) -> Option<u32> {
+fn refused(path: &CompoundPath, given: Option<f32>) -> Option<u32> {
     let (lengths, _) = path.open_lengths();
     match path.segments().last() {
-        Some(PathSegment::Arc(arc)) if !arc.open_is_fallback() && !(arc.open_angles()[0].abs() <= 3600.0) => Some(10),
+        Some(PathSegment::Arc(arc)) if !arc.open_is_fallback() && !given.is_some_and(f32::is_finite) => Some(10),
         _ => lengths.last().filter(|length| !length.is_finite()).map(|_| 11),
     }
 }
 
-fn laid(path: &CompoundPath) -> [Vec<u32>; 4] {
+// a path's buffers, with the rotation that was given for each segment
+fn laid(path: &CompoundPath, given: &[Option<f32>]) -> [Vec<u32>; 4] {
     let (mut kinds, mut fields, mut tables) = (vec![], vec![], vec![]);
-    path.segments().iter().for_each(|segment| build::lay(segment, &mut kinds, &mut fields, &mut tables));
+    for (segment, given) in path.segments().iter().zip(given) {
+        build::lay(segment, *given, &mut kinds, &mut fields, &mut tables);
+    }
     let lengths = path.open_lengths().0.iter().map(|x| alike(*x)).collect();
     [kinds.into_iter().map(u32::from).collect(), fields, tables, lengths]
 }
@@ -99,15 +112,17 @@ fn laid(path: &CompoundPath) -> [Vec<u32>; 4] {
 impl Asked {
     fn theirs(&self) -> Answer {
         let mut path = CompoundPath::new();
-        let mut steps = vec![];
+        let (mut steps, mut given) = (vec![], vec![]);
         for (k, one) in self.segments.iter().enumerate() {
             let grown = one.onto(path.clone());
             let count = path.len() as u64;
-            if let Some(number) = refused(&grown) {
+            given.truncate(path.len());
+            given.push(one.given());
+            if let Some(number) = refused(&grown, one.given()) {
                 steps.push(Err((number, [count, 0, 0, 0])));
                 continue;
             }
-            let [before, needs] = [laid(&path), laid(&grown)].map(|buffers| buffers.map(|buffer| buffer.len() as u64));
+            let [before, needs] = [laid(&path, &given), laid(&grown, &given)].map(|buffers| buffers.map(|buffer| buffer.len() as u64));
             let last = k + 1 == self.segments.len();
             match self.short {
                 // a buffer that ends where the path in use ends, and has no place for what the segment adds
@@ -126,7 +141,7 @@ impl Asked {
                 })
             })
             .collect();
-        Grown { steps, path: laid(&path), asked }
+        Grown { steps, path: laid(&path, &given), asked }
     }
 
     fn ours(&self) -> Answer {

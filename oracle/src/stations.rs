@@ -8,8 +8,9 @@ use crate::read::{self, Paths, Said};
 use crate::samples::Stream;
 use crate::smooth;
 use crate::strict::Text;
+use crate::turns;
 use animato_path::bezier::PathEvaluate;
-use animato_path::poly::{CompoundPath, PathCommand, PathSegment};
+use animato_path::poly::{PathCommand, PathSegment};
 use std::fmt;
 use std::io::Write;
 use std::process::{Command, Stdio};
@@ -85,7 +86,7 @@ fn kind(segment: &PathSegment) -> &'static str {
 
 // "Output, each section after its count"
 fn sections(count: usize, commands: &[PathCommand]) -> String {
-    let path = CompoundPath::from_commands(commands);
+    let path = turns::path(commands);
     let mut out = format!("commands {}\n", commands.len());
     for command in commands {
         let (letters, numbers) = build::stored(std::slice::from_ref(command));

@@ -1227,8 +1227,12 @@ mod tests {
         assert_eq!(arc_position(&line, Progress(0.5)), Ok(bits([1.0, 0.0])));
         assert_eq!(arc_rotation_deg(&line, Progress(0.5)), Ok(0));
         assert_eq!(arc_length(&line), Ok(2.0f32.to_bits()));
-        assert!(arc_length(&Chord { x_axis_rotation: 3600.0, ..half }).is_ok());
-        assert_eq!(arc_length(&Chord { x_axis_rotation: f32::from_bits(0x4561_0001), ..half }), Err(refused(10)));
+        let turned = |x_axis_rotation| Chord { radii: [2.0, 1.0], x_axis_rotation, ..half };
+        assert_eq!(arc_table(&turned(765.0)), arc_table(&turned(45.0)));
+        assert_eq!(arc_tangent(&turned(-765.0), Progress(0.5)), arc_tangent(&turned(-45.0), Progress(0.5)));
+        assert_eq!(arc_shape(&turned(765.0)).map(|(shape, _)| shape[8]), Ok(765.0f32.to_bits()));
+        assert!(arc_length(&Chord { x_axis_rotation: f32::MAX, ..half }).is_ok());
+        assert_eq!(arc_length(&Chord { x_axis_rotation: f32::INFINITY, ..half }), Err(refused(10)));
         assert_eq!(arc_table(&Chord { x_axis_rotation: f32::NAN, ..half }), Err(refused(10)));
         assert_eq!(arc_length(&Chord { radii: [5e9, 5e9], end: [3.0, 4.0], ..half }), Err(refused(11)));
     }

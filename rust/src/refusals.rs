@@ -151,10 +151,7 @@ impl fmt::Display for Reason {
                 write!(f, "the list is malformed at {command}; look at the letter, the numbers and the flags there")
             }
             Reason::RotationRange { segment } => {
-                write!(
-                    f,
-                    "the arc of segment {segment} has a rotation beyond 3600 degrees or none; bring it into range"
-                )
+                write!(f, "the arc of segment {segment} is turned by no finite number of degrees; give it one")
             }
             Reason::NotFinite { place } => {
                 write!(f, "the length is no longer finite at {place}; use smaller coordinates")

@@ -540,13 +540,22 @@ static void arcs(void) {
     fresh();
     answered("an arc that misses its start", kihavute_arc_position(0, 0, 0.02f, 0.02f, 0, 0, 1, 0.01f, 0.01f, 0, answer, PLACES), 0, 2, (uint64_t[]){0xBC15C8E5, 0xBC15C8E5});
 
-    /* the rotation: 3600 builds, the next float above is 10, unless the arc falls back */
+    /* the rotation: full turns are taken off, and it stays as it was given; infinity and NaN are 10, unless the arc falls back */
     fresh();
     answered("a rotation of 3600", kihavute_arc_length(0, 0, 5, 5, 3600, 0, 1, 3, 4, answer, PLACES), 0, 1, (uint64_t[]){0x40A78B2D});
     fresh();
-    answered("a rotation above 3600", kihavute_arc_length(0, 0, 5, 5, past, 0, 1, 3, 4, answer, PLACES), 10, 1, (uint64_t[]){0});
+    answered("the next above", kihavute_arc_length(0, 0, 5, 5, past, 0, 1, 3, 4, answer, PLACES), 0, 1, (uint64_t[]){0x40A78B2D});
     fresh();
-    answered("a rotation below -3600", kihavute_arc_tangent(0, 0, 5, 5, -past, 0, 1, 3, 4, 0.5f, answer, PLACES), 10, 1, (uint64_t[]){0});
+    kihavute_arc_tangent(0, 0, 5, 3, -45, 0, 1, 3, 4, 0.5f, answer, PLACES);
+    uint64_t turned[2] = {answer[0], answer[1]};
+    fresh();
+    answered("a rotation of -765", kihavute_arc_tangent(0, 0, 5, 3, -765, 0, 1, 3, 4, 0.5f, answer, PLACES), 0, 2, turned);
+    fresh();
+    answered("an infinite rotation", kihavute_arc_length(0, 0, 5, 5, kihavute_float(INFINITE), 0, 1, 3, 4, answer, PLACES), 10, 1, (uint64_t[]){0});
+    fresh();
+    answered("a rotation of -infinity", kihavute_arc_tangent(0, 0, 5, 5, -kihavute_float(INFINITE), 0, 1, 3, 4, 0.5f, answer, PLACES), 10, 1, (uint64_t[]){0});
+    lent();
+    answered("4000 degrees, an infinite end", kihavute_arc_table(0, 0, 5, 5, 4000, 0, 1, kihavute_float(INFINITE), 4, out, 33, answer, PLACES), 11, 1, (uint64_t[]){0});
     lent();
     answered("10 before 11 and 8", kihavute_arc_table(0, 0, 5, 5, nan, 0, 1, kihavute_float(INFINITE), 4, out, 0, answer, PLACES), 10, 1, (uint64_t[]){0});
     answered("an arc's numbers without room", (fresh(), kihavute_arc_shape(0, 0, 1, 1, 0, 0, 1, 2, 0, out, 10, answer, PLACES)), 8, 1, (uint64_t[]){11});
@@ -1059,7 +1068,9 @@ static void paths(void) {
     answered("a difference beyond the largest", built("M-3e38 0L3e38 0", 4, 24, 70, 4), 11, 1, (uint64_t[]){0});
     answered("a length beyond the largest", built("M0 0L3e38 3e38", 4, 24, 70, 4), 11, 1, (uint64_t[]){0});
     answered("3600 degrees", built("M0 0A1 1 3600 0 0 1 1", 4, 24, 70, 4), 0, 4, (uint64_t[]){1, 11, 33, 1});
-    answered("the next above", built("M0 0A1 1 3600.0003 0 0 1 1", 4, 24, 70, 4), 10, 1, (uint64_t[]){0});
+    answered("the next above", built("M0 0A1 1 3600.0003 0 0 1 1", 4, 24, 70, 4), 0, 4, (uint64_t[]){1, 11, 33, 1});
+    same("its rotation as given", bits(fields[8]), 0x45610001);
+    answered("an infinite rotation", built("M0 0A1 1 1e39 0 0 1 1", 4, 24, 70, 4), 10, 1, (uint64_t[]){0});
     answered("a reading refusal after one of building", built("M0 0L3e38 3e38X", 4, 24, 70, 4), 6, 2, (uint64_t[]){'X', 14});
 }
 
@@ -1116,7 +1127,7 @@ static void appending(void) {
     fresh();
     answered("a line of no end", kihavute_line_to(BUFFERS, 3, 0, 0, 3e38f, 3e38f, answer, PLACES), 11, 1, (uint64_t[]){3});
     fresh();
-    answered("an arc turned too far", kihavute_arc_to(BUFFERS, 3, 0, 0, 1, 1, 3601, 0, 0, 1, 1, answer, PLACES), 10, 1, (uint64_t[]){3});
+    answered("an arc turned without end", kihavute_arc_to(BUFFERS, 3, 0, 0, 1, 1, kihavute_float(INFINITE), 0, 0, 1, 1, answer, PLACES), 10, 1, (uint64_t[]){3});
     fresh();
     answered("a count above the path", kihavute_line_to(BUFFERS, 4, 0, 0, 3, 4, answer, PLACES), 12, 0, NULL);
     fresh();

@@ -11,7 +11,8 @@ use crate::compare::Report;
 use crate::query::{Answer, Asked};
 use crate::samples::Stream;
 use crate::smooth;
-use animato_path::poly::{CompoundPath, PathCommand};
+use crate::turns;
+use animato_path::poly::PathCommand;
 
 // the longest text that a block holds, and the places of the program's buffers: 8 segments of any kind
 const LONGEST: usize = 90;
@@ -88,7 +89,7 @@ fn lines(asked: &Asked) -> String {
 
 // the ends, one beyond them, one whose target meets a running length, where there is such a one, its neighbour above, and any
 fn progresses(stream: &mut Stream, commands: &[PathCommand], beyond: f32) -> Vec<f32> {
-    let path = CompoundPath::from_commands(commands);
+    let path = turns::path(commands);
     let (lengths, total) = path.open_lengths();
     let near =
         |length: f32| (-4..=4).map(move |more| f32::from_bits((length / total).to_bits().wrapping_add_signed(more)));
