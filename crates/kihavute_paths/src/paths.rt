@@ -1,4 +1,5 @@
 // Stored paths built from a command list or from a text.
+ghost use Rattle.path_stored.specs.Buffers.{after, before};
 ghost use Rattle.path_build.specs.Answers.{answerOf};
 ghost use Rattle.path_build.specs.Paths.{lentOf, buildPathOf};
 ghost use Rattle.path_text.specs.Builds.{buildTextOf};
@@ -33,7 +34,8 @@ pub extern "C" fn kihavute_build(
     lengths: &mut [f32],
     answer: &mut [u64],
 ) -> u32
-    ensures { λ r. ⌜ PathBuilt (buildPathOf (now (letters .entry)) (now (numbers .entry)) (lentOf (now (kinds .entry)) (now (fields .entry)) (now (tables .entry)) (now (lengths .entry)))) (now (kinds .entry)) (now (fields .entry)) (now (tables .entry)) (now (lengths .entry)) (now (answer .entry)) r (now (kinds .exit)) (now (fields .exit)) (now (tables .exit)) (now (lengths .exit)) (now (answer .exit)) ⌝ }
+    ensures { λ r. ⌜ PathBuilt (buildPathOf (now (letters .entry)) (now (numbers .entry)) (lentOf (before kinds fields tables lengths)))
+        (before kinds fields tables lengths) (now (answer .entry)) r (after kinds fields tables lengths) (now (answer .exit)) ⌝ }
 {
     if answer.len() < 8 {
         return 255;
@@ -52,7 +54,8 @@ pub extern "C" fn kihavute_build_text(
     lengths: &mut [f32],
     answer: &mut [u64],
 ) -> u32
-    ensures { λ r. ⌜ PathBuilt (buildTextOf (now (text .entry)) (lentOf (now (kinds .entry)) (now (fields .entry)) (now (tables .entry)) (now (lengths .entry)))) (now (kinds .entry)) (now (fields .entry)) (now (tables .entry)) (now (lengths .entry)) (now (answer .entry)) r (now (kinds .exit)) (now (fields .exit)) (now (tables .exit)) (now (lengths .exit)) (now (answer .exit)) ⌝ }
+    ensures { λ r. ⌜ PathBuilt (buildTextOf (now (text .entry)) (lentOf (before kinds fields tables lengths)))
+        (before kinds fields tables lengths) (now (answer .entry)) r (after kinds fields tables lengths) (now (answer .exit)) ⌝ }
 {
     if answer.len() < 8 {
         return 255;

@@ -14,6 +14,7 @@ use Rattle.commands.specs.declared.command.PathCommand.{PathCommand}
 use Rattle.commands.specs.declared.inner.Decoded.the-variants.{Command, Bad}
 use Rattle.path_segment.specs.declared.segments.PathSegment.{PathSegment}
 use Rattle.path_stored.specs.Layout.{kindsOf, fieldsOfAll, tablesOfAll}
+use Rattle.path_stored.specs.Buffers.{Buffers}
 use Rattle.path_drawing.specs.Drawing.{drawOf}
 use Rattle.path_drawing.specs.Building.{Built, path, refusal, buildOf}
 use Rattle.path_storing.specs.Sites.{startOf, advanceOf, drawnBy, Few, Holds, Room, Laid}
@@ -57,7 +58,7 @@ measuring-none letters numbers e =
     let f = formed letters numbers e in
     record { commands = []; rest = f .commands; passed = passed-none letters numbers (f .commands) (f .is); done = []; known = at-none }
 
-module _ (letters : List ℕ) (numbers : List Float) (site : Site) (place at : ℕ) (k : Measuring letters numbers site place at) where
+module _ {letters : List ℕ} {numbers : List Float} {site : Site} {place at : ℕ} (k : Measuring letters numbers site place at) where
   pub measuring-inside : at ≤ length numbers
   measuring-inside = k .passed .inside
 
@@ -114,70 +115,61 @@ pub scant-at : (site : Site) (tally : Tally) → tallyOf site ≡ tally → Few 
 unfolding tallyOf
 scant-at site tally e few = subst Scant e (record { segments = few .segments; fields = few .fields; tables = few .tables })
 
-module _ (letters : List ℕ) (numbers : List Float) (tally : Tally) (place at : ℕ) (k : Surveying letters numbers tally place at) where
+module _ {letters : List ℕ} {numbers : List Float} {tally : Tally} {place at : ℕ} (k : Surveying letters numbers tally place at) where
   pub surveying-inside : at ≤ length numbers
   surveying-inside = k .measuring .passed .inside
 
   pub surveyed-all : length letters ≤ place → Size.Counted (tally .segments) (tally .fields) (tally .tables) ≡ measureOf (builtBy (listed 0 letters numbers))
-  surveyed-all past = counted-at (k .site) tally (measureOf (builtBy (listed 0 letters numbers))) (k .same) (measured-all letters numbers (k .site) place at (k .measuring) past)
+  surveyed-all past = counted-at (k .site) tally (measureOf (builtBy (listed 0 letters numbers))) (k .same) (measured-all (k .measuring) past)
 
   module _ (here : place < length letters) (checked : checkCommandsOf letters numbers ≡ accepted []) where
     few : Few (k .site)
-    few = measuring-few letters numbers (k .site) place at (k .measuring) here checked
+    few = measuring-few (k .measuring) here checked
 
     pub surveying-scant : Scant tally
     surveying-scant = scant-at (k .site) tally (k .same) few
 
     module _ (command : PathCommand) (e : commandOf (getD letters place 0) (drop at numbers) ≡ Command command) where
       pub surveying-fits : at + length (argumentsOf command) ≤ length numbers
-      surveying-fits = measuring-fits letters numbers (k .site) place at (k .measuring) here command e
+      surveying-fits = measuring-fits (k .measuring) here command e
 
       pub surveying-more : (width : ℕ) (next : Tally) → width ≡ length (argumentsOf command) → talliedOf tally command ≡ Tallied.To next → Surveying letters numbers next (place + 1) (at + width)
       surveying-more width next w a =
           let f = foreseen (k .site) few (k .calm) command next (ap (λ t. talliedOf t command) (k .same) ∙ a) in
-          record { site = f .0; same = f .2; calm = f .3; measuring = measuring-more letters numbers (k .site) place at (k .measuring) here command e width (f .0) w (f .1) }
+          record { site = f .0; same = f .2; calm = f .3; measuring = measuring-more (k .measuring) here command e width (f .0) w (f .1) }
 
 -- ---- the second pass
 
-pub record Holdable (built : Built) (kinds fields tables lengths : ℕ) : Type 0 where
+pub record Holdable (built : Built) (b : Buffers) : Type 0 where
   pub list : List PathSegment
   pub is : built ≡ path list
-  pub holds : Holds list kinds fields tables lengths
+  pub holds : Holds list b
 
-pub holdable : (built : Built) (kinds fields tables lengths : ℕ) → Holding built kinds fields tables lengths → Holdable built kinds fields tables lengths
-holdable (path list) kinds fields tables lengths h = record { list = list; is = refl; holds = h }
-holdable (refusal reason) kinds fields tables lengths h = absurd h
+pub holdable : (built : Built) {b : Buffers} → Holding built b → Holdable built b
+holdable (path list) h = record { list = list; is = refl; holds = h }
+holdable (refusal reason) h = absurd h
 
 -- what is stored is what is built
-pub filled-is :
-    (built : Built) (list : List PathSegment) (commands : List PathCommand) (site : Site) (kinds₀ kinds : List ℕ) (fields₀ fields tables₀ tables lengths₀ lengths : List Float)
-    → (k : Filling commands site kinds₀ kinds fields₀ fields tables₀ tables lengths₀ lengths)
-    → built ≡ buildOf commands → Filled built kinds₀ fields₀ tables₀ lengths₀ kinds fields tables lengths
-filled-is built list commands site kinds₀ kinds fields₀ fields tables₀ tables lengths₀ lengths k e =
-    subst (λ (b : Built). Filled b kinds₀ fields₀ tables₀ lengths₀ kinds fields tables lengths) (sym (e ∙ at-all commands (k .done) site (k .known)))
-    (record { kindsAfter = k .kindsNow; fieldsAfter = k .fieldsNow; tablesAfter = k .tablesNow; lengthsAfter = k .lengthsNow })
+pub filled-is : {built : Built} {commands : List PathCommand} {site : Site} {b₀ b : Buffers} (k : Filling commands site b₀ b) → built ≡ buildOf commands → Filled built b₀ b
+filled-is {built} {commands} {site} {b₀} {b} k e = subst (λ (x : Built). Filled x b₀ b) (sym (e ∙ at-all commands (k .done) site (k .known))) (k .now)
 
-pub record Storing (letters : List ℕ) (numbers : List Float) (site : Site) (place at : ℕ) (kinds₀ kinds : List ℕ) (fields₀ fields tables₀ tables lengths₀ lengths : List Float) : Type 0 where
+pub record Storing (letters : List ℕ) (numbers : List Float) (site : Site) (place at : ℕ) (b₀ b : Buffers) : Type 0 where
   pub commands : List PathCommand
   pub rest : List PathCommand
   pub passed : Passed letters numbers place at commands rest
-  pub filling : Filling commands site kinds₀ kinds fields₀ fields tables₀ tables lengths₀ lengths
+  pub filling : Filling commands site b₀ b
 
-pub storing-none :
-    (letters : List ℕ) (numbers : List Float) (kinds : List ℕ) (fields tables lengths : List Float)
-    → checkCommandsOf letters numbers ≡ accepted [] → Storing letters numbers startOf 0 0 kinds kinds fields fields tables tables lengths lengths
-storing-none letters numbers kinds fields tables lengths e =
+pub storing-none : (letters : List ℕ) (numbers : List Float) (b : Buffers) → checkCommandsOf letters numbers ≡ accepted [] → Storing letters numbers startOf 0 0 b b
+storing-none letters numbers b e =
     let f = formed letters numbers e in
-    record { commands = []; rest = f .commands; passed = passed-none letters numbers (f .commands) (f .is); filling = filling-none kinds fields tables lengths }
+    record { commands = []; rest = f .commands; passed = passed-none letters numbers (f .commands) (f .is); filling = filling-none b }
 
 module _
-    (letters : List ℕ) (numbers : List Float) (site : Site) (place at : ℕ) (kinds₀ kinds : List ℕ) (fields₀ fields tables₀ tables lengths₀ lengths : List Float)
-    (k : Storing letters numbers site place at kinds₀ kinds fields₀ fields tables₀ tables lengths₀ lengths)
-    (checked : checkCommandsOf letters numbers ≡ accepted [])
-    (holding : Holding (builtBy (listed 0 letters numbers)) (length kinds₀) (length fields₀) (length tables₀) (length lengths₀))
+    {letters : List ℕ} {numbers : List Float} {site : Site} {place at : ℕ} {b₀ b : Buffers} (k : Storing letters numbers site place at b₀ b)
+    (checked : checkCommandsOf letters numbers ≡ accepted []) (holding : Holding (builtBy (listed 0 letters numbers)) b₀)
   where
-    h : Holdable (builtBy (listed 0 letters numbers)) (length kinds₀) (length fields₀) (length tables₀) (length lengths₀)
-    h = holdable (builtBy (listed 0 letters numbers)) (length kinds₀) (length fields₀) (length tables₀) (length lengths₀) holding
+    h : Holdable (builtBy (listed 0 letters numbers)) b₀
+    h = holdable (builtBy (listed 0 letters numbers)) holding
 
     whole : buildOf (k .commands ++ k .rest) ≡ path (h .list)
     whole = sym (ap builtBy (k .passed .whole)) ∙ h .is
@@ -185,23 +177,22 @@ module _
     pub storing-inside : at ≤ length numbers
     storing-inside = k .passed .inside
 
-    pub stored-kinds : length kinds ≡ length kinds₀
-    stored-kinds = same-kinds (k .commands) site kinds₀ kinds fields₀ fields tables₀ tables lengths₀ lengths (k .filling) (h .list) (h .holds) (k .rest) whole
+    pub stored-kinds : length (b .kinds) ≡ length (b₀ .kinds)
+    stored-kinds = same-kinds (k .filling) (h .holds) (k .rest) whole
 
-    pub stored-fields : length fields ≡ length fields₀
-    stored-fields = same-fields (k .commands) site kinds₀ kinds fields₀ fields tables₀ tables lengths₀ lengths (k .filling) (h .list) (h .holds) (k .rest) whole
+    pub stored-fields : length (b .fields) ≡ length (b₀ .fields)
+    stored-fields = same-fields (k .filling) (h .holds) (k .rest) whole
 
-    pub stored-tables : length tables ≡ length tables₀
-    stored-tables = same-tables (k .commands) site kinds₀ kinds fields₀ fields tables₀ tables lengths₀ lengths (k .filling) (h .list) (h .holds) (k .rest) whole
+    pub stored-tables : length (b .tables) ≡ length (b₀ .tables)
+    stored-tables = same-tables (k .filling) (h .holds) (k .rest) whole
 
-    pub stored-lengths : length lengths ≡ length lengths₀
-    stored-lengths = same-lengths (k .commands) site kinds₀ kinds fields₀ fields tables₀ tables lengths₀ lengths (k .filling) (h .list) (h .holds) (k .rest) whole
+    pub stored-lengths : length (b .lengths) ≡ length (b₀ .lengths)
+    stored-lengths = same-lengths (k .filling) (h .holds) (k .rest) whole
 
-    pub stored-all : length letters ≤ place → Filled (builtBy (listed 0 letters numbers)) kinds₀ fields₀ tables₀ lengths₀ kinds fields tables lengths
+    pub stored-all : length letters ≤ place → Filled (builtBy (listed 0 letters numbers)) b₀ b
     stored-all past =
         let r = passed-end letters numbers place at (k .commands) (k .rest) (k .passed) past in
-        filled-is (builtBy (listed 0 letters numbers)) (h .list) (k .commands) site kinds₀ kinds fields₀ fields tables₀ tables lengths₀ lengths (k .filling)
-        (ap builtBy (k .passed .whole ∙ ap (λ x. wellFormed (k .commands ++ x)) r ∙ ap wellFormed (append-nil (k .commands))))
+        filled-is (k .filling) (ap builtBy (k .passed .whole ∙ ap (λ x. wellFormed (k .commands ++ x)) r ∙ ap wellFormed (append-nil (k .commands))))
 
     module _ (here : place < length letters) where
       pub storing-bad : commandOf (getD letters place 0) (drop at numbers) ≡ Bad → ⊥
@@ -212,24 +203,20 @@ module _
         storing-fits = passed-fits letters numbers place at (k .commands) (k .rest) (k .passed) here command e
 
         -- what `lay` asks
-        pub storing-room : Few site × Room site (drawOf (site .pen) command) (length kinds) (length fields) (length tables) (length lengths)
+        pub storing-room : Few site × Room site (drawOf (site .pen) command) b
         storing-room =
             let n = passed-next letters numbers place at (k .commands) (k .rest) (k .passed) here command e (length (argumentsOf command)) refl in (
               at-few (k .commands) (k .filling .done) site (k .filling .known) (omega (arith, formed letters numbers checked .few, k .passed .count)),
-              roomed (k .commands) site kinds₀ kinds fields₀ fields tables₀ tables lengths₀ lengths (k .filling) (h .list) (h .holds) command (n .0) (sym (ap builtBy (n .1 .whole)) ∙ h .is),
+              roomed (k .filling) (h .holds) command (n .0) (sym (ap builtBy (n .1 .whole)) ∙ h .is),
             )
 
-        pub storing-more :
-            (width : ℕ) (next : Site) (kinds′ : List ℕ) (fields′ tables′ lengths′ : List Float) → width ≡ length (argumentsOf command)
-            → Laid site (drawOf (site .pen) command) kinds fields tables lengths next kinds′ fields′ tables′ lengths′
-            → Storing letters numbers next (place + 1) (at + width) kinds₀ kinds′ fields₀ fields′ tables₀ tables′ lengths₀ lengths′
-        storing-more width next kinds′ fields′ tables′ lengths′ w laid =
+        pub storing-more : (width : ℕ) {next : Site} {b′ : Buffers} → width ≡ length (argumentsOf command) → Laid site (drawOf (site .pen) command) b next b′
+            → Storing letters numbers next (place + 1) (at + width) b₀ b′
+        storing-more width w laid =
             let n = passed-next letters numbers place at (k .commands) (k .rest) (k .passed) here command e width w in
             record {
               commands = k .commands ++ (command ∷ []);
               rest = n .0;
               passed = n .1;
-              filling =
-                  filling-more (k .commands) site kinds₀ kinds fields₀ fields tables₀ tables lengths₀ lengths (k .filling) (h .list) (h .holds) command (n .0) (sym (ap builtBy (n .1 .whole)) ∙ h .is)
-                  next kinds′ fields′ tables′ lengths′ laid;
+              filling = filling-more (k .filling) (h .holds) command (n .0) (sym (ap builtBy (n .1 .whole)) ∙ h .is) laid;
             }

@@ -6,13 +6,13 @@ use mathlib.Core.List.{List, [], _∷_}
 use native.Mathlib.Omega.{arith}
 use borrow.Author.Tests.{ltb-false}
 use lib.Dec.{ltb}
-use lib.Ieee.{Float}
 use lib.ListN.{length}
 use Rattle.answers.specs.Answers.{refused, accepted}
 use Rattle.answers.specs.declared.refusals.Values.the-variants.{Four}
 use Rattle.answers.specs.declared.refusals.Refusal.{Refusal}
 use Rattle.answers.specs.declared.refusals.Refusal.the-variants.{NoRoom}
 use Rattle.path_segment.specs.declared.segments.PathSegment.{PathSegment}
+use Rattle.path_stored.specs.Buffers.{Buffers}
 use Rattle.path_stored.specs.Layout.{kindsOf, fieldsOfAll, tablesOfAll, runningOf, lengthsOfAll}
 use Rattle.path_drawing.specs.Building.{Built, path, refusal}
 use Rattle.path_storing.proofs.Layouts.{lengths-count}
@@ -60,62 +60,44 @@ none-short false false false false e = (refl, refl, refl, refl)
 
 -- ---- the ways out
 
-module _ (kinds : List ℕ) (fields tables lengths : List Float) where
-  pub refuses : (reason other : Refusal) (whole : Built) → whole ≡ refusal other → refused reason ≡ refused other → Answers whole kinds fields tables lengths (Building.Refused reason) kinds fields tables lengths
-  unfolding kindsOf fieldsOfAll tablesOfAll runningOf lengthsOfAll
-  refuses reason other whole e f =
-      subst (λ (b : Built). Answers b kinds fields tables lengths (Building.Refused reason) kinds fields tables lengths) (sym e)
-      (record { answer = f; kindsAfter = refl; fieldsAfter = refl; tablesAfter = refl; lengthsAfter = refl })
+pub refuses : {b : Buffers} (reason other : Refusal) {whole : Built} → whole ≡ refusal other → refused reason ≡ refused other → Answers whole b (Building.Refused reason) b
+unfolding kindsOf fieldsOfAll tablesOfAll runningOf lengthsOfAll
+refuses {b} reason other e f = subst (λ (w : Built). Answers w b (Building.Refused reason) b) (sym e) (record { answer = f; after = refl })
 
-  -- another name of what is built
-  pub answers-at :
-      (whole other : Built) (r : Building) (kinds′ : List ℕ) (fields′ tables′ lengths′ : List Float) → whole ≡ other
-      → Answers other kinds fields tables lengths r kinds′ fields′ tables′ lengths′ → Answers whole kinds fields tables lengths r kinds′ fields′ tables′ lengths′
-  answers-at whole other r kinds′ fields′ tables′ lengths′ e a = subst (λ (b : Built). Answers b kinds fields tables lengths r kinds′ fields′ tables′ lengths′) (sym e) a
+-- another name of what is built
+pub answers-at : {b : Buffers} {whole other : Built} {r : Building} {b′ : Buffers} → whole ≡ other → Answers other b r b′ → Answers whole b r b′
+answers-at {b} {whole} {other} {r} {b′} e a = subst (λ (w : Built). Answers w b r b′) (sym e) a
 
-  module _ (built : Built) where
-    pub unbuilt : (reason : Refusal) → Size.Refused reason ≡ measureOf built → Answers (roomed (lentOf kinds fields tables lengths) built) kinds fields tables lengths (Building.Refused reason) kinds fields tables lengths
-    unbuilt reason m = refuses reason reason (roomed (lentOf kinds fields tables lengths) built) (ap (roomed (lentOf kinds fields tables lengths)) (measured-refused reason built m)) refl
+module _ (b : Buffers) (built : Built) where
+  pub unbuilt : (reason : Refusal) → Size.Refused reason ≡ measureOf built → Answers (roomed (lentOf b) built) b (Building.Refused reason) b
+  unbuilt reason m = refuses reason reason (ap (roomed (lentOf b)) (measured-refused reason built m)) refl
 
-    module _ (s f t : ℕ) (m : Size.Counted s f t ≡ measureOf built) where
-      l : Listed s f t built
-      l = measured-list s f t built m
+  module _ {s f t : ℕ} (m : Size.Counted s f t ≡ measureOf built) where
+    l : Listed s f t built
+    l = measured-list s f t built m
 
-      roomed-is : (b : Bool) → isShort (neededOf s f t) (lentOf kinds fields tables lengths) ≡ b
-          → roomed (lentOf kinds fields tables lengths) built ≡ cond b (refusal (NoRoom (Four s f t s))) (path (l .list))
-      roomed-is b e =
-          ap (roomed (lentOf kinds fields tables lengths)) (l .is)
-          ∙ ap (λ (c : Counts). cond (isShort c (lentOf kinds fields tables lengths)) (refusal (NoRoom (Four (c .kinds) (c .fields) (c .tables) (c .lengths)))) (path (l .list))) (l .counts)
-          ∙ ap (λ (x : Bool). cond x (refusal (NoRoom (Four s f t s))) (path (l .list))) e
+    roomed-is : (short : Bool) → isShort (neededOf s f t) (lentOf b) ≡ short → roomed (lentOf b) built ≡ cond short (refusal (NoRoom (Four s f t s))) (path (l .list))
+    roomed-is short e =
+        ap (roomed (lentOf b)) (l .is)
+        ∙ ap (λ (c : Counts). cond (isShort c (lentOf b)) (refusal (NoRoom (Four (c .kinds) (c .fields) (c .tables) (c .lengths)))) (path (l .list))) (l .counts)
+        ∙ ap (λ (x : Bool). cond x (refusal (NoRoom (Four s f t s))) (path (l .list))) e
 
-      pub too-short :
-          isShort (neededOf s f t) (lentOf kinds fields tables lengths) ≡ true
-          → Answers (roomed (lentOf kinds fields tables lengths) built) kinds fields tables lengths (Building.Refused (NoRoom (Four s f t s))) kinds fields tables lengths
-      too-short e = refuses (NoRoom (Four s f t s)) (NoRoom (Four s f t s)) (roomed (lentOf kinds fields tables lengths) built) (roomed-is true e) refl
+    pub too-short : isShort (neededOf s f t) (lentOf b) ≡ true → Answers (roomed (lentOf b) built) b (Building.Refused (NoRoom (Four s f t s))) b
+    too-short e = refuses (NoRoom (Four s f t s)) (NoRoom (Four s f t s)) (roomed-is true e) refl
 
-      pub has-room : isShort (neededOf s f t) (lentOf kinds fields tables lengths) ≡ false → Holding built (length kinds) (length fields) (length tables) (length lengths)
-      has-room e =
-          let n = none-short (ltb (length kinds) s) (ltb (length fields) f) (ltb (length tables) t) (ltb (length lengths) s) e in
-          let c = l .counts in
-          subst (λ (b : Built). Holding b (length kinds) (length fields) (length tables) (length lengths)) (sym (l .is))
-          (record {
-            kindsFit = omega (arith, ltb-false (length kinds) s (n .0), ap (λ (x : Counts). x .kinds) c);
-            fieldsFit = omega (arith, ltb-false (length fields) f (n .1), ap (λ (x : Counts). x .fields) c);
-            tablesFit = omega (arith, ltb-false (length tables) t (n .2), ap (λ (x : Counts). x .tables) c);
-            lengthsFit = omega (arith, ltb-false (length lengths) s (n .3), ap (λ (x : Counts). x .lengths) c);
-          })
+    pub has-room : isShort (neededOf s f t) (lentOf b) ≡ false → Holding built b
+    has-room e =
+        let n = none-short (ltb (length (b .kinds)) s) (ltb (length (b .fields)) f) (ltb (length (b .tables)) t) (ltb (length (b .lengths)) s) e in
+        let c = l .counts in
+        subst (λ (x : Built). Holding x b) (sym (l .is))
+        (record {
+          kindsFit = omega (arith, ltb-false (length (b .kinds)) s (n .0), ap (λ (x : Counts). x .kinds) c);
+          fieldsFit = omega (arith, ltb-false (length (b .fields)) f (n .1), ap (λ (x : Counts). x .fields) c);
+          tablesFit = omega (arith, ltb-false (length (b .tables)) t (n .2), ap (λ (x : Counts). x .tables) c);
+          lengthsFit = omega (arith, ltb-false (length (b .lengths)) s (n .3), ap (λ (x : Counts). x .lengths) c);
+        })
 
-      pub built-whole :
-          (kinds′ : List ℕ) (fields′ tables′ lengths′ : List Float) → isShort (neededOf s f t) (lentOf kinds fields tables lengths) ≡ false
-          → Filled built kinds fields tables lengths kinds′ fields′ tables′ lengths′
-          → Answers (roomed (lentOf kinds fields tables lengths) built) kinds fields tables lengths (Building.Built s f t) kinds′ fields′ tables′ lengths′
-      built-whole kinds′ fields′ tables′ lengths′ e filled =
-          let w = subst (λ (b : Built). Filled b kinds fields tables lengths kinds′ fields′ tables′ lengths′) (l .is) filled in
-          answers-at (roomed (lentOf kinds fields tables lengths) built) (path (l .list)) (Building.Built s f t) kinds′ fields′ tables′ lengths′ (roomed-is false e)
-          (record {
-            answer = ap (λ (x : Counts). accepted (values x)) (sym (l .counts));
-            kindsAfter = w .kindsAfter;
-            fieldsAfter = w .fieldsAfter;
-            tablesAfter = w .tablesAfter;
-            lengthsAfter = w .lengthsAfter;
-          })
+    pub built-whole : {b′ : Buffers} → isShort (neededOf s f t) (lentOf b) ≡ false → Filled built b b′ → Answers (roomed (lentOf b) built) b (Building.Built s f t) b′
+    built-whole {b′} e filled =
+        answers-at (roomed-is false e)
+        (record { answer = ap (λ (x : Counts). accepted (values x)) (sym (l .counts)); after = subst (λ (x : Built). Filled x b b′) (l .is) filled })

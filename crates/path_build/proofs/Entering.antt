@@ -15,9 +15,10 @@ use Rattle.commands.specs.Listed.{Listing, wellFormed, malformed, listed}
 use Rattle.commands.specs.Checked.{answerOf as checkedOf, judged, checkCommandsOf}
 use Rattle.commands.specs.declared.checking.Checked.{Checked}
 use Rattle.commands.specs.declared.checking.Checked.the-variants as Checked
+use Rattle.path_stored.specs.Buffers.{Buffers}
 use Rattle.path_drawing.specs.Building.{refusal}
 use Rattle.path_build.specs.Answers.{roomed}
-use Rattle.path_build.specs.Paths.{builtBy, lentOf, buildPathOf, BuildPath}
+use Rattle.path_build.specs.Paths.{builtBy, buildPathOf, BuildPath}
 use Rattle.path_build.specs.declared.sizes.Building.the-variants as Building
 use Rattle.path_build.specs.declared.sizes.Counts.{Counts}
 use Rattle.path_build.proofs.Lists.{formed}
@@ -33,23 +34,15 @@ module _ (letters : List ℕ) (numbers : List Float) where
   well-formed r e f = sym f ∙ ap checkedOf e
 
   -- and one that does not
-  pub not-entered :
-      (kinds : List ℕ) (fields tables lengths : List Float) (r : Checked) (reason : Refusal) → r ≡ Checked.Refused reason → checkedOf r ≡ checkCommandsOf letters numbers
-      → BuildPath letters numbers kinds fields tables lengths (Building.Refused reason) kinds fields tables lengths
+  pub not-entered : (b : Buffers) (r : Checked) (reason : Refusal) → r ≡ Checked.Refused reason → checkedOf r ≡ checkCommandsOf letters numbers → BuildPath letters numbers b (Building.Refused reason) b
   unfolding checkCommandsOf buildPathOf
-  not-entered kinds fields tables lengths r reason e f = by-count (ltb 65536 (length letters)) refl (ap checkedOf (sym e) ∙ f)
+  not-entered b r reason e f = by-count (ltb 65536 (length letters)) refl (ap checkedOf (sym e) ∙ f)
     where
-      lent : Counts
-      lent = lentOf kinds fields tables lengths
-
-      by-listing :
-          ltb 65536 (length letters) ≡ false → (l : Listing) → listed 0 letters numbers ≡ l → refused reason ≡ judged l
-          → BuildPath letters numbers kinds fields tables lengths (Building.Refused reason) kinds fields tables lengths
+      by-listing : ltb 65536 (length letters) ≡ false → (l : Listing) → listed 0 letters numbers ≡ l → refused reason ≡ judged l → BuildPath letters numbers b (Building.Refused reason) b
       by-listing g (wellFormed commands) h i = absurd (refused-not-accepted reason [] i)
-      by-listing g (malformed k) h i = refuses kinds fields tables lengths reason (BadList k) (buildPathOf letters numbers lent) (rw (g, h)) i
+      by-listing g (malformed k) h i = refuses reason (BadList k) (rw (g, h)) i
 
-      by-count :
-          (b : Bool) → ltb 65536 (length letters) ≡ b → refused reason ≡ cond b (refused (Range (length letters))) (judged (listed 0 letters numbers))
-          → BuildPath letters numbers kinds fields tables lengths (Building.Refused reason) kinds fields tables lengths
-      by-count true g h = refuses kinds fields tables lengths reason (Range (length letters)) (buildPathOf letters numbers lent) (rw g) h
+      by-count : (many : Bool) → ltb 65536 (length letters) ≡ many → refused reason ≡ cond many (refused (Range (length letters))) (judged (listed 0 letters numbers))
+          → BuildPath letters numbers b (Building.Refused reason) b
+      by-count true g h = refuses reason (Range (length letters)) (rw g) h
       by-count false g h = by-listing g (listed 0 letters numbers) refl h

@@ -4,9 +4,10 @@ use mathlib.Core.Path.{_≡_, refl, sym, ap, _∙_}
 use mathlib.Core.List.{List, [], _∷_}
 use lib.Ieee.{Float}
 use Rattle.answers.proofs.Settled.{refused-settled, refused-not-accepted}
+use Rattle.path_stored.specs.Buffers.{Buffers}
 use Rattle.path_drawing.specs.Building.{Built}
 use Rattle.path_build.specs.Answers.{answerOf, Answers}
-use Rattle.path_build.specs.Paths.{lentOf, buildPathOf, BuildPath}
+use Rattle.path_build.specs.Paths.{BuildPath}
 use Rattle.path_build.specs.declared.sizes.Building.{Building}
 use Rattle.path_build.specs.declared.sizes.Building.the-variants.{Built as Done, Refused}
 
@@ -23,17 +24,9 @@ alike (Done a b c) (Refused y) p = absurd (refused-not-accepted y (a ∷ b ∷ c
 alike (Refused x) (Done d e f) p = absurd (refused-not-accepted x (d ∷ e ∷ f ∷ d ∷ []) p)
 alike (Refused x) (Refused y) p = ap Refused (refused-settled x y p)
 
-pub answers-unique :
-    (built : Built) (kinds : List ℕ) (fields tables lengths : List Float) (r s : Building) (kinds₁ kinds₂ : List ℕ) (fields₁ fields₂ tables₁ tables₂ lengths₁ lengths₂ : List Float)
-    → Answers built kinds fields tables lengths r kinds₁ fields₁ tables₁ lengths₁
-    → Answers built kinds fields tables lengths s kinds₂ fields₂ tables₂ lengths₂
-    → (r ≡ s) × (kinds₁ ≡ kinds₂) × (fields₁ ≡ fields₂) × (tables₁ ≡ tables₂) × (lengths₁ ≡ lengths₂)
-answers-unique built kinds fields tables lengths r s kinds₁ kinds₂ fields₁ fields₂ tables₁ tables₂ lengths₁ lengths₂ p q =
-    (alike r s (p .answer ∙ sym (q .answer)), p .kindsAfter ∙ sym (q .kindsAfter), p .fieldsAfter ∙ sym (q .fieldsAfter), p .tablesAfter ∙ sym (q .tablesAfter), p .lengthsAfter ∙ sym (q .lengthsAfter))
+pub answers-unique : {built : Built} {b : Buffers} {r s : Building} {b₁ b₂ : Buffers} → Answers built b r b₁ → Answers built b s b₂ → (r ≡ s) × (b₁ ≡ b₂)
+answers-unique {built} {b} {r} {s} p q = (alike r s (p .answer ∙ sym (q .answer)), p .after ∙ sym (q .after))
 
-pub build-path-unique :
-    (letters : List ℕ) (numbers : List Float) (kinds : List ℕ) (fields tables lengths : List Float) (r s : Building) (kinds₁ kinds₂ : List ℕ) (fields₁ fields₂ tables₁ tables₂ lengths₁ lengths₂ : List Float)
-    → BuildPath letters numbers kinds fields tables lengths r kinds₁ fields₁ tables₁ lengths₁
-    → BuildPath letters numbers kinds fields tables lengths s kinds₂ fields₂ tables₂ lengths₂
-    → (r ≡ s) × (kinds₁ ≡ kinds₂) × (fields₁ ≡ fields₂) × (tables₁ ≡ tables₂) × (lengths₁ ≡ lengths₂)
-build-path-unique letters numbers kinds fields tables lengths = answers-unique (buildPathOf letters numbers (lentOf kinds fields tables lengths)) kinds fields tables lengths
+pub build-path-unique : (letters : List ℕ) (numbers : List Float) {b : Buffers} {r s : Building} {b₁ b₂ : Buffers} → BuildPath letters numbers b r b₁ → BuildPath letters numbers b s b₂
+    → (r ≡ s) × (b₁ ≡ b₂)
+build-path-unique letters numbers = answers-unique

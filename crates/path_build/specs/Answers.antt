@@ -8,13 +8,13 @@ use lib.Dec.{ltb}
 use lib.Ieee.{Float}
 use lib.ListN.{length}
 use Rattle.answers.specs.Answers.{Answer, refused, accepted}
-use Rattle.answers.specs.Report.{written}
 use Rattle.answers.specs.declared.refusals.Values.the-variants.{Four}
 use Rattle.answers.specs.declared.refusals.Refusal.the-variants.{NoRoom}
 use Rattle.path_segment.specs.declared.segments.PathSegment.{PathSegment}
+use Rattle.path_stored.specs.Buffers.{Buffers}
 use Rattle.path_stored.specs.Layout.{kindsOf, fieldsOfAll, tablesOfAll, lengthsOfAll}
 use Rattle.path_drawing.specs.Building.{Built, path, refusal}
-use Rattle.path_storing.specs.Sites.{Holds}
+use Rattle.path_storing.specs.Sites.{pathWritten, Holds}
 use Rattle.path_storing.specs.declared.tallies.Outlook.{Outlook}
 use Rattle.path_storing.specs.declared.tallies.Outlook.the-variants as Outlook
 use Rattle.path_build.specs.declared.sizes.Building.{Building}
@@ -56,12 +56,9 @@ segmentsWritten (path list) = list
 segmentsWritten (refusal reason) = []
 
 -- what is built is answered and written
-pub record Answers (built : Built) (kinds : List ℕ) (fields tables lengths : List Float) (r : Building) (kinds′ : List ℕ) (fields′ tables′ lengths′ : List Float) : Type 0 where
+pub record Answers (built : Built) (b : Buffers) (r : Building) (b′ : Buffers) : Type 0 where
   pub answer : answerOf r ≡ answered built
-  pub kindsAfter : kinds′ ≡ written (kindsOf (segmentsWritten built)) kinds
-  pub fieldsAfter : fields′ ≡ written (fieldsOfAll (segmentsWritten built)) fields
-  pub tablesAfter : tables′ ≡ written (tablesOfAll (segmentsWritten built)) tables
-  pub lengthsAfter : lengths′ ≡ written (lengthsOfAll (segmentsWritten built)) lengths
+  pub after : b′ ≡ pathWritten (segmentsWritten built) b
 
 -- ---- what the passes ask and leave
 
@@ -76,18 +73,11 @@ Foretells built (Outlook.Counted segments fields tables) = Size.Counted segments
 Foretells built Outlook.Unsure = Unit {0}
 
 -- it builds, and has room in the buffers
-abbrev pub Holding : Built → ℕ → ℕ → ℕ → ℕ → Type 0
-Holding (path list) kinds fields tables lengths = Holds list kinds fields tables lengths
-Holding (refusal reason) kinds fields tables lengths = ⊥
+abbrev pub Holding : Built → Buffers → Type 0
+Holding (path list) b = Holds list b
+Holding (refusal reason) b = ⊥
 
--- the segments are stored from the start of each buffer
-pub record Stores (list : List PathSegment) (kinds : List ℕ) (fields tables lengths : List Float) (kinds′ : List ℕ) (fields′ tables′ lengths′ : List Float) : Type 0 where
-  pub kindsAfter : kinds′ ≡ written (kindsOf list) kinds
-  pub fieldsAfter : fields′ ≡ written (fieldsOfAll list) fields
-  pub tablesAfter : tables′ ≡ written (tablesOfAll list) tables
-  pub lengthsAfter : lengths′ ≡ written (lengthsOfAll list) lengths
-
--- it builds, and its segments are stored
-abbrev pub Filled : Built → List ℕ → List Float → List Float → List Float → List ℕ → List Float → List Float → List Float → Type 0
-Filled (path list) kinds fields tables lengths kinds′ fields′ tables′ lengths′ = Stores list kinds fields tables lengths kinds′ fields′ tables′ lengths′
-Filled (refusal reason) kinds fields tables lengths kinds′ fields′ tables′ lengths′ = ⊥
+-- it builds, and its segments are stored from the start of each buffer
+abbrev pub Filled : Built → Buffers → Buffers → Type 0
+Filled (path list) b b′ = b′ ≡ pathWritten list b
+Filled (refusal reason) b b′ = ⊥

@@ -7,6 +7,7 @@ use lib.Ieee.{Float}
 use lib.ListN.{length}
 use Rattle.answers.specs.declared.refusals.Refusal.the-variants.{BadList, Range}
 use Rattle.commands.specs.Listed.{Listing, wellFormed, malformed, listed}
+use Rattle.path_stored.specs.Buffers.{Buffers}
 use Rattle.path_drawing.specs.Building.{Built, refusal, buildOf}
 use Rattle.path_build.specs.Answers.{roomed, Answers}
 use Rattle.path_build.specs.declared.sizes.Building.{Building}
@@ -18,14 +19,13 @@ builtBy (wellFormed commands) = buildOf commands
 builtBy (malformed k) = refusal (BadList k)
 
 -- the places of four buffers
-abbrev pub lentOf : List ℕ → List Float → List Float → List Float → Counts
-lentOf kinds fields tables lengths = record { kinds = length kinds; fields = length fields; tables = length tables; lengths = length lengths }
+abbrev pub lentOf : Buffers → Counts
+lentOf b = record { kinds = length (b .kinds); fields = length (b .fields); tables = length (b .tables); lengths = length (b .lengths) }
 
 -- "In building: 13, 9 over the whole list, then segment by segment 10 before 11, then 8.": 13 is "a command list above 65,536"
 unfoldable pub buildPathOf : List ℕ → List Float → Counts → Built
 buildPathOf letters numbers lent = cond (ltb 65536 (length letters)) (refusal (Range (length letters))) (roomed lent (builtBy (listed 0 letters numbers)))
 
 -- the entry's one record of equations
-abbrev pub BuildPath : List ℕ → List Float → List ℕ → List Float → List Float → List Float → Building → List ℕ → List Float → List Float → List Float → Type 0
-BuildPath letters numbers kinds fields tables lengths r kinds′ fields′ tables′ lengths′ =
-    Answers (buildPathOf letters numbers (lentOf kinds fields tables lengths)) kinds fields tables lengths r kinds′ fields′ tables′ lengths′
+abbrev pub BuildPath : List ℕ → List Float → Buffers → Building → Buffers → Type 0
+BuildPath letters numbers b r b′ = Answers (buildPathOf letters numbers (lentOf b)) b r b′

@@ -1,4 +1,5 @@
 // The entry over a command list.
+ghost use Rattle.path_stored.specs.Buffers.{after, before};
 ghost use Rattle.path_build.specs.Paths.{BuildPath};
 use crate::inner::build_listed;
 use crate::sizes::Building;
@@ -15,7 +16,7 @@ pub fn build_path(
     tables: &mut [f32],
     lengths: &mut [f32],
 ) -> Building
-    ensures { λ r. ⌜ BuildPath (now (letters .entry)) (now (numbers .entry)) (now (kinds .entry)) (now (fields .entry)) (now (tables .entry)) (now (lengths .entry)) r (now (kinds .exit)) (now (fields .exit)) (now (tables .exit)) (now (lengths .exit)) ⌝ }
+    ensures { λ r. ⌜ BuildPath (now (letters .entry)) (now (numbers .entry)) (before kinds fields tables lengths) r (after kinds fields tables lengths) ⌝ }
 {
     match check_commands(letters, numbers) {
         Checked::Refused(refusal) => {

@@ -3,6 +3,7 @@ ghost use mathlib.Core.Path.{_≡_};
 ghost use mathlib.Core.List.{[]};
 ghost use Rattle.answers.specs.Answers.{accepted};
 ghost use Rattle.commands.specs.Checked.{checkCommandsOf};
+ghost use Rattle.path_stored.specs.Buffers.{after, before};
 ghost use Rattle.path_build.specs.Paths.{BuildPath};
 use crate::passes::fill;
 use crate::passes::measure;
@@ -23,7 +24,7 @@ pub fn build_listed(
     lengths: &mut [f32],
 ) -> Building
     requires { ⌜ checkCommandsOf (now letters) (now numbers) ≡ accepted [] ⌝ }
-    ensures { λ r. ⌜ BuildPath (now (letters .entry)) (now (numbers .entry)) (now (kinds .entry)) (now (fields .entry)) (now (tables .entry)) (now (lengths .entry)) r (now (kinds .exit)) (now (fields .exit)) (now (tables .exit)) (now (lengths .exit)) ⌝ }
+    ensures { λ r. ⌜ BuildPath (now (letters .entry)) (now (numbers .entry)) (before kinds fields tables lengths) r (after kinds fields tables lengths) ⌝ }
 {
     match measure(letters, numbers) {
         Size::Refused(refusal) => {

@@ -1,10 +1,10 @@
 // The two passes over a command list: the first counts, and measures only where it must, the second stores.
 ghost use mathlib.Core.Path.{_≡_};
 ghost use mathlib.Core.List.{[]};
-ghost use lib.ListN.{length};
 ghost use Rattle.answers.specs.Answers.{accepted};
 ghost use Rattle.commands.specs.Listed.{listed};
 ghost use Rattle.commands.specs.Checked.{checkCommandsOf};
+ghost use Rattle.path_stored.specs.Buffers.{after, before, lent};
 ghost use Rattle.path_build.specs.Answers.{measureOf, Foretells, Holding, Filled};
 ghost use Rattle.path_build.specs.Paths.{builtBy};
 use crate::sizes::Size;
@@ -119,8 +119,8 @@ pub(crate) fn fill(
     tables: &mut [f32],
     lengths: &mut [f32],
 )
-    requires { ⌜ (checkCommandsOf (now letters) (now numbers) ≡ accepted []) × Holding (builtBy (listed 0 (now letters) (now numbers))) (length (now kinds)) (length (now fields)) (length (now tables)) (length (now lengths)) ⌝ }
-    ensures { λ _. ⌜ Filled (builtBy (listed 0 (now (letters .entry)) (now (numbers .entry)))) (now (kinds .entry)) (now (fields .entry)) (now (tables .entry)) (now (lengths .entry)) (now (kinds .exit)) (now (fields .exit)) (now (tables .exit)) (now (lengths .exit)) ⌝ }
+    requires { ⌜ (checkCommandsOf (now letters) (now numbers) ≡ accepted []) × Holding (builtBy (listed 0 (now letters) (now numbers))) (lent kinds fields tables lengths) ⌝ }
+    ensures { λ _. ⌜ Filled (builtBy (listed 0 (now (letters .entry)) (now (numbers .entry)))) (before kinds fields tables lengths) (after kinds fields tables lengths) ⌝ }
 {
     let count = letters.len();
     let mut site = start();

@@ -19,6 +19,8 @@ use Rattle.arc.specs.Lines.{lineOf, lineLengthOf}
 use Rattle.path_segment.specs.Segments.{kindOf, hasTable, tablesOf, fieldsOf, tableFor, tableNumbers, lengthFor}
 use Rattle.path_segment.specs.declared.segments.PathSegment.{PathSegment}
 use Rattle.path_segment.specs.declared.segments.PathSegment.the-variants.{Line}
+use Rattle.path_stored.specs.Buffers.{Buffers, buffers}
+use Rattle.path_stored.proofs.Buffers.{buffers-are}
 use Rattle.path_stored.specs.Layout.{kindsOf, fieldsOfAll, tableStored, tablesOfAll, runningOf}
 use Rattle.path_drawing.specs.Drawing.{drawnOf, drawOf}
 use Rattle.path_drawing.specs.Building.{lengthAfter}
@@ -57,68 +59,64 @@ module _ (at : ℕ) (segment : PathSegment) (tables : List Float) (r : Float) (o
   pub table-absent : has ≡ false → r ≡ lengthFor segment → TableLaid at segment tables r tables
   table-absent g h = record { lengthTold = h; tablesAfter = ap (sets tables at) (sym (table-none segment (told false g))) }
 
-module _ (site : Site) (segment : PathSegment) (pen : Pen) where
-  fields-one : fieldsOfAll (segment ∷ []) ≡ fieldsOf segment
-  unfolding fieldsOfAll
-  fields-one = append-nil (fieldsOf segment)
+fields-one : (segment : PathSegment) → fieldsOfAll (segment ∷ []) ≡ fieldsOf segment
+unfolding fieldsOfAll
+fields-one segment = append-nil (fieldsOf segment)
 
-  tables-one : tablesOfAll (segment ∷ []) ≡ tableStored segment
-  unfolding tablesOfAll
-  tables-one = append-nil (tableStored segment)
+tables-one : (segment : PathSegment) → tablesOfAll (segment ∷ []) ≡ tableStored segment
+unfolding tablesOfAll
+tables-one segment = append-nil (tableStored segment)
 
-  module _ (kinds fields tables lengths : ℕ) (room : Room site (Segment segment pen) kinds fields tables lengths) where
-    pub kind-fits : site .segments < kinds
-    unfolding kindsOf
-    kind-fits = omega (arith, room .kindsFit)
+module _ {site : Site} {segment : PathSegment} {pen : Pen} {b : Buffers} (room : Room site (Segment segment pen) b) where
+  pub kind-fits : site .segments < length (b .kinds)
+  unfolding kindsOf
+  kind-fits = omega (arith, room .kindsFit)
 
-    pub fields-fit : site .fields + length (fieldsOf segment) ≤ fields
-    fields-fit = rw fields-one at (room .fieldsFit)
+  pub fields-fit : site .fields + length (fieldsOf segment) ≤ length (b .fields)
+  fields-fit = rw (fields-one segment) at (room .fieldsFit)
 
-    pub table-fits : site .tables + length (tableStored segment) ≤ tables
-    table-fits = rw tables-one at (room .tablesFit)
+  pub table-fits : site .tables + length (tableStored segment) ≤ length (b .tables)
+  table-fits = rw (tables-one segment) at (room .tablesFit)
 
-    pub length-fits : site .segments < lengths
-    unfolding kindsOf
-    length-fits = omega (arith, room .lengthsFit)
+  pub length-fits : site .segments < length (b .lengths)
+  unfolding kindsOf
+  length-fits = omega (arith, room .lengthsFit)
 
-  pub segment-laid :
-      (kinds : List ℕ) (fields tables lengths : List Float) (r : Site) (own : ℕ) (fields′ tables′ : List Float) (l : Float)
-      → own ≡ kindOf segment
-      → fields′ ≡ sets fields (site .fields) (fieldsOf segment)
-      → tables′ ≡ sets tables (site .tables) (tableStored segment)
-      → l ≡ lengthAfter (site .length) segment
-      → r ≡ afterOf site segment pen
-      → Laid site (Segment segment pen) kinds fields tables lengths r (set kinds (site .segments) own) fields′ tables′ (set lengths (site .segments) l)
-  unfolding kindsOf runningOf nextOf
-  segment-laid kinds fields tables lengths r own fields′ tables′ l e f g h s =
-      record {
-        siteAfter = s;
-        kindsAfter = ap (set kinds (site .segments)) e;
-        fieldsAfter = f ∙ ap (sets fields (site .fields)) (sym fields-one);
-        tablesAfter = g ∙ ap (sets tables (site .tables)) (sym tables-one);
-        lengthsAfter = ap (set lengths (site .segments)) h;
-      }
+pub segment-laid :
+    {site : Site} {segment : PathSegment} {pen : Pen} {b : Buffers} {r : Site} {own : ℕ} {fields′ tables′ : List Float} {l : Float}
+    → own ≡ kindOf segment
+    → fields′ ≡ sets (b .fields) (site .fields) (fieldsOf segment)
+    → tables′ ≡ sets (b .tables) (site .tables) (tableStored segment)
+    → l ≡ lengthAfter (site .length) segment
+    → r ≡ afterOf site segment pen
+    → Laid site (Segment segment pen) b r (buffers (set (b .kinds) (site .segments) own) fields′ tables′ (set (b .lengths) (site .segments) l))
+unfolding kindsOf runningOf nextOf
+segment-laid {site} {segment} {pen} {b} e f g h s =
+    record {
+      siteAfter = s;
+      after =
+          buffers-are (ap (set (b .kinds) (site .segments)) e) (f ∙ ap (sets (b .fields) (site .fields)) (sym (fields-one segment)))
+          (g ∙ ap (sets (b .tables) (site .tables)) (sym (tables-one segment))) (ap (set (b .lengths) (site .segments)) h);
+    }
 
 -- ---- a line, whose numbers are known
 
-module _ (site : Site) (line : LineSegment) (pen : Pen) where
-  pub line-fits : (kinds fields tables lengths : ℕ) → Room site (Segment (Line line) pen) kinds fields tables lengths → site .fields + 4 ≤ fields
-  line-fits kinds fields tables lengths room = fields-fit site (Line line) pen kinds fields tables lengths room
+pub line-fits : {site : Site} {line : LineSegment} {pen : Pen} {b : Buffers} → Room site (Segment (Line line) pen) b → site .fields + 4 ≤ length (b .fields)
+line-fits room = fields-fit room
 
-  no-table : tableStored (Line line) ≡ []
-  unfolding hasTable tablesOf
-  no-table = table-none (Line line) refl
+no-table : (line : LineSegment) → tableStored (Line line) ≡ []
+unfolding hasTable tablesOf
+no-table line = table-none (Line line) refl
 
-  pub line-laid :
-      (kinds : List ℕ) (fields tables lengths fields′ : List Float) (l : Float) (next : Pen)
-      → fields′ ≡ sets fields (site .fields) (fieldsOf (Line line))
-      → l ≡ add binary32 (site .length) (lineLengthOf line)
-      → next ≡ pen
-      → Laid site (Segment (Line line) pen) kinds fields tables lengths (record { pen = next; length = l; segments = site .segments + 1; fields = site .fields + 4; tables = site .tables })
-      (set kinds (site .segments) 0) fields′ tables (set lengths (site .segments) l)
-  unfolding lengthFor afterOf
-  line-laid kinds fields tables lengths fields′ l next f h p =
-      segment-laid site (Line line) pen kinds fields tables lengths _ 0 fields′ tables l refl f (ap (sets tables (site .tables)) (sym no-table)) h (rw (p, h, no-table, add-zero))
+pub line-laid :
+    {site : Site} {line : LineSegment} {pen : Pen} {b : Buffers} {fields′ : List Float} {l : Float} {next : Pen}
+    → fields′ ≡ sets (b .fields) (site .fields) (fieldsOf (Line line))
+    → l ≡ add binary32 (site .length) (lineLengthOf line)
+    → next ≡ pen
+    → Laid site (Segment (Line line) pen) b (record { pen = next; length = l; segments = site .segments + 1; fields = site .fields + 4; tables = site .tables })
+    (buffers (set (b .kinds) (site .segments) 0) fields′ (b .tables) (set (b .lengths) (site .segments) l))
+unfolding lengthFor afterOf
+line-laid {site} {line} {pen} {b} f h p = segment-laid refl f (ap (sets (b .tables) (site .tables)) (sym (no-table line))) h (rw (p, h, no-table line, add-zero))
 
 pub line-drawn : (pen : Pen) (command : PathCommand) (end : Point) → command ≡ LineTo end → pen .placed ≡ true → drawOf pen command ≡ Segment (Line (lineOf (pen .current) end)) (drawnOf pen end)
 unfolding drawOf
@@ -129,20 +127,17 @@ unfolding drawOf
 line-undrawn pen next command end e p n = rw (e, p, n)
 
 -- nothing is stored
-module _ (site : Site) (kinds : List ℕ) (fields tables lengths : List Float) where
-  pub moved-laid : (pen : Pen) (drawn : Drawn) (r : Site) → drawn ≡ Moved pen → r ≡ movedOf site pen → Laid site drawn kinds fields tables lengths r kinds fields tables lengths
-  unfolding kindsOf fieldsOfAll tablesOfAll runningOf nextOf
-  moved-laid pen drawn r e f = rw e (record { siteAfter = f; kindsAfter = refl; fieldsAfter = refl; tablesAfter = refl; lengthsAfter = refl })
+pub moved-laid : {site : Site} {b : Buffers} {pen : Pen} {drawn : Drawn} {r : Site} → drawn ≡ Moved pen → r ≡ movedOf site pen → Laid site drawn b r b
+unfolding kindsOf fieldsOfAll tablesOfAll runningOf nextOf
+moved-laid e f = rw e (record { siteAfter = f; after = refl })
 
-  pub turned-laid : (drawn : Drawn) → drawn ≡ OutOfRange → Laid site drawn kinds fields tables lengths site kinds fields tables lengths
-  unfolding kindsOf fieldsOfAll tablesOfAll runningOf nextOf
-  turned-laid drawn e = rw e (record { siteAfter = refl; kindsAfter = refl; fieldsAfter = refl; tablesAfter = refl; lengthsAfter = refl })
+pub turned-laid : {site : Site} {b : Buffers} {drawn : Drawn} → drawn ≡ OutOfRange → Laid site drawn b site b
+unfolding kindsOf fieldsOfAll tablesOfAll runningOf nextOf
+turned-laid e = rw e (record { siteAfter = refl; after = refl })
 
 -- the same, of a command whose drawing is known
-pub room-at : (site : Site) (drawn drawn′ : Drawn) (kinds fields tables lengths : ℕ) → drawn ≡ drawn′ → Room site drawn kinds fields tables lengths → Room site drawn′ kinds fields tables lengths
-room-at site drawn drawn′ kinds fields tables lengths e room = subst (λ x. Room site x kinds fields tables lengths) e room
+pub room-at : {site : Site} {drawn drawn′ : Drawn} {b : Buffers} → drawn ≡ drawn′ → Room site drawn b → Room site drawn′ b
+room-at {site} {drawn} {drawn′} {b} e room = subst (λ x. Room site x b) e room
 
-pub laid-at :
-    (site : Site) (drawn drawn′ : Drawn) (kinds : List ℕ) (fields tables lengths : List Float) (r : Site) (kinds′ : List ℕ) (fields′ tables′ lengths′ : List Float)
-    → drawn ≡ drawn′ → Laid site drawn′ kinds fields tables lengths r kinds′ fields′ tables′ lengths′ → Laid site drawn kinds fields tables lengths r kinds′ fields′ tables′ lengths′
-laid-at site drawn drawn′ kinds fields tables lengths r kinds′ fields′ tables′ lengths′ e laid = subst (λ x. Laid site x kinds fields tables lengths r kinds′ fields′ tables′ lengths′) (sym e) laid
+pub laid-at : {site : Site} {drawn drawn′ : Drawn} {b : Buffers} {r : Site} {b′ : Buffers} → drawn ≡ drawn′ → Laid site drawn′ b r b′ → Laid site drawn b r b′
+laid-at {site} {drawn} {drawn′} {b} {r} {b′} e laid = subst (λ x. Laid site x b r b′) (sym e) laid

@@ -13,6 +13,8 @@ use Rattle.floats.specs.Floats.{zeroF}
 use Rattle.commands.specs.declared.command.PathCommand.{PathCommand}
 use Rattle.path_segment.specs.Segments.{fieldsOf, lengthFor}
 use Rattle.path_segment.specs.declared.segments.PathSegment.{PathSegment}
+use Rattle.answers.specs.Report.{written}
+use Rattle.path_stored.specs.Buffers.{Buffers, buffers}
 use Rattle.path_stored.specs.Layout.{kindsOf, fieldsOfAll, tableStored, tablesOfAll, runningOf, lengthsOfAll}
 use Rattle.path_drawing.specs.Drawing.{freshOf, drawOf}
 use Rattle.path_drawing.specs.Building.{lengthAfter}
@@ -77,24 +79,33 @@ pub record TableLaid (at : ℕ) (segment : PathSegment) (tables : List Float) (r
   pub lengthTold : r ≡ lengthFor segment
   pub tablesAfter : tables′ ≡ sets tables at (tableStored segment)
 
--- buffers of so many places have room for segments
-pub record Holds (list : List PathSegment) (kinds fields tables lengths : ℕ) : Type 0 where
-  pub kindsFit : length (kindsOf list) ≤ kinds
-  pub fieldsFit : length (fieldsOfAll list) ≤ fields
-  pub tablesFit : length (tablesOfAll list) ≤ tables
-  pub lengthsFit : length (lengthsOfAll list) ≤ lengths
+-- ---- in the buffers
+
+-- a list of segments in place of what stood at each buffer's start
+abbrev pub pathWritten : List PathSegment → Buffers → Buffers
+pathWritten list b = buffers (written (kindsOf list) (b .kinds)) (written (fieldsOfAll list) (b .fields)) (written (tablesOfAll list) (b .tables)) (written (lengthsOfAll list) (b .lengths))
+
+-- and in place of what stood at a site
+abbrev pub laidAt : Site → List PathSegment → Buffers → Buffers
+laidAt site list b =
+    buffers (sets (b .kinds) (site .segments) (kindsOf list)) (sets (b .fields) (site .fields) (fieldsOfAll list)) (sets (b .tables) (site .tables) (tablesOfAll list))
+    (sets (b .lengths) (site .segments) (runningOf (site .length) list))
+
+-- buffers have room for segments
+pub record Holds (list : List PathSegment) (b : Buffers) : Type 0 where
+  pub kindsFit : length (kindsOf list) ≤ length (b .kinds)
+  pub fieldsFit : length (fieldsOfAll list) ≤ length (b .fields)
+  pub tablesFit : length (tablesOfAll list) ≤ length (b .tables)
+  pub lengthsFit : length (lengthsOfAll list) ≤ length (b .lengths)
 
 -- the same for what a command draws at a site
-pub record Room (site : Site) (drawn : Drawn) (kinds fields tables lengths : ℕ) : Type 0 where
-  pub kindsFit : site .segments + length (kindsOf (drawnBy drawn)) ≤ kinds
-  pub fieldsFit : site .fields + length (fieldsOfAll (drawnBy drawn)) ≤ fields
-  pub tablesFit : site .tables + length (tablesOfAll (drawnBy drawn)) ≤ tables
-  pub lengthsFit : site .segments + length (kindsOf (drawnBy drawn)) ≤ lengths
+pub record Room (site : Site) (drawn : Drawn) (b : Buffers) : Type 0 where
+  pub kindsFit : site .segments + length (kindsOf (drawnBy drawn)) ≤ length (b .kinds)
+  pub fieldsFit : site .fields + length (fieldsOfAll (drawnBy drawn)) ≤ length (b .fields)
+  pub tablesFit : site .tables + length (tablesOfAll (drawnBy drawn)) ≤ length (b .tables)
+  pub lengthsFit : site .segments + length (kindsOf (drawnBy drawn)) ≤ length (b .lengths)
 
 -- what a command draws at a site is stored, no other place is touched, and the next site is told
-pub record Laid (site : Site) (drawn : Drawn) (kinds : List ℕ) (fields tables lengths : List Float) (r : Site) (kinds′ : List ℕ) (fields′ tables′ lengths′ : List Float) : Type 0 where
+pub record Laid (site : Site) (drawn : Drawn) (b : Buffers) (r : Site) (b′ : Buffers) : Type 0 where
   pub siteAfter : r ≡ nextOf site drawn
-  pub kindsAfter : kinds′ ≡ sets kinds (site .segments) (kindsOf (drawnBy drawn))
-  pub fieldsAfter : fields′ ≡ sets fields (site .fields) (fieldsOfAll (drawnBy drawn))
-  pub tablesAfter : tables′ ≡ sets tables (site .tables) (tablesOfAll (drawnBy drawn))
-  pub lengthsAfter : lengths′ ≡ sets lengths (site .segments) (runningOf (site .length) (drawnBy drawn))
+  pub after : b′ ≡ laidAt site (drawnBy drawn) b

@@ -2,6 +2,7 @@
 ghost use mathlib.Core.Path.{_≡_};
 ghost use Prim.Native.Nat.{_+_, _≤_};
 ghost use lib.ListN.{length};
+ghost use Rattle.path_stored.specs.Buffers.{after, before, lent};
 ghost use Rattle.path_stored.specs.Layout.{tableStored};
 ghost use Rattle.arc.specs.Lines.{lineOf};
 ghost use Rattle.path_segment.specs.declared.segments.PathSegment.the-variants.{Line};
@@ -114,8 +115,8 @@ fn lay_segment(
     tables: &mut [f32],
     lengths: &mut [f32],
 ) -> Site
-    requires { ⌜ Few site × Room site (Segment segment pen) (length (now kinds)) (length (now fields)) (length (now tables)) (length (now lengths)) ⌝ }
-    ensures { λ r. ⌜ Laid site (Segment segment pen) (now (kinds .entry)) (now (fields .entry)) (now (tables .entry)) (now (lengths .entry)) r (now (kinds .exit)) (now (fields .exit)) (now (tables .exit)) (now (lengths .exit)) ⌝ }
+    requires { ⌜ Few site × Room site (Segment segment pen) (lent kinds fields tables lengths) ⌝ }
+    ensures { λ r. ⌜ Laid site (Segment segment pen) (before kinds fields tables lengths) r (after kinds fields tables lengths) ⌝ }
 {
     let place = site.segments;
     kinds[place] = kind(segment);
@@ -134,8 +135,8 @@ fn lay_line(
     tables: &mut [f32],
     lengths: &mut [f32],
 ) -> Site
-    requires { ⌜ Few site × Room site (Segment (Line (lineOf (site .pen .current) end)) (drawnOf (site .pen) end)) (length (now kinds)) (length (now fields)) (length (now tables)) (length (now lengths)) ⌝ }
-    ensures { λ r. ⌜ Laid site (Segment (Line (lineOf (site .pen .current) end)) (drawnOf (site .pen) end)) (now (kinds .entry)) (now (fields .entry)) (now (tables .entry)) (now (lengths .entry)) r (now (kinds .exit)) (now (fields .exit)) (now (tables .exit)) (now (lengths .exit)) ⌝ }
+    requires { ⌜ Few site × Room site (Segment (Line (lineOf (site .pen .current) end)) (drawnOf (site .pen) end)) (lent kinds fields tables lengths) ⌝ }
+    ensures { λ r. ⌜ Laid site (Segment (Line (lineOf (site .pen .current) end)) (drawnOf (site .pen) end)) (before kinds fields tables lengths) r (after kinds fields tables lengths) ⌝ }
 {
     let pen = site.pen;
     let start = pen.current;
@@ -164,8 +165,8 @@ fn lay_any(
     tables: &mut [f32],
     lengths: &mut [f32],
 ) -> Site
-    requires { ⌜ Few site × Room site (drawOf (site .pen) command) (length (now kinds)) (length (now fields)) (length (now tables)) (length (now lengths)) ⌝ }
-    ensures { λ r. ⌜ Laid site (drawOf (site .pen) command) (now (kinds .entry)) (now (fields .entry)) (now (tables .entry)) (now (lengths .entry)) r (now (kinds .exit)) (now (fields .exit)) (now (tables .exit)) (now (lengths .exit)) ⌝ }
+    requires { ⌜ Few site × Room site (drawOf (site .pen) command) (lent kinds fields tables lengths) ⌝ }
+    ensures { λ r. ⌜ Laid site (drawOf (site .pen) command) (before kinds fields tables lengths) r (after kinds fields tables lengths) ⌝ }
 {
     let pen = site.pen;
     match draw(pen, command) {
@@ -186,8 +187,8 @@ pub fn lay(
     tables: &mut [f32],
     lengths: &mut [f32],
 ) -> Site
-    requires { ⌜ Few site × Room site (drawOf (site .pen) command) (length (now kinds)) (length (now fields)) (length (now tables)) (length (now lengths)) ⌝ }
-    ensures { λ r. ⌜ Laid site (drawOf (site .pen) command) (now (kinds .entry)) (now (fields .entry)) (now (tables .entry)) (now (lengths .entry)) r (now (kinds .exit)) (now (fields .exit)) (now (tables .exit)) (now (lengths .exit)) ⌝ }
+    requires { ⌜ Few site × Room site (drawOf (site .pen) command) (lent kinds fields tables lengths) ⌝ }
+    ensures { λ r. ⌜ Laid site (drawOf (site .pen) command) (before kinds fields tables lengths) r (after kinds fields tables lengths) ⌝ }
 {
     if let PathCommand::LineTo(end) = command {
         let pen = site.pen;

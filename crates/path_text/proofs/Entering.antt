@@ -14,6 +14,7 @@ use Rattle.commands.proofs.ReadBack.{read-back, stored-passes}
 use Rattle.svg.specs.Texts.{Outcome, commands, refusal as unread, commandsOf, measureOf as lengthOf}
 use Rattle.svg.specs.declared.passes.Size.the-variants as Length
 use Rattle.svg.proofs.Texts.{commands-few}
+use Rattle.path_stored.specs.Buffers.{Buffers}
 use Rattle.path_drawing.specs.Building.{refusal, buildOf}
 use Rattle.path_build.specs.Answers.{roomed, measureOf}
 use Rattle.path_build.specs.Paths.{builtBy, lentOf, buildPathOf}
@@ -59,11 +60,8 @@ module _ (text : List ℕ) where
   unfolding buildTextOf
   long lent h = rw (lt-ltb 65536 (length text) h)
 
-  pub too-long :
-      (kinds : List ℕ) (fields tables lengths : List Float) → 65536 < length text
-      → BuildFromText text kinds fields tables lengths (Building.Refused (TooLong (length text))) kinds fields tables lengths
-  too-long kinds fields tables lengths h =
-      refuses kinds fields tables lengths (TooLong (length text)) (TooLong (length text)) (buildTextOf text (lentOf kinds fields tables lengths)) (long (lentOf kinds fields tables lengths) h) refl
+  pub too-long : (b : Buffers) → 65536 < length text → BuildFromText text b (Building.Refused (TooLong (length text))) b
+  too-long b h = refuses (TooLong (length text)) (TooLong (length text)) (long (lentOf b) h) refl
 
   pub short : (lent : Counts) → length text ≤ 65536 → buildTextOf text lent ≡ roomed lent (builtFrom (commandsOf text))
   unfolding buildTextOf

@@ -7,6 +7,7 @@ use lib.Ieee.{Float}
 use lib.ListN.{length, length-append}
 use Rattle.answers.specs.declared.refusals.Refusal.{Refusal}
 use Rattle.commands.specs.declared.command.PathCommand.{PathCommand}
+use Rattle.path_stored.specs.Buffers.{Buffers}
 use Rattle.path_segment.specs.declared.segments.PathSegment.{PathSegment}
 use Rattle.svg_step.specs.Steps.{freshOf, readStepOf}
 use Rattle.svg.specs.Texts.{Outcome, commands, refusal as unread, readFrom, commandsOf}
@@ -47,7 +48,7 @@ pub record Measuring (text : List ℕ) (reader : Reader) (site : Site) : Type 0 
 pub measuring-none : (text : List ℕ) → Measuring text freshOf startOf
 measuring-none text = record { passed = []; known = known-none text; few = omega arith; done = []; drawn = at-none }
 
-module _ (text : List ℕ) (reader : Reader) (site : Site) (k : Measuring text reader site) where
+module _ {text : List ℕ} {reader : Reader} {site : Site} (k : Measuring text reader site) where
   pub measured-all : readStepOf text reader ≡ Done → Size.Counted (site .segments) (site .fields) (site .tables) ≡ measureOf (builtFrom (commandsOf text))
   measured-all e =
       counts-are (k .passed) (k .done) site (builtFrom (commandsOf text)) (k .drawn)
@@ -89,13 +90,13 @@ pub record Surveying (text : List ℕ) (reader : Reader) (tally : Tally) : Type 
 pub surveying-none : (text : List ℕ) → Surveying text freshOf (tallyOf startOf)
 surveying-none text = record { site = startOf; same = refl; calm = calm-start; measuring = measuring-none text }
 
-module _ (text : List ℕ) (reader : Reader) (tally : Tally) (k : Surveying text reader tally) where
+module _ {text : List ℕ} {reader : Reader} {tally : Tally} (k : Surveying text reader tally) where
   pub surveyed-all : readStepOf text reader ≡ Done → Size.Counted (tally .segments) (tally .fields) (tally .tables) ≡ measureOf (builtFrom (commandsOf text))
-  surveyed-all e = counted-at (k .site) tally (measureOf (builtFrom (commandsOf text))) (k .same) (measured-all text reader (k .site) (k .measuring) e)
+  surveyed-all e = counted-at (k .site) tally (measureOf (builtFrom (commandsOf text))) (k .same) (measured-all (k .measuring) e)
 
   module _ (command : PathCommand) (next : Reader) (e : readStepOf text reader ≡ Command command next) (short : length text ≤ 65536) where
     few : Few (k .site)
-    few = measuring-few text reader (k .site) (k .measuring) command next e short
+    few = measuring-few (k .measuring) command next e short
 
     pub surveying-scant : Scant tally
     surveying-scant = scant-at (k .site) tally (k .same) few
@@ -103,7 +104,7 @@ module _ (text : List ℕ) (reader : Reader) (tally : Tally) (k : Surveying text
     pub surveying-more : (further : Tally) → talliedOf tally command ≡ Tallied.To further → Surveying text next further
     surveying-more further a =
         let f = foreseen (k .site) few (k .calm) command further (ap (λ t. talliedOf t command) (k .same) ∙ a) in
-        record { site = f .0; same = f .2; calm = f .3; measuring = measuring-more text reader (k .site) (k .measuring) command next e (f .0) (f .1) }
+        record { site = f .0; same = f .2; calm = f .3; measuring = measuring-more (k .measuring) command next e (f .0) (f .1) }
 
 -- ---- the second pass
 
@@ -112,79 +113,68 @@ built-commands : (outcome : Outcome) (list : List PathSegment) → builtFrom out
 built-commands (commands all) list e = (all, refl, e)
 built-commands (unread reason) list e = let z : _≡_ {A = ℕ} 0 1 = cc in absurd (omega arith)
 
-pub record Storing (text : List ℕ) (reader : Reader) (site : Site) (kinds₀ kinds : List ℕ) (fields₀ fields tables₀ tables lengths₀ lengths : List Float) : Type 0 where
+pub record Storing (text : List ℕ) (reader : Reader) (site : Site) (b₀ b : Buffers) : Type 0 where
   pub passed : List PathCommand
   pub known : Known text reader passed
   pub few : length passed ≤ reader .at
-  pub filling : Filling passed site kinds₀ kinds fields₀ fields tables₀ tables lengths₀ lengths
+  pub filling : Filling passed site b₀ b
 
-pub storing-none : (text kinds : List ℕ) (fields tables lengths : List Float) → Storing text freshOf startOf kinds kinds fields fields tables tables lengths lengths
-storing-none text kinds fields tables lengths = record { passed = []; known = known-none text; few = omega arith; filling = filling-none kinds fields tables lengths }
+pub storing-none : (text : List ℕ) (b : Buffers) → Storing text freshOf startOf b b
+storing-none text b = record { passed = []; known = known-none text; few = omega arith; filling = filling-none b }
 
-module _
-    (text : List ℕ) (reader : Reader) (site : Site) (kinds₀ kinds : List ℕ) (fields₀ fields tables₀ tables lengths₀ lengths : List Float)
-    (k : Storing text reader site kinds₀ kinds fields₀ fields tables₀ tables lengths₀ lengths)
-    (holding : Holding (builtFrom (commandsOf text)) (length kinds₀) (length fields₀) (length tables₀) (length lengths₀))
-  where
-    h : Holdable (builtFrom (commandsOf text)) (length kinds₀) (length fields₀) (length tables₀) (length lengths₀)
-    h = holdable (builtFrom (commandsOf text)) (length kinds₀) (length fields₀) (length tables₀) (length lengths₀) holding
+module _ {text : List ℕ} {reader : Reader} {site : Site} {b₀ b : Buffers} (k : Storing text reader site b₀ b) (holding : Holding (builtFrom (commandsOf text)) b₀) where
+  h : Holdable (builtFrom (commandsOf text)) b₀
+  h = holdable (builtFrom (commandsOf text)) holding
 
-    all : (list : List PathCommand) × (commandsOf text ≡ commands list) × (buildOf list ≡ path (h .list))
-    all = built-commands (commandsOf text) (h .list) (h .is)
+  all : (list : List PathCommand) × (commandsOf text ≡ commands list) × (buildOf list ≡ path (h .list))
+  all = built-commands (commandsOf text) (h .list) (h .is)
 
-    -- what the commands passed and those to come build
-    whole : (done : List PathCommand) (at : Reader) → Known text at done → (rest : List PathCommand) × (buildOf (done ++ rest) ≡ path (h .list))
-    whole done at w =
-        let r = rest-of done (all .0) (readFrom (w .steps) text at) (sym (w .whole) ∙ all .1) in
-        (r .0, ap buildOf (sym (r .1)) ∙ all .2)
+  -- what the commands passed and those to come build
+  whole : (done : List PathCommand) (at : Reader) → Known text at done → (rest : List PathCommand) × (buildOf (done ++ rest) ≡ path (h .list))
+  whole done at w =
+      let r = rest-of done (all .0) (readFrom (w .steps) text at) (sym (w .whole) ∙ all .1) in
+      (r .0, ap buildOf (sym (r .1)) ∙ all .2)
 
-    here : (rest : List PathCommand) × (buildOf (k .passed ++ rest) ≡ path (h .list))
-    here = whole (k .passed) reader (k .known)
+  here : (rest : List PathCommand) × (buildOf (k .passed ++ rest) ≡ path (h .list))
+  here = whole (k .passed) reader (k .known)
 
-    pub stored-kinds : length kinds ≡ length kinds₀
-    stored-kinds = same-kinds (k .passed) site kinds₀ kinds fields₀ fields tables₀ tables lengths₀ lengths (k .filling) (h .list) (h .holds) (here .0) (here .1)
+  pub stored-kinds : length (b .kinds) ≡ length (b₀ .kinds)
+  stored-kinds = same-kinds (k .filling) (h .holds) (here .0) (here .1)
 
-    pub stored-fields : length fields ≡ length fields₀
-    stored-fields = same-fields (k .passed) site kinds₀ kinds fields₀ fields tables₀ tables lengths₀ lengths (k .filling) (h .list) (h .holds) (here .0) (here .1)
+  pub stored-fields : length (b .fields) ≡ length (b₀ .fields)
+  stored-fields = same-fields (k .filling) (h .holds) (here .0) (here .1)
 
-    pub stored-tables : length tables ≡ length tables₀
-    stored-tables = same-tables (k .passed) site kinds₀ kinds fields₀ fields tables₀ tables lengths₀ lengths (k .filling) (h .list) (h .holds) (here .0) (here .1)
+  pub stored-tables : length (b .tables) ≡ length (b₀ .tables)
+  stored-tables = same-tables (k .filling) (h .holds) (here .0) (here .1)
 
-    pub stored-lengths : length lengths ≡ length lengths₀
-    stored-lengths = same-lengths (k .passed) site kinds₀ kinds fields₀ fields tables₀ tables lengths₀ lengths (k .filling) (h .list) (h .holds) (here .0) (here .1)
+  pub stored-lengths : length (b .lengths) ≡ length (b₀ .lengths)
+  stored-lengths = same-lengths (k .filling) (h .holds) (here .0) (here .1)
 
-    -- a text that builds is read to its end
-    pub storing-unread : (reason : Refusal) → readStepOf text reader ≡ StepRefused reason → ⊥
-    storing-unread reason e =
-        let f = sym (known-refused text reader (k .passed) (k .known) reason e) ∙ all .1 in
-        let z : _≡_ {A = ℕ} 0 1 = cc in omega arith
+  -- a text that builds is read to its end
+  pub storing-unread : (reason : Refusal) → readStepOf text reader ≡ StepRefused reason → ⊥
+  storing-unread reason e =
+      let f = sym (known-refused text reader (k .passed) (k .known) reason e) ∙ all .1 in
+      let z : _≡_ {A = ℕ} 0 1 = cc in omega arith
 
-    pub stored-all : readStepOf text reader ≡ Done → Filled (builtFrom (commandsOf text)) kinds₀ fields₀ tables₀ lengths₀ kinds fields tables lengths
-    stored-all e =
-        filled-is (builtFrom (commandsOf text)) (h .list) (k .passed) site kinds₀ kinds fields₀ fields tables₀ tables lengths₀ lengths (k .filling)
-        (ap builtFrom (known-all text reader (k .passed) (k .known) e))
+  pub stored-all : readStepOf text reader ≡ Done → Filled (builtFrom (commandsOf text)) b₀ b
+  stored-all e = filled-is (k .filling) (ap builtFrom (known-all text reader (k .passed) (k .known) e))
 
-    module _ (command : PathCommand) (next : Reader) (e : readStepOf text reader ≡ Command command next) where
-      ahead : (rest : List PathCommand) × (buildOf ((k .passed ++ (command ∷ [])) ++ rest) ≡ path (h .list))
-      ahead = whole (k .passed ++ (command ∷ [])) next (known-more text reader (k .passed) (k .known) command next e)
+  module _ (command : PathCommand) (next : Reader) (e : readStepOf text reader ≡ Command command next) where
+    ahead : (rest : List PathCommand) × (buildOf ((k .passed ++ (command ∷ [])) ++ rest) ≡ path (h .list))
+    ahead = whole (k .passed ++ (command ∷ [])) next (known-more text reader (k .passed) (k .known) command next e)
 
-      -- what `lay` asks
-      pub storing-room : length text ≤ 65536 → Few site × Room site (drawOf (site .pen) command) (length kinds) (length fields) (length tables) (length lengths)
-      storing-room few = (
-        at-few (k .passed) (k .filling .done) site (k .filling .known) (omega (arith, step-ahead text reader next command e, k .few)),
-        roomed (k .passed) site kinds₀ kinds fields₀ fields tables₀ tables lengths₀ lengths (k .filling) (h .list) (h .holds) command (ahead .0) (ahead .1),
-      )
+    -- what `lay` asks
+    pub storing-room : length text ≤ 65536 → Few site × Room site (drawOf (site .pen) command) b
+    storing-room few = (
+      at-few (k .passed) (k .filling .done) site (k .filling .known) (omega (arith, step-ahead text reader next command e, k .few)),
+      roomed (k .filling) (h .holds) command (ahead .0) (ahead .1),
+    )
 
-      pub storing-more :
-          (further : Site) (kinds′ : List ℕ) (fields′ tables′ lengths′ : List Float)
-          → Laid site (drawOf (site .pen) command) kinds fields tables lengths further kinds′ fields′ tables′ lengths′
-          → Storing text next further kinds₀ kinds′ fields₀ fields′ tables₀ tables′ lengths₀ lengths′
-      storing-more further kinds′ fields′ tables′ lengths′ laid =
-          record {
-            passed = k .passed ++ (command ∷ []);
-            known = known-more text reader (k .passed) (k .known) command next e;
-            few = omega (arith, length-append (k .passed) (command ∷ []), step-ahead text reader next command e, k .few);
-            filling =
-                filling-more (k .passed) site kinds₀ kinds fields₀ fields tables₀ tables lengths₀ lengths (k .filling) (h .list) (h .holds) command (ahead .0) (ahead .1)
-                further kinds′ fields′ tables′ lengths′ laid;
-          }
+    pub storing-more : {further : Site} {b′ : Buffers} → Laid site (drawOf (site .pen) command) b further b′ → Storing text next further b₀ b′
+    storing-more laid =
+        record {
+          passed = k .passed ++ (command ∷ []);
+          known = known-more text reader (k .passed) (k .known) command next e;
+          few = omega (arith, length-append (k .passed) (command ∷ []), step-ahead text reader next command e, k .few);
+          filling = filling-more (k .filling) (h .holds) command (ahead .0) (ahead .1) laid;
+        }

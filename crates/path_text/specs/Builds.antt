@@ -10,6 +10,7 @@ use lib.ListN.{length}
 use Rattle.answers.specs.declared.refusals.Refusal.the-variants.{TooLong}
 use Rattle.commands.specs.declared.command.PathCommand.{PathCommand}
 use Rattle.svg.specs.Texts.{Outcome, commands, refusal as unread, commandsOf}
+use Rattle.path_stored.specs.Buffers.{Buffers}
 use Rattle.path_drawing.specs.Building.{Built, refusal, buildOf}
 use Rattle.path_build.specs.Answers.{roomed, Answers, measureOf}
 use Rattle.path_build.specs.Paths.{lentOf}
@@ -29,9 +30,8 @@ unfoldable pub buildTextOf : List ℕ → Counts → Built
 buildTextOf text lent = cond (ltb 65536 (length text)) (refusal (TooLong (length text))) (roomed lent (builtFrom (commandsOf text)))
 
 -- the entry's one record of equations
-abbrev pub BuildFromText : List ℕ → List ℕ → List Float → List Float → List Float → Building → List ℕ → List Float → List Float → List Float → Type 0
-BuildFromText text kinds fields tables lengths r kinds′ fields′ tables′ lengths′ =
-    Answers (buildTextOf text (lentOf kinds fields tables lengths)) kinds fields tables lengths r kinds′ fields′ tables′ lengths′
+abbrev pub BuildFromText : List ℕ → Buffers → Building → Buffers → Type 0
+BuildFromText text b r b′ = Answers (buildTextOf text (lentOf b)) b r b′
 
 -- what a first pass that stops at the first refusal of either kind finds; one of building may have one of reading after it
 abbrev pub Finds : List ℕ → Found → Type 0

@@ -3,6 +3,7 @@ ghost use mathlib.Core.Path.{_≡_};
 ghost use Prim.Native.Nat.{_≤_};
 ghost use lib.ListN.{length};
 ghost use Rattle.svg.specs.Texts.{commandsOf};
+ghost use Rattle.path_stored.specs.Buffers.{after, before};
 ghost use Rattle.path_build.specs.Answers.{measureOf};
 ghost use Rattle.path_text.specs.Builds.{builtFrom, BuildFromText};
 use crate::texts::Found;
@@ -58,7 +59,7 @@ pub fn build_from_text(
     tables: &mut [f32],
     lengths: &mut [f32],
 ) -> Building
-    ensures { λ r. ⌜ BuildFromText (now (text .entry)) (now (kinds .entry)) (now (fields .entry)) (now (tables .entry)) (now (lengths .entry)) r (now (kinds .exit)) (now (fields .exit)) (now (tables .exit)) (now (lengths .exit)) ⌝ }
+    ensures { λ r. ⌜ BuildFromText (now (text .entry)) (before kinds fields tables lengths) r (after kinds fields tables lengths) ⌝ }
 {
     let size = text.len();
     if 65536 < size {

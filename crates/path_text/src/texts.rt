@@ -3,6 +3,7 @@ ghost use mathlib.Core.Path.{_≡_};
 ghost use Prim.Native.Nat.{_≤_};
 ghost use lib.ListN.{length};
 ghost use Rattle.svg.specs.Texts.{commandsOf};
+ghost use Rattle.path_stored.specs.Buffers.{after, before, lent};
 ghost use Rattle.path_build.specs.Answers.{Foretells, Holding, Filled};
 ghost use Rattle.path_text.specs.Builds.{builtFrom, Finds};
 use answers::Refusal;
@@ -127,8 +128,8 @@ pub(crate) fn fill(
     tables: &mut [f32],
     lengths: &mut [f32],
 )
-    requires { ⌜ (length (now text) ≤ 65536) × Holding (builtFrom (commandsOf (now text))) (length (now kinds)) (length (now fields)) (length (now tables)) (length (now lengths)) ⌝ }
-    ensures { λ _. ⌜ Filled (builtFrom (commandsOf (now (text .entry)))) (now (kinds .entry)) (now (fields .entry)) (now (tables .entry)) (now (lengths .entry)) (now (kinds .exit)) (now (fields .exit)) (now (tables .exit)) (now (lengths .exit)) ⌝ }
+    requires { ⌜ (length (now text) ≤ 65536) × Holding (builtFrom (commandsOf (now text))) (lent kinds fields tables lengths) ⌝ }
+    ensures { λ _. ⌜ Filled (builtFrom (commandsOf (now (text .entry)))) (before kinds fields tables lengths) (after kinds fields tables lengths) ⌝ }
 {
     let mut reader = fresh();
     let mut site = start();

@@ -15,7 +15,7 @@ use Rattle.commands.specs.Stored.{lettersOf, numbersOf}
 use Rattle.commands.specs.declared.command.PathCommand.{PathCommand}
 use Rattle.svg.specs.Texts.{Outcome, commands, refusal as unread, Room, Filled}
 use Rattle.path_segment.specs.declared.segments.PathSegment.{PathSegment}
-use Rattle.path_stored.specs.Buffers.{buffers}
+use Rattle.path_stored.specs.Buffers.{Buffers, buffers}
 use Rattle.path_stored.specs.Layout.{kindsOf, fieldsOfAll, tablesOfAll, lengthsOfAll, laidOut}
 use Rattle.path_stored.specs.Stored.{Stored}
 use Rattle.path_stored.proofs.Rule.{stored-rule}
@@ -88,7 +88,7 @@ lent-of (unread reason) places held k letters numbers letters′ numbers′ f = 
 
 lent-as :
     (kinds : List ℕ) (fields tables lengths : List Float) → 256 ≡ length kinds → 2816 ≡ length fields → 8448 ≡ length tables → 256 ≡ length lengths
-    → lentOf kinds fields tables lengths ≡ lent
+    → lentOf (buffers kinds fields tables lengths) ≡ lent
 lent-as kinds fields tables lengths a b c d = rw (sym a, sym b, sym c, sym d) refl
 
 -- the path that four buffers hold
@@ -116,10 +116,10 @@ module _ (o : Outcome) (letters : List ℕ) (numbers : List Float) (k : Lent o l
 
   module _
       (kinds : List ℕ) (fields tables lengths : List Float) (r : Building) (kinds′ : List ℕ) (fields′ tables′ lengths′ : List Float)
-      (a : Answers (buildPathOf letters numbers (lentOf kinds fields tables lengths)) kinds fields tables lengths r kinds′ fields′ tables′ lengths′)
+      (a : Answers (buildPathOf letters numbers (lentOf (buffers kinds fields tables lengths))) (buffers kinds fields tables lengths) r (buffers kinds′ fields′ tables′ lengths′))
       (all-kinds : 256 ≡ length kinds) (all-fields : 2816 ≡ length fields) (all-tables : 8448 ≡ length tables) (all-lengths : 256 ≡ length lengths) where
-    built-in : buildPathOf letters numbers (lentOf kinds fields tables lengths) ≡ buildOf (k .list)
-    built-in = lent-built (lentOf kinds fields tables lengths) (lent-as kinds fields tables lengths all-kinds all-fields all-tables all-lengths)
+    built-in : buildPathOf letters numbers (lentOf (buffers kinds fields tables lengths)) ≡ buildOf (k .list)
+    built-in = lent-built (lentOf (buffers kinds fields tables lengths)) (lent-as kinds fields tables lengths all-kinds all-fields all-tables all-lengths)
 
     answer-as : (s : Building) → r ≡ s → answerOf s ≡ answered (buildOf (k .list))
     answer-as s e = ap answerOf (sym e) ∙ a .answer ∙ ap answered built-in
@@ -137,7 +137,7 @@ module _ (o : Outcome) (letters : List ℕ) (numbers : List Float) (k : Lent o l
       built-here : BuiltAs s f t (buildOf (k .list))
       built-here = told-built s f t (buildOf (k .list)) (answer-as (Done s f t) e)
 
-      wrote : segmentsWritten (buildPathOf letters numbers (lentOf kinds fields tables lengths)) ≡ built-here .list
+      wrote : segmentsWritten (buildPathOf letters numbers (lentOf (buffers kinds fields tables lengths))) ≡ built-here .list
       wrote = ap segmentsWritten (built-in ∙ built-here .is)
 
       pub flight : Flight (k .list) (take s kinds′) (take f fields′) (take t tables′) (take s lengths′)
@@ -146,10 +146,10 @@ module _ (o : Outcome) (letters : List ℕ) (numbers : List Float) (k : Lent o l
           record {
             list = b .list;
             is = b .is;
-            own = take-written (kindsOf (b .list)) kinds kinds′ s (a .kindsAfter ∙ ap (λ (l : List PathSegment). written (kindsOf l) kinds) wrote) (b .kinds);
-            numbers = take-written (fieldsOfAll (b .list)) fields fields′ f (a .fieldsAfter ∙ ap (λ (l : List PathSegment). written (fieldsOfAll l) fields) wrote) (b .numbers);
-            entries = take-written (tablesOfAll (b .list)) tables tables′ t (a .tablesAfter ∙ ap (λ (l : List PathSegment). written (tablesOfAll l) tables) wrote) (b .entries);
-            running = take-written (lengthsOfAll (b .list)) lengths lengths′ s (a .lengthsAfter ∙ ap (λ (l : List PathSegment). written (lengthsOfAll l) lengths) wrote) (b .running);
+            own = take-written (kindsOf (b .list)) kinds kinds′ s (ap (λ (b : Buffers). b .kinds) (a .after) ∙ ap (λ (l : List PathSegment). written (kindsOf l) kinds) wrote) (b .kinds);
+            numbers = take-written (fieldsOfAll (b .list)) fields fields′ f (ap (λ (b : Buffers). b .fields) (a .after) ∙ ap (λ (l : List PathSegment). written (fieldsOfAll l) fields) wrote) (b .numbers);
+            entries = take-written (tablesOfAll (b .list)) tables tables′ t (ap (λ (b : Buffers). b .tables) (a .after) ∙ ap (λ (l : List PathSegment). written (tablesOfAll l) tables) wrote) (b .entries);
+            running = take-written (lengthsOfAll (b .list)) lengths lengths′ s (ap (λ (b : Buffers). b .lengths) (a .after) ∙ ap (λ (l : List PathSegment). written (lengthsOfAll l) lengths) wrote) (b .running);
           }
 
       pub kinds-held : s ≤ 256

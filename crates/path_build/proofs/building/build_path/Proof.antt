@@ -5,7 +5,7 @@ use Rattle.path_build.proofs.building.build_path.Statement.{statement}
 use Rattle.path_build.proofs.building.build_path.Tie as tie
 
 returns : tie.Need-returns
-returns c = not-entered _ _ _ _ _ _ _ _ (c .before .refusal .given .1) (c .before .before .before .check-commands .ensures)
+returns c = not-entered _ _ _ _ _ (c .before .refusal .given .1) (c .before .before .before .check-commands .ensures)
 
 build-listed-requires : tie.Need-build-listed-requires
 build-listed-requires c κs = well-formed _ _ _ (c .before .before .before .before .enum-told .given .1) (c .before .before .before .before .before .before .check-commands .ensures)

@@ -15,32 +15,66 @@ Inv-loop letters numbers count site₀ place₀ at₀ site place at = Measuring 
 abbrev μ-loop : tie.MeasureT-loop
 μ-loop letters numbers count site₀ place₀ at₀ site place at = length letters - place
 
+-- ---- the points of the code that the answers look back to
+abbrev start : tie.At-loop Inv-loop μ-loop → tie.Start Inv-loop μ-loop
+start l = l .before .before .before .before
+
+abbrev told : tie.After-width Inv-loop μ-loop → tie.After-command Inv-loop μ-loop
+told c = c .before .before .before .before .before .before
+
+abbrev decoded : tie.After-command Inv-loop μ-loop → tie.After-decode Inv-loop μ-loop
+decoded c = c .before .before
+
+abbrev looped : tie.After-decode Inv-loop μ-loop → tie.At-loop Inv-loop μ-loop
+looped c = c .before .before .before
+
+-- ---- the answers
 loop-holds : tie.Need-loop-holds Inv-loop μ-loop
 loop-holds c = rw (c .start .ensures) (measuring-none _ _ (c .before .before .before .pre))
 
 decode-requires : tie.Need-decode-requires Inv-loop μ-loop
-decode-requires c κs = measuring-inside _ _ (c .before .before .loop .site) (c .before .before .loop .place) (c .before .before .loop .at) (c .before .before .loop .inv)
+decode-requires c κs = measuring-inside (c .before .before .loop .inv)
 
 returns : tie.Need-returns Inv-loop μ-loop
-returns c = absurd (measuring-bad _ _ (c .before .before .before .before .before .loop .site) (c .before .before .before .before .before .loop .place) (c .before .before .before .before .before .loop .at) (c .before .before .before .before .before .loop .inv) (c .before .before .before .before .loop-test .taken) (sym (c .before .before .decode .ensures) ∙ c .enum-told .given .1))
+returns c =
+    let d = c .before .before in
+    absurd (measuring-bad (looped d .loop .inv) (d .before .before .loop-test .taken) (sym (d .decode .ensures) ∙ c .enum-told .given .1))
 
 advance-requires : tie.Need-advance-requires Inv-loop μ-loop
-advance-requires c κs = measuring-few _ _ (c .before .before .before .before .before .before .loop .site) (c .before .before .before .before .before .before .loop .place) (c .before .before .before .before .before .before .loop .at) (c .before .before .before .before .before .before .loop .inv) (c .before .before .before .before .before .loop-test .taken) (c .before .before .before .before .before .before .before .before .before .before .pre)
+advance-requires c κs =
+    let d = decoded (c .before) in
+    let l = looped d in
+    measuring-few (l .loop .inv) (d .before .before .loop-test .taken) (start l .pre)
 
 returns-2 : tie.Need-returns-2 Inv-loop μ-loop
-returns-2 c = measured-refused _ _ (c .before .before .before .before .before .before .before .before .before .before .loop .site) (c .before .before .before .before .before .before .before .before .before .before .loop .place) (c .before .before .before .before .before .before .before .before .before .before .loop .at) (c .before .before .before .before .before .before .before .before .before .before .loop .inv) (c .before .before .before .before .before .before .before .before .before .loop-test .taken) _ (sym (c .before .before .before .before .before .before .before .decode .ensures) ∙ c .before .before .before .before .before .command .given .1) _ (sym (c .before .before .before .advance .ensures) ∙ c .before .refusal .given .1)
+returns-2 c =
+    let advanced = c .before .before .before in
+    let t = advanced .before .before in
+    let d = decoded t in
+    measured-refused (looped d .loop .inv) (d .before .before .loop-test .taken) _ (sym (d .decode .ensures) ∙ t .command .given .1) _
+    (sym (advanced .advance .ensures) ∙ c .before .refusal .given .1)
 
 add-at : tie.Need-add-at Inv-loop μ-loop
-add-at c = let a = c .before .before .before .before .before .before .before .before .before .before .before .before .before .before .before .args in omega (arith, measuring-fits (a .letters .now) (a .numbers .now) (c .before .before .before .before .before .before .before .before .before .before .before .loop .site) (c .before .before .before .before .before .before .before .before .before .before .before .loop .place) (c .before .before .before .before .before .before .before .before .before .before .before .loop .at) (c .before .before .before .before .before .before .before .before .before .before .before .loop .inv) (c .before .before .before .before .before .before .before .before .before .before .loop-test .taken) (c .before .before .before .before .before .before .command .given .0 .0) (sym (c .before .before .before .before .before .before .before .before .decode .ensures) ∙ c .before .before .before .before .before .before .command .given .1), c .width .ensures, c .before .before .before .before .before .before .before .before .before .before .before .before .before .before .before)
+add-at c =
+    let t = told c in
+    let d = decoded t in
+    let l = looped d in
+    let fits = measuring-fits (l .loop .inv) (d .before .before .loop-test .taken) (t .command .given .0 .0) (sym (d .decode .ensures) ∙ t .command .given .1) in
+    omega (arith, fits, c .width .ensures, start l)
 
 loop-less : tie.Need-loop-less Inv-loop μ-loop
-loop-less c = omega (arith, c .before .before .before .before .before .before .before .before .before .before .loop-test .taken)
+loop-less c = let d = decoded (told c) in omega (arith, d .before .before .loop-test .taken)
 
 loop-again : tie.Need-loop-again Inv-loop μ-loop
-loop-again c = measuring-more _ _ (c .before .before .before .before .before .before .before .before .before .before .before .loop .site) (c .before .before .before .before .before .before .before .before .before .before .before .loop .place) (c .before .before .before .before .before .before .before .before .before .before .before .loop .at) (c .before .before .before .before .before .before .before .before .before .before .before .loop .inv) (c .before .before .before .before .before .before .before .before .before .before .loop-test .taken) _ (sym (c .before .before .before .before .before .before .before .before .decode .ensures) ∙ c .before .before .before .before .before .before .command .given .1) _ _ (c .width .ensures) (sym (c .before .before .before .before .advance .ensures) ∙ c .before .before .next .given .1)
+loop-again c =
+    let t = told c in
+    let d = decoded t in
+    let next = c .before .before in
+    measuring-more (looped d .loop .inv) (d .before .before .loop-test .taken) _ (sym (d .decode .ensures) ∙ t .command .given .1) _ _ (c .width .ensures)
+    (sym (next .before .before .advance .ensures) ∙ next .next .given .1)
 
 returns-3 : tie.Need-returns-3 Inv-loop μ-loop
-returns-3 c = measured-all _ _ (c .before .loop .site) (c .before .loop .place) (c .before .loop .at) (c .before .loop .inv) (c .loop-test .left)
+returns-3 c = measured-all (c .before .loop .inv) (c .loop-test .left)
 
 pub judge-spec : {M : Type 1} → statement M
 judge-spec =

@@ -15,35 +15,63 @@ Inv-loop letters numbers size tally₀ place₀ at₀ tally place at = Surveying
 abbrev μ-loop : tie.MeasureT-loop
 μ-loop letters numbers size tally₀ place₀ at₀ tally place at = length letters - place
 
+-- ---- the points of the code that the answers look back to
+abbrev start : tie.At-loop Inv-loop μ-loop → tie.Start Inv-loop μ-loop
+start l = l .before .before .before .before
+
+abbrev told : tie.After-width Inv-loop μ-loop → tie.After-command Inv-loop μ-loop
+told c = c .before .before .before .before .before .before
+
+abbrev decoded : tie.After-command Inv-loop μ-loop → tie.After-decode Inv-loop μ-loop
+decoded c = c .before .before
+
+abbrev looped : tie.After-decode Inv-loop μ-loop → tie.At-loop Inv-loop μ-loop
+looped c = c .before .before .before
+
+-- ---- the answers
 loop-holds : tie.Need-loop-holds Inv-loop μ-loop
 loop-holds c = rw (c .opening .ensures) (surveying-none _ _ (c .before .before .before .pre))
 
 decode-requires : tie.Need-decode-requires Inv-loop μ-loop
-decode-requires c κs = surveying-inside _ _ (c .before .before .loop .tally) (c .before .before .loop .place) (c .before .before .loop .at) (c .before .before .loop .inv)
+decode-requires c κs = surveying-inside (c .before .before .loop .inv)
 
 returns : tie.Need-returns Inv-loop μ-loop
 returns c = tt
 
 count-requires : tie.Need-count-requires Inv-loop μ-loop
-count-requires c κs = surveying-scant _ _ (c .before .before .before .before .before .before .loop .tally) (c .before .before .before .before .before .before .loop .place) (c .before .before .before .before .before .before .loop .at) (c .before .before .before .before .before .before .loop .inv) (c .before .before .before .before .before .loop-test .taken) (c .before .before .before .before .before .before .before .before .before .before .pre)
+count-requires c κs =
+    let d = decoded (c .before) in
+    let l = looped d in
+    surveying-scant (l .loop .inv) (d .before .before .loop-test .taken) (start l .pre)
 
 returns-2 : tie.Need-returns-2 Inv-loop μ-loop
 returns-2 c = tt
 
 add-at : tie.Need-add-at Inv-loop μ-loop
-add-at c = let a = c .before .before .before .before .before .before .before .before .before .before .before .before .before .before .before .args in omega (arith, surveying-fits (a .letters .now) (a .numbers .now) (c .before .before .before .before .before .before .before .before .before .before .before .loop .tally) (c .before .before .before .before .before .before .before .before .before .before .before .loop .place) (c .before .before .before .before .before .before .before .before .before .before .before .loop .at) (c .before .before .before .before .before .before .before .before .before .before .before .loop .inv) (c .before .before .before .before .before .before .before .before .before .before .loop-test .taken) (c .before .before .before .before .before .before .before .before .before .before .before .before .before .before .before .pre) (c .before .before .before .before .before .before .command .given .0 .0) (sym (c .before .before .before .before .before .before .before .before .decode .ensures) ∙ c .before .before .before .before .before .before .command .given .1), c .width .ensures, c .before .before .before .before .before .before .before .before .before .before .before .before .before .before .before)
+add-at c =
+    let t = told c in
+    let d = decoded t in
+    let l = looped d in
+    let fits = surveying-fits (l .loop .inv) (d .before .before .loop-test .taken) (start l .pre) (t .command .given .0 .0) (sym (d .decode .ensures) ∙ t .command .given .1) in
+    omega (arith, fits, c .width .ensures, start l)
 
 add-place : tie.Need-add-place Inv-loop μ-loop
-add-place c = omega (arith, c .before .before .before .before .before .before .before .before .before .before .loop-test .taken, c .before .before .before .before .before .before .before .before .before .before .before .before .before .before .before)
+add-place c = let d = decoded (told c) in omega (arith, d .before .before .loop-test .taken, start (looped d))
 
 loop-less : tie.Need-loop-less Inv-loop μ-loop
-loop-less c = omega (arith, c .before .before .before .before .before .before .before .before .before .before .loop-test .taken)
+loop-less c = let d = decoded (told c) in omega (arith, d .before .before .loop-test .taken)
 
 loop-again : tie.Need-loop-again Inv-loop μ-loop
-loop-again c = surveying-more _ _ (c .before .before .before .before .before .before .before .before .before .before .before .loop .tally) (c .before .before .before .before .before .before .before .before .before .before .before .loop .place) (c .before .before .before .before .before .before .before .before .before .before .before .loop .at) (c .before .before .before .before .before .before .before .before .before .before .before .loop .inv) (c .before .before .before .before .before .before .before .before .before .before .loop-test .taken) (c .before .before .before .before .before .before .before .before .before .before .before .before .before .before .before .pre) _ (sym (c .before .before .before .before .before .before .before .before .decode .ensures) ∙ c .before .before .before .before .before .before .command .given .1) _ _ (c .width .ensures) (sym (c .before .before .before .before .count .ensures) ∙ c .before .before .next .given .1)
+loop-again c =
+    let t = told c in
+    let d = decoded t in
+    let l = looped d in
+    let next = c .before .before in
+    surveying-more (l .loop .inv) (d .before .before .loop-test .taken) (start l .pre) _ (sym (d .decode .ensures) ∙ t .command .given .1) _ _ (c .width .ensures)
+    (sym (next .before .before .count .ensures) ∙ next .next .given .1)
 
 returns-3 : tie.Need-returns-3 Inv-loop μ-loop
-returns-3 c = surveyed-all _ _ (c .before .loop .tally) (c .before .loop .place) (c .before .loop .at) (c .before .loop .inv) (c .loop-test .left)
+returns-3 c = surveyed-all (c .before .loop .inv) (c .loop-test .left)
 
 pub survey-spec : {M : Type 1} → statement M
 survey-spec =

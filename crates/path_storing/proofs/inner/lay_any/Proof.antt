@@ -6,16 +6,23 @@ use Rattle.path_storing.proofs.inner.lay_any.Statement.{statement}
 use Rattle.path_storing.proofs.inner.lay_any.Tie as tie
 
 lay-segment-requires : tie.Need-lay-segment-requires
-lay-segment-requires c κs = (c .before .before .before .before .before .before .before .before .before .before .before .before .before .pre .0, room-at _ _ _ _ _ _ _ (sym (c .before .before .before .before .before .before .before .draw .ensures) ∙ c .before .before .before .before .before .segment .given .1) (c .before .before .before .before .before .before .before .before .before .before .before .before .before .pre .1))
+lay-segment-requires c κs =
+    let segment = c .before .before .before .before .before in
+    let d = segment .before .before in
+    let pre = d .before .before .before .before .before .before .pre in
+    (pre .0, room-at (sym (d .draw .ensures) ∙ segment .segment .given .1) (pre .1))
 
 returns : tie.Need-returns
-returns c = moved-laid _ _ _ _ _ _ _ _ (sym (c .before .before .before .before .draw .ensures) ∙ c .before .before .next .given .1) (c .moved .ensures)
+returns c = moved-laid (sym (c .before .before .before .before .draw .ensures) ∙ c .before .before .next .given .1) (c .moved .ensures)
 
 returns-2 : tie.Need-returns-2
-returns-2 c = laid-at _ _ _ _ _ _ _ _ _ _ _ _ (sym (c .before .before .before .before .before .before .before .before .before .before .before .before .before .before .before .before .draw .ensures) ∙ c .before .before .before .before .before .before .before .before .before .before .before .before .before .before .segment .given .1) (c .before .before .before .before .before .before .before .before .lay-segment .ensures)
+returns-2 c =
+    let laid = c .before .before .before .before .before .before .before .before in
+    let segment = laid .before .before .before .before .before .before in
+    laid-at (sym (segment .before .before .draw .ensures) ∙ segment .segment .given .1) (laid .lay-segment .ensures)
 
 returns-3 : tie.Need-returns-3
-returns-3 c = turned-laid _ _ _ _ _ _ (sym (c .before .before .draw .ensures) ∙ c .enum-told .given .1)
+returns-3 c = turned-laid (sym (c .before .before .draw .ensures) ∙ c .enum-told .given .1)
 
 pub lay-any-spec : {M : Type 1} → statement M
 lay-any-spec =

@@ -8,20 +8,34 @@ use borrow.Author.Needs.{needs}
 use Rattle.path_storing.proofs.inner.lay_line.Statement.{statement}
 use Rattle.path_storing.proofs.inner.lay_line.Tie as tie
 
+-- ---- the points
+abbrev start : tie.After-put-two → tie.Start
+start p = p .before .before .before .before .before .before .before .before
+
+abbrev first : tie.After-put-two2 → tie.After-put-two
+first p = p .before .before .before .before
+
+-- ---- the answers
 slice-write-kinds : tie.Need-slice-write-kinds
-slice-write-kinds c = kind-fits _ _ _ _ _ _ _ (c .before .before .before .before .before .before .pre .1)
+slice-write-kinds c = kind-fits (c .before .before .before .before .before .before .pre .1)
 
 put-two-requires : tie.Need-put-two-requires
-put-two-requires c κs = omega (arith, line-fits _ _ _ _ _ _ _ (c .before .before .before .before .before .before .before .pre .1))
+put-two-requires c κs = omega (arith, line-fits (c .before .before .before .before .before .before .before .pre .1))
 
 put-two-requires-2 : tie.Need-put-two-requires-2
-put-two-requires-2 c κs = omega (arith, line-fits _ _ _ _ _ _ _ (c .before .before .before .before .before .before .before .before .before .before .before .pre .1))
+put-two-requires-2 c κs = omega (arith, line-fits (start (c .before .before .before) .pre .1))
 
 slice-write-lengths : tie.Need-slice-write-lengths
-slice-write-lengths c = length-fits _ _ _ _ _ _ _ (c .before .before .before .before .before .before .before .before .before .before .before .before .before .before .before .before .before .pre .1)
+slice-write-lengths c = length-fits (start (first (c .before .before .before .before .before)) .pre .1)
 
 returns : tie.Need-returns
-returns c = let a = c .before .before .before .before .before .before .before .before .before .before .before .before .before .before .before .before .before .before .args in line-laid _ _ _ _ _ _ _ _ _ _ (four-put (a .fields .now) (a .site .fields) (a .site .pen .current .x) (a .site .pen .current .y) (a .end .x) (a .end .y) (c .before .before .before .before .before .before .before .before .before .before .put-two .last .0) _ (c .before .before .before .before .before .before .before .before .before .before .put-two .ensures) (c .before .before .before .before .before .before .put-two2 .ensures)) (c .before .tidy .ensures ∙ ap (add binary32 _) (c .before .before .before .line-length .ensures)) (c .drawn .ensures)
+returns c =
+    let two = c .before .before .before .before .before .before in
+    let one = first two in
+    let a = start one .args in
+    let from = a .site .pen .current in
+    let put = four-put (a .fields .now) (a .site .fields) (from .x) (from .y) (a .end .x) (a .end .y) (one .put-two .last .0) _ (one .put-two .ensures) (two .put-two2 .ensures) in
+    line-laid put (c .before .tidy .ensures ∙ ap (add binary32 _) (c .before .before .before .line-length .ensures)) (c .drawn .ensures)
 
 pub lay-line-spec : {M : Type 1} → statement M
 lay-line-spec =

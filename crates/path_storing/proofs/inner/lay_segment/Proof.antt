@@ -1,28 +1,47 @@
 -- `path_storing::inner::lay_segment` meets its contract: four stores, each in its buffer. Assumes nothing.
 use borrow.Author.Needs.{needs}
-use mathlib.Core.Path.{sym, ap, _∙_}
+use mathlib.Core.Path.{_≡_, ap, _∙_}
 use lib.Ieee.{binary32, add}
+use Rattle.path_drawing.specs.Building.{lengthAfter}
 use Rattle.path_storing.proofs.Judged.{kind-fits, fields-fit, table-fits, length-fits, segment-laid}
 use Rattle.path_storing.proofs.inner.lay_segment.Statement.{statement}
 use Rattle.path_storing.proofs.inner.lay_segment.Tie as tie
 
+-- ---- the points
+abbrev start : tie.After-put-segment → tie.Start
+start p = p .before .before .before .before .before .before .before
+
+abbrev put : tie.After-lay-table → tie.After-put-segment
+put p = p .before .before .before .before
+
+abbrev table : tie.After-tidy → tie.After-lay-table
+table p = p .before .before .before .before
+
+-- the running length that is stored
+running : (p : tie.After-tidy) → let a = start (put (table p)) .args in p .tidy .result ≡ lengthAfter (a .site .length) (a .segment)
+running p = p .tidy .ensures ∙ ap (add binary32 _) (table p .lay-table .ensures .lengthTold)
+
+-- ---- the answers
 slice-write-kinds : tie.Need-slice-write-kinds
-slice-write-kinds c = kind-fits _ _ _ _ _ _ _ (c .before .before .before .before .before .pre .1)
+slice-write-kinds c = kind-fits (c .before .before .before .before .before .pre .1)
 
 put-segment-requires : tie.Need-put-segment-requires
-put-segment-requires c κs = fields-fit _ _ _ _ _ _ _ (c .before .before .before .before .before .before .pre .1)
+put-segment-requires c κs = fields-fit (c .before .before .before .before .before .before .pre .1)
 
 lay-table-requires : tie.Need-lay-table-requires
-lay-table-requires c κs = table-fits _ _ _ _ _ _ _ (c .before .before .before .before .before .before .before .before .before .before .pre .1)
+lay-table-requires c κs = table-fits (start (c .before .before .before) .pre .1)
 
 slice-write-lengths : tie.Need-slice-write-lengths
-slice-write-lengths c = length-fits _ _ _ _ _ _ _ (c .before .before .before .before .before .before .before .before .before .before .before .before .before .before .before .pre .1)
+slice-write-lengths c = length-fits (start (put (table c)) .pre .1)
 
 after-requires : tie.Need-after-requires
-after-requires c κs = (c .before .before .before .before .before .before .before .before .before .before .before .before .before .before .before .pre .0, c .tidy .ensures ∙ ap (add binary32 _) (c .before .before .before .before .lay-table .ensures .lengthTold))
+after-requires c κs = (start (put (table c)) .pre .0, running c)
 
 returns : tie.Need-returns
-returns c = segment-laid _ _ _ _ _ _ _ _ _ _ _ _ (c .before .before .before .before .before .before .before .before .before .before .before .kind .ensures) (c .before .before .before .before .before .before .before .before .before .put-segment .ensures) (c .before .before .before .before .before .lay-table .ensures .tablesAfter) (c .before .tidy .ensures ∙ ap (add binary32 _) (c .before .before .before .before .before .lay-table .ensures .lengthTold)) (c .after .ensures)
+returns c =
+    let t = table (c .before) in
+    let p = put t in
+    segment-laid (p .before .before .kind .ensures) (p .put-segment .ensures) (t .lay-table .ensures .tablesAfter) (running (c .before)) (c .after .ensures)
 
 pub lay-segment-spec : {M : Type 1} → statement M
 lay-segment-spec =

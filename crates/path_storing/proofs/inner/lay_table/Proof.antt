@@ -9,10 +9,18 @@ use Rattle.path_storing.proofs.inner.lay_table.Statement.{statement}
 use Rattle.path_storing.proofs.inner.lay_table.Tie as tie
 
 put-table-requires : tie.Need-put-table-requires
-put-table-requires c κs = omega (arith, c .before .before .before .before .before .before .pre, table-some (c .before .before .before .before .before .before .args .segment) (sym (ap hasTable (c .before .before .before .before .kind .ensures)) ∙ sym (c .before .before .before .has-table .ensures) ∙ c .before .before .if1 .taken))
+put-table-requires c κs =
+    let asked = c .before .before .before in
+    let start = asked .before .before .before in
+    let curve = sym (ap hasTable (asked .before .kind .ensures)) ∙ sym (asked .has-table .ensures) ∙ c .before .before .if1 .taken in
+    omega (arith, start .pre, table-some (start .args .segment) curve)
 
 returns : tie.Need-returns
-returns c = table-laid _ _ _ _ _ _ (c .before .before .before .before .before .before .before .before .kind .ensures) (c .before .before .before .before .before .before .before .has-table .ensures) _ _ (c .before .before .before .before .before .before .if1 .taken) (c .before .before .before .before .before .segment-table .ensures) (c .before .before .before .put-table .ensures) (c .tidy .ensures)
+returns c =
+    let put = c .before .before .before in
+    let made = put .before .before in
+    let asked = made .before .before in
+    table-laid _ _ _ _ _ _ (asked .before .kind .ensures) (asked .has-table .ensures) _ _ (made .before .if1 .taken) (made .segment-table .ensures) (put .put-table .ensures) (c .tidy .ensures)
 
 returns-2 : tie.Need-returns-2
 returns-2 c = table-absent _ _ _ _ _ _ (c .before .before .before .kind .ensures) (c .before .before .has-table .ensures) (c .before .if1 .left) (c .segment-length .ensures)

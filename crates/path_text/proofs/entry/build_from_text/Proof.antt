@@ -2,24 +2,49 @@
 use borrow.Author.Needs.{needs}
 use mathlib.Core.Path.{sym, _∙_}
 use Rattle.path_build.proofs.Answering.{answers-at, unbuilt, too-short, has-room, built-whole}
+use Rattle.path_stored.specs.Buffers.{lent}
 use Rattle.path_text.proofs.Entering.{too-long, short}
 use Rattle.path_text.proofs.entry.build_from_text.Statement.{statement}
 use Rattle.path_text.proofs.entry.build_from_text.Tie as tie
 
+-- ---- the points
+abbrev sized : tie.After-segments → tie.After-size-of
+sized p = p .before .before
+
+abbrev counted : tie.After-is-short → tie.After-segments
+counted p = p .before .before
+
+-- ---- the answers
 returns : tie.Need-returns
-returns c = too-long _ _ _ _ _ (c .if1 .taken)
+returns c = too-long _ _ (c .if1 .taken)
 
 returns-2 : tie.Need-returns-2
-returns-2 c = answers-at _ _ _ _ _ _ _ _ _ _ _ (short _ _ (c .before .before .before .before .if1 .left)) (unbuilt _ _ _ _ _ _ (sym (c .before .refusal .given .1) ∙ c .before .before .before .size-of .ensures))
+returns-2 c =
+    let m = c .before .before .before in
+    answers-at (short _ _ (m .before .if1 .left)) (unbuilt _ _ _ (sym (c .before .refusal .given .1) ∙ m .size-of .ensures))
 
 returns-3 : tie.Need-returns-3
-returns-3 c = answers-at _ _ _ _ _ _ _ _ _ _ _ (short _ _ (c .before .before .before .before .before .before .if1 .left)) (too-short _ _ _ _ _ _ _ _ (sym (c .before .before .before .segments .given .1) ∙ c .before .before .before .before .before .size-of .ensures) (sym (c .before .is-short .ensures) ∙ c .if2 .taken))
+returns-3 c =
+    let n = counted (c .before) in
+    let m = sized n in
+    answers-at (short _ _ (m .before .if1 .left)) (too-short _ _ (sym (n .segments .given .1) ∙ m .size-of .ensures) (sym (c .before .is-short .ensures) ∙ c .if2 .taken))
 
 fill-requires : tie.Need-fill-requires
-fill-requires c κs = let a = c .before .before .before .before .before .before .before .before .before .before .before .before .before .before .before .before .args in (c .before .before .before .before .before .before .before .before .before .before .if1 .left, has-room (a .kinds .now) (a .fields .now) (a .tables .now) (a .lengths .now) _ _ _ _ (sym (c .before .before .before .before .before .before .before .segments .given .1) ∙ c .before .before .before .before .before .before .before .before .before .size-of .ensures) (sym (c .before .before .before .before .before .is-short .ensures) ∙ c .before .before .before .before .if2 .left))
+fill-requires c κs =
+    let test = c .before .before .before .before in
+    let n = counted (test .before) in
+    let m = sized n in
+    let a = m .before .before .before .before .before .before .before .args in
+    (m .before .if1 .left, has-room (lent (a .kinds) (a .fields) (a .tables) (a .lengths)) _ (sym (n .segments .given .1) ∙ m .size-of .ensures) (sym (test .before .is-short .ensures) ∙ test .if2 .left))
 
 returns-4 : tie.Need-returns-4
-returns-4 c = answers-at _ _ _ _ _ _ _ _ _ _ _ (short _ _ (c .before .before .before .before .before .before .before .before .before .before .before .before .before .before .before .before .before .before .before .if1 .left)) (built-whole _ _ _ _ _ _ _ _ (sym (c .before .before .before .before .before .before .before .before .before .before .before .before .before .before .before .before .segments .given .1) ∙ c .before .before .before .before .before .before .before .before .before .before .before .before .before .before .before .before .before .before .size-of .ensures) _ _ _ _ (sym (c .before .before .before .before .before .before .before .before .before .before .before .before .before .before .is-short .ensures) ∙ c .before .before .before .before .before .before .before .before .before .before .before .before .before .if2 .left) (c .before .before .before .before .before .before .before .before .fill .ensures))
+returns-4 c =
+    let filled = c .before .before .before .before .before .before .before .before in
+    let test = filled .before .before .before .before .before in
+    let n = counted (test .before) in
+    let m = sized n in
+    answers-at (short _ _ (m .before .if1 .left))
+    (built-whole _ _ (sym (n .segments .given .1) ∙ m .size-of .ensures) (sym (test .before .is-short .ensures) ∙ test .if2 .left) (filled .fill .ensures))
 
 pub build-from-text-spec : {M : Type 1} → statement M
 build-from-text-spec =

@@ -16,7 +16,9 @@ returns-3 : tie.Need-returns-3
 returns-3 c = unread-later _ _ (sym (c .before .first .given .1) ∙ c .before .before .before .measure2 .ensures)
 
 returns-4 : tie.Need-returns-4
-returns-4 c = unbuilt-size _ _ _ _ (subst (Finds _) (c .before .before .before .before .refusal2 .given .1) (c .before .before .before .before .before .before .measure .ensures)) (sym (c .enum-told .given .1) ∙ c .before .before .measure2 .ensures)
+returns-4 c =
+    let found = c .before .before .before .before in
+    unbuilt-size _ _ _ _ (subst (Finds _) (found .refusal2 .given .1) (found .before .before .measure .ensures)) (sym (c .enum-told .given .1) ∙ c .before .before .measure2 .ensures)
 
 pub size-of-spec : {M : Type 1} → statement M
 size-of-spec =

@@ -6,57 +6,87 @@ use mathlib.Core.Path.{sym, _∙_}
 use native.Mathlib.Omega.{arith}
 use lib.ListN.{length}
 use Rattle.svg_step.proofs.Ahead.{step-ahead}
+use Rattle.path_stored.specs.Buffers.{buffers}
 use Rattle.path_text.proofs.Steps.{Storing, storing-none, stored-kinds, stored-fields, stored-tables, stored-lengths, storing-unread, stored-all, storing-room, storing-more}
 use Rattle.path_text.proofs.texts.fill.Statement.{statement}
 use Rattle.path_text.proofs.texts.fill.Tie as tie
 
 abbrev Inv-loop : tie.InvT-loop
-Inv-loop text kinds₀ fields₀ tables₀ lengths₀ reader₀ site₀ kinds fields tables lengths reader site = Storing text reader site kinds₀ kinds fields₀ fields tables₀ tables lengths₀ lengths
+Inv-loop text kinds₀ fields₀ tables₀ lengths₀ reader₀ site₀ kinds fields tables lengths reader site =
+    Storing text reader site (buffers kinds₀ fields₀ tables₀ lengths₀) (buffers kinds fields tables lengths)
 
 abbrev μ-loop : tie.MeasureT-loop
 μ-loop text kinds₀ fields₀ tables₀ lengths₀ reader₀ site₀ kinds fields tables lengths reader site = length text - reader .at
 
+-- ---- the points of the code that the answers look back to
+abbrev start : tie.At-loop Inv-loop μ-loop → tie.Start Inv-loop μ-loop
+start l = l .before .before .before .before .before .before .before .before
+
+abbrev told : tie.After-lay Inv-loop μ-loop → tie.After-command Inv-loop μ-loop
+told p = p .before .before .before .before .before .before
+
+abbrev stepped : tie.After-command Inv-loop μ-loop → tie.After-read-step Inv-loop μ-loop
+stepped p = p .before .before
+
+-- ---- the answers
 loop-holds : tie.Need-loop-holds Inv-loop μ-loop
-loop-holds c = rw (c .before .fresh .ensures, c .start .ensures) (storing-none _ _ _ _ _)
+loop-holds c = rw (c .before .fresh .ensures, c .start .ensures) (storing-none _ _)
 
 same-length : tie.Need-same-length Inv-loop μ-loop
-same-length c = stored-kinds _ (c .before .before .before .loop .reader) (c .before .before .before .loop .site) _ (c .before .before .before .loop .kinds) _ (c .before .before .before .loop .fields) _ (c .before .before .before .loop .tables) _ (c .before .before .before .loop .lengths) (c .before .before .before .loop .inv) (c .before .before .before .before .before .before .before .before .before .before .before .pre .1)
+same-length c = let l = c .before .before .before in stored-kinds (l .loop .inv) (start l .pre .1)
 
 same-length-2 : tie.Need-same-length-2 Inv-loop μ-loop
-same-length-2 c = stored-fields _ (c .before .before .before .loop .reader) (c .before .before .before .loop .site) _ (c .before .before .before .loop .kinds) _ (c .before .before .before .loop .fields) _ (c .before .before .before .loop .tables) _ (c .before .before .before .loop .lengths) (c .before .before .before .loop .inv) (c .before .before .before .before .before .before .before .before .before .before .before .pre .1)
+same-length-2 c = let l = c .before .before .before in stored-fields (l .loop .inv) (start l .pre .1)
 
 same-length-3 : tie.Need-same-length-3 Inv-loop μ-loop
-same-length-3 c = stored-tables _ (c .before .before .before .loop .reader) (c .before .before .before .loop .site) _ (c .before .before .before .loop .kinds) _ (c .before .before .before .loop .fields) _ (c .before .before .before .loop .tables) _ (c .before .before .before .loop .lengths) (c .before .before .before .loop .inv) (c .before .before .before .before .before .before .before .before .before .before .before .pre .1)
+same-length-3 c = let l = c .before .before .before in stored-tables (l .loop .inv) (start l .pre .1)
 
 same-length-4 : tie.Need-same-length-4 Inv-loop μ-loop
-same-length-4 c = stored-lengths _ (c .before .before .before .loop .reader) (c .before .before .before .loop .site) _ (c .before .before .before .loop .kinds) _ (c .before .before .before .loop .fields) _ (c .before .before .before .loop .tables) _ (c .before .before .before .loop .lengths) (c .before .before .before .loop .inv) (c .before .before .before .before .before .before .before .before .before .before .before .pre .1)
+same-length-4 c = let l = c .before .before .before in stored-lengths (l .loop .inv) (start l .pre .1)
 
 returns : tie.Need-returns Inv-loop μ-loop
-returns c = stored-all _ (c .before .before .before .loop .reader) (c .before .before .before .loop .site) _ (c .before .before .before .loop .kinds) _ (c .before .before .before .loop .fields) _ (c .before .before .before .loop .tables) _ (c .before .before .before .loop .lengths) (c .before .before .before .loop .inv) (c .before .before .before .before .before .before .before .before .before .before .before .pre .1) (sym (c .before .before .read-step .ensures) ∙ c .enum-told .given .1)
+returns c =
+    let step = c .before .before in
+    let l = step .before in
+    stored-all (l .loop .inv) (start l .pre .1) (sym (step .read-step .ensures) ∙ c .enum-told .given .1)
 
 same-length-5 : tie.Need-same-length-5 Inv-loop μ-loop
-same-length-5 c = stored-kinds _ (c .before .before .before .loop .reader) (c .before .before .before .loop .site) _ (c .before .before .before .loop .kinds) _ (c .before .before .before .loop .fields) _ (c .before .before .before .loop .tables) _ (c .before .before .before .loop .lengths) (c .before .before .before .loop .inv) (c .before .before .before .before .before .before .before .before .before .before .before .pre .1)
+same-length-5 c = let l = c .before .before .before in stored-kinds (l .loop .inv) (start l .pre .1)
 
 same-length-6 : tie.Need-same-length-6 Inv-loop μ-loop
-same-length-6 c = stored-fields _ (c .before .before .before .loop .reader) (c .before .before .before .loop .site) _ (c .before .before .before .loop .kinds) _ (c .before .before .before .loop .fields) _ (c .before .before .before .loop .tables) _ (c .before .before .before .loop .lengths) (c .before .before .before .loop .inv) (c .before .before .before .before .before .before .before .before .before .before .before .pre .1)
+same-length-6 c = let l = c .before .before .before in stored-fields (l .loop .inv) (start l .pre .1)
 
 same-length-7 : tie.Need-same-length-7 Inv-loop μ-loop
-same-length-7 c = stored-tables _ (c .before .before .before .loop .reader) (c .before .before .before .loop .site) _ (c .before .before .before .loop .kinds) _ (c .before .before .before .loop .fields) _ (c .before .before .before .loop .tables) _ (c .before .before .before .loop .lengths) (c .before .before .before .loop .inv) (c .before .before .before .before .before .before .before .before .before .before .before .pre .1)
+same-length-7 c = let l = c .before .before .before in stored-tables (l .loop .inv) (start l .pre .1)
 
 same-length-8 : tie.Need-same-length-8 Inv-loop μ-loop
-same-length-8 c = stored-lengths _ (c .before .before .before .loop .reader) (c .before .before .before .loop .site) _ (c .before .before .before .loop .kinds) _ (c .before .before .before .loop .fields) _ (c .before .before .before .loop .tables) _ (c .before .before .before .loop .lengths) (c .before .before .before .loop .inv) (c .before .before .before .before .before .before .before .before .before .before .before .pre .1)
+same-length-8 c = let l = c .before .before .before in stored-lengths (l .loop .inv) (start l .pre .1)
 
 returns-2 : tie.Need-returns-2 Inv-loop μ-loop
-returns-2 c = absurd (storing-unread _ (c .before .before .before .loop .reader) (c .before .before .before .loop .site) _ (c .before .before .before .loop .kinds) _ (c .before .before .before .loop .fields) _ (c .before .before .before .loop .tables) _ (c .before .before .before .loop .lengths) (c .before .before .before .loop .inv) (c .before .before .before .before .before .before .before .before .before .before .before .pre .1) _ (sym (c .before .before .read-step .ensures) ∙ c .enum-told2 .given .1))
+returns-2 c =
+    let step = c .before .before in
+    let l = step .before in
+    absurd (storing-unread (l .loop .inv) (start l .pre .1) _ (sym (step .read-step .ensures) ∙ c .enum-told2 .given .1))
 
 lay-requires : tie.Need-lay-requires Inv-loop μ-loop
-lay-requires c κs = storing-room _ (c .before .before .before .before .before .before .before .before .loop .reader) (c .before .before .before .before .before .before .before .before .loop .site) _ (c .before .before .before .before .before .before .before .before .loop .kinds) _ (c .before .before .before .before .before .before .before .before .loop .fields) _ (c .before .before .before .before .before .before .before .before .loop .tables) _ (c .before .before .before .before .before .before .before .before .loop .lengths) (c .before .before .before .before .before .before .before .before .loop .inv) (c .before .before .before .before .before .before .before .before .before .before .before .before .before .before .before .before .pre .1) _ _ (sym (c .before .before .before .before .before .before .before .read-step .ensures) ∙ c .before .before .before .before .before .command .given .1) (c .before .before .before .before .before .before .before .before .before .before .before .before .before .before .before .before .pre .0)
+lay-requires c κs =
+    let t = c .before .before .before .before .before in
+    let step = stepped t in
+    let l = step .before in
+    storing-room (l .loop .inv) (start l .pre .1) _ _ (sym (step .read-step .ensures) ∙ t .command .given .1) (start l .pre .0)
 
 loop-less : tie.Need-loop-less Inv-loop μ-loop
-loop-less c = omega (arith, step-ahead _ _ _ _ (sym (c .before .before .before .before .before .before .before .before .before .before .before .before .before .before .before .before .read-step .ensures) ∙ c .before .before .before .before .before .before .before .before .before .before .before .before .before .before .command .given .1))
+loop-less c =
+    let t = told (c .before .before .before .before .before .before .before .before) in
+    omega (arith, step-ahead _ _ _ _ (sym (stepped t .read-step .ensures) ∙ t .command .given .1))
 
 loop-again : tie.Need-loop-again Inv-loop μ-loop
-loop-again c = storing-more _ (c .before .before .before .before .before .before .before .before .before .before .before .before .before .before .before .before .before .loop .reader) (c .before .before .before .before .before .before .before .before .before .before .before .before .before .before .before .before .before .loop .site) _ (c .before .before .before .before .before .before .before .before .before .before .before .before .before .before .before .before .before .loop .kinds) _ (c .before .before .before .before .before .before .before .before .before .before .before .before .before .before .before .before .before .loop .fields) _ (c .before .before .before .before .before .before .before .before .before .before .before .before .before .before .before .before .before .loop .tables) _ (c .before .before .before .before .before .before .before .before .before .before .before .before .before .before .before .before .before .loop .lengths) (c .before .before .before .before .before .before .before .before .before .before .before .before .before .before .before .before .before .loop .inv) (c .before .before .before .before .before .before .before .before .before .before .before .before .before .before .before .before .before .before .before .before .before .before .before .before .before .pre .1) _ _ (sym (c .before .before .before .before .before .before .before .before .before .before .before .before .before .before .before .before .read-step .ensures) ∙ c .before .before .before .before .before .before .before .before .before .before .before .before .before .before .command .given .1) _ _ _ _ _ (c .before .before .before .before .before .before .before .before .lay .ensures)
+loop-again c =
+    let laid = c .before .before .before .before .before .before .before .before in
+    let t = told laid in
+    let step = stepped t in
+    let l = step .before in
+    storing-more (l .loop .inv) (start l .pre .1) _ _ (sym (step .read-step .ensures) ∙ t .command .given .1) (laid .lay .ensures)
 
 pub fill-spec : {M : Type 1} → statement M
 fill-spec =

@@ -20,22 +20,36 @@ loop-holds : tie.Need-loop-holds Inv-loop μ-loop
 loop-holds c = rw (c .before .fresh .ensures, c .start .ensures) (measuring-none _)
 
 returns : tie.Need-returns Inv-loop μ-loop
-returns c = measured-all _ (c .before .before .before .loop .reader) (c .before .before .before .loop .site) (c .before .before .before .loop .inv) (sym (c .before .before .read-step .ensures) ∙ c .enum-told .given .1)
+returns c = let step = c .before .before in measured-all (step .before .loop .inv) (sym (step .read-step .ensures) ∙ c .enum-told .given .1)
 
 returns-2 : tie.Need-returns-2 Inv-loop μ-loop
-returns-2 c = measured-unread _ (c .before .before .before .before .loop .reader) (c .before .before .before .before .loop .site) (c .before .before .before .before .loop .inv) _ (sym (c .before .before .before .read-step .ensures) ∙ c .before .refusal .given .1)
+returns-2 c = let step = c .before .before .before in measured-unread (step .before .loop .inv) _ (sym (step .read-step .ensures) ∙ c .before .refusal .given .1)
 
 advance-requires : tie.Need-advance-requires Inv-loop μ-loop
-advance-requires c κs = measuring-few _ (c .before .before .before .before .loop .reader) (c .before .before .before .before .loop .site) (c .before .before .before .before .loop .inv) _ _ (sym (c .before .before .before .read-step .ensures) ∙ c .before .command .given .1) (c .before .before .before .before .before .before .before .before .pre)
+advance-requires c κs =
+    let t = c .before in
+    let step = t .before .before in
+    let l = step .before in
+    measuring-few (l .loop .inv) _ _ (sym (step .read-step .ensures) ∙ t .command .given .1) (l .before .before .before .before .pre)
 
 returns-3 : tie.Need-returns-3 Inv-loop μ-loop
-returns-3 c = measured-unbuilt _ (c .before .before .before .before .before .before .before .before .loop .reader) (c .before .before .before .before .before .before .before .before .loop .site) (c .before .before .before .before .before .before .before .before .loop .inv) _ _ (sym (c .before .before .before .before .before .before .before .read-step .ensures) ∙ c .before .before .before .before .before .command .given .1) _ (sym (c .before .before .before .advance .ensures) ∙ c .before .refusal2 .given .1)
+returns-3 c =
+    let advanced = c .before .before .before in
+    let t = advanced .before .before in
+    let step = t .before .before in
+    measured-unbuilt (step .before .loop .inv) _ _ (sym (step .read-step .ensures) ∙ t .command .given .1) _ (sym (advanced .advance .ensures) ∙ c .before .refusal2 .given .1)
 
 loop-less : tie.Need-loop-less Inv-loop μ-loop
-loop-less c = omega (arith, step-ahead _ _ _ _ (sym (c .before .before .before .before .before .before .before .read-step .ensures) ∙ c .before .before .before .before .before .command .given .1))
+loop-less c =
+    let t = c .before .before .before .before .before in
+    omega (arith, step-ahead _ _ _ _ (sym (t .before .before .read-step .ensures) ∙ t .command .given .1))
 
 loop-again : tie.Need-loop-again Inv-loop μ-loop
-loop-again c = measuring-more _ (c .before .before .before .before .before .before .before .before .loop .reader) (c .before .before .before .before .before .before .before .before .loop .site) (c .before .before .before .before .before .before .before .before .loop .inv) _ _ (sym (c .before .before .before .before .before .before .before .read-step .ensures) ∙ c .before .before .before .before .before .command .given .1) _ (sym (c .before .before .before .advance .ensures) ∙ c .before .further .given .1)
+loop-again c =
+    let advanced = c .before .before .before in
+    let t = advanced .before .before in
+    let step = t .before .before in
+    measuring-more (step .before .loop .inv) _ _ (sym (step .read-step .ensures) ∙ t .command .given .1) _ (sym (advanced .advance .ensures) ∙ c .before .further .given .1)
 
 pub judge-spec : {M : Type 1} → statement M
 judge-spec =

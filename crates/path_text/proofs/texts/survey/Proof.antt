@@ -20,22 +20,34 @@ loop-holds : tie.Need-loop-holds Inv-loop μ-loop
 loop-holds c = rw (c .before .fresh .ensures, c .opening .ensures) (surveying-none _)
 
 returns : tie.Need-returns Inv-loop μ-loop
-returns c = surveyed-all _ (c .before .before .before .loop .reader) (c .before .before .before .loop .tally) (c .before .before .before .loop .inv) (sym (c .before .before .read-step .ensures) ∙ c .enum-told .given .1)
+returns c = let step = c .before .before in surveyed-all (step .before .loop .inv) (sym (step .read-step .ensures) ∙ c .enum-told .given .1)
 
 returns-2 : tie.Need-returns-2 Inv-loop μ-loop
 returns-2 c = tt
 
 count-requires : tie.Need-count-requires Inv-loop μ-loop
-count-requires c κs = surveying-scant _ (c .before .before .before .before .loop .reader) (c .before .before .before .before .loop .tally) (c .before .before .before .before .loop .inv) _ _ (sym (c .before .before .before .read-step .ensures) ∙ c .before .command .given .1) (c .before .before .before .before .before .before .before .before .pre)
+count-requires c κs =
+    let t = c .before in
+    let step = t .before .before in
+    let l = step .before in
+    surveying-scant (l .loop .inv) _ _ (sym (step .read-step .ensures) ∙ t .command .given .1) (l .before .before .before .before .pre)
 
 returns-3 : tie.Need-returns-3 Inv-loop μ-loop
 returns-3 c = tt
 
 loop-less : tie.Need-loop-less Inv-loop μ-loop
-loop-less c = omega (arith, step-ahead _ _ _ _ (sym (c .before .before .before .before .before .before .before .read-step .ensures) ∙ c .before .before .before .before .before .command .given .1))
+loop-less c =
+    let t = c .before .before .before .before .before in
+    omega (arith, step-ahead _ _ _ _ (sym (t .before .before .read-step .ensures) ∙ t .command .given .1))
 
 loop-again : tie.Need-loop-again Inv-loop μ-loop
-loop-again c = surveying-more _ (c .before .before .before .before .before .before .before .before .loop .reader) (c .before .before .before .before .before .before .before .before .loop .tally) (c .before .before .before .before .before .before .before .before .loop .inv) _ _ (sym (c .before .before .before .before .before .before .before .read-step .ensures) ∙ c .before .before .before .before .before .command .given .1) (c .before .before .before .before .before .before .before .before .before .before .before .before .pre) _ (sym (c .before .before .before .count .ensures) ∙ c .before .further .given .1)
+loop-again c =
+    let counted = c .before .before .before in
+    let t = counted .before .before in
+    let step = t .before .before in
+    let l = step .before in
+    surveying-more (l .loop .inv) _ _ (sym (step .read-step .ensures) ∙ t .command .given .1) (l .before .before .before .before .pre) _
+    (sym (counted .count .ensures) ∙ c .before .further .given .1)
 
 pub survey-spec : {M : Type 1} → statement M
 survey-spec =
