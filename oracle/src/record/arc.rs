@@ -13,7 +13,7 @@ use crate::samples::Stream;
 use crate::table::progress;
 
 // arcs of each kind besides the vectors, and progresses of each segment
-const EACH: usize = 6;
+const EACH: usize = 5;
 const LINES: usize = 6;
 
 // progresses that every segment has, before those drawn
