@@ -24,28 +24,31 @@ same-report {before = before} number values p =
 returns : tie.Need-returns
 returns c =
     let found = c .before .before .before .before .before .before in
+    let a = found .before .before .before .args in
     record {
       answer = accepted (1 ∷ []);
-      judged = subst (λ (v : Verdict). JudgedBy (found .before .before .before .args .edition) (found .before .before .before .args .text .now) (answerOf v)) (c .before .before .before .before .enum-told .given .1) (found .strict .ensures);
+      judged = subst (λ (v : Verdict). JudgedBy (a .edition) (a .text .now) (answerOf v)) (c .before .before .before .before .enum-told .given .1) (found .strict .ensures);
       reported = c .before .before .report .ensures;
     }
 
 returns-2 : tie.Need-returns-2
 returns-2 c =
     let found = c .before .before .before .before .before .before in
+    let a = found .before .before .before .args in
     record {
       answer = accepted (0 ∷ []);
-      judged = subst (λ (v : Verdict). JudgedBy (found .before .before .before .args .edition) (found .before .before .before .args .text .now) (answerOf v)) (c .before .before .before .before .enum-told2 .given .1) (found .strict .ensures);
+      judged = subst (λ (v : Verdict). JudgedBy (a .edition) (a .text .now) (answerOf v)) (c .before .before .before .before .enum-told2 .given .1) (found .strict .ensures);
       reported = c .before .before .report2 .ensures;
     }
 
 returns-3 : tie.Need-returns-3
 returns-3 c =
     let found = c .before .before .before .before .before .before .before .before .before in
+    let a = found .before .before .before .args in
     let refusal = c .before .before .before .before .before .before .before .refusal .given in
     record {
       answer = refused (refusal .0 .0);
-      judged = subst (λ (v : Verdict). JudgedBy (found .before .before .before .args .edition) (found .before .before .before .args .text .now) (answerOf v)) (refusal .1) (found .strict .ensures);
+      judged = subst (λ (v : Verdict). JudgedBy (a .edition) (a .text .now) (answerOf v)) (refusal .1) (found .strict .ensures);
       reported =
           same-report (c .before .before .before .before .before .number .ensures) (c .before .before .before .before .carried .ensures)
           (c .before .before .report3 .ensures);
