@@ -31,7 +31,7 @@ static uint32_t nothing(void) { return 0; }
 #define AS(entry) (top = __builtin_frame_address(0), (__typeof__(&entry))called)
 
 static void number(void) { returned = AS(kihavute_number)(text, size, LENT(answer)); }
-static void strict(void) { returned = AS(kihavute_strict)(text, size, LENT(answer)); }
+static void strict(void) { returned = AS(kihavute_strict)(text, size, KIHAVUTE_SVG_1_1, LENT(answer)); }
 static void reading(void) { returned = AS(kihavute_read)(text, size, LENT(letters), LENT(numbers), LENT(answer)); }
 static void building(void) {
     returned = AS(kihavute_build_text)(text, size, LENT(letters), LENT(fields), LENT(tables), LENT(lengths), LENT(answer));
