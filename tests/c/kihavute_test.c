@@ -542,7 +542,7 @@ static void arcs(void) {
 
     /* the rotation: full turns are taken off, and it stays as it was given; infinity and NaN are 10, unless the arc falls back */
     fresh();
-    answered("a rotation of 3600", kihavute_arc_length(0, 0, 5, 5, 3600, 0, 1, 3, 4, answer, PLACES), 0, 1, (uint64_t[]){0x40A78B2D});
+    answered("a rotation of 3600", kihavute_arc_length(0, 0, 5, 5, 3600, 0, 1, 3, 4, answer, PLACES), 0, 1, (uint64_t[]){0x40A78B2C});
     fresh();
     answered("the next above", kihavute_arc_length(0, 0, 5, 5, past, 0, 1, 3, 4, answer, PLACES), 0, 1, (uint64_t[]){0x40A78B2D});
     fresh();
@@ -1430,7 +1430,7 @@ static void nulls(void) {
         kihavute_stations(NULL, 0, NULL, 0, NULL, 0),
     };
     for (size_t i = 0; i < sizeof found / sizeof *found; i++) same("a null answer", found[i], 255);
-    same("the entries with an answer", sizeof found / sizeof *found, 47);
+    same("the entries with an answer", sizeof found / sizeof *found, 46);
 }
 
 int main(void) {

@@ -51,7 +51,7 @@ static struct entry {
     {"kihavute_number", (function)kihavute_number, number, A_NUMBER, 256, 0, ""},
     {"kihavute_strict", (function)kihavute_strict, strict, A_PATH, 512, 0, ""},
     {"kihavute_read_lean", (function)kihavute_read_lean, reading, A_PATH, 2048, 0, ""},
-    {"kihavute_build_text", (function)kihavute_build_text, building, A_PATH, 2048, 0, ""},
+    {"kihavute_build_text", (function)kihavute_build_text, building, A_PATH, 5 << 10, 0, ""},
     {"kihavute_read", (function)kihavute_read, reading, A_PATH, 24 << 10, 0, ""},
     {"kihavute_stations", (function)kihavute_stations, stations, A_PLAN, 64 << 10, 0, ""},
 };
