@@ -417,6 +417,15 @@ static void splines(void) {
     fresh();
     answered("a table that falls", kihavute_spline_length(straight, 6, entries, 33, answer, PLACES), 12, 0, NULL);
 
+    /* a total of at most 2^-23 counts as nothing: the raw parameter is the progress; above it the lookup answers */
+    float tiny[17] = {0};
+    tiny[16] = kihavute_float(0x34000000);
+    same("a spline of 2^-23", kihavute_spline_flight(leg, 4, tiny, 17, 0.25f, answer, PLACES), 0);
+    same("its raw parameter", answer[5], bits(0.25f));
+    tiny[16] = kihavute_float(0x34000001);
+    same("a spline just above", kihavute_spline_flight(leg, 4, tiny, 17, 0.25f, answer, PLACES), 0);
+    same("its raw parameter", answer[5], bits(0.953125f));
+
     fresh_table();
     answered("one place short", kihavute_spline_table(straight, 6, entries, 32, answer, PLACES), 8, 1, (uint64_t[]){33});
     table_left("one place short", 0);
@@ -927,6 +936,12 @@ static void shapes(void) {
     fresh();
     answered("a line, a short answer", kihavute_resample(line, 6, 5, out, 12, answer, 7), 255, 0, NULL);
     holds("refused, so as it was", out, 12, NULL, 0);
+    fresh();
+    /* at most 2^-23 long: copies of the first point */
+    answered("a line of 2^-23", kihavute_resample((float[]){0, 0, kihavute_float(0x34000000), 0}, 4, 3, out, 12, answer, PLACES), 0, 1, (uint64_t[]){6});
+    same("its end is a copy of its start", bits(out[4]), 0);
+    answered("a line just above", (fresh(), kihavute_resample((float[]){0, 0, kihavute_float(0x34000001), 0}, 4, 3, out, 12, answer, PLACES)), 0, 1, (uint64_t[]){6});
+    same("its end", bits(out[4]), 0x34000001);
     fresh();
     /* its total times 2 is infinite: a target beyond the end picks the last point */
     answered("a line near the largest", kihavute_resample((float[]){0, 0, 2e38f, 0}, 4, 4, out, 12, answer, PLACES), 0, 1, (uint64_t[]){8});
