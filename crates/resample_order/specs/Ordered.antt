@@ -44,12 +44,12 @@ pub record InOrder (points : List Float) (total : Float) (count : ℕ) (output :
   -- the first and the last output are the line's own ends
   pub starts : (output 0 ≡ pointAt points 0) × (chosen 0 ≡ 0)
   pub ends : (output (count - 1) ≡ pointAt points (countOf points - 1)) × (chosen (count - 1) ≡ countOf points - 1)
-  -- "the same holds of the points that resampling picks": the point chosen never goes back,
+  -- "the chosen polyline points never go back as the output index rises" (change request L11),
   pub rises : (i j : ℕ) → i ≤ j → j < count → chosen i ≤ chosen j
   -- nor does the pair of leg and share
   pub order : (i j : ℕ) → i ≤ j → j < count → NoStepBack (chosen i) (share i) (chosen j) (share j)
   -- each output between lies on the leg that ends at the point chosen
   pub between : (i : ℕ) → 1 ≤ i → i < count - 1 → OnLeg points (chosen i) (share i) (output i)
-  -- "the running lengths enclose the target": the one before is below it, its own is not
+  -- the running lengths enclose the target, as in demand 3: "the one before (or 0) is below it, its own is not"
   pub enclosed : (i : ℕ) → 1 ≤ i → i < count - 1 → T (lt (targetAt total (count - 1) i) total)
       → Enclose (at (lengthsOf points) (chosen i - 1)) (at (lengthsOf points) (chosen i)) (targetAt total (count - 1) i)

@@ -42,7 +42,7 @@ splineIsSound points table =
 abbrev pub splineRaw : List Float → Float → Float
 splineRaw table progress = rawOf table (splineTotal table) progress
 
--- `position` and `tangent` at one raw parameter; "A spline's segment is 0, also without points" (change request L4)
+-- `position` and `tangent` at one raw parameter; "segment number (0 for a spline)" (change request L4), also without points
 unfoldable pub splineFlightOf : List Float → List Float → Float → Flight
 splineFlightOf points table progress =
     let raw = splineRaw table progress in
