@@ -121,7 +121,9 @@ fn answered(line: &[u8], at: usize, number: u32, values: Values) -> bool
         Values::Nothing => true,
         Values::One(a) => first == a,
         Values::Two(a, b) => { if first == a { second == b } else { false } }
+        Values::Three(_, _, _) => false,
         Values::Four(_, _, _, _) => false,
+        Values::Five(_, _, _, _, _) => false,
     }
 }
 

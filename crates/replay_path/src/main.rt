@@ -131,7 +131,9 @@ fn carries(values: Values, lines: &[u8], at: usize) -> bool
         Values::Nothing => has(0, 0, 0, lines, at),
         Values::One(a) => has(a, 0, 0, lines, at),
         Values::Two(a, b) => has(a, b, 0, lines, at),
+        Values::Three(_, _, _) => false,
         Values::Four(a, b, c, d) => has(a, b, c, lines, at) & (a == d),
+        Values::Five(_, _, _, _, _) => false,
     }
 }
 

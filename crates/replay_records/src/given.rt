@@ -42,6 +42,8 @@ pub fn first_of(values: Values) -> usize
         Values::Nothing => 0,
         Values::One(a) => a,
         Values::Two(a, _) => a,
+        Values::Three(a, _, _) => a,
         Values::Four(a, _, _, _) => a,
+        Values::Five(a, _, _, _, _) => a,
     }
 }

@@ -96,7 +96,9 @@ fn same_answer(number: u32, values: Values, lines: &[u8], at: usize) -> bool
         Values::Nothing => false,
         Values::One(x) => same & (x == a) & (b == 0),
         Values::Two(x, y) => same & (x == a) & (y == b),
+        Values::Three(_, _, _) => false,
         Values::Four(_, _, _, _) => false,
+        Values::Five(_, _, _, _, _) => false,
     }
 }
 

@@ -67,9 +67,17 @@ pub two-values : (a b : ℕ) → numberField a ++ numberField b ≡ valueFields 
 unfolding valueFields
 two-values a b = ap (λ (l : List ℕ). numberField a ++ l) (one-value b)
 
+pub three-values : (a b c : ℕ) → numberField a ++ (numberField b ++ numberField c) ≡ valueFields (a ∷ b ∷ c ∷ [])
+unfolding valueFields
+three-values a b c = ap (λ (l : List ℕ). numberField a ++ l) (two-values b c)
+
 pub four-values : (a b c d : ℕ) → numberField a ++ (numberField b ++ (numberField c ++ numberField d)) ≡ valueFields (a ∷ b ∷ c ∷ d ∷ [])
 unfolding valueFields
-four-values a b c d = ap (λ (l : List ℕ). numberField a ++ (numberField b ++ l)) (two-values c d)
+four-values a b c d = ap (λ (l : List ℕ). numberField a ++ l) (three-values b c d)
+
+pub five-values : (a b c d e : ℕ) → numberField a ++ (numberField b ++ (numberField c ++ (numberField d ++ numberField e))) ≡ valueFields (a ∷ b ∷ c ∷ d ∷ e ∷ [])
+unfolding valueFields
+five-values a b c d e = ap (λ (l : List ℕ). numberField a ++ l) (four-values b c d e)
 
 -- the numbers of the cases of every refusal but that of a letter
 abbrev others : List ℕ

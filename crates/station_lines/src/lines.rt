@@ -190,8 +190,8 @@ pub fn put_station(
 }
 
 fn put_values(out: &mut [u8], at: usize, values: Values) -> usize
-    requires { ⌜ at + 84 ≤ 65536 ⌝ }
-    ensures { λ r. ⌜ PutWithin 84 (valueFields (listed values)) at (now (out .entry)) (now (out .exit)) r ⌝ }
+    requires { ⌜ at + 105 ≤ 65536 ⌝ }
+    ensures { λ r. ⌜ PutWithin 105 (valueFields (listed values)) at (now (out .entry)) (now (out .exit)) r ⌝ }
 {
     match values {
         Values::Nothing => {
@@ -204,19 +204,31 @@ fn put_values(out: &mut [u8], at: usize, values: Values) -> usize
             let past_a = put_number(out, at, a);
             return put_number(out, past_a, b);
         }
+        Values::Three(a, b, c) => {
+            let past_a = put_number(out, at, a);
+            let past_b = put_number(out, past_a, b);
+            return put_number(out, past_b, c);
+        }
         Values::Four(a, b, c, d) => {
             let past_a = put_number(out, at, a);
             let past_b = put_number(out, past_a, b);
             let past_c = put_number(out, past_b, c);
             return put_number(out, past_c, d);
         }
+        Values::Five(a, b, c, d, e) => {
+            let past_a = put_number(out, at, a);
+            let past_b = put_number(out, past_a, b);
+            let past_c = put_number(out, past_b, c);
+            let past_d = put_number(out, past_c, d);
+            return put_number(out, past_d, e);
+        }
     }
 }
 
 // What a refusal carries: a letter as itself, numbers to the base 10.
 fn put_carried(out: &mut [u8], at: usize, refusal: Refusal) -> usize
-    requires { ⌜ at + 84 ≤ 65536 ⌝ }
-    ensures { λ r. ⌜ PutWithin 84 (carriedFields refusal) at (now (out .entry)) (now (out .exit)) r ⌝ }
+    requires { ⌜ at + 105 ≤ 65536 ⌝ }
+    ensures { λ r. ⌜ PutWithin 105 (carriedFields refusal) at (now (out .entry)) (now (out .exit)) r ⌝ }
 {
     if let Refusal::UnsupportedCommand(letter, place) = refusal {
         let past_space = put_byte(out, at, b' ');
@@ -228,8 +240,8 @@ fn put_carried(out: &mut [u8], at: usize, refusal: Refusal) -> usize
 
 // A refusal: its number and what it carries.
 pub fn put_refusal(out: &mut [u8], at: usize, refusal: Refusal) -> usize
-    requires { ⌜ at + 113 ≤ 65536 ⌝ }
-    ensures { λ r. ⌜ PutWithin 113 (refusalLine refusal) at (now (out .entry)) (now (out .exit)) r ⌝ }
+    requires { ⌜ at + 134 ≤ 65536 ⌝ }
+    ensures { λ r. ⌜ PutWithin 134 (refusalLine refusal) at (now (out .entry)) (now (out .exit)) r ⌝ }
 {
     let past_word = put_word(out, at, b"refused");
     let past_number = put_number(out, past_word, answers::number(refusal) as usize);

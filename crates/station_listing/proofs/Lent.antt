@@ -125,7 +125,7 @@ module _ (o : Outcome) (letters : List ℕ) (numbers : List Float) (k : Lent o l
     answer-as s e = ap answerOf (sym e) ∙ a .answer ∙ ap answered built-in
 
     pub unbuilt :
-        (reason : Refusal) → r ≡ Refused reason → (count : ℕ) (before after : List ℕ) (n : ℕ) → PutWithin 113 (refusalLine reason) 0 before after n
+        (reason : Refusal) → r ≡ Refused reason → (count : ℕ) (before after : List ℕ) (n : ℕ) → PutWithin 134 (refusalLine reason) 0 before after n
         → Told o count before after n
     unbuilt reason e count before after n p =
         let b = told-refused reason (buildOf (k .list)) (answer-as (Refused reason) e) in

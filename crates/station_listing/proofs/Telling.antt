@@ -50,7 +50,7 @@ told-short input before r n h =
 -- ---- the first line
 
 module _ (input before after : List ℕ) (r : ℕ) (line : FirstLine) (e : line ≡ firstLineOf input 0) where
-  pub line-refused : (reason : Refusal) → line ≡ Refused reason → PutWithin 113 (refusalLine reason) 0 before after r → PutWithin 65536 (stationsOf input) 0 before after r
+  pub line-refused : (reason : Refusal) → line ≡ Refused reason → PutWithin 134 (refusalLine reason) 0 before after r → PutWithin 65536 (stationsOf input) 0 before after r
   unfolding stationsOf
   line-refused reason f p = within-as 65536 _ (p .put) (ap (judgedOf input) (sym f ∙ e)) (omega (arith, p .within))
 
@@ -111,17 +111,17 @@ module _ (input : List ℕ) (start count : ℕ) where
 
   module _ (before after : List ℕ) (r : ℕ) where
     pub too-long :
-        4096 < length input - start → PutWithin 113 (refusalLine (TooLong 4097)) 0 before after r
+        4096 < length input - start → PutWithin 134 (refusalLine (TooLong 4097)) 0 before after r
         → PutWithin 65536 (planOf count (drop start input)) 0 before after r
     too-long h p = within-as 65536 _ (p .put) (long-plan h) (omega (arith, p .within))
 
     module _ (h : length input - start ≤ 4096) (size : Size) (e : size ≡ sizeOf (commandsOf (drop start input))) where
-      pub not-read : (reason : Refusal) → size ≡ Unmeasured reason → PutWithin 113 (refusalLine reason) 0 before after r → PutWithin 65536 (planOf count (drop start input)) 0 before after r
+      pub not-read : (reason : Refusal) → size ≡ Unmeasured reason → PutWithin 134 (refusalLine reason) 0 before after r → PutWithin 65536 (planOf count (drop start input)) 0 before after r
       not-read reason f p = within-as 65536 _ (p .put) (unread count _ reason (sym f ∙ e) ∙ read-plan h) (omega (arith, p .within))
 
       module _ (letters numbers : ℕ) (f : size ≡ Counted letters numbers) where
         pub no-room :
-            256 < letters → PutWithin 113 (refusalLine (NoRoom (Two letters numbers))) 0 before after r
+            256 < letters → PutWithin 134 (refusalLine (NoRoom (Two letters numbers))) 0 before after r
             → PutWithin 65536 (planOf count (drop start input)) 0 before after r
         no-room g p = within-as 65536 _ (p .put) (too-many letters numbers count _ (sym f ∙ e) g ∙ read-plan h) (omega (arith, p .within))
 

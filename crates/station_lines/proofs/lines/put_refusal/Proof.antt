@@ -11,7 +11,7 @@ use Rattle.station_lines.proofs.lines.put_refusal.Tie as tie
 returns : tie.Need-returns
 unfolding refusalLine
 returns c =
-    within-as 113 _
+    within-as 134 _
     (put-then (c .before .before .before .before .before .before .before .before .before .before .before .before .before .before .before .put-word .ensures) (within-then (record { put = put-same (c .before .before .before .before .before .before .before .before .before .before .put-number .ensures .put) _ (ap numberField (c .before .before .before .before .before .before .before .before .before .before .before .number .ensures)); within = c .before .before .before .before .before .before .before .before .before .before .put-number .ensures .within }) (within-then (c .before .before .before .before .before .before .put-carried .ensures) (one-byte (c .before .before .put-byte .ensures))) .put))
     refl
     (omega (arith, c .before .before .before .before .before .before .before .before .before .before .before .before .before .before .before .put-word .ensures .past))
