@@ -7,8 +7,10 @@ use lib.Dec.{T}
 use lib.ListN.{length, getD, drop}
 use lib.Ieee.{Float}
 use Rattle.math.specs.declared.points.Point.{Point}
+use Rattle.table.specs.declared.quantities.RawParameter.{RawParameter}
 use Rattle.table.specs.declared.tables.Spot.{Spot}
 use Rattle.table.specs.Spots.{spotOf}
+use Rattle.flight.specs.declared.Found.the-variants.{Segment}
 use Rattle.bezier.specs.Curves.{aheadOf}
 use Rattle.path_segment.specs.declared.segments.PathSegment.{PathSegment}
 use Rattle.path_segment.specs.Segments.{kindOf, widthOf, hasTable, segmentOf}
@@ -70,11 +72,14 @@ module _ {b : Buffers} (s : Stored b) (some : 0 < length (b .kinds)) where
 -- ---- what is worked out
 
 module _ (kinds : List ℕ) (fields tables : List Float) (at : Cursor) (along : Float) where
-  pub flown-is : (segment : PathSegment) (raw : Float) (position tangent : Point) → at ≡ cursorOf kinds (at .segment) → segment ≡ segmentIn kinds fields (at .segment)
-      → raw ≡ rawWithin kinds tables (at .segment) along → position ≡ sampleOf segment raw → tangent ≡ headingOf segment raw (rawIn tables (at .tables) (aheadOf along))
-      → record { position = position; tangent = tangent } ≡ flownWithin kinds fields tables (at .segment) along
+  pub flown-is : (segment : PathSegment) (raw : RawParameter) (position tangent : Point) → at ≡ cursorOf kinds (at .segment) → segment ≡ segmentIn kinds fields (at .segment)
+      → raw .value ≡ rawWithin kinds tables (at .segment) along → position ≡ sampleOf segment (raw .value)
+      → tangent ≡ headingOf segment (raw .value) (rawIn tables (at .tables) (aheadOf along))
+      → record { position = position; tangent = tangent; segment = Segment (at .segment); raw = raw } ≡ flownWithin kinds fields tables (at .segment) along
   unfolding flownWithin
-  flown-is segment raw position tangent own s r p t = rw (p, t, s, r, cursor-tables kinds (at .segment) own)
+  flown-is segment raw position tangent own s r p t =
+      let there : raw ≡ record { value = rawWithin kinds tables (at .segment) along } = ap (λ (x : Float). record { value = x }) r in
+      rw (p, t, s, there, cursor-tables kinds (at .segment) own)
 
 pub flight-is : (b : Buffers) (p : Float) (spot : Spot) (at : Cursor) → spot ≡ spotOf (b .lengths) p → at ≡ cursorOf (b .kinds) (spot .segment)
     → flownWithin (b .kinds) (b .fields) (b .tables) (at .segment) (spot .progress .value) ≡ flownOf b p

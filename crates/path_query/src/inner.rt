@@ -1,5 +1,8 @@
-// The queries without the check, for callers that know the path to be a stored one with a segment.
-use crate::flights::Flown;
+// The query without the check, for callers that know the path to be a stored one.
+use bezier::tidied;
+use flight::Flight;
+use flight::Found;
+use math::Point;
 use path_heading::inner::heading;
 use path_heading::sample;
 use path_place::Cursor;
@@ -10,10 +13,11 @@ use path_segment::PathSegment;
 use path_segment::inner::segment_at;
 use table::Progress;
 use table::inner::spot;
+use table::inner::straight;
 ghost use mathlib.Core.Path.{_≡_};
 ghost use Rattle.path_stored.specs.Buffers.{before, lent};
-ghost use Rattle.path_stored.specs.Stored.{segmentIn};
-ghost use Rattle.path_query.specs.Flights.{Flyable, Seated, flownOf, flownWithin};
+ghost use Rattle.path_stored.specs.Stored.{Stored, segmentIn};
+ghost use Rattle.path_query.specs.Flights.{Flyable, Seated, flightOf, flownOf, flownWithin, nowhereF};
 
 // The segment at which a cursor stands.
 fn segment_here(kinds: &[u8], fields: &[f32], tables: &[f32], at: Cursor) -> PathSegment
@@ -31,25 +35,30 @@ pub fn flown_within(
     tables: &[f32],
     at: Cursor,
     along: Progress,
-) -> Flown
+) -> Flight
     requires { ⌜ Seated (now kinds) (now fields) (now tables) at ⌝ }
     ensures { λ r. ⌜ r ≡ flownWithin (now (kinds .entry)) (now (fields .entry)) (now (tables .entry)) (at .segment) (along .value) ⌝ }
 {
     let segment = segment_here(kinds, fields, tables, at);
     let raw = raw_within(kinds, tables, at, along);
-    let position = sample(segment, raw);
-    let tangent = heading(segment, tables, at.tables, along, raw);
-    Flown { position, tangent }
+    let position = tidied(sample(segment, raw));
+    let tangent = tidied(heading(segment, tables, at.tables, along, raw));
+    Flight {
+        position,
+        tangent,
+        segment: Found::Segment(at.segment),
+        raw,
+    }
 }
 
-// What is flown at a progress.
-pub fn flown(
+// What is flown at a progress along a path with a segment.
+fn flown(
     kinds: &[u8],
     fields: &[f32],
     tables: &[f32],
     lengths: &[f32],
     progress: Progress,
-) -> Flown
+) -> Flight
     requires { ⌜ Flyable (lent kinds fields tables lengths) ⌝ }
     ensures { λ r. ⌜ r ≡ flownOf (before kinds fields tables lengths) (progress .value) ⌝ }
 {
@@ -57,4 +66,35 @@ pub fn flown(
     let along = found.progress;
     let at = forward(kinds, first_cursor(kinds), found.segment);
     flown_within(kinds, fields, tables, at, along)
+}
+
+// What is flown on a path without segments: nothing, at (0, 0), with the raw parameter 0.
+pub fn nowhere() -> Flight
+    ensures { λ r. ⌜ r ≡ nowhereF ⌝ }
+{
+    let origin = Point { x: 0.0, y: 0.0 };
+    let raw = straight(Progress { value: 0.0 });
+    Flight {
+        position: origin,
+        tangent: origin,
+        segment: Found::Nothing,
+        raw,
+    }
+}
+
+// What is flown at a progress.
+pub fn flight(
+    kinds: &[u8],
+    fields: &[f32],
+    tables: &[f32],
+    lengths: &[f32],
+    progress: Progress,
+) -> Flight
+    requires { ⌜ Stored (lent kinds fields tables lengths) ⌝ }
+    ensures { λ r. ⌜ r ≡ flightOf (before kinds fields tables lengths) (progress .value) ⌝ }
+{
+    if kinds.len() == 0 {
+        return nowhere();
+    }
+    flown(kinds, fields, tables, lengths, progress)
 }

@@ -8,7 +8,7 @@ use Rattle.path_query.proofs.queries.rotation_deg.Tie as tie
 
 returns : tie.Need-returns
 unfolding turnedOf
-returns c = rw (sym (c .before .before .before .before .before .before .flight .ensures .0) ∙ c .before .before .before .before .flown .given .1) (ap Turned.Degrees (c .tidy .ensures ∙ c .before .rotation-deg .ensures))
+returns c = rw (sym (c .before .before .before .before .before .before .flight .ensures .0) ∙ c .before .before .before .before .there .given .1) (ap Turned.Degrees (c .tidy .ensures ∙ c .before .rotation-deg .ensures))
 
 returns-2 : tie.Need-returns-2
 unfolding turnedOf
