@@ -1,24 +1,47 @@
 -- The answers of the batches, case by case, with what each leaves in the outputs. Assumes nothing.
 use mathlib.Core.Path.{_≡_, refl, sym, ap, _∙_}
 use Prim.Native.Nat.{ℕ, _*_, _≤_, _<_}
-use native.Mathlib.Omega.{arith}
-use mathlib.Core.Bool.{true, false, _||_, cond}
-use mathlib.Core.List.{List, []}
-use borrow.Author.Tests.{lt-ltb, le-ltb, eq-eqb}
-use lib.Dec.{ltb}
+use mathlib.Core.Bool.{Bool, true, false}
+use mathlib.Core.List.{List}
+use borrow.Author.Tests.{lt-ltb, le-ltb}
 use lib.ListN.{length, replicate}
 use lib.Ieee.{Float}
+use Rattle.answers.specs.declared.refusals.Refusal.{Refusal}
 use Rattle.answers.specs.declared.refusals.Refusal.the-variants.{BadPath, NoRoom}
-use Rattle.answers.specs.declared.refusals.Values.the-variants.{One, Two}
+use Rattle.answers.specs.declared.refusals.Values.{Values}
+use Rattle.answers.specs.declared.refusals.Values.the-variants.{Two, Three}
 use Rattle.answers.specs.Report.{written}
 use Rattle.floats.specs.Floats.{zeroF}
+use Rattle.flight.specs.Flights.{noSegment}
 use Rattle.path_stored.specs.Buffers.{Buffers}
 use Rattle.path_stored.specs.Stored.{isStored}
-use Rattle.path_query.proofs.Answering.{some-kinds}
 use Rattle.path_batch.specs.declared.batches.Batch.{Batch}
 use Rattle.path_batch.specs.declared.batches.Batch.the-variants as Batch
-use Rattle.path_batch.specs.Batches.{segmentsFor, rawsFor, numbersFor, placesOf, positionsOf, givenBy, Places, Positions, FilledPlaces, FilledPositions}
-use Rattle.path_batch.proofs.Filling.{numbers-none}
+use Rattle.path_batch.specs.Batches.{segmentsFor, rawsFor, numbersFor, batchOf, placesOf, flightsOf, givenBy, Places, Flights, FilledPlaces, FilledFlights}
+use Rattle.path_batch.proofs.Filling.{segments-none, raws-none, numbers-none}
+
+-- ---- the answer, by the check and the room
+
+module _ (b : Buffers) (short : Bool) (needs : Values) (count : ℕ) where
+  batch-bad : isStored b ≡ false → batchOf b short needs count ≡ Batch.Refused BadPath
+  unfolding batchOf
+  batch-bad bad = rw bad
+
+  batch-short : isStored b ≡ true → short ≡ true → batchOf b short needs count ≡ Batch.Refused (NoRoom needs)
+  unfolding batchOf
+  batch-short stored e = rw (stored, e)
+
+  batch-filled : isStored b ≡ true → short ≡ false → batchOf b short needs count ≡ Batch.Filled count
+  unfolding batchOf
+  batch-filled stored e = rw (stored, e)
+
+-- what an answer leaves in an output
+left : {A : Type 0} (elements before : List A) {r : Batch} (refusal : Refusal) → r ≡ Batch.Refused refusal → before ≡ written (givenBy r elements) before
+left {A} elements before refusal e = sym (ap (λ (r : Batch). written (givenBy r elements) before) e)
+
+stored-in : {A : Type 0} (elements before : List A) {r : Batch} {after : List A} (count : ℕ) → r ≡ Batch.Filled count → after ≡ written elements before
+    → after ≡ written (givenBy r elements) before
+stored-in {A} elements before count e f = f ∙ sym (ap (λ (r : Batch). written (givenBy r elements) before) e)
 
 -- ---- places
 module _ (b : Buffers) (progresses : List Float) (segments : List ℕ) (raws : List Float) where
@@ -28,83 +51,89 @@ module _ (b : Buffers) (progresses : List Float) (segments : List ℕ) (raws : L
   abbrev is : Batch
   is = placesOf b count (length segments) (length raws)
 
-  -- a refusal, and a path without segments, leave both outputs as they were
-  left : (r : Batch) → givenBy r (segmentsFor b progresses) ≡ [] → givenBy r (rawsFor b progresses) ≡ [] → is ≡ r
-      → Places b progresses segments raws r segments raws
-  left r s w e =
-      record {
-        answer = sym e;
-        segmentsAfter = sym (ap (λ (l : List ℕ). written l segments) (ap (λ (r : Batch). givenBy r (segmentsFor b progresses)) e ∙ s));
-        rawsAfter = sym (ap (λ (l : List Float). written l raws) (ap (λ (r : Batch). givenBy r (rawsFor b progresses)) e ∙ w));
-      }
+  places-left : (refusal : Refusal) → is ≡ Batch.Refused refusal → Places b progresses segments raws (Batch.Refused refusal) segments raws
+  places-left refusal e = record { answer = sym e; segmentsAfter = left (segmentsFor b progresses) segments refusal e; rawsAfter = left (rawsFor b progresses) raws refusal e }
 
   pub places-bad : isStored b ≡ false → Places b progresses segments raws (Batch.Refused BadPath) segments raws
-  unfolding placesOf
-  places-bad bad = left (Batch.Refused BadPath) refl refl (rw bad)
+  places-bad bad = places-left BadPath (batch-bad b _ (Two count count) count bad)
 
   module _ (stored : isStored b ≡ true) where
-    pub places-none : length (b .kinds) ≡ 0 → Places b progresses segments raws Batch.NoSegment segments raws
-    unfolding placesOf
-    places-none none = left Batch.NoSegment refl refl (rw (stored, eq-eqb _ _ none))
+    pub places-short-segments : length segments < count → Places b progresses segments raws (Batch.Refused (NoRoom (Two count count))) segments raws
+    places-short-segments h = places-left (NoRoom (Two count count)) (batch-short b _ (Two count count) count stored (rw (lt-ltb (length segments) count h)))
 
-    some-is : 0 < length (b .kinds) → is ≡ cond (ltb (length segments) count || ltb (length raws) count) (Batch.Refused (NoRoom (Two count count))) (Batch.Filled count)
-    unfolding placesOf
-    some-is some = rw (stored, some-kinds some)
+    pub places-short-raws : count ≤ length segments → length raws < count → Places b progresses segments raws (Batch.Refused (NoRoom (Two count count))) segments raws
+    places-short-raws s h = places-left (NoRoom (Two count count)) (batch-short b _ (Two count count) count stored (rw (le-ltb (length segments) count s, lt-ltb (length raws) count h)))
 
-    pub places-short-segments : 0 < length (b .kinds) → length segments < count → Places b progresses segments raws (Batch.Refused (NoRoom (Two count count))) segments raws
-    places-short-segments some short = left (Batch.Refused (NoRoom (Two count count))) refl refl (some-is some ∙ rw (lt-ltb (length segments) count short))
-
-    pub places-short-raws : 0 < length (b .kinds) → count ≤ length segments → length raws < count
-        → Places b progresses segments raws (Batch.Refused (NoRoom (Two count count))) segments raws
-    places-short-raws some room short = left (Batch.Refused (NoRoom (Two count count))) refl refl (some-is some ∙ rw (le-ltb (length segments) count room, lt-ltb (length raws) count short))
-
-    pub places-filled : (segments′ : List ℕ) (raws′ : List Float) → 0 < length (b .kinds) → count ≤ length segments → count ≤ length raws
+    pub places-filled : (segments′ : List ℕ) (raws′ : List Float) → count ≤ length segments → count ≤ length raws
         → FilledPlaces b progresses segments raws segments′ raws′ → Places b progresses segments raws (Batch.Filled count) segments′ raws′
-    places-filled segments′ raws′ some s w f =
-        let e : is ≡ Batch.Filled count = some-is some ∙ rw (le-ltb (length segments) count s, le-ltb (length raws) count w) in
+    places-filled segments′ raws′ s w f =
+        let e : is ≡ Batch.Filled count = batch-filled b _ (Two count count) count stored (rw (le-ltb (length segments) count s, le-ltb (length raws) count w)) in
         record {
           answer = sym e;
-          segmentsAfter = f .segmentsAre ∙ sym (ap (λ (r : Batch). written (givenBy r (segmentsFor b progresses)) segments) e);
-          rawsAfter = f .rawsAre ∙ sym (ap (λ (r : Batch). written (givenBy r (rawsFor b progresses)) raws) e);
+          segmentsAfter = stored-in (segmentsFor b progresses) segments count e (f .segmentsAre);
+          rawsAfter = stored-in (rawsFor b progresses) raws count e (f .rawsAre);
         }
 
--- ---- positions
-module _ (b : Buffers) (progresses out : List Float) where
+-- ---- flights
+module _ (b : Buffers) (progresses : List Float) (segments : List ℕ) (raws out : List Float) where
   abbrev amount : ℕ
   amount = length progresses
 
-  abbrev has : Batch
-  has = positionsOf b amount (length out)
+  abbrev needed : Values
+  needed = Three amount amount (4 * amount)
 
-  kept : (r : Batch) → givenBy r (numbersFor b progresses) ≡ [] → has ≡ r → Positions b progresses out r out
-  kept r s e =
+  abbrev has : Batch
+  has = flightsOf b amount (length segments) (length raws) (length out)
+
+  flights-left : (refusal : Refusal) → has ≡ Batch.Refused refusal → Flights b progresses segments raws out (Batch.Refused refusal) segments raws out
+  flights-left refusal e =
       record {
         answer = sym e;
-        outAfter = sym (ap (λ (l : List Float). written l out) (ap (λ (r : Batch). givenBy r (numbersFor b progresses)) e ∙ s));
+        segmentsAfter = left (segmentsFor b progresses) segments refusal e;
+        rawsAfter = left (rawsFor b progresses) raws refusal e;
+        outAfter = left (numbersFor b progresses) out refusal e;
       }
 
-  pub positions-bad : isStored b ≡ false → Positions b progresses out (Batch.Refused BadPath) out
-  unfolding positionsOf
-  positions-bad bad = kept (Batch.Refused BadPath) refl (rw bad)
+  pub flights-bad : isStored b ≡ false → Flights b progresses segments raws out (Batch.Refused BadPath) segments raws out
+  flights-bad bad = flights-left BadPath (batch-bad b _ needed amount bad)
 
   module _ (stored : isStored b ≡ true) where
-    pub positions-short : length out < 4 * amount → Positions b progresses out (Batch.Refused (NoRoom (One (4 * amount)))) out
-    unfolding positionsOf
-    positions-short short = kept (Batch.Refused (NoRoom (One (4 * amount)))) refl (rw (stored, lt-ltb (length out) (4 * amount) short))
+    pub flights-short-segments : length segments < amount → Flights b progresses segments raws out (Batch.Refused (NoRoom needed)) segments raws out
+    flights-short-segments h = flights-left (NoRoom needed) (batch-short b _ needed amount stored (rw (lt-ltb (length segments) amount h)))
 
-    full-is : 4 * amount ≤ length out → has ≡ Batch.Filled amount
-    unfolding positionsOf
-    full-is room = rw (stored, le-ltb (length out) (4 * amount) room)
+    pub flights-short-raws : amount ≤ length segments → length raws < amount → Flights b progresses segments raws out (Batch.Refused (NoRoom needed)) segments raws out
+    flights-short-raws s h = flights-left (NoRoom needed) (batch-short b _ needed amount stored (rw (le-ltb (length segments) amount s, lt-ltb (length raws) amount h)))
 
-    pub positions-filled : (out′ : List Float) → 4 * amount ≤ length out → FilledPositions b progresses out out′
-        → Positions b progresses out (Batch.Filled amount) out′
-    positions-filled out′ room f =
+    pub flights-short-out : amount ≤ length segments → amount ≤ length raws → length out < 4 * amount
+        → Flights b progresses segments raws out (Batch.Refused (NoRoom needed)) segments raws out
+    flights-short-out s w h =
+        flights-left (NoRoom needed)
+        (batch-short b _ needed amount stored (rw (le-ltb (length segments) amount s, le-ltb (length raws) amount w, lt-ltb (length out) (4 * amount) h)))
+
+    pub flights-filled : (segments′ : List ℕ) (raws′ out′ : List Float) → amount ≤ length segments → amount ≤ length raws → 4 * amount ≤ length out
+        → FilledFlights b progresses segments raws out segments′ raws′ out′ → Flights b progresses segments raws out (Batch.Filled amount) segments′ raws′ out′
+    flights-filled segments′ raws′ out′ s w o f =
+        let e : has ≡ Batch.Filled amount =
+        batch-filled b _ needed amount stored (rw (le-ltb (length segments) amount s, le-ltb (length raws) amount w, le-ltb (length out) (4 * amount) o)) in
         record {
-          answer = sym (full-is room);
-          outAfter = f .outIs ∙ sym (ap (λ (r : Batch). written (givenBy r (numbersFor b progresses)) out) (full-is room));
+          answer = sym e;
+          segmentsAfter = stored-in (segmentsFor b progresses) segments amount e (f .places .segmentsAre);
+          rawsAfter = stored-in (rawsFor b progresses) raws amount e (f .places .rawsAre);
+          outAfter = stored-in (numbersFor b progresses) out amount e (f .outIs);
         }
 
--- without segments: zeros
-pub filled-zeros : (b : Buffers) (progresses out out′ : List Float) → length (b .kinds) ≡ 0 → out′ ≡ written (replicate (4 * length progresses) zeroF) out
-    → FilledPositions b progresses out out′
-filled-zeros b progresses out out′ none e = record { outIs = e ∙ ap (λ (l : List Float). written l out) (numbers-none b progresses none) }
+-- ---- without segments: no segment, and zeros
+module _ (b : Buffers) (progresses : List Float) (none : length (b .kinds) ≡ 0) where
+  pub filled-none : (segments segments′ : List ℕ) (raws raws′ : List Float) → segments′ ≡ written (replicate (length progresses) noSegment) segments
+      → raws′ ≡ written (replicate (length progresses) zeroF) raws → FilledPlaces b progresses segments raws segments′ raws′
+  filled-none segments segments′ raws raws′ s w =
+      record {
+        segmentsAre = s ∙ ap (λ (l : List ℕ). written l segments) (segments-none b none progresses);
+        rawsAre = w ∙ ap (λ (l : List Float). written l raws) (raws-none b none progresses);
+      }
+
+  pub flown-none : (segments segments′ : List ℕ) (raws raws′ out out′ : List Float) → segments′ ≡ written (replicate (length progresses) noSegment) segments
+      → raws′ ≡ written (replicate (length progresses) zeroF) raws → out′ ≡ written (replicate (4 * length progresses) zeroF) out
+      → FilledFlights b progresses segments raws out segments′ raws′ out′
+  flown-none segments segments′ raws raws′ out out′ s w o =
+      record { places = filled-none segments segments′ raws raws′ s w; outIs = o ∙ ap (λ (l : List Float). written l out) (numbers-none b none progresses) }

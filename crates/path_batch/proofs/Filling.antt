@@ -11,16 +11,20 @@ use Rattle.answers.specs.Report.{written}
 use Rattle.answers.proofs.Writing.{written-next, written-more, length-written}
 use Rattle.floats.specs.Floats.{zeroF}
 use Rattle.math.specs.Math.{originF}
+use Rattle.flight.specs.declared.Flight.{Flight}
+use Rattle.flight.specs.Flights.{noSegment, segmentGiven}
 use Rattle.table.specs.declared.tables.Spot.{Spot}
 use Rattle.table.specs.Spots.{spotOf}
 use Rattle.path_stored.specs.Buffers.{Buffers}
 use Rattle.path_place.specs.declared.cursors.Cursor.{Cursor}
+use Rattle.path_place.specs.declared.places.Place.{Place}
 use Rattle.path_place.specs.Cursors.{cursorOf, Moving}
+use Rattle.path_place.specs.Places.{placeIn, placeOf}
 use Rattle.path_place.proofs.Standing.{cursor-own, spot-among}
-use Rattle.path_query.specs.Flights.{flightOf, Flyable}
-use Rattle.path_query.proofs.Answering.{flight-none}
+use Rattle.path_query.specs.Flights.{flownOf, flightOf, Flyable}
+use Rattle.path_query.proofs.Answering.{flight-some, flight-none}
 use Rattle.path_query.proofs.Seats.{some-place}
-use Rattle.path_batch.specs.Batches.{each, numbersOf, numbersFor}
+use Rattle.path_batch.specs.Batches.{each, segmentsFor, rawsFor, numbersOf, numbersFor}
 
 -- ---- the cursor between two progresses
 
@@ -79,15 +83,12 @@ module _ {A : Type 0} (f : Float → A) where
 -- ---- four numbers for each progress
 
 -- four numbers stored one after the other
-put-four : (l : List Float) (at : ℕ) (a b c d : Float) → set (set (set (set l at a) (at + 1) b) (at + 2) c) (at + 3) d ≡ sets l at (a ∷ b ∷ c ∷ d ∷ [])
+pub put-four : (l : List Float) (at : ℕ) (a b c d : Float) → set (set (set (set l at a) (at + 1) b) (at + 2) c) (at + 3) d ≡ sets l at (a ∷ b ∷ c ∷ d ∷ [])
 put-four l at a b c d =
     let one : at + 1 ≡ suc at = omega arith in
     let two : at + 2 ≡ suc (suc at) = omega arith in
     let three : at + 3 ≡ suc (suc (suc at)) = omega arith in
     rw (one, two, three)
-
-pub four-put : (l : List Float) (at : ℕ) (a b c d w x y z : Float) → a ≡ w → b ≡ x → c ≡ y → d ≡ z → set (set (set (set l at a) (at + 1) b) (at + 2) c) (at + 3) d ≡ sets l at (w ∷ x ∷ y ∷ z ∷ [])
-four-put l at a b c d w x y z e f g h = rw (e, f, g, h) (put-four l at w x y z)
 
 module _ (b : Buffers) where
   numbers-suc : (ps : List Float) (k : ℕ) → k < length ps → numbersFor b (take (suc k) ps) ≡ numbersFor b (take k ps) ++ numbersOf (flightOf b (getD ps k nan))
@@ -120,32 +121,57 @@ module _ (b : Buffers) where
       ∙ written-more (numbersFor b (take k ps)) w before more
       ∙ ap (λ (l : List Float). written l before) (sym (numbers-suc ps k inside) ∙ ap (λ (i : ℕ). numbersFor b (take i ps)) (sym (add-one k)))
 
--- ---- zeros
+-- ---- one value so many times
 
-zeros-suc : (k : ℕ) → replicate k zeroF ++ zeroF ∷ [] ≡ replicate (suc k) zeroF
-zeros-suc zero = refl
-zeros-suc (suc k) = ap (λ (rest : List Float). zeroF ∷ rest) (zeros-suc k)
+module _ {A : Type 0} (v : A) where
+  same-suc : (k : ℕ) → replicate k v ++ v ∷ [] ≡ replicate (suc k) v
+  same-suc zero = refl
+  same-suc (suc k) = ap (λ (rest : List A). v ∷ rest) (same-suc k)
 
-zeros-length : (k : ℕ) → length (replicate k zeroF) ≡ k
-zeros-length zero = refl
-zeros-length (suc k) = ap suc (zeros-length k)
+  same-length : (k : ℕ) → length (replicate k v) ≡ k
+  same-length zero = refl
+  same-length (suc k) = ap suc (same-length k)
 
-pub zeros-size : (before : List Float) (k : ℕ) → k ≤ length before → length (written (replicate k zeroF) before) ≡ length before
-zeros-size before k room = let n = zeros-length k in length-written (replicate k zeroF) before (omega arith)
+  pub same-size : (before : List A) (k : ℕ) → k ≤ length before → length (written (replicate k v) before) ≡ length before
+  same-size before k room = let n = same-length k in length-written (replicate k v) before (omega arith)
 
-pub zeros-next : (before out : List Float) (k : ℕ) → k < length before → out ≡ written (replicate k zeroF) before → set out k zeroF ≡ written (replicate (k + 1) zeroF) before
-zeros-next before out k room e =
-    let n = zeros-length k in
-    let more : length (replicate k zeroF) < length before = omega arith in
-    ap (λ (l : List Float). set l k zeroF) e
-    ∙ ap (λ (i : ℕ). set (written (replicate k zeroF) before) i zeroF) (sym n)
-    ∙ written-next (replicate k zeroF) before zeroF more
-    ∙ ap (λ (l : List Float). written l before) (zeros-suc k ∙ ap (λ (i : ℕ). replicate i zeroF) (sym (add-one k)))
+  pub same-next : (before out : List A) (k : ℕ) → k < length before → out ≡ written (replicate k v) before → set out k v ≡ written (replicate (k + 1) v) before
+  same-next before out k room e =
+      let n = same-length k in
+      let more : length (replicate k v) < length before = omega arith in
+      ap (λ (l : List A). set l k v) e
+      ∙ ap (λ (i : ℕ). set (written (replicate k v) before) i v) (sym n)
+      ∙ written-next (replicate k v) before v more
+      ∙ ap (λ (l : List A). written l before) (same-suc k ∙ ap (λ (i : ℕ). replicate i v) (sym (add-one k)))
 
--- a path without segments gives zeros
-pub numbers-none : (b : Buffers) (ps : List Float) → length (b .kinds) ≡ 0 → replicate (4 * length ps) zeroF ≡ numbersFor b ps
-unfolding numbersFor originF
-numbers-none b [] none = refl
-numbers-none b (p ∷ ps) none =
-    let four : 4 * suc (length ps) ≡ suc (suc (suc (suc (4 * length ps)))) = omega arith in
-    rw (four, ← flight-none b p none) (ap (λ (rest : List Float). zeroF ∷ zeroF ∷ zeroF ∷ zeroF ∷ rest) (numbers-none b ps none))
+  each-same : (f : Float → A) → ((p : Float) → v ≡ f p) → (ps : List Float) → replicate (length ps) v ≡ each f ps
+  unfolding each
+  each-same f all [] = refl
+  each-same f all (p ∷ ps) = ap (λ (x : A). x ∷ replicate (length ps) v) (all p) ∙ ap (λ (rest : List A). f p ∷ rest) (each-same f all ps)
+
+-- ---- a path without segments
+
+module _ (b : Buffers) (none : length (b .kinds) ≡ 0) where
+  pub segments-none : (ps : List Float) → replicate (length ps) noSegment ≡ segmentsFor b ps
+  segments-none = each-same noSegment (λ p. segmentGiven (flightOf b p .segment)) (λ p. ap (λ (flight : Flight). segmentGiven (flight .segment)) (flight-none b p none))
+
+  pub raws-none : (ps : List Float) → replicate (length ps) zeroF ≡ rawsFor b ps
+  raws-none = each-same zeroF (λ p. flightOf b p .raw .value) (λ p. ap (λ (flight : Flight). flight .raw .value) (flight-none b p none))
+
+  pub numbers-none : (ps : List Float) → replicate (4 * length ps) zeroF ≡ numbersFor b ps
+  unfolding numbersFor originF
+  numbers-none [] = refl
+  numbers-none (p ∷ ps) =
+      let four : 4 * suc (length ps) ≡ suc (suc (suc (suc (4 * length ps)))) = omega arith in
+      rw (four, ← flight-none b p none) (ap (λ (rest : List Float). zeroF ∷ zeroF ∷ zeroF ∷ zeroF ∷ rest) (numbers-none ps))
+
+-- ---- a path with a segment
+
+module _ (b : Buffers) (p : Float) (some : 0 < length (b .kinds)) where
+  pub segment-there : {spot : Spot} → spot ≡ spotOf (b .lengths) p → spot .segment ≡ segmentGiven (flightOf b p .segment)
+  unfolding flownOf placeIn
+  segment-there e = ap (λ (spot : Spot). spot .segment) e ∙ ap (λ (flight : Flight). segmentGiven (flight .segment)) (flight-some b p some)
+
+  pub raw-there : {pair : Place} → pair ≡ placeOf b p → pair .raw .value ≡ flightOf b p .raw .value
+  unfolding flownOf
+  raw-there e = ap (λ (pair : Place). pair .raw .value) e ∙ ap (λ (flight : Flight). flight .raw .value) (flight-some b p some)

@@ -1,54 +1,60 @@
--- A batch gives what the single queries give, element by element; and any two allowed results of a batch are equal. Assumes nothing.
+-- A batch gives what the single query gives, element by element; and any two allowed results of a batch are equal. Assumes nothing.
 use mathlib.Core.Path.{_≡_, refl, sym, ap, _∙_}
 use Prim.Native.Nat.{ℕ, zero, suc, _*_, _<_}
 use native.Mathlib.Omega.{arith}
-use mathlib.Core.Bool.{true}
-use mathlib.Core.List.{List, [], _∷_}
+use mathlib.Core.List.{List, [], _∷_, _++_}
 use lib.ListN.{length, getD, take, drop}
 use lib.Ieee.{Float, nan}
+use Rattle.answers.specs.Report.{written}
+use Rattle.flight.specs.Flights.{segmentGiven}
 use Rattle.path_stored.specs.Buffers.{Buffers}
-use Rattle.path_stored.specs.Stored.{isStored}
-use Rattle.path_place.specs.Places.{placed, placeOf}
-use Rattle.path_query.specs.declared.queries.Located.the-variants as Located
 use Rattle.path_query.specs.Flights.{flightOf}
-use Rattle.path_query.specs.Answered.{locatedOf}
-use Rattle.path_query.proofs.Answering.{located-some}
 use Rattle.path_batch.specs.declared.batches.Batch.{Batch}
-use Rattle.path_batch.specs.Batches.{each, segmentsFor, rawsFor, numbersOf, numbersFor, Places, Positions}
+use Rattle.path_batch.specs.Batches.{each, numbersOf, numbersFor, Places, Flights, FilledPlaces, FilledFlights}
 
-each-at : {A : Type 0} (f : Float → A) (d : A) (ps : List Float) (k : ℕ) → k < length ps → getD (each f ps) k d ≡ f (getD ps k nan)
+-- what is written for a progress stands in its turn, whatever follows
+each-at : {A : Type 0} (f : Float → A) (d : A) (rest : List A) (ps : List Float) (k : ℕ) → k < length ps → getD (each f ps ++ rest) k d ≡ f (getD ps k nan)
 unfolding each
-each-at f d [] k inside = absurd (omega arith)
-each-at f d (p ∷ ps) zero inside = refl
-each-at f d (p ∷ ps) (suc k) inside = each-at f d ps k (omega arith)
+each-at f d rest [] k inside = absurd (omega arith)
+each-at f d rest (p ∷ ps) zero inside = refl
+each-at f d rest (p ∷ ps) (suc k) inside = each-at f d rest ps k (omega arith)
 
-module _ (b : Buffers) (ps : List Float) (k : ℕ) (inside : k < length ps) where
-  -- `place` at the progress k gives the segment k and the raw parameter k of `places`
-  pub single-place : isStored b ≡ true → 0 < length (b .kinds)
-      → locatedOf b (getD ps k nan) ≡ Located.At (placed (getD (segmentsFor b ps) k 0) (getD (rawsFor b ps) k nan))
-  single-place stored some =
-      let p = getD ps k nan in
-      sym (located-some b p (placeOf b p) stored some refl)
-      ∙ ap (λ (i : ℕ). Located.At (placed i (placeOf b p .raw .value))) (sym (each-at (λ q. placeOf b q .segment) 0 ps k inside))
-      ∙ ap (λ (raw : Float). Located.At (placed (getD (segmentsFor b ps) k 0) raw)) (sym (each-at (λ q. placeOf b q .raw .value) nan ps k inside))
-
--- the four numbers of the progress k are what `flight` gives there
-pub single-flight : (b : Buffers) (ps : List Float) (k : ℕ) → k < length ps
-    → take 4 (drop (4 * k) (numbersFor b ps)) ≡ numbersOf (flightOf b (getD ps k nan))
+numbers-at : (b : Buffers) (rest ps : List Float) (k : ℕ) → k < length ps → take 4 (drop (4 * k) (numbersFor b ps ++ rest)) ≡ numbersOf (flightOf b (getD ps k nan))
 unfolding numbersFor
-single-flight b [] k inside = absurd (omega arith)
-single-flight b (p ∷ ps) zero inside = refl
-single-flight b (p ∷ ps) (suc k) inside =
+numbers-at b rest [] k inside = absurd (omega arith)
+numbers-at b rest (p ∷ ps) zero inside = refl
+numbers-at b rest (p ∷ ps) (suc k) inside =
     let four : 4 * suc k ≡ suc (suc (suc (suc (4 * k)))) = omega arith in
-    rw four (single-flight b ps k (omega arith))
+    rw four (numbers-at b rest ps k (omega arith))
+
+module _ (b : Buffers) (ps : List Float) {segments segments′ : List ℕ} {raws raws′ : List Float} (k : ℕ) (inside : k < length ps) where
+  -- the segment k and the raw parameter k are those of `flight` at the progress k
+  pub single-place : FilledPlaces b ps segments raws segments′ raws′ → let there = flightOf b (getD ps k nan) in
+      (getD segments′ k 0 ≡ segmentGiven (there .segment)) × (getD raws′ k nan ≡ there .raw .value)
+  single-place filled = (
+    ap (λ (l : List ℕ). getD l k 0) (filled .segmentsAre) ∙ each-at (λ p. segmentGiven (flightOf b p .segment)) 0 _ ps k inside,
+    ap (λ (l : List Float). getD l k nan) (filled .rawsAre) ∙ each-at (λ p. flightOf b p .raw .value) nan _ ps k inside,
+  )
+
+  -- and so are the four numbers of `flights`
+  pub single-flight : {out out′ : List Float} → FilledFlights b ps segments raws out segments′ raws′ out′ → let there = flightOf b (getD ps k nan) in
+      (getD segments′ k 0 ≡ segmentGiven (there .segment)) × (getD raws′ k nan ≡ there .raw .value) × (take 4 (drop (4 * k) out′) ≡ numbersOf there)
+  single-flight filled =
+      let place = single-place (filled .places) in
+      (place .0, place .1, ap (λ (l : List Float). take 4 (drop (4 * k) l)) (filled .outIs) ∙ numbers-at b _ ps k inside)
 
 -- ---- any two allowed results are equal
 
-module _ {b : Buffers} {progresses : List Float} where
-  pub places-settled : {segments : List ℕ} {raws : List Float} {r q : Batch} {s t : List ℕ} {u v : List Float} → Places b progresses segments raws r s u
+module _ {b : Buffers} {progresses : List Float} {segments : List ℕ} {raws : List Float} where
+  pub places-settled : {r q : Batch} {s t : List ℕ} {u v : List Float} → Places b progresses segments raws r s u
       → Places b progresses segments raws q t v → (r ≡ q) × (s ≡ t) × (u ≡ v)
   places-settled p q = (p .answer ∙ sym (q .answer), p .segmentsAfter ∙ sym (q .segmentsAfter), p .rawsAfter ∙ sym (q .rawsAfter))
 
-  pub positions-settled : {out : List Float} {r q : Batch} {u v : List Float} → Positions b progresses out r u
-      → Positions b progresses out q v → (r ≡ q) × (u ≡ v)
-  positions-settled p q = (p .answer ∙ sym (q .answer), p .outAfter ∙ sym (q .outAfter))
+  pub flights-settled : {out : List Float} {r q : Batch} {s t : List ℕ} {u v x y : List Float} → Flights b progresses segments raws out r s u x
+      → Flights b progresses segments raws out q t v y → (r ≡ q) × (s ≡ t) × (u ≡ v) × (x ≡ y)
+  flights-settled p q = (
+    p .answer ∙ sym (q .answer),
+    p .segmentsAfter ∙ sym (q .segmentsAfter),
+    p .rawsAfter ∙ sym (q .rawsAfter),
+    p .outAfter ∙ sym (q .outAfter),
+  )

@@ -2,5 +2,5 @@
 mod batches;
 
 pub use batches::Batch;
+pub use batches::flights;
 pub use batches::places;
-pub use batches::positions;

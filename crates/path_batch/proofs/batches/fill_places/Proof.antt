@@ -9,13 +9,13 @@ use lib.Seq.{take-all}
 use lib.Ieee.{Float, nan}
 use mathlib.Core.List.{List}
 use Rattle.answers.specs.Report.{written}
+use Rattle.flight.specs.Flights.{segmentGiven}
 use Rattle.path_stored.specs.Buffers.{Buffers, buffers, lent}
-use Rattle.path_place.specs.declared.places.Place.{Place}
-use Rattle.path_place.specs.Places.{placeOf}
 use Rattle.path_place.proofs.Standing.{some-path, standing, place-is}
+use Rattle.path_query.specs.Flights.{flightOf}
 use Rattle.path_query.proofs.Seats.{some-place}
 use Rattle.path_batch.specs.Batches.{each, segmentsFor, rawsFor}
-use Rattle.path_batch.proofs.Filling.{Looking, looking-first, looking-next, among, looking-moves, each-size, each-next}
+use Rattle.path_batch.proofs.Filling.{Looking, looking-first, looking-next, among, looking-moves, each-size, each-next, segment-there, raw-there}
 use Rattle.path_batch.proofs.batches.fill_places.Statement.{statement}
 use Rattle.path_batch.proofs.batches.fill_places.Tie as tie
 
@@ -42,13 +42,13 @@ segments-size : (l : Loop) → length (l .loop .segments) ≡ length (start l .a
 segments-size l =
     let a = start l .args in
     ap length (l .loop .inv .1)
-    ∙ each-size (λ p. placeOf (path l) p .segment) (a .progresses .now) (a .segments .now) (l .loop .i) (l .loop .inv .0 .upto) (start l .pre .segmentsRoom)
+    ∙ each-size (λ p. segmentGiven (flightOf (path l) p .segment)) (a .progresses .now) (a .segments .now) (l .loop .i) (l .loop .inv .0 .upto) (start l .pre .segmentsRoom)
 
 raws-size : (l : Loop) → length (l .loop .raws) ≡ length (start l .args .raws .now)
 raws-size l =
     let a = start l .args in
     ap length (l .loop .inv .2)
-    ∙ each-size (λ p. placeOf (path l) p .raw .value) (a .progresses .now) (a .raws .now) (l .loop .i) (l .loop .inv .0 .upto) (start l .pre .rawsRoom)
+    ∙ each-size (λ p. flightOf (path l) p .raw .value) (a .progresses .now) (a .raws .now) (l .loop .i) (l .loop .inv .0 .upto) (start l .pre .rawsRoom)
 
 -- ---- the answers
 
@@ -123,10 +123,10 @@ loop-again c =
     let pair = place-is _ _ _ p (spot .result) (moved .result) (raw .raw-within .result) (spot .ensures) (moved .ensures) (raw .raw-within .ensures) in
     let more : l .loop .i < length (a .progresses .now) = omega (arith, test .loop-test .taken) in (
       looking-next (moved .result) (spot .result .segment) (moved .ensures) (among (pre .path) (l .loop .inv .0) p (spot .ensures)) more,
-      each-next (λ p. placeOf (path l) p .segment) (a .progresses .now) (a .segments .now) (l .loop .segments) (l .loop .i) _ more (pre .segmentsRoom) (l .loop .inv .1)
-          (ap (λ (found : Place). found .segment) pair),
-      each-next (λ p. placeOf (path l) p .raw .value) (a .progresses .now) (a .raws .now) (l .loop .raws) (l .loop .i) _ more (pre .rawsRoom) (l .loop .inv .2)
-          (c .tidy .ensures ∙ c .before .number-of .ensures ∙ ap (λ (found : Place). found .raw .value) pair),
+      each-next (λ p. segmentGiven (flightOf (path l) p .segment)) (a .progresses .now) (a .segments .now) (l .loop .segments) (l .loop .i) _ more (pre .segmentsRoom) (l .loop .inv .1)
+          (segment-there (path l) p (pre .path .some) (spot .ensures)),
+      each-next (λ p. flightOf (path l) p .raw .value) (a .progresses .now) (a .raws .now) (l .loop .raws) (l .loop .i) _ more (pre .rawsRoom) (l .loop .inv .2)
+          (c .tidy .ensures ∙ c .before .number-of .ensures ∙ raw-there (path l) p (pre .path .some) pair),
     )
 
 same-length : tie.Need-same-length Inv-loop μ-loop

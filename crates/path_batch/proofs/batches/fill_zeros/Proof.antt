@@ -7,7 +7,7 @@ use Prim.Native.Nat.{ℕ}
 use lib.ListN.{length, replicate}
 use Rattle.answers.specs.Report.{written}
 use Rattle.floats.specs.Floats.{zeroF}
-use Rattle.path_batch.proofs.Filling.{zeros-size, zeros-next}
+use Rattle.path_batch.proofs.Filling.{same-size, same-next}
 use Rattle.path_batch.proofs.batches.fill_zeros.Statement.{statement}
 use Rattle.path_batch.proofs.batches.fill_zeros.Tie as tie
 
@@ -24,20 +24,20 @@ slice-write-out : tie.Need-slice-write-out Inv-loop μ-loop
 slice-write-out c =
     let l = c .before .loop in
     let a = c .before .before .args in
-    let n : length (l .out) ≡ length (a .out .now) = rw (l .inv .1) (zeros-size (a .out .now) (l .k) (omega arith)) in
+    let n : length (l .out) ≡ length (a .out .now) = rw (l .inv .1) (same-size zeroF (a .out .now) (l .k) (omega arith)) in
     omega arith
 
 loop-again : tie.Need-loop-again Inv-loop μ-loop
 unfolding zeroF
 loop-again c =
     let l = c .before .loop in
-    let a = c .before .before .args in (omega arith, zeros-next (a .out .now) (l .out) (l .k) (omega arith) (l .inv .1))
+    let a = c .before .before .args in (omega arith, same-next zeroF (a .out .now) (l .out) (l .k) (omega arith) (l .inv .1))
 
 same-length : tie.Need-same-length Inv-loop μ-loop
 same-length c =
     let l = c .before .loop in
     let a = c .before .before .args in
-    rw (l .inv .1) (zeros-size (a .out .now) (l .k) (omega arith))
+    rw (l .inv .1) (same-size zeroF (a .out .now) (l .k) (omega arith))
 
 returns : tie.Need-returns Inv-loop μ-loop
 returns c =
