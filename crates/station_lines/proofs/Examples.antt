@@ -9,7 +9,7 @@ use Rattle.math.specs.declared.points.Point.{Point}
 use Rattle.commands.specs.declared.command.PathCommand.the-variants.{LineTo, ClosePath}
 use Rattle.station_lines.specs.Numbers.{hexDigit, hexDigits, hexOf, decimalFrom, decimalOf, bitsField, numberField}
 use Rattle.station_lines.specs.Lines.{bitsFields, argumentFields, commandLine, kindName, segmentLine, headerLine, pointFields, segmentField, stationLine, valueFields, carriedFields, refusalLine}
-use Rattle.station_lines.specs.declared.lines.Found.the-variants.{Segment, Nothing}
+use Rattle.flight.specs.declared.Found.the-variants.{Segment, Nothing}
 
 -- 0 has a digit, and 1000 no leading zero
 pub decimals : (decimalOf 0 ≡ 48 ∷ []) × (decimalOf 1000 ≡ 49 ∷ 48 ∷ 48 ∷ 48 ∷ []) × (decimalOf 4097 ≡ 52 ∷ 48 ∷ 57 ∷ 55 ∷ [])

@@ -10,8 +10,8 @@ use Rattle.math.specs.declared.points.Point.{Point}
 use Rattle.commands.specs.Stored.{letterOf, argumentsOf}
 use Rattle.commands.specs.declared.command.PathCommand.{PathCommand}
 use Rattle.station_lines.specs.Numbers.{bitsField, numberField, decimalOf}
-use Rattle.station_lines.specs.declared.lines.Found.{Found}
-use Rattle.station_lines.specs.declared.lines.Found.the-variants.{Segment, Nothing}
+use Rattle.flight.specs.declared.Found.{Found}
+use Rattle.flight.specs.declared.Found.the-variants.{Segment, Nothing}
 
 -- numbers as bits, each after a space
 unfoldable pub bitsFields : List Float → List ℕ

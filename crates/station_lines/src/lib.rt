@@ -2,5 +2,3 @@
 pub mod inner;
 mod lines;
 mod numbers;
-
-pub use lines::Found;

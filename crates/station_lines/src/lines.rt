@@ -14,6 +14,7 @@ use crate::numbers::put_word;
 use answers::Refusal;
 use answers::Values;
 use commands::PathCommand;
+use flight::Found;
 use math::Point;
 
 fn put_point(out: &mut [u8], at: usize, point: Point) -> usize
@@ -149,12 +150,7 @@ pub fn put_header(out: &mut [u8], at: usize, word: &[u8], count: usize) -> usize
     put_byte(out, past_count, b'\n')
 }
 
-// The segment on which a station lies. A path without segments has none.
-pub enum Found {
-    Segment(usize),
-    Nothing,
-}
-
+// The segment on which a station lies.
 fn put_found(out: &mut [u8], at: usize, found: Found) -> usize
     requires { ⌜ FewSegments found × (at + 4 ≤ 65536) ⌝ }
     ensures { λ r. ⌜ PutWithin 4 (segmentField found) at (now (out .entry)) (now (out .exit)) r ⌝ }

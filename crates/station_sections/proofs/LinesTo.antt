@@ -1,29 +1,24 @@
 -- Lines in order, one more at a time; and what a stored path gives a station. Assumes nothing.
 use Prim.Native.Nat.{ℕ, zero, suc, _+_, _*_, _≤_, _<_}
-use mathlib.Core.Path.{_≡_, refl, sym, ap, _∙_}
+use mathlib.Core.Path.{_≡_, refl, sym, ap, subst}
 use mathlib.Core.List.{List, [], _∷_, _++_}
 use native.Mathlib.Omega.{arith}
 use native.Mathlib.Numerals.{add-one}
-use lib.Ieee.{Float, binary32, ofBits}
-use borrow.Author.Tests.{eq-eqb}
+use mathlib.Core.Bool.{Bool, true, false, cond}
+use lib.Dec.{eqb}
+use lib.Ieee.{Float}
+use borrow.Author.Tests.{eqb-false}
 use lib.ListN.{length}
 use Rattle.station_lines.specs.Put.{Put, PutWithin}
-use Rattle.station_lines.specs.Lines.{stationLine}
-use Rattle.station_lines.specs.declared.lines.Found.the-variants.{Segment, Nothing}
+use Rattle.station_lines.specs.Lines.{stationLine, FewSegments}
 use Rattle.station_lines.proofs.Putting.{put-none, put-same, put-then, put-length}
-use Rattle.floats.specs.Floats.{zeroF}
-use Rattle.math.specs.Math.{originF}
-use Rattle.math.specs.declared.points.Point.{Point}
 use Rattle.table.specs.Sound.{SoundPath}
-use Rattle.table.specs.Spots.{spotOf}
-use Rattle.table.specs.declared.tables.Spot.{Spot}
+use Rattle.flight.specs.declared.Flight.{Flight}
 use Rattle.path_stored.specs.Buffers.{Buffers}
-use Rattle.path_stored.specs.Stored.{Stored}
 use Rattle.path_place.proofs.Standing.{spot-inside}
-use Rattle.path_query.specs.Flights.{Flyable, flownOf, flightOf}
-use Rattle.path_query.specs.declared.flights.Flown.{Flown}
-use Rattle.path_query.proofs.Answering.{some-kinds}
-use Rattle.station_sections.specs.Sections.{linesTo, Ready, progressOf, foundOf, stationOf}
+use Rattle.path_place.specs.Places.{placeIn}
+use Rattle.path_query.specs.Flights.{nowhereF, flownOf, flightOf}
+use Rattle.station_sections.specs.Sections.{linesTo, Ready, progressOf, stationOf}
 
 -- ---- the first n lines, each at most so long
 
@@ -57,26 +52,20 @@ to-all line most n from before out at whole k count e h =
 
 -- ---- a station
 
-module _ {b : Buffers} {n : ℕ} (r : Ready b n) (some : 0 < length (b .kinds)) where
-  pub flyable : Flyable b
-  flyable = record { some = some; path = r .stored }
+module _ {b : Buffers} {n : ℕ} (r : Ready b n) where
+  -- a segment's number has at most three digits
+  pub segment-few : (p : Float) {there : Flight} → there ≡ flightOf b p → FewSegments (there .segment)
+  unfolding flightOf flownOf placeIn
+  segment-few p e = subst (λ (there : Flight). FewSegments (there .segment)) (sym e) (few (eqb (length (b .kinds)) 0) refl)
+    where
+      few : (none : Bool) → eqb (length (b .kinds)) 0 ≡ none → FewSegments (cond none nowhereF (flownOf b p) .segment)
+      few true e = tt
+      few false e =
+          let some : 0 < length (b .kinds) = omega (arith, eqb-false (length (b .kinds)) 0 e) in
+          let path : SoundPath (b .lengths) = record { some = omega (arith, r .stored .one); sound = r .stored .rising } in
+          omega (arith, spot-inside (b .lengths) path p, r .stored .one, r .few)
 
-  pub sound-path : SoundPath (b .lengths)
-  sound-path = record { some = omega (arith, r .stored .one); sound = r .stored .rising }
-
-  pub segment-few : (spot : Spot) (p : Float) → spot ≡ spotOf (b .lengths) p → spot .segment < 1000
-  segment-few spot p e =
-      let h : spot .segment ≡ spotOf (b .lengths) p .segment = ap (λ (s : Spot). s .segment) e in
-      omega (arith, spot-inside (b .lengths) sound-path p, r .stored .one, r .few)
-
-abbrev origin : Point
-origin = record { x = ofBits binary32 0; y = ofBits binary32 0 }
-
-pub station-none : (b : Buffers) (n k : ℕ) → length (b .kinds) ≡ 0 → stationLine k Nothing origin origin ≡ stationOf b n k
-unfolding stationOf foundOf flightOf originF zeroF
-station-none b n k none = rw (eq-eqb _ _ none)
-
-pub station-some : (b : Buffers) (n k : ℕ) (p : Float) (spot : Spot) (there : Flown) → 0 < length (b .kinds) → p ≡ progressOf n k → spot ≡ spotOf (b .lengths) p
-    → there ≡ flownOf b p → stationLine k (Segment (spot .segment)) (there .position) (there .tangent) ≡ stationOf b n k
-unfolding stationOf foundOf flightOf
-station-some b n k p spot there some e f g = rw (some-kinds some, g, f, e)
+pub station-is : (b : Buffers) (n k : ℕ) (p : Float) (there : Flight) → p ≡ progressOf n k → there ≡ flightOf b p
+    → stationLine k (there .segment) (there .position) (there .tangent) ≡ stationOf b n k
+unfolding stationOf
+station-is b n k p there e f = rw (f, e)

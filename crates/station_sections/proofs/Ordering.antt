@@ -29,14 +29,14 @@ use Rattle.table_order.proofs.Targets.{target-mono}
 use Rattle.table_order.proofs.Ends.{target-of-zero, target-of-one}
 use Rattle.table_order.proofs.Spots.{path-total-held}
 use Rattle.table_order.proofs.Theorems.{path-starts, path-ends}
+use Rattle.flight.specs.declared.Found.the-variants.{Segment}
 use Rattle.path_stored.specs.Buffers.{Buffers}
 use Rattle.path_place.specs.Places.{placeAt, placeIn, placeOf}
 use Rattle.path_place.proofs.Demand3.{F32Stored, path-held, demand-3}
 use Rattle.path_query.specs.Flights.{flownOf, flightOf}
 use Rattle.path_query.proofs.Answering.{some-kinds}
 use Rattle.station_lines.specs.Lines.{stationLine}
-use Rattle.station_lines.specs.declared.lines.Found.the-variants.{Segment}
-use Rattle.station_sections.specs.Sections.{progressOf, foundOf, stationOf}
+use Rattle.station_sections.specs.Sections.{progressOf, stationOf}
 use Rattle.station_sections.specs.Ordered.{flownBy, OrderedStations}
 
 -- ---- the progress of a station
@@ -124,7 +124,7 @@ module _ {lengths : List Float} (path : F32Path lengths) (long : T (lt epsilonF 
 station-line : (b : Buffers) (n k : ℕ) → 0 < length (b .kinds) → let pair = placeOf b (progressOf n k) in
     let there = flownBy b n k pair in
     stationOf b n k ≡ stationLine k (Segment (pair .segment)) (there .position) (there .tangent)
-unfolding stationOf foundOf flightOf flownOf placeIn
+unfolding stationOf flightOf flownOf placeIn
 station-line b n k some = rw (some-kinds some)
 
 module _ {b : Buffers} (f : F32Stored b) (some : 0 < length (b .kinds)) (long : T (lt epsilonF (pathTotal (b .lengths)))) where

@@ -5,17 +5,17 @@ use lib.ListN.{length}
 use Rattle.floats.specs.Floats.{zeroF, oneF}
 use Rattle.table.specs.Spots.{spotOf}
 use Rattle.table_order.specs.Stated.{NoStepBack}
+use Rattle.flight.specs.declared.Found.the-variants.{Segment}
+use Rattle.flight.specs.declared.Flight.{Flight}
 use Rattle.path_stored.specs.Buffers.{Buffers}
 use Rattle.path_place.specs.declared.places.Place.{Place}
 use Rattle.path_place.specs.Places.{placed}
-use Rattle.path_query.specs.declared.flights.Flown.{Flown}
 use Rattle.path_query.specs.Flights.{flownAt}
 use Rattle.station_lines.specs.Lines.{stationLine}
-use Rattle.station_lines.specs.declared.lines.Found.the-variants.{Segment}
 use Rattle.station_sections.specs.Sections.{progressOf, stationOf}
 
 -- the sample and the tangent of the pair of the station k
-abbrev pub flownBy : Buffers → ℕ → ℕ → Place → Flown
+abbrev pub flownBy : Buffers → ℕ → ℕ → Place → Flight
 flownBy b n k pair = flownAt b pair (spotOf (b .lengths) (progressOf n k) .progress .value)
 
 pub record OrderedStations (b : Buffers) (n : ℕ) : Type 0 where

@@ -1,18 +1,13 @@
 -- The sections of a listing that a built path gives (document 01, "The station tool"). Segments and stations count from 0. Definitions only.
 use Prim.Native.Nat.{ℕ, zero, suc, _-_, _≤_}
-use mathlib.Core.Bool.{cond}
 use mathlib.Core.List.{List, [], _++_}
-use lib.Dec.{eqb}
 use lib.IntN.{pos}
 use lib.Ieee.{Float, nan, binary32, div, ofInt}
 use lib.ListN.{length, getD}
-use Rattle.table.specs.Spots.{spotOf}
 use Rattle.path_stored.specs.Buffers.{Buffers}
 use Rattle.path_stored.specs.Stored.{Stored}
 use Rattle.path_query.specs.Flights.{flightOf}
 use Rattle.station_lines.specs.Lines.{segmentLine, stationLine}
-use Rattle.station_lines.specs.declared.lines.Found.{Found}
-use Rattle.station_lines.specs.declared.lines.Found.the-variants.{Segment, Nothing}
 
 -- the lines of the numbers below n, in order
 unfoldable pub linesTo : (ℕ → List ℕ) → ℕ → List ℕ
@@ -28,16 +23,11 @@ segmentLines kinds lengths = linesTo (λ k. segmentLine (getD kinds k 0) (getD l
 unfoldable pub progressOf : ℕ → ℕ → Float
 progressOf n k = div binary32 (ofInt binary32 (pos k)) (ofInt binary32 (pos (n - 1)))
 
--- "segment number (a minus sign if none)": the segment that the path picks
-unfoldable pub foundOf : Buffers → Float → Found
-foundOf b progress = cond (eqb (length (b .kinds)) 0) Nothing (Segment (spotOf (b .lengths) progress .segment))
-
 -- "Station k: k, segment number (a minus sign if none), x, y, tangent; progress is k/(n-1)."
 unfoldable pub stationOf : Buffers → ℕ → ℕ → List ℕ
-unfolding foundOf
 stationOf b n k =
     let there = flightOf b (progressOf n k) in
-    stationLine k (foundOf b (progressOf n k)) (there .position) (there .tangent)
+    stationLine k (there .segment) (there .position) (there .tangent)
 
 unfoldable pub stationLines : Buffers → ℕ → List ℕ
 unfolding linesTo stationOf

@@ -5,13 +5,10 @@ ghost use lib.ListN.{length};
 ghost use Rattle.path_stored.specs.Buffers.{before, lent};
 ghost use Rattle.station_lines.specs.Put.{PutWithin};
 ghost use Rattle.station_sections.specs.Sections.{Ready, progressOf, segmentLines, stationOf, stationLines};
-use math::Point;
-use path_query::inner::flown;
-use station_lines::Found;
+use path_query::inner::flight;
 use station_lines::inner::put_segment;
 use station_lines::inner::put_station;
 use table::Progress;
-use table::inner::spot;
 
 // A line for each segment.
 pub fn put_segments(out: &mut [u8], from: usize, kinds: &[u8], lengths: &[f32]) -> usize
@@ -38,7 +35,7 @@ fn progress(number: usize, count: usize) -> Progress
     }
 }
 
-// One station: nothing is flown on a path without segments.
+// One station: what is flown at its progress.
 fn put_one(
     out: &mut [u8],
     at: usize,
@@ -52,16 +49,12 @@ fn put_one(
     requires { ⌜ Ready (lent kinds fields tables lengths) count × (number < count) × (at + 44 ≤ 65536) ⌝ }
     ensures { λ r. ⌜ PutWithin 44 (stationOf (before kinds fields tables lengths) count number) at (now (out .entry)) (now (out .exit)) r ⌝ }
 {
-    if kinds.len() == 0 {
-        let origin = Point { x: 0.0, y: 0.0 };
-        return put_station(out, at, number, Found::Nothing, origin, origin);
-    }
     let along = progress(number, count);
-    let segment = spot(lengths, along).segment;
-    let there = flown(kinds, fields, tables, lengths, along);
+    let there = flight(kinds, fields, tables, lengths, along);
+    let segment = there.segment;
     let position = there.position;
     let tangent = there.tangent;
-    put_station(out, at, number, Found::Segment(segment), position, tangent)
+    put_station(out, at, number, segment, position, tangent)
 }
 
 // A line for each station.
