@@ -10,17 +10,14 @@ use Rattle.answers.specs.Answers.{accepted, refused}
 use Rattle.path_stored.specs.Buffers.{Buffers}
 use Rattle.path_batch.specs.declared.batches.Batch.{Batch}
 use Rattle.path_batch.specs.declared.batches.Batch.the-variants as Batch
-use Rattle.path_batch.specs.Batches.{batchAnswer, Places, Positions}
+use Rattle.path_batch.specs.Batches.{batchAnswer, Places, Flights}
 use Rattle.c_answer.specs.Given.{Given}
 use Rattle.c_answer.proofs.Giving.{given-same}
-use Rattle.kihavute_paths.specs.Batches.{PlacesGiven, PositionsGiven}
+use Rattle.kihavute_paths.specs.Batches.{PlacesGiven, FlightsGiven}
 
 module _ (batch : Batch) where
   pub batch-filled : (count : ℕ) → Batch.Filled count ≡ batch → accepted (count ∷ []) ≡ batchAnswer batch
   batch-filled count is = ap batchAnswer is
-
-  pub batch-none : Batch.NoSegment ≡ batch → accepted [] ≡ batchAnswer batch
-  batch-none is = ap batchAnswer is
 
   pub batch-refused : (refusal : Refusal) → Batch.Refused refusal ≡ batch → refused refusal ≡ batchAnswer batch
   batch-refused refusal is = ap batchAnswer is
@@ -57,25 +54,31 @@ module _ (b : Buffers) (progresses : List Float) (answer : List ℕ) where
       p .reported .places ∙ sym (q .reported .places),
     )
 
-  module _ (out : List Float) where
-    pub no-positions : length answer < 8 → PositionsGiven b progresses out answer 255 out answer
-    no-positions h =
+  module _ (segments : List ℕ) (raws out : List Float) where
+    pub no-flights : length answer < 8 → FlightsGiven b progresses segments raws out answer 255 segments raws out answer
+    no-flights h =
         let s = lt-ltb (length answer) 8 h in
-        record { reported = record { code = rw s; places = rw s }; outAfter = rw s }
+        record { reported = record { code = rw s; places = rw s }; segmentsAfter = rw s; rawsAfter = rw s; outAfter = rw s }
 
-    pub positions-reported :
-        {out′ : List Float} {answer′ : List ℕ} {returned : ℕ} (batch : Batch)
+    pub flights-reported :
+        {segments′ : List ℕ} {raws′ out′ : List Float} {answer′ : List ℕ} {returned : ℕ} (batch : Batch)
         → 8 ≤ length answer
-        → Positions b progresses out batch out′
+        → Flights b progresses segments raws out batch segments′ raws′ out′
         → Given (batchAnswer batch) answer returned answer′
-        → PositionsGiven b progresses out answer returned out′ answer′
-    positions-reported batch h p g =
+        → FlightsGiven b progresses segments raws out answer returned segments′ raws′ out′ answer′
+    flights-reported batch h p g =
         let s = le-ltb (length answer) 8 h in
-        record { reported = given-same _ _ (ap batchAnswer (p .answer)) g; outAfter = rw s (p .outAfter) }
+        record { reported = given-same _ _ (ap batchAnswer (p .answer)) g; segmentsAfter = rw s (p .segmentsAfter); rawsAfter = rw s (p .rawsAfter); outAfter = rw s (p .outAfter) }
 
-    pub positions-given-unique :
-        (r s : ℕ) (out₁ out₂ : List Float) (answer₁ answer₂ : List ℕ)
-        → PositionsGiven b progresses out answer r out₁ answer₁
-        → PositionsGiven b progresses out answer s out₂ answer₂
-        → (r ≡ s) × (out₁ ≡ out₂) × (answer₁ ≡ answer₂)
-    positions-given-unique r s out₁ out₂ answer₁ answer₂ p q = (p .reported .code ∙ sym (q .reported .code), p .outAfter ∙ sym (q .outAfter), p .reported .places ∙ sym (q .reported .places))
+    pub flights-given-unique :
+        (r s : ℕ) (segments₁ segments₂ : List ℕ) (raws₁ raws₂ out₁ out₂ : List Float) (answer₁ answer₂ : List ℕ)
+        → FlightsGiven b progresses segments raws out answer r segments₁ raws₁ out₁ answer₁
+        → FlightsGiven b progresses segments raws out answer s segments₂ raws₂ out₂ answer₂
+        → (r ≡ s) × (segments₁ ≡ segments₂) × (raws₁ ≡ raws₂) × (out₁ ≡ out₂) × (answer₁ ≡ answer₂)
+    flights-given-unique r s segments₁ segments₂ raws₁ raws₂ out₁ out₂ answer₁ answer₂ p q = (
+      p .reported .code ∙ sym (q .reported .code),
+      p .segmentsAfter ∙ sym (q .segmentsAfter),
+      p .rawsAfter ∙ sym (q .rawsAfter),
+      p .outAfter ∙ sym (q .outAfter),
+      p .reported .places ∙ sym (q .reported .places),
+    )

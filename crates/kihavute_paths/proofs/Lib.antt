@@ -2,6 +2,5 @@
 pub mod Putting
 pub mod CheckGiven
 pub mod PathsGiven
-pub mod Querying
 pub mod BatchesGiven
 pub mod ListingsGiven

@@ -2,6 +2,5 @@
 pub mod StoredPaths
 pub mod Morphs
 pub mod Paths
-pub mod Queries
 pub mod Batches
 pub mod Listings

@@ -2,7 +2,7 @@
 use borrow.Author.Needs.{needs}
 use mathlib.Core.Path.{sym}
 use Rattle.c_answer.proofs.Giving.{given-same}
-use Rattle.kihavute_paths.proofs.BatchesGiven.{batch-filled, batch-none, batch-refused}
+use Rattle.kihavute_paths.proofs.BatchesGiven.{batch-filled, batch-refused}
 use Rattle.kihavute_paths.proofs.batches.give_batch.Statement.{statement}
 use Rattle.kihavute_paths.proofs.batches.give_batch.Tie as tie
 
@@ -14,16 +14,10 @@ returns c =
 returns-2 : tie.Need-returns-2
 returns-2 c =
     let given = c .before .before in
-    given-same _ _ (batch-none _ (sym (given .before .before .enum-told .given .1))) (given .accept2 .ensures)
-
-returns-3 : tie.Need-returns-3
-returns-3 c =
-    let given = c .before .before in
     given-same _ _ (batch-refused _ _ (sym (given .before .before .before .batch2 .given .1))) (given .refuse .ensures)
 
 pub give-batch-spec : {M : Type 1} → statement M
 give-batch-spec =
     tie.close
     (tie.spec (λ c. search needs) (λ c κs. search needs) (λ c. search needs) (λ c κs. search needs)
-    (λ c. search needs) (λ c κs. search needs) (λ c. search needs) returns (λ c. search needs) returns-2
-    (λ c. search needs) returns-3)
+    (λ c. search needs) returns (λ c. search needs) returns-2)
