@@ -26,7 +26,7 @@
  * Order:  each operation rounds once, to nearest with ties to even, in the order written beside each name. No
  *         multiplication is fused with an addition.
  *
- * Example: a plan is built into the caller's buffers, and asked for the place at half of its length.
+ * Example: a plan is built into the caller's buffers, and asked where it is at half of its length, and where it heads.
  *
  *     static const char plan[] = "M0 0 H30 V40";
  *     uint8_t kinds[8];
@@ -36,10 +36,11 @@
  *                                            lengths, 8, answer, 8);
  *     if (refusal != KIHAVUTE_ACCEPTED) return (int)refusal;           // answer has what it carries
  *     size_t segments = answer[0], numbers = answer[1], entries = answer[2];
- *     refusal = kihavute_position(kinds, segments, fields, numbers, tables, entries, lengths, segments, 0.5f, answer, 8);
+ *     refusal = kihavute_flight(kinds, segments, fields, numbers, tables, entries, lengths, segments, 0.5f, answer, 8);
  *     if (refusal != KIHAVUTE_ACCEPTED) return (int)refusal;
- *     float x = kihavute_float((uint32_t)answer[0]), y = kihavute_float((uint32_t)answer[1]);
- *     printf("(%g, %g)\n", x, y);                                      // prints (30, 5)
+ *     float flight[4];                                                 // x, y, and the direction's x, y
+ *     for (int i = 0; i < 4; i++) flight[i] = kihavute_float((uint32_t)answer[i]);
+ *     printf("(%g, %g) to (%g, %g)\n", flight[0], flight[1], flight[2], flight[3]); // prints (30, 5) to (0, 1)
  */
 #ifndef KIHAVUTE_H
 #define KIHAVUTE_H
@@ -72,6 +73,9 @@ enum kihavute_refusal {
     KIHAVUTE_RANGE = 13,              /* the number out of range */
     KIHAVUTE_SHORT_ANSWER = 255       /* nothing */
 };
+
+/* Where a segment's number is due and a path has no segment: 2^32 - 1, which is no segment's number. */
+#define KIHAVUTE_NO_SEGMENT 4294967295
 
 /* ---- Roots ---- */
 
@@ -280,7 +284,6 @@ uint32_t kihavute_spline_table(const float *points, size_t points_len, float *ta
  * points the place is (0, 0); the direction is (0, 0) below two points, and where the two samples a thousandth to each side
  * tell nothing. A spline is one segment, 0; below two points the raw parameter is the progress, clamped. As progress rises
  * the raw parameter never falls, from +0 at 0 to 1 at 1 (proved: docs/ORDER.md). */
-#define KIHAVUTE_NO_SEGMENT 4294967295 /* in answer[4]: no segment's number. A spline always has its one. */
 uint32_t kihavute_spline_flight(const float *points, size_t points_len, const float *table, size_t table_len,
                                 float progress, uint64_t *answer, size_t answer_len);
 
@@ -517,24 +520,15 @@ uint32_t kihavute_segment_rotation(const uint8_t *kinds, size_t kinds_len, const
  * Each call checks the whole path first, which reads every kind, table and length once, and refuses with 12 where the
  * check fails. That takes 0.2 to 0.4 ns for each element of the four arrays (x86-64), so the time of a single query grows
  * with the path. Ask for one place now and then by the single queries; to file many packets of one flight, collect their
- * progresses and ask by kihavute_places or kihavute_positions, which check the path once for all of them. */
+ * progresses and ask by kihavute_places or kihavute_flights, which check the path once for all of them. */
 
-/* The segment at this progress, counted from 0, and its raw parameter: answer[0] gets the segment, answer[1] the bits of
- * the raw parameter. A path without segments (kinds_len is 0) has no place: 0 is returned and answer stays as it was, so look at
- * kinds_len before you read it. */
-uint32_t kihavute_place(const uint8_t *kinds, size_t kinds_len, const float *fields, size_t fields_len, const float *tables,
-                        size_t tables_len, const float *lengths, size_t lengths_len, float progress, uint64_t *answer,
-                        size_t answer_len);
-
-/* The point at this progress, in path units: answer[0] and answer[1] get the bits of x and of y. (0, 0) without segments. */
-uint32_t kihavute_position(const uint8_t *kinds, size_t kinds_len, const float *fields, size_t fields_len,
-                           const float *tables, size_t tables_len, const float *lengths, size_t lengths_len, float progress,
-                           uint64_t *answer, size_t answer_len);
-
-/* The direction there, with the length 1, or (0, 0) where nothing tells: the bits of x and of y. */
-uint32_t kihavute_tangent(const uint8_t *kinds, size_t kinds_len, const float *fields, size_t fields_len,
-                          const float *tables, size_t tables_len, const float *lengths, size_t lengths_len, float progress,
-                          uint64_t *answer, size_t answer_len);
+/* What is flown at this progress, six values: answer[0] and [1] get the bits of the point's x and y, in path units, [2] and [3]
+ * those of the direction, which has the length 1, or is (0, 0) where nothing tells; [4] the segment, counted from 0, and [5] the
+ * bits of the raw parameter at which both were taken. A path without segments (kinds_len is 0) gives KIHAVUTE_NO_SEGMENT for the
+ * segment and 0 for the rest. As progress rises the pair of segment and raw parameter never steps back (proved: docs/ORDER.md). */
+uint32_t kihavute_flight(const uint8_t *kinds, size_t kinds_len, const float *fields, size_t fields_len, const float *tables,
+                         size_t tables_len, const float *lengths, size_t lengths_len, float progress, uint64_t *answer,
+                         size_t answer_len);
 
 /* That direction in degrees from the x axis towards the y axis: answer[0] gets the bits. */
 uint32_t kihavute_rotation(const uint8_t *kinds, size_t kinds_len, const float *fields, size_t fields_len,
@@ -542,22 +536,21 @@ uint32_t kihavute_rotation(const uint8_t *kinds, size_t kinds_len, const float *
                            uint64_t *answer, size_t answer_len);
 
 /* The segment at each of many progresses, and its raw parameter, in the order of the progresses: segments and raws get one place
- * for each, from their starts, as kihavute_place gives them. answer[0] gets the count of progresses. A path without segments
- * (kinds_len is 0) has no places: 0 is returned, and both outputs and answer stay as they were. Refused, with nothing written,
- * with 12, then with 8 and the two counts needed. Progresses in rising order pass over the path once; in another order each one
- * walks from the segment before. */
+ * for each, from their starts, as kihavute_flight gives them: on a path without segments KIHAVUTE_NO_SEGMENT and 0. answer[0]
+ * gets the count of progresses. Refused, with nothing written, with 12, then with 8 and the two counts needed. Progresses in
+ * rising order pass over the path once; in another order each one walks from the segment before. */
 uint32_t kihavute_places(const uint8_t *kinds, size_t kinds_len, const float *fields, size_t fields_len, const float *tables,
                          size_t tables_len, const float *lengths, size_t lengths_len, const float *progresses,
                          size_t progresses_len, uint32_t *segments, size_t segments_len, float *raws, size_t raws_len,
                          uint64_t *answer, size_t answer_len);
 
-/* The point and the direction at each of many progresses: four numbers for each, x, y, the direction's x and y, from the start
- * of out, as kihavute_position and kihavute_tangent give them; all are 0 on a path without segments. answer[0] gets the count of
- * progresses. Refused, with nothing written, with 12, then with 8 and the count of numbers needed. */
-uint32_t kihavute_positions(const uint8_t *kinds, size_t kinds_len, const float *fields, size_t fields_len,
-                            const float *tables, size_t tables_len, const float *lengths, size_t lengths_len,
-                            const float *progresses, size_t progresses_len, float *out, size_t out_len, uint64_t *answer,
-                            size_t answer_len);
+/* All of what is flown at each of many progresses: segments and raws as kihavute_places fills them, and four numbers for each in
+ * out, x, y, the direction's x and y, from its start, as kihavute_flight gives them. answer[0] gets the count of progresses.
+ * Refused, with nothing written, with 12, then with 8 and the three counts needed. */
+uint32_t kihavute_flights(const uint8_t *kinds, size_t kinds_len, const float *fields, size_t fields_len, const float *tables,
+                          size_t tables_len, const float *lengths, size_t lengths_len, const float *progresses,
+                          size_t progresses_len, uint32_t *segments, size_t segments_len, float *raws, size_t raws_len,
+                          float *out, size_t out_len, uint64_t *answer, size_t answer_len);
 
 /* ---- The station tool ----
  * A plan is the number of stations, 2 to 1,000, in 1 to 9 digits, a LF, and path data of at most 4,096 bytes and 256 commands.

@@ -28,7 +28,7 @@ fn main() {
         ("lookup", lookup),
         ("curves", curves),
         ("spot", spot),
-        ("place", place),
+        ("flight", flight),
         ("places", places),
         ("splines", splines),
     ];
@@ -592,15 +592,15 @@ fn original_flown(path: &CompoundPath, t: f32) -> [f32; 4] {
     [x, y, tx, ty]
 }
 
-// one query; ours checks the whole path first: its time by the element stored stands below
-fn place() {
+// one query, against the original's position and tangent; ours checks the whole path first: its time by the element stored stands below
+fn flight() {
     let inputs: Vec<f32> = patterns().take(16).map(|bits| (bits >> 8) as f32 / 16_777_216.0).collect();
     let all = |side: &dyn Fn(f32) -> u32| inputs.iter().fold(0u32, |sum, t| sum.wrapping_add(side(*t)));
     for path in SIZES.map(Flown::of) {
-        let ours = |t: f32| path.ours.place(Progress(t)).ok().flatten().map_or(0, |place| place.segment as u32);
-        let theirs = |t: f32| original_place(&path.theirs, t).0;
+        let ours = |t: f32| path.ours.flight(Progress(t)).map_or(0, |there| there.position[0] ^ there.tangent[0]);
+        let theirs = |t: f32| original_flown(&path.theirs, t)[0].to_bits();
         let times = large(|| all(&ours), || all(&theirs)).map(|time| time / inputs.len() as f64);
-        row(&format!("a place on {} segments", path.count), times);
+        row(&format!("a flight on {} segments", path.count), times);
         println!("{:28} {:9.3}", "  for each number stored", times[0] / path.stored as f64);
     }
 }
@@ -627,8 +627,8 @@ fn places() {
             };
             row(&format!("places on {}, {order}", path.count), each(large(ours, theirs)));
             let ours = || {
-                let (_, _, out) = &mut *lent.borrow_mut();
-                path.ours.positions(progresses, out).map_or(0, |count| count as u32)
+                let (segments, raws, out) = &mut *lent.borrow_mut();
+                path.ours.flights(progresses, segments, raws, out).map_or(0, |count| count as u32)
             };
             let theirs = || {
                 let (_, _, out) = &mut *lent.borrow_mut();
@@ -637,7 +637,7 @@ fn places() {
                 }
                 out[0].to_bits()
             };
-            row(&format!("positions on {}, {order}", path.count), each(large(ours, theirs)));
+            row(&format!("flights on {}, {order}", path.count), each(large(ours, theirs)));
         }
     }
 }

@@ -1,4 +1,4 @@
-//! Queries of a path on both sides: place, position, tangent and heading at many progresses, each by itself and in a batch, by
+//! Queries of a path on both sides: what is flown at many progresses and the heading there, each by itself and in a batch, by
 //! bits. And demand 3 tried on the compiled library: the pairs of segment and raw parameter at rising progresses.
 
 use crate::build;
@@ -57,11 +57,9 @@ impl Asked {
         };
         let at = |t: f32| {
             let t = Progress(t);
-            let place = path.place(t)?;
-            let ([x, y], [tx, ty]) = (path.position(t)?, path.tangent(t)?);
-            let raw = place.map_or(0.0, |place| place.raw.value());
-            let numbers = [raw, x, y, tx, ty, path.rotation_deg(t)?];
-            Ok((place.map(|place| place.segment as u64), numbers.map(f32::to_bits)))
+            let kihavute::Flight { position: [x, y], tangent: [tx, ty], segment, raw } = path.flight(t)?;
+            let numbers = [raw.value().to_bits(), x, y, tx, ty, path.rotation_deg(t)?.to_bits()];
+            Ok((segment.map(|number| number as u64), numbers))
         };
         let asked: Result<Vec<Flight>, kihavute::Refusal> = self.progresses.iter().map(|t| at(*t)).collect();
         match asked {
@@ -71,25 +69,27 @@ impl Asked {
         }
     }
 
-    // whether the batches give what the single queries give, and write nothing past it
+    // whether the batches give what the single query gives, and write nothing past it
     fn is_batch(&self, path: &Path, single: &[Flight]) -> bool {
         const UNTOUCHED: u32 = 0xC0DE_F00D;
         let untouched = f32::from_bits(UNTOUCHED);
         let count = single.len();
-        let (mut segments, mut raws) = (vec![UNTOUCHED; count + 1], vec![untouched; count + 1]);
+        let fresh = || (vec![UNTOUCHED; count + 1], vec![untouched; count + 1]);
+        let (mut columns, mut others) = fresh();
+        let (mut segments, mut raws) = fresh();
         let mut out = vec![untouched; 4 * count + 1];
         let progresses: Vec<Progress> = self.progresses.iter().copied().map(Progress).collect();
-        let placed = path.places(&progresses, &mut segments, &mut raws);
-        let flown = path.positions(&progresses, &mut out);
-        let places = if path.is_empty() { 0 } else { count };
+        let placed = path.places(&progresses, &mut columns, &mut others);
+        let flown = path.flights(&progresses, &mut segments, &mut raws, &mut out);
         let same = |k: usize| {
             let (segment, [raw, numbers @ .., _]) = single[k];
-            let found = (u64::from(segments[k]), raws[k].to_bits());
-            let due = segment.map_or((u64::from(UNTOUCHED), UNTOUCHED), |segment| (segment, raw));
-            found == due && (0..4).all(|n| out[4 * k + n].to_bits() == numbers[n])
+            let due = (segment.map_or(kihavute::NO_SEGMENT, |number| number as u32), raw);
+            (segments[k], raws[k].to_bits()) == due
+                && (columns[k], others[k].to_bits()) == due
+                && (0..4).all(|n| out[4 * k + n].to_bits() == numbers[n])
         };
-        let past = [segments[count], raws[count].to_bits(), out[4 * count].to_bits()];
-        placed == Ok(places) && flown == Ok(count) && (0..count).all(same) && past == [UNTOUCHED; 3]
+        let past = [segments[count], raws[count].to_bits(), columns[count], others[count].to_bits(), out[4 * count].to_bits()];
+        placed == Ok(count) && flown == Ok(count) && (0..count).all(same) && past == [UNTOUCHED; 5]
     }
 }
 
@@ -178,12 +178,12 @@ pub fn rising(stream: &mut Stream) -> Vec<Progress> {
     all.into_iter().map(Progress).collect()
 }
 
-/// Over so many random paths, a batch each: no pair of rising progresses steps back, and the ends are the first and the last
+/// Over so many random paths, a batch of flights each: no pair of rising progresses steps back, and the ends are the first and the last
 /// place.
 pub fn compare_order(report: &mut Report, seed: u64, count: u64) {
     let mut stream = Stream::new(seed ^ 0xD3);
     let (mut paths, mut pairs) = (0u64, 0u64);
-    let (mut segments, mut raws) = ([0; RISING], [0.0; RISING]);
+    let (mut segments, mut raws, mut out) = ([0; RISING], [0.0; RISING], [0.0; 4 * RISING]);
     let mut equal = true;
     while equal && paths < count {
         let kind = stream.below(build::KINDS.len() as u32);
@@ -192,7 +192,7 @@ pub fn compare_order(report: &mut Report, seed: u64, count: u64) {
         if path.is_empty() || path.arc_length() <= f32::EPSILON {
             continue;
         }
-        let filled = path.places(&rising(&mut stream), &mut segments, &mut raws);
+        let filled = path.flights(&rising(&mut stream), &mut segments, &mut raws, &mut out);
         let place = |k: usize| (segments[k], raws[k]);
         let back = (1..RISING).find(|k| !(place(k - 1) <= place(*k)));
         let ends = segments[0] == 0 && raws[0].to_bits() == 0 && place(RISING - 1) == (path.len() as u32 - 1, 1.0);

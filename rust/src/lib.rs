@@ -61,7 +61,7 @@ mod refusals;
 mod segments;
 
 pub use listings::{LISTING, listing, listing_into};
-pub use paths::{Path, Place, Progress, RawParameter};
+pub use paths::{Path, Progress, RawParameter};
 pub use refusals::{Reason, Refusal};
 pub use segments::{Growing, Stored};
 
@@ -574,15 +574,15 @@ pub struct Flight {
     pub raw: RawParameter,
 }
 
-// what the header calls KIHAVUTE_NO_SEGMENT
-const NO_SEGMENT: u64 = 4294967295;
+/// What a batch gives for the segment on a path without segments; no segment has this number. KIHAVUTE_NO_SEGMENT of the header.
+pub const NO_SEGMENT: u32 = 4294967295;
 
 impl Flight {
     fn given(values: [u64; 8]) -> Self {
         Self {
             position: [values[0] as Bits, values[1] as Bits],
             tangent: [values[2] as Bits, values[3] as Bits],
-            segment: (values[4] != NO_SEGMENT).then_some(values[4] as usize),
+            segment: (values[4] != u64::from(NO_SEGMENT)).then_some(values[4] as usize),
             raw: RawParameter::of_bits(values[5] as Bits),
         }
     }

@@ -1,17 +1,17 @@
 //! A path that owns its buffers: built from a plan's text, then asked where a progress lies.
 
+use crate::Flight;
 use crate::refusals::{Reason, Refusal};
 
 answering! {
-    fn kihavute_place(kinds: [u8], fields: [f32], tables: [f32], lengths: [f32], progress: f32);
-    fn kihavute_position(kinds: [u8], fields: [f32], tables: [f32], lengths: [f32], progress: f32);
-    fn kihavute_tangent(kinds: [u8], fields: [f32], tables: [f32], lengths: [f32], progress: f32);
+    fn kihavute_flight(kinds: [u8], fields: [f32], tables: [f32], lengths: [f32], progress: f32);
     fn kihavute_rotation(kinds: [u8], fields: [f32], tables: [f32], lengths: [f32], progress: f32);
     fn kihavute_places(
         kinds: [u8], fields: [f32], tables: [f32], lengths: [f32], progresses: [f32], segments: mut [u32], raws: mut [f32]
     );
-    fn kihavute_positions(
-        kinds: [u8], fields: [f32], tables: [f32], lengths: [f32], progresses: [f32], out: mut [f32]
+    fn kihavute_flights(
+        kinds: [u8], fields: [f32], tables: [f32], lengths: [f32], progresses: [f32], segments: mut [u32], raws: mut [f32],
+        out: mut [f32]
     );
 }
 
@@ -49,14 +49,6 @@ impl RawParameter {
     }
 }
 
-/// A place on a path: the segment, counted from 0, and its raw parameter. Of two progresses of which the first is not the
-/// larger, the first one's place is not after the second one's.
-#[derive(Clone, Copy, Debug, PartialEq, PartialOrd)]
-pub struct Place {
-    pub segment: usize,
-    pub raw: RawParameter,
-}
-
 /// A stored path with its four buffers; `docs/STORED.md` has their layout.
 ///
 /// ```
@@ -64,9 +56,9 @@ pub struct Place {
 ///
 /// let path = Path::from_text(b"M0 0 L3 4 Q6 4 6 8").unwrap();
 /// assert_eq!(path.len(), 2);
-/// let place = path.place(Progress(0.25)).unwrap().expect("a path with a segment");
-/// assert_eq!(place.segment, 0);
-/// assert_eq!(path.position(Progress(0.0)).unwrap(), [0.0, 0.0]);
+/// let flight = path.flight(Progress(0.25)).unwrap();
+/// assert_eq!(flight.segment, Some(0));
+/// assert_eq!(flight.tangent.map(f32::from_bits), [0.6, 0.8]);
 /// let refusal = Path::from_text(b"M0 0 R1 2 3 4").unwrap_err();
 /// assert_eq!(refusal.to_string(), "the command R at byte 5 is not known; use M, L, H, V, C, S, Q, T, A or Z");
 /// ```
@@ -129,34 +121,22 @@ impl Path {
         &self.lengths
     }
 
-    /// The segment at a progress and its raw parameter; `None` without segments. The whole path is checked at each call, as
-    /// in each single query: [`places`](Path::places) and [`positions`](Path::positions) check it once for many progresses.
-    pub fn place(&self, progress: Progress) -> Result<Option<Place>, Refusal> {
-        let given = ask!(self, kihavute_place(progress.0))?;
-        let place = Place { segment: given[0] as usize, raw: RawParameter::of_bits(given[1] as u32) };
-        Ok((!self.is_empty()).then_some(place))
+    /// What is flown at a progress: where it is, in path units, where it heads, and the pair of segment and raw parameter at which
+    /// both were taken. Without segments there is none, and all numbers are 0. Of two progresses of which the first is not the
+    /// larger, the first one's pair is not after the second one's. The whole path is checked at each call:
+    /// [`places`](Path::places) and [`flights`](Path::flights) check it once for many progresses.
+    pub fn flight(&self, progress: Progress) -> Result<Flight, Refusal> {
+        Ok(Flight::given(ask!(self, kihavute_flight(progress.0))?))
     }
 
-    /// The point at a progress, in path units; (0, 0) without segments.
-    pub fn position(&self, progress: Progress) -> Result<[f32; 2], Refusal> {
-        let given = ask!(self, kihavute_position(progress.0))?;
-        Ok([given[0], given[1]].map(|bits| f32::from_bits(bits as u32)))
-    }
-
-    /// The direction at a progress, of length 1, or (0, 0) where nothing tells.
-    pub fn tangent(&self, progress: Progress) -> Result<[f32; 2], Refusal> {
-        let given = ask!(self, kihavute_tangent(progress.0))?;
-        Ok([given[0], given[1]].map(|bits| f32::from_bits(bits as u32)))
-    }
-
-    /// That direction in degrees from the x axis towards the y axis.
+    /// The direction at a progress in degrees from the x axis towards the y axis.
     pub fn rotation_deg(&self, progress: Progress) -> Result<f32, Refusal> {
         Ok(f32::from_bits(ask!(self, kihavute_rotation(progress.0))?[0] as u32))
     }
 
-    /// The segment at each progress and its raw parameter, each from its buffer's start; how many are written: one for each
-    /// progress, none without segments. The path is checked once. A buffer that is too short refuses the call with what is
-    /// needed, and nothing is written.
+    /// The segment at each progress and its raw parameter, each from its buffer's start: [`NO_SEGMENT`](crate::NO_SEGMENT) and 0
+    /// without segments. Gives how many progresses are looked up: each. The path is checked once. A buffer that is too short
+    /// refuses the call with what is needed, and nothing is written.
     ///
     /// ```
     /// use kihavute::{Path, Progress};
@@ -165,8 +145,8 @@ impl Path {
     /// let progresses = [0.0, 0.25, 1.0].map(Progress);
     /// let (mut segments, mut raws) = ([0; 3], [0.0; 3]);
     /// assert_eq!(path.places(&progresses, &mut segments, &mut raws), Ok(3));
-    /// let place = path.place(Progress(0.25)).unwrap().expect("a path with a segment");
-    /// assert_eq!((segments[1] as usize, raws[1]), (place.segment, place.raw.value()));
+    /// let flight = path.flight(Progress(0.25)).unwrap();
+    /// assert_eq!((Some(segments[1] as usize), raws[1]), (flight.segment, flight.raw.value()));
     /// assert_eq!((segments[2], raws[2]), (1, 1.0));
     /// ```
     pub fn places(&self, progresses: &[Progress], segments: &mut [u32], raws: &mut [f32]) -> Result<usize, Refusal> {
@@ -176,21 +156,30 @@ impl Path {
         Ok(given[0] as usize)
     }
 
-    /// The point and the direction at each progress, x, y, direction's x, y, from the buffer's start; how many progresses are
-    /// looked up: each. Without segments all numbers are 0. The path is checked once. A buffer that is too short refuses the
-    /// call with what is needed, and nothing is written.
+    /// All of what is flown at each progress: segments and raw parameters as [`places`](Path::places) gives them, and x, y and the
+    /// direction's x, y, from the third buffer's start, all 0 without segments. Gives how many progresses are looked up: each. A
+    /// buffer that is too short refuses the call with what is needed, and nothing is written.
     ///
     /// ```
     /// use kihavute::{Path, Progress};
     ///
     /// let path = Path::from_text(b"M0 0 L3 4").unwrap();
-    /// let mut out = [0.0; 8];
-    /// assert_eq!(path.positions(&[Progress(0.0), Progress(0.5)], &mut out), Ok(2));
+    /// let (mut segments, mut raws, mut out) = ([9; 2], [9.0; 2], [9.0; 8]);
+    /// assert_eq!(path.flights(&[Progress(0.0), Progress(0.5)], &mut segments, &mut raws, &mut out), Ok(2));
+    /// assert_eq!((segments, raws), ([0, 0], [0.0, 0.5]));
     /// assert_eq!(out, [0.0, 0.0, 0.6, 0.8, 1.5, 2.0, 0.6, 0.8]);
     /// ```
-    pub fn positions(&self, progresses: &[Progress], out: &mut [f32]) -> Result<usize, Refusal> {
+    pub fn flights(
+        &self,
+        progresses: &[Progress],
+        segments: &mut [u32],
+        raws: &mut [f32],
+        out: &mut [f32],
+    ) -> Result<usize, Refusal> {
         let (lent, count) = (progresses.as_ptr().cast(), progresses.len());
-        let given = ask!(self, kihavute_positions(lent, count, out.as_mut_ptr(), out.len()))?;
+        let (own, places) = (segments.as_mut_ptr(), segments.len());
+        let (along, more) = (raws.as_mut_ptr(), raws.len());
+        let given = ask!(self, kihavute_flights(lent, count, own, places, along, more, out.as_mut_ptr(), out.len()))?;
         Ok(given[0] as usize)
     }
 }
@@ -203,16 +192,18 @@ mod tests {
     fn a_path_of_every_kind() {
         let path = Path::from_text(b"M0 0L3 4Q6 4 6 8C6 12 9 12 9 8A2 2 0 0 1 13 8A0 1 0 0 1 14 8").expect("it builds");
         assert_eq!(path.len(), 5);
-        let mut last = None;
+        let mut last = (Some(0), RawParameter(0.0));
         for k in 0..=1000 {
-            let place = path.place(Progress(k as f32 / 1000.0)).expect("it passes the check");
-            assert!(place.is_some() && place >= last, "it steps back at {k}");
-            last = place;
+            let flight = path.flight(Progress(k as f32 / 1000.0)).expect("it passes the check");
+            let pair = (flight.segment, flight.raw);
+            assert!(pair.0.is_some() && pair >= last, "it steps back at {k}");
+            last = pair;
         }
-        assert_eq!(path.place(Progress(f32::NAN)), path.place(Progress(0.0)));
-        assert_eq!(path.place(Progress(1.0)), Ok(Some(Place { segment: 4, raw: RawParameter(1.0) })));
-        assert_eq!(path.position(Progress(0.0)), Ok([0.0, 0.0]));
-        assert_eq!(path.tangent(Progress(0.0)), Ok([0.6, 0.8]));
+        assert_eq!(last, (Some(4), RawParameter(1.0)));
+        assert_eq!(path.flight(Progress(f32::NAN)), path.flight(Progress(0.0)));
+        let bits = |point: [f32; 2]| point.map(f32::to_bits);
+        let start = Flight { position: [0, 0], tangent: bits([0.6, 0.8]), segment: Some(0), raw: RawParameter(0.0) };
+        assert_eq!(path.flight(Progress(0.0)), Ok(start));
         assert_eq!(path.rotation_deg(Progress(1.0)), Ok(0.0));
         assert!(path.arc_length() > 20.0 && path.lengths().len() == 5);
     }
@@ -221,8 +212,8 @@ mod tests {
     fn a_path_of_nothing_and_a_refused_one() {
         let empty = Path::from_text(b"").expect("no commands build");
         assert!(empty.is_empty() && empty.arc_length() == 0.0);
-        assert_eq!(empty.place(Progress(0.5)), Ok(None));
-        assert_eq!(empty.position(Progress(0.5)), Ok([0.0, 0.0]));
+        let nowhere = Flight { position: [0, 0], tangent: [0, 0], segment: None, raw: RawParameter(0.0) };
+        assert_eq!(empty.flight(Progress(0.5)), Ok(nowhere));
         let refusal = Path::from_commands(b"ML", &[0.0, 0.0, 3e38, 3e38]).expect_err("its length is not finite");
         assert_eq!(refusal.reason(), Reason::NotFinite { place: 0 });
     }
@@ -234,15 +225,17 @@ mod tests {
         progresses.extend([f32::NAN, 0.7, -1.0, 0.3, f32::INFINITY, 0.0, 1.0, 0.5].map(Progress));
         let count = progresses.len();
         let (mut segments, mut raws, mut out) = (vec![9; count + 1], vec![9.0; count + 1], vec![9.0; 4 * count + 1]);
-        assert_eq!(path.places(&progresses, &mut segments, &mut raws), Ok(count));
-        assert_eq!(path.positions(&progresses, &mut out), Ok(count));
-        for (k, progress) in progresses.into_iter().enumerate() {
-            let raw = RawParameter(raws[k]);
-            assert_eq!(path.place(progress), Ok(Some(Place { segment: segments[k] as usize, raw })));
-            assert_eq!(path.position(progress), Ok([out[4 * k], out[4 * k + 1]]));
-            assert_eq!(path.tangent(progress), Ok([out[4 * k + 2], out[4 * k + 3]]));
+        assert_eq!(path.flights(&progresses, &mut segments, &mut raws, &mut out), Ok(count));
+        for (k, progress) in progresses.iter().enumerate() {
+            let point = |from: usize| [out[4 * k + from], out[4 * k + from + 1]].map(f32::to_bits);
+            let segment = Some(segments[k] as usize);
+            let there = Flight { position: point(0), tangent: point(2), segment, raw: RawParameter(raws[k]) };
+            assert_eq!(path.flight(*progress), Ok(there));
         }
         assert_eq!((segments[count], raws[count], out[4 * count]), (9, 9.0, 9.0));
+        let (mut columns, mut others) = (vec![9; count + 1], vec![9.0; count + 1]);
+        assert_eq!(path.places(&progresses, &mut columns, &mut others), Ok(count));
+        assert_eq!((columns, others), (segments, raws));
     }
 
     #[test]
@@ -252,12 +245,14 @@ mod tests {
         let three = [0.0, 0.5, 1.0].map(Progress);
         let refusal = path.places(&three, &mut segments, &mut raws).expect_err("a place too few");
         assert_eq!(refusal.reason(), Reason::NoRoom { needed: [3, 3, 0, 0] });
-        let refusal = path.positions(&three, &mut out).expect_err("a place too few");
-        assert_eq!(refusal.reason(), Reason::NoRoom { needed: [12, 0, 0, 0] });
+        let refusal = path.flights(&three, &mut [9; 3], &mut raws, &mut out).expect_err("a place too few");
+        assert_eq!(refusal.reason(), Reason::NoRoom { needed: [3, 3, 12, 0] });
         assert_eq!((segments, raws, out), ([9; 2], [9.0; 3], [9.0; 11]));
         let empty = Path::default();
-        assert_eq!(empty.places(&three[1..2], &mut segments, &mut raws), Ok(0));
-        assert_eq!(empty.positions(&three[1..2], &mut out), Ok(1));
-        assert_eq!((segments, raws, &out[..5]), ([9; 2], [9.0; 3], &[0.0, 0.0, 0.0, 0.0, 9.0][..]));
+        assert_eq!(empty.flights(&three[1..2], &mut segments, &mut raws, &mut out), Ok(1));
+        assert_eq!((segments, raws), ([crate::NO_SEGMENT, 9], [0.0, 9.0, 9.0]));
+        assert_eq!(&out[..5], &[0.0, 0.0, 0.0, 0.0, 9.0]);
+        assert_eq!(empty.places(&three[..2], &mut segments, &mut raws), Ok(2));
+        assert_eq!((segments, raws), ([crate::NO_SEGMENT; 2], [0.0, 0.0, 9.0]));
     }
 }

@@ -38,7 +38,7 @@ answering! {
 ///
 /// let path = Path::from_text(b"M0 0 L1e-8 0").unwrap();
 /// // a path this short is at its end throughout, and its segment is not
-/// assert_eq!(path.position(Progress(0.5)).unwrap(), [1e-8, 0.0]);
+/// assert_eq!(path.flight(Progress(0.5)).unwrap().position.map(f32::from_bits), [1e-8, 0.0]);
 /// assert_eq!(path.stored().segment_position(0, Progress(0.5)).unwrap(), Some([5e-9f32.to_bits(), 0]));
 /// assert_eq!(path.stored().segment_position(1, Progress(0.5)).unwrap(), None);
 /// ```

@@ -238,23 +238,23 @@ static void queries(void) {
     const uint8_t unknown[] = {0, 5};
 
     fresh();
-    answered("a place on a path", kihavute_place(kinds, 2, fields, 8, NULL, 0, lengths, 2, 0.75f, answer, PLACES), 0, 2, (uint64_t[]){1, bits(0.5f)});
+    answered("a flight on a path", kihavute_flight(kinds, 2, fields, 8, NULL, 0, lengths, 2, 0.75f, answer, PLACES), 0, 6,
+             (uint64_t[]){bits(3), bits(6.5f), 0, bits(1), 1, bits(0.5f)});
     fresh();
-    answered("a place at a running length", kihavute_place(kinds, 2, fields, 8, NULL, 0, lengths, 2, 0.5f, answer, PLACES), 0, 2, (uint64_t[]){0, bits(1)});
+    answered("a flight at a running length", kihavute_flight(kinds, 2, fields, 8, NULL, 0, lengths, 2, 0.5f, answer, PLACES), 0, 6,
+             (uint64_t[]){bits(3), bits(4), bits(0.6f), bits(0.8f), 0, bits(1)});
     fresh();
-    answered("a place without segments", kihavute_place(kinds, 0, fields, 0, NULL, 0, lengths, 0, 0.5f, answer, PLACES), 0, 0, NULL);
+    answered("a flight in 8 places", kihavute_flight(kinds, 2, fields, 8, NULL, 0, lengths, 2, 0, answer, 8), 0, 6,
+             (uint64_t[]){0, 0, bits(0.6f), bits(0.8f), 0, 0});
     fresh();
-    answered("a place, a number too few", kihavute_place(kinds, 2, fields, 7, NULL, 0, lengths, 2, 0.5f, answer, PLACES), 12, 0, NULL);
+    answered("a flight without segments", kihavute_flight(kinds, 0, fields, 0, NULL, 0, lengths, 0, 0.5f, answer, PLACES), 0, 6,
+             (uint64_t[]){0, 0, 0, 0, KIHAVUTE_NO_SEGMENT, 0});
     fresh();
-    answered("a place, a short answer", kihavute_place(kinds, 2, fields, 8, NULL, 0, lengths, 2, 0.5f, answer, 7), 255, 0, NULL);
+    answered("a flight, a number too few", kihavute_flight(kinds, 2, fields, 7, NULL, 0, lengths, 2, 0.5f, answer, PLACES), 12, 0, NULL);
     fresh();
-    answered("a position on a path", kihavute_position(kinds, 2, fields, 8, NULL, 0, lengths, 2, 0.75f, answer, PLACES), 0, 2, (uint64_t[]){bits(3), bits(6.5f)});
+    answered("a flight, an unknown kind", kihavute_flight(unknown, 2, fields, 8, NULL, 0, lengths, 2, 0.5f, answer, PLACES), 12, 0, NULL);
     fresh();
-    answered("a position without segments", kihavute_position(kinds, 0, fields, 0, NULL, 0, lengths, 0, 0.5f, answer, PLACES), 0, 2, (uint64_t[]){0, 0});
-    fresh();
-    answered("a position, an unknown kind", kihavute_position(unknown, 2, fields, 8, NULL, 0, lengths, 2, 0.5f, answer, PLACES), 12, 0, NULL);
-    fresh();
-    answered("a tangent on a path", kihavute_tangent(kinds, 2, fields, 8, NULL, 0, lengths, 2, 0.75f, answer, PLACES), 0, 2, (uint64_t[]){0, bits(1)});
+    answered("a flight, a short answer", kihavute_flight(kinds, 2, fields, 8, NULL, 0, lengths, 2, 0.5f, answer, 7), 255, 0, NULL);
     fresh();
     answered("a rotation on a path", kihavute_rotation(kinds, 2, fields, 8, NULL, 0, lengths, 2, 0.75f, answer, PLACES), 0, 1, (uint64_t[]){bits(90)});
 }
@@ -277,8 +277,6 @@ static void batches(void) {
     answered("places, a path and room that fail", kihavute_places(kinds, 2, fields, 7, NULL, 0, lengths, 2, progresses, 5, segments, 0, raws, 0, answer, PLACES), 12, 0, NULL);
     fresh();
     answered("places, a short answer", kihavute_places(kinds, 2, fields, 8, NULL, 0, lengths, 2, progresses, 5, segments, 6, raws, 6, answer, 7), 255, 0, NULL);
-    fresh();
-    answered("places without segments", kihavute_places(kinds, 0, fields, 0, NULL, 0, lengths, 0, progresses, 5, segments, 0, raws, 0, answer, PLACES), 0, 0, NULL);
     for (size_t k = 0; k < 6; k++) {
         same("segments untouched", segments[k], 7);
         same("raws untouched", bits(raws[k]), bits(7));
@@ -295,24 +293,49 @@ static void batches(void) {
     }
 
     fresh();
-    answered("positions, a number too few", kihavute_positions(kinds, 2, fields, 8, NULL, 0, lengths, 2, progresses, 2, out, 7, answer, PLACES), 8, 1, (uint64_t[]){8});
-    fresh();
-    answered("positions, an unknown kind", kihavute_positions((uint8_t[]){0, 5}, 2, fields, 8, NULL, 0, lengths, 2, progresses, 2, out, 9, answer, PLACES), 12, 0, NULL);
-    fresh();
-    answered("positions, a short answer", kihavute_positions(kinds, 2, fields, 8, NULL, 0, lengths, 2, progresses, 2, out, 9, answer, 0), 255, 0, NULL);
-    for (size_t k = 0; k < 9; k++) {
-        same("positions untouched", bits(out[k]), bits(7));
+    answered("places without segments", kihavute_places(kinds, 0, fields, 0, NULL, 0, lengths, 0, progresses, 5, segments, 6, raws, 6, answer, PLACES), 0, 1, (uint64_t[]){5});
+    for (size_t k = 0; k < 6; k++) {
+        same("no segment", segments[k], k < 5 ? KIHAVUTE_NO_SEGMENT : 7);
+        same("the raw parameter of none", bits(raws[k]), k < 5 ? 0 : bits(7));
+        segments[k] = 7, raws[k] = 7;
     }
     fresh();
-    answered("positions without segments", kihavute_positions(kinds, 0, fields, 0, NULL, 0, lengths, 0, progresses, 1, out, 9, answer, PLACES), 0, 1, (uint64_t[]){1});
+    answered("places without segments or room", kihavute_places(kinds, 0, fields, 0, NULL, 0, lengths, 0, progresses, 5, segments, 0, raws, 0, answer, PLACES), 8, 2, (uint64_t[]){5, 5});
+
+    fresh();
+    answered("flights, a segment too few", kihavute_flights(kinds, 2, fields, 8, NULL, 0, lengths, 2, progresses, 2, segments, 1, raws, 2, out, 8, answer, PLACES), 8, 3, (uint64_t[]){2, 2, 8});
+    fresh();
+    answered("flights, a raw too few", kihavute_flights(kinds, 2, fields, 8, NULL, 0, lengths, 2, progresses, 2, segments, 2, raws, 1, out, 8, answer, PLACES), 8, 3, (uint64_t[]){2, 2, 8});
+    fresh();
+    answered("flights, a number too few", kihavute_flights(kinds, 2, fields, 8, NULL, 0, lengths, 2, progresses, 2, segments, 2, raws, 2, out, 7, answer, PLACES), 8, 3, (uint64_t[]){2, 2, 8});
+    fresh();
+    answered("flights, an unknown kind", kihavute_flights((uint8_t[]){0, 5}, 2, fields, 8, NULL, 0, lengths, 2, progresses, 2, segments, 0, raws, 0, out, 0, answer, PLACES), 12, 0, NULL);
+    fresh();
+    answered("flights, a short answer", kihavute_flights(kinds, 2, fields, 8, NULL, 0, lengths, 2, progresses, 2, segments, 6, raws, 6, out, 9, answer, 7), 255, 0, NULL);
+    for (size_t k = 0; k < 9; k++) {
+        same("flights untouched", bits(out[k]), bits(7));
+        if (k < 6) same("flights' segments untouched", segments[k], 7), same("flights' raws untouched", bits(raws[k]), bits(7));
+    }
+    fresh();
+    answered("flights without segments", kihavute_flights(kinds, 0, fields, 0, NULL, 0, lengths, 0, progresses, 1, segments, 6, raws, 6, out, 9, answer, PLACES), 0, 1, (uint64_t[]){1});
     for (size_t k = 0; k < 9; k++) {
         same("zeros without segments", bits(out[k]), k < 4 ? 0 : bits(7));
     }
+    same("a flight's segment that is none", segments[0], KIHAVUTE_NO_SEGMENT);
+    same("its raw parameter", bits(raws[0]), 0);
+    same("the segment past it", segments[1], 7);
+    same("the raw parameter past it", bits(raws[1]), bits(7));
     fresh();
-    answered("positions", kihavute_positions(kinds, 2, fields, 8, NULL, 0, lengths, 2, progresses, 2, out, 9, answer, PLACES), 0, 1, (uint64_t[]){2});
+    answered("flights", kihavute_flights(kinds, 2, fields, 8, NULL, 0, lengths, 2, progresses, 2, segments, 6, raws, 6, out, 9, answer, PLACES), 0, 1, (uint64_t[]){2});
     const float flown[] = {3, 6.5f, 0, 1, 0, 0, 0.6f, 0.8f, 7};
     for (size_t k = 0; k < 9; k++) {
         same("a number of a batch", bits(out[k]), bits(flown[k]));
+    }
+    const uint32_t flown_segments[] = {1, 0, 7};
+    const float flown_raws[] = {0.5f, 0, 7};
+    for (size_t k = 0; k < 3; k++) {
+        same("a segment of flights", segments[k], flown_segments[k]);
+        same("a raw parameter of flights", bits(raws[k]), bits(flown_raws[k]));
     }
 }
 
@@ -1190,7 +1213,7 @@ static void segments(void) {
     fresh();
     kihavute_line_to(BUFFERS, 0, 0, 0, 1e-8f, 0, answer, PLACES);
     fresh();
-    answered("a short path's place", kihavute_position(STORED(1, 4, 0), 0.5f, answer, PLACES), 0, 2, (uint64_t[]){bits(1e-8f), 0});
+    answered("a short path's place", kihavute_flight(STORED(1, 4, 0), 0.5f, answer, PLACES), 0, 6, (uint64_t[]){bits(1e-8f), 0, 0, 0, 0, bits(1)});
     fresh();
     answered("its segment's", kihavute_segment_position(STORED(1, 4, 0), 0, 0.5f, answer, PLACES), 0, 2, (uint64_t[]){bits(1e-8f * 0.5f), 0});
     fresh();
@@ -1372,23 +1395,19 @@ static void nulls(void) {
     fresh();
     answered("a text built into nulls", kihavute_build_text(text, 8, NULL, 0, NULL, 0, NULL, 0, NULL, 0, answer, PLACES), 8, 4, (uint64_t[]){1, 4, 0, 1});
     fresh();
-    answered("a place on nulls", kihavute_place(NULL, 0, NULL, 0, NULL, 0, NULL, 0, half, answer, PLACES), 0, 0, NULL);
-    fresh();
-    answered("a position on nulls", kihavute_position(NULL, 0, NULL, 0, NULL, 0, NULL, 0, half, answer, PLACES), 0, 2, (uint64_t[]){0, 0});
-    fresh();
-    answered("a tangent on nulls", kihavute_tangent(NULL, 0, NULL, 0, NULL, 0, NULL, 0, half, answer, PLACES), 0, 2, (uint64_t[]){0, 0});
+    answered("a flight on nulls", kihavute_flight(NULL, 0, NULL, 0, NULL, 0, NULL, 0, half, answer, PLACES), 0, 6, (uint64_t[]){0, 0, 0, 0, KIHAVUTE_NO_SEGMENT, 0});
     fresh();
     answered("a rotation on nulls", kihavute_rotation(NULL, 0, NULL, 0, NULL, 0, NULL, 0, half, answer, PLACES), 0, 1, (uint64_t[]){0});
     fresh();
-    answered("places on nulls", kihavute_places(NULL, 0, NULL, 0, NULL, 0, NULL, 0, NULL, 0, NULL, 0, NULL, 0, answer, PLACES), 0, 0, NULL);
+    answered("places on nulls", kihavute_places(NULL, 0, NULL, 0, NULL, 0, NULL, 0, NULL, 0, NULL, 0, NULL, 0, answer, PLACES), 0, 1, (uint64_t[]){0});
     fresh();
     answered("places of null progresses", kihavute_places(kinds, 1, fields, 4, NULL, 0, lengths, 1, NULL, 0, NULL, 0, NULL, 0, answer, PLACES), 0, 1, (uint64_t[]){0});
     fresh();
     answered("places into nulls", kihavute_places(kinds, 1, fields, 4, NULL, 0, lengths, 1, &half, 1, NULL, 0, NULL, 0, answer, PLACES), 8, 2, (uint64_t[]){1, 1});
     fresh();
-    answered("positions on nulls", kihavute_positions(NULL, 0, NULL, 0, NULL, 0, NULL, 0, NULL, 0, NULL, 0, answer, PLACES), 0, 1, (uint64_t[]){0});
+    answered("flights on nulls", kihavute_flights(NULL, 0, NULL, 0, NULL, 0, NULL, 0, NULL, 0, NULL, 0, NULL, 0, NULL, 0, answer, PLACES), 0, 1, (uint64_t[]){0});
     fresh();
-    answered("positions into null", kihavute_positions(kinds, 1, fields, 4, NULL, 0, lengths, 1, &half, 1, NULL, 0, answer, PLACES), 8, 1, (uint64_t[]){4});
+    answered("flights into nulls", kihavute_flights(kinds, 1, fields, 4, NULL, 0, lengths, 1, &half, 1, NULL, 0, NULL, 0, NULL, 0, answer, PLACES), 8, 3, (uint64_t[]){1, 1, 4});
     fresh();
     answered("a null plan", kihavute_stations(NULL, 0, listing, sizeof listing, answer, PLACES), 0, 1, (uint64_t[]){13});
     same("what it says", memcmp(listing, "refused 13 0\n", 13), 0);
@@ -1436,16 +1455,14 @@ static void nulls(void) {
         kihavute_check(NULL, 0, NULL, 0, NULL, 0, NULL, 0, NULL, 0),
         kihavute_build(NULL, 0, NULL, 0, NULL, 0, NULL, 0, NULL, 0, NULL, 0, NULL, 0),
         kihavute_build_text(NULL, 0, NULL, 0, NULL, 0, NULL, 0, NULL, 0, NULL, 0),
-        kihavute_place(NULL, 0, NULL, 0, NULL, 0, NULL, 0, half, NULL, 0),
-        kihavute_position(NULL, 0, NULL, 0, NULL, 0, NULL, 0, half, NULL, 0),
-        kihavute_tangent(NULL, 0, NULL, 0, NULL, 0, NULL, 0, half, NULL, 0),
+        kihavute_flight(NULL, 0, NULL, 0, NULL, 0, NULL, 0, half, NULL, 0),
         kihavute_rotation(NULL, 0, NULL, 0, NULL, 0, NULL, 0, half, NULL, 0),
         kihavute_places(NULL, 0, NULL, 0, NULL, 0, NULL, 0, NULL, 0, NULL, 0, NULL, 0, NULL, 0),
-        kihavute_positions(NULL, 0, NULL, 0, NULL, 0, NULL, 0, NULL, 0, NULL, 0, NULL, 0),
+        kihavute_flights(NULL, 0, NULL, 0, NULL, 0, NULL, 0, NULL, 0, NULL, 0, NULL, 0, NULL, 0, NULL, 0),
         kihavute_stations(NULL, 0, NULL, 0, NULL, 0),
     };
     for (size_t i = 0; i < sizeof found / sizeof *found; i++) same("a null answer", found[i], 255);
-    same("the entries with an answer", sizeof found / sizeof *found, 46);
+    same("the entries with an answer", sizeof found / sizeof *found, 44);
 }
 
 int main(void) {

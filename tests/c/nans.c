@@ -216,19 +216,22 @@ static void r_stations(float nan) {
 #define PATH kinds, 1, fields, 4, tables, 0, lengths, 1
 static void stored(float nan) { kinds[0] = 0, fields[0] = 0, fields[1] = 0, fields[2] = nan, fields[3] = 4, lengths[0] = 5; }
 
-static void r_place(float nan) { stored(nan), accepted(kihavute_place(PATH, nan, answer, PLACES)), no_nan(answer[1]); }
-static void r_position(float nan) { stored(nan), accepted(kihavute_position(PATH, 0.5f, answer, PLACES)), is_nan(answer[0]); }
-static void r_tangent(float nan) { stored(nan), accepted(kihavute_tangent(PATH, 0.5f, answer, PLACES)), is_nan(answer[0]), is_nan(answer[1]); }
+static void r_flight(float nan) {
+    stored(nan), accepted(kihavute_flight(PATH, 0.5f, answer, PLACES)), is_nan(answer[0]), is_nan(answer[2]), is_nan(answer[3]), no_nan(answer[5]);
+    accepted(kihavute_flight(PATH, nan, answer, PLACES)), no_nan(answer[5]);
+}
 static void r_rotation(float nan) { stored(nan), accepted(kihavute_rotation(PATH, 0.5f, answer, PLACES)), is_nan(answer[0]); }
 static void r_places(float nan) {
     uint32_t segments[2];
     stored(nan);
     accepted(kihavute_places(PATH, (float[]){nan, 0.5f}, 2, segments, 2, out, 64, answer, PLACES)), no_nan(bits(out[0])), no_nan(bits(out[1]));
 }
-static void r_positions(float nan) {
+static void r_flights(float nan) {
+    uint32_t segments[2];
+    float raws[2];
     stored(nan);
-    accepted(kihavute_positions(PATH, (float[]){0.5f, nan}, 2, out, 64, answer, PLACES));
-    is_nan(bits(out[0])), is_nan(bits(out[2])), is_nan(bits(out[3])), is_nan(bits(out[4]));
+    accepted(kihavute_flights(PATH, (float[]){0.5f, nan}, 2, segments, 2, raws, 2, out, 64, answer, PLACES));
+    is_nan(bits(out[0])), is_nan(bits(out[2])), is_nan(bits(out[3])), is_nan(bits(out[4])), no_nan(bits(raws[0])), no_nan(bits(raws[1]));
 }
 static void r_path_length(float nan) {
     stored(nan), accepted(kihavute_path_length(PATH, answer, PLACES)), no_nan(answer[0]);
@@ -298,10 +301,9 @@ static const struct {
     NONE(strict), NONE(check_commands), NONE(check),
     ROW(build),
     NEVER(build_text, "a NaN coordinate makes a length that is refused, and no text is a NaN rotation"),
-    NEVER(place, "a raw parameter lies between 0 and 1"),
-    ROW(position), ROW(tangent), ROW(rotation),
+    ROW(flight), ROW(rotation),
     NEVER(places, "a raw parameter lies between 0 and 1"),
-    ROW(positions), ROW(stations),
+    ROW(flights), ROW(stations),
     NONE(len), NONE(is_empty),
     NEVER(path_length, "a running length that is not finite is refused"),
     ROW(segment), ROW(segment_position), ROW(segment_tangent), ROW(segment_rotation),
