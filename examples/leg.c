@@ -19,12 +19,13 @@ int main(int count, char **words) {
         return 2;
     }
 
-    uint64_t way = kihavute_sub(leg[2], leg[3], leg[0], leg[1]);
-    float x = kihavute_x(way), y = kihavute_y(way);
-    uint64_t direction = kihavute_normalize(x, y);
-
+    uint64_t line[8];
+    if (kihavute_line(leg[0], leg[1], leg[2], leg[3], 0, line, 8) != 0) {
+        fprintf(stderr, "leg: its length is no finite number\n");
+        return 1;
+    }
     printf("leg from (%g, %g) to (%g, %g)\n", leg[0], leg[1], leg[2], leg[3]);
-    printf("length %g\n", kihavute_float(kihavute_length(x, y)));
-    printf("direction (%g, %g)\n", kihavute_x(direction), kihavute_y(direction));
+    printf("length %g\n", kihavute_float((uint32_t)line[5]));
+    printf("direction (%g, %g)\n", kihavute_float((uint32_t)line[2]), kihavute_float((uint32_t)line[3]));
     return 0;
 }

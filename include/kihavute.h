@@ -173,35 +173,28 @@ uint32_t kihavute_raw_parameter(const float *entries, size_t entries_len, float 
  * gives the last segment at 1. */
 uint32_t kihavute_spot(const float *lengths, size_t lengths_len, float progress, uint64_t *answer, size_t answer_len);
 
+/* ---- Lone segments ----
+ * A call makes the segment of the numbers that it is given and asks it once, at a progress along it: answer[0] and [1] get the
+ * bits of x and y of the position, [2] and [3] those of the tangent, [4] those of the raw parameter at which both were taken,
+ * [5] those of the length. The tangent has the length 1, or is (0, 0) where nothing tells; kihavute_rotation_deg gives its
+ * heading in degrees.
+ *
+ *     uint64_t answer[8];
+ *     if (kihavute_quad(0, 0, 1, 0, 2, 0, 0.5f, answer, 8) == 0)
+ *         printf("%g %g\n", kihavute_float((uint32_t)answer[0]), kihavute_float((uint32_t)answer[1])); // 1 0
+ *
+ * Refused with 11, and answer[0] is 0, where the length is infinite or a NaN. */
+
 /* ---- Quads and cubics ----
- * Each call makes the curve from (sx, sy) to (ex, ey), with the control (cx, cy) of a quad or the controls (ax, ay) and
- * (bx, by) of a cubic, and asks it one thing at a progress. Refused with 11, and answer[0] is 0, where the curve's length
- * is infinite or a NaN: the sum of the distances of 32 samples at the parameters 0, 1/31, .. 1. */
+ * From (sx, sy) to (ex, ey), with the control (cx, cy) of a quad or the controls (ax, ay) and (bx, by) of a cubic. The length
+ * is the sum of the distances of 32 samples, at the parameters 0, 1/31, .. 1. */
 
-/* The place at this progress: answer[0] gets the bits of x, answer[1] those of y. */
-uint32_t kihavute_quad_position(float sx, float sy, float cx, float cy, float ex, float ey, float progress,
-                                uint64_t *answer, size_t answer_len);
-uint32_t kihavute_cubic_position(float sx, float sy, float ax, float ay, float bx, float by, float ex, float ey,
-                                 float progress, uint64_t *answer, size_t answer_len);
-
-/* The direction at this progress, of length 1: answer[0] gets the bits of x, answer[1] those of y. Where the curve's
- * derivative tells nothing, the direction to the place a thousandth further; (0, 0) where that tells nothing either. */
-uint32_t kihavute_quad_tangent(float sx, float sy, float cx, float cy, float ex, float ey, float progress,
-                               uint64_t *answer, size_t answer_len);
-uint32_t kihavute_cubic_tangent(float sx, float sy, float ax, float ay, float bx, float by, float ex, float ey,
-                                float progress, uint64_t *answer, size_t answer_len);
-
-/* The heading of that direction in degrees: answer[0] gets its bits. */
-uint32_t kihavute_quad_rotation_deg(float sx, float sy, float cx, float cy, float ex, float ey, float progress,
-                                    uint64_t *answer, size_t answer_len);
-uint32_t kihavute_cubic_rotation_deg(float sx, float sy, float ax, float ay, float bx, float by, float ex, float ey,
-                                     float progress, uint64_t *answer, size_t answer_len);
-
-/* The length: answer[0] gets its bits. */
-uint32_t kihavute_quad_length(float sx, float sy, float cx, float cy, float ex, float ey,
-                              uint64_t *answer, size_t answer_len);
-uint32_t kihavute_cubic_length(float sx, float sy, float ax, float ay, float bx, float by, float ex, float ey,
-                               uint64_t *answer, size_t answer_len);
+/* What the curve answers. Where its derivative tells nothing, the tangent is the direction to the place a thousandth further;
+ * (0, 0) where that tells nothing either. */
+uint32_t kihavute_quad(float sx, float sy, float cx, float cy, float ex, float ey, float progress,
+                       uint64_t *answer, size_t answer_len);
+uint32_t kihavute_cubic(float sx, float sy, float ax, float ay, float bx, float by, float ex, float ey, float progress,
+                        uint64_t *answer, size_t answer_len);
 
 /* The table: out gets 33 numbers, the running lengths at the 32 samples and then their total, which is the last of them.
  * Nothing is written to answer. Refused with 8, and answer[0] is 33, where out has fewer places; a refusal writes nothing
@@ -211,48 +204,23 @@ uint32_t kihavute_quad_table(float sx, float sy, float cx, float cy, float ex, f
 uint32_t kihavute_cubic_table(float sx, float sy, float ax, float ay, float bx, float by, float ex, float ey,
                               float *out, size_t out_len, uint64_t *answer, size_t answer_len);
 
-/* ---- Lines ----
- * Each call makes the line from (sx, sy) to (ex, ey) and asks it one thing. Refused with 11, and answer[0] is 0, where
- * its length is infinite or a NaN. */
+/* ---- Lines ---- */
 
-/* The place at this progress, s + (e - s)*t in each coordinate: answer[0] gets the bits of x, answer[1] those of y. */
-uint32_t kihavute_line_position(float sx, float sy, float ex, float ey, float progress,
-                                uint64_t *answer, size_t answer_len);
-
-/* The direction, of length 1, or (0, 0) where the ends are within 2^-23: answer[0] gets the bits of x, answer[1] those
- * of y. It is the same at every progress. */
-uint32_t kihavute_line_tangent(float sx, float sy, float ex, float ey, uint64_t *answer, size_t answer_len);
-
-/* The heading of that direction in degrees: answer[0] gets its bits. */
-uint32_t kihavute_line_rotation_deg(float sx, float sy, float ex, float ey, uint64_t *answer, size_t answer_len);
-
-/* The length: answer[0] gets its bits. */
-uint32_t kihavute_line_length(float sx, float sy, float ex, float ey, uint64_t *answer, size_t answer_len);
+/* What the line from (sx, sy) to (ex, ey) answers: s + (e - s)*t in each coordinate, where t, the raw parameter, is the progress
+ * clamped to 0 and 1. Its tangent is the same everywhere, (0, 0) where the ends are within 2^-23. */
+uint32_t kihavute_line(float sx, float sy, float ex, float ey, float progress, uint64_t *answer, size_t answer_len);
 
 /* ---- Elliptical arcs ----
- * Each call makes the arc from (sx, sy) to (ex, ey) as a path's text gives it: the radii rx and ry, whose signs do not
+ * From (sx, sy) to (ex, ey) as a path's text gives it: the radii rx and ry, whose signs do not
  * count, the rotation of the ellipse in degrees, and two flags, of which 0 is no and any other number yes. Where the ends
  * are within 2^-23, or a radius is that small, the arc falls back to the line. A rotation beyond 360 in size turns the
  * ellipse by what is left of full turns, exactly: 765 as 45 does, -765 as -45. Refused with 10, and answer[0] is 0, where
  * the arc does not fall back and the rotation is infinite or a NaN; then with 11, and answer[0] is 0, where its length is.
  * An arc may miss its ends: docs/DIFFERENCES.md has by how much. */
 
-/* The place at this progress: answer[0] gets the bits of x, answer[1] those of y. */
-uint32_t kihavute_arc_position(float sx, float sy, float rx, float ry, float rotation, uint32_t large, uint32_t sweep,
-                               float ex, float ey, float progress, uint64_t *answer, size_t answer_len);
-
-/* The direction at this progress, of length 1, or (0, 0): answer[0] gets the bits of x, answer[1] those of y. */
-uint32_t kihavute_arc_tangent(float sx, float sy, float rx, float ry, float rotation, uint32_t large, uint32_t sweep,
-                              float ex, float ey, float progress, uint64_t *answer, size_t answer_len);
-
-/* The heading of that direction in degrees: answer[0] gets its bits. */
-uint32_t kihavute_arc_rotation_deg(float sx, float sy, float rx, float ry, float rotation, uint32_t large,
-                                   uint32_t sweep, float ex, float ey, float progress,
-                                   uint64_t *answer, size_t answer_len);
-
-/* The length: answer[0] gets its bits. */
-uint32_t kihavute_arc_length(float sx, float sy, float rx, float ry, float rotation, uint32_t large, uint32_t sweep,
-                             float ex, float ey, uint64_t *answer, size_t answer_len);
+/* What the arc answers; a fallback answers what its line does. */
+uint32_t kihavute_arc(float sx, float sy, float rx, float ry, float rotation, uint32_t large, uint32_t sweep,
+                      float ex, float ey, float progress, uint64_t *answer, size_t answer_len);
 
 /* The arc's numbers: out gets 11, the start, the end and the centre, the radii as they were fitted, the rotation in
  * degrees, the angle at which the arc starts and the one by which it turns, in radians. A line fallback has its ends and

@@ -123,7 +123,7 @@ fn length() {
     let after = |v: [f32; 2], zero| [f32::from_bits(v[0].to_bits() | zero), v[1]];
     row("length, latency", latency(&inputs, after, |v| first(v).to_bits(), ours, theirs));
     let quads: Vec<[[f32; 2]; 3]> = inputs.chunks_exact(3).map(|p| [p[0], p[1], p[2]]).collect();
-    let ours = |p| kihavute::quad_length(&p).unwrap_or(0);
+    let ours = |p| kihavute::quad(&p, Progress(0.3)).map_or(0, |lone| lone.length);
     let whole = slow(&quads, ours, |p| original_quad(&p).arc_length().to_bits());
     row("length, 31 at once", whole.map(|time| time / 31.0));
 }
@@ -413,6 +413,11 @@ fn splines() {
     }
 }
 
+// position, tangent and length of the Rust's
+fn folded(curve: &impl PathEvaluate) -> u32 {
+    curve.position(0.3)[0].to_bits() ^ curve.tangent(0.3)[0].to_bits() ^ curve.arc_length().to_bits()
+}
+
 // 512 curves of some hundred metres. Each call of ours makes the curve anew, so the Rust's does too. A table is 31
 // distances: the row "31 lengths" says what they cost one by one. The arc's Rust calls our sine, cosine and atan2.
 fn curves() {
@@ -421,19 +426,14 @@ fn curves() {
     let points: Vec<[[f32; 2]; 4]> =
         bits.chunks_exact(8).map(|own| std::array::from_fn(|j| [metres(own[2 * j]), metres(own[2 * j + 1])])).collect();
     let three = |p: [[f32; 2]; 4]| [p[0], p[1], p[2]];
-    let first = |placed: Result<[u32; 2], kihavute::Refusal>| placed.map_or(0, |place| place[0]);
-    let ours = |p| kihavute::quad_length(&three(p)).unwrap_or(0);
-    row("a quad, built", slow(&points, ours, |p| original_quad(&three(p)).arc_length().to_bits()));
-    let ours = |p| kihavute::cubic_length(&p).unwrap_or(0);
-    row("a cubic, built", slow(&points, ours, |p| original_cubic(&p).arc_length().to_bits()));
-    let ours = |p| first(kihavute::quad_position(&three(p), Progress(0.3)));
-    row("a quad, built, position", slow(&points, ours, |p| original_quad(&three(p)).position(0.3)[0].to_bits()));
-    let ours = |p| first(kihavute::quad_tangent(&three(p), Progress(0.3)));
-    row("a quad, built, tangent", slow(&points, ours, |p| original_quad(&three(p)).tangent(0.3)[0].to_bits()));
-    let ours = |p| first(kihavute::cubic_position(&p, Progress(0.3)));
-    row("a cubic, built, position", slow(&points, ours, |p| original_cubic(&p).position(0.3)[0].to_bits()));
-    let ours = |p| first(kihavute::cubic_tangent(&p, Progress(0.3)));
-    row("a cubic, built, tangent", slow(&points, ours, |p| original_cubic(&p).tangent(0.3)[0].to_bits()));
+    // what a call gives, folded so that none of it is left out
+    let all = |asked: Result<kihavute::Lone, kihavute::Refusal>| {
+        asked.map_or(0, |lone| lone.position[0] ^ lone.tangent[0] ^ lone.length)
+    };
+    let ours = |p| all(kihavute::quad(&three(p), Progress(0.3)));
+    row("a quad, built, asked once", slow(&points, ours, |p| folded(&original_quad(&three(p)))));
+    let ours = |p| all(kihavute::cubic(&p, Progress(0.3)));
+    row("a cubic, built, asked once", slow(&points, ours, |p| folded(&original_cubic(&p))));
     let chords: Vec<Chord> = points
         .iter()
         .zip(&bits)
@@ -446,10 +446,8 @@ fn curves() {
             end: p[3],
         })
         .collect();
-    let ours = |c| kihavute::arc_length(&c).unwrap_or(0);
-    row("an arc, built", slow(&chords, ours, |c| original_arc(&c).arc_length().to_bits()));
-    let ours = |c| first(kihavute::arc_position(&c, Progress(0.3)));
-    row("an arc, built, position", slow(&chords, ours, |c| original_arc(&c).position(0.3)[0].to_bits()));
+    let ours = |c| all(kihavute::arc(&c, Progress(0.3)));
+    row("an arc, built, asked once", slow(&chords, ours, |c| folded(&original_arc(&c))));
     let each = |p: [[f32; 2]; 4], k: u32| [p[0][0] + k as f32, p[0][1]];
     let ours = |p| (0..31).fold(0u32, |sum, k| sum.wrapping_add(kihavute::length(each(p, k))));
     let theirs = |p| (0..31).fold(0u32, |sum, k| sum.wrapping_add(original_length(each(p, k)).to_bits()));

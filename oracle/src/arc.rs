@@ -25,8 +25,41 @@ pub struct Line {
 /// All that a line answers at a progress, as bits; or the number of a refusal, and what it carries.
 #[derive(Clone, Copy, PartialEq)]
 pub enum Drawn {
-    Known { position: [u32; 2], tangent: [u32; 2], rotation_deg: u32, length: u32 },
+    Known(Lone),
     Refused(u32, u64),
+}
+
+/// Position and tangent as bits, the heading of the tangent, the raw parameter and the length.
+#[derive(Clone, Copy, PartialEq)]
+pub struct Lone {
+    pub position: [u32; 2],
+    pub tangent: [u32; 2],
+    pub rotation_deg: u32,
+    pub raw: u32,
+    pub length: u32,
+}
+
+// the heading is that of the tangent that was answered
+fn known(lone: kihavute::Lone) -> Lone {
+    let kihavute::Lone { position, tangent, raw, length } = lone;
+    let rotation_deg = kihavute::rotation_deg(tangent.map(f32::from_bits));
+    Lone { position, tangent, rotation_deg, raw: raw.value().to_bits(), length }
+}
+
+// the same of the Rust's segment, with its raw parameter
+fn theirs(segment: &impl PathEvaluate, raw: f32, t: f32) -> Lone {
+    Lone {
+        position: segment.position(t).map(alike),
+        tangent: segment.tangent(t).map(alike),
+        rotation_deg: alike(segment.rotation_deg(t)),
+        raw: alike(raw),
+        length: alike(segment.arc_length()),
+    }
+}
+
+// a progress clamped, a NaN as 0: the raw parameter of a line and of a fallback (document 01)
+fn clamped(t: f32) -> f32 {
+    if t.is_nan() { 0.0 } else { t.clamp(0.0, 1.0) }
 }
 
 impl Line {
@@ -36,12 +69,8 @@ impl Line {
 
     fn ours_or_refusal(&self) -> Result<Drawn, kihavute::Refusal> {
         let ends = self.ends.map(|point| point.map(f32::from_bits));
-        Ok(Drawn::Known {
-            position: kihavute::line_position(&ends, kihavute::Progress(f32::from_bits(self.progress)))?,
-            tangent: kihavute::line_tangent(&ends)?,
-            rotation_deg: kihavute::line_rotation_deg(&ends)?,
-            length: kihavute::line_length(&ends)?,
-        })
+        let lone = kihavute::line(&ends, kihavute::Progress(f32::from_bits(self.progress)))?;
+        Ok(Drawn::Known(known(lone)))
     }
 
     /// The Rust's answer where the length is finite; elsewhere the Rust goes on, and document 01 refuses segment 0.
@@ -52,12 +81,7 @@ impl Line {
             return Drawn::Refused(11, 0);
         }
         let t = f32::from_bits(self.progress);
-        Drawn::Known {
-            position: line.position(t).map(alike),
-            tangent: line.tangent(t).map(alike),
-            rotation_deg: alike(line.rotation_deg(t)),
-            length: alike(line.arc_length()),
-        }
+        Drawn::Known(theirs(&line, clamped(t), t))
     }
 }
 
@@ -80,10 +104,7 @@ pub enum Answer {
         shape: [u32; 11],
         fell_back: bool,
         table: Option<[u32; 33]>,
-        position: [u32; 2],
-        tangent: [u32; 2],
-        rotation_deg: u32,
-        length: u32,
+        lone: Lone,
     },
     Refused(u32, u64),
 }
@@ -128,10 +149,7 @@ impl Arc {
             shape,
             fell_back,
             table: kihavute::arc_table(&chord)?,
-            position: kihavute::arc_position(&chord, t)?,
-            tangent: kihavute::arc_tangent(&chord, t)?,
-            rotation_deg: kihavute::arc_rotation_deg(&chord, t)?,
-            length: kihavute::arc_length(&chord)?,
+            lone: known(kihavute::arc(&chord, t)?),
         })
     }
 
@@ -155,10 +173,7 @@ impl Arc {
             shape: [sx, sy, ex, ey, cx, cy, rx, ry, rotation, from, by].map(alike),
             fell_back,
             table: (!fell_back).then(|| stored(&entries, total)),
-            position: arc.position(t).map(alike),
-            tangent: arc.tangent(t).map(alike),
-            rotation_deg: alike(arc.rotation_deg(t)),
-            length: alike(arc.arc_length()),
+            lone: theirs(&arc, if fell_back { clamped(t) } else { arc.open_raw_t(t) }, t),
         }
     }
 }
@@ -290,7 +305,7 @@ fn compare_vectors(report: &mut Report) {
     for given in &VECTORS {
         let arc = vector(given);
         let found = match arc.ours() {
-            Known { length, .. } => Ok(length),
+            Known { lone, .. } => Ok(lone.length),
             Refused(number, _) => Err(number),
         };
         let equal = found == given.4 && arc.ours() == arc.theirs();
@@ -385,13 +400,17 @@ impl fmt::Display for Line {
     }
 }
 
+impl fmt::Display for Lone {
+    fn fmt(&self, f: &mut fmt::Formatter<'_>) -> fmt::Result {
+        write!(f, "position{}, tangent{}, ", Patterns(&self.position), Patterns(&self.tangent))?;
+        write!(f, "rotation {:08X}, raw {:08X}, length {:08X}", self.rotation_deg, self.raw, self.length)
+    }
+}
+
 impl fmt::Display for Drawn {
     fn fmt(&self, f: &mut fmt::Formatter<'_>) -> fmt::Result {
         match self {
-            Drawn::Known { position, tangent, rotation_deg, length } => {
-                write!(f, "position{}, tangent{}, ", Patterns(position), Patterns(tangent))?;
-                write!(f, "rotation {rotation_deg:08X}, length {length:08X}")
-            }
+            Drawn::Known(lone) => lone.fmt(f),
             Drawn::Refused(number, carried) => write!(f, "refused {number} with {carried}"),
         }
     }
@@ -407,9 +426,8 @@ impl fmt::Display for Arc {
 impl fmt::Display for Answer {
     fn fmt(&self, f: &mut fmt::Formatter<'_>) -> fmt::Result {
         match self {
-            Known { shape, fell_back, table, position, tangent, rotation_deg, length } => {
-                write!(f, "shape{}, fallback {fell_back}, position{}, ", Patterns(shape), Patterns(position))?;
-                write!(f, "tangent{}, rotation {rotation_deg:08X}, length {length:08X}", Patterns(tangent))?;
+            Known { shape, fell_back, table, lone } => {
+                write!(f, "shape{}, fallback {fell_back}, {lone}", Patterns(shape))?;
                 table.iter().try_for_each(|table| write!(f, ", table{}", Patterns(table)))
             }
             Refused(number, carried) => write!(f, "refused {number} with {carried}"),

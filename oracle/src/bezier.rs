@@ -30,7 +30,7 @@ pub struct Asked {
 /// it carries.
 #[derive(Clone, Copy, PartialEq)]
 pub enum Answer {
-    Known { position: [u32; 2], tangent: [u32; 2], rotation_deg: u32, length: u32, table: [u32; 33] },
+    Known { position: [u32; 2], tangent: [u32; 2], rotation_deg: u32, raw: u32, length: u32, table: [u32; 33] },
     Refused(u32, u64),
 }
 
@@ -53,26 +53,8 @@ impl Asked {
     fn ours_or_refusal(&self) -> Result<Answer, kihavute::Refusal> {
         let t = kihavute::Progress(f32::from_bits(self.progress));
         Ok(match self.curve {
-            Curve::Quad => {
-                let points = self.three();
-                Known {
-                    position: kihavute::quad_position(&points, t)?,
-                    tangent: kihavute::quad_tangent(&points, t)?,
-                    rotation_deg: kihavute::quad_rotation_deg(&points, t)?,
-                    length: kihavute::quad_length(&points)?,
-                    table: kihavute::quad_table(&points)?,
-                }
-            }
-            Curve::Cubic => {
-                let points = self.four();
-                Known {
-                    position: kihavute::cubic_position(&points, t)?,
-                    tangent: kihavute::cubic_tangent(&points, t)?,
-                    rotation_deg: kihavute::cubic_rotation_deg(&points, t)?,
-                    length: kihavute::cubic_length(&points)?,
-                    table: kihavute::cubic_table(&points)?,
-                }
-            }
+            Curve::Quad => known(kihavute::quad(&self.three(), t)?, kihavute::quad_table(&self.three())?),
+            Curve::Cubic => known(kihavute::cubic(&self.four(), t)?, kihavute::cubic_table(&self.four())?),
         })
     }
 
@@ -82,12 +64,12 @@ impl Asked {
             Curve::Quad => {
                 let [start, control, end] = self.three();
                 let curve = QuadBezier::new(start, control, end);
-                answer(&curve, curve.open_table(), self.progress)
+                answer(&curve, curve.open_table(), |t| curve.open_raw_t(t), self.progress)
             }
             Curve::Cubic => {
                 let [start, control1, control2, end] = self.four();
                 let curve = CubicBezierCurve::new(start, control1, control2, end);
-                answer(&curve, curve.open_table(), self.progress)
+                answer(&curve, curve.open_table(), |t| curve.open_raw_t(t), self.progress)
             }
         }
     }
@@ -107,7 +89,14 @@ impl Asked {
     }
 }
 
-fn answer(curve: &impl PathEvaluate, (entries, total): ([f32; 32], f32), progress: u32) -> Answer {
+// the heading is that of the tangent that was answered
+fn known(lone: kihavute::Lone, table: [u32; 33]) -> Answer {
+    let kihavute::Lone { position, tangent, raw, length } = lone;
+    let rotation_deg = kihavute::rotation_deg(tangent.map(f32::from_bits));
+    Known { position, tangent, rotation_deg, raw: raw.value().to_bits(), length, table }
+}
+
+fn answer(curve: &impl PathEvaluate, (entries, total): ([f32; 32], f32), raw: impl Fn(f32) -> f32, progress: u32) -> Answer {
     let t = f32::from_bits(progress);
     if !curve.arc_length().is_finite() {
         return Refused(11, 0);
@@ -116,6 +105,7 @@ fn answer(curve: &impl PathEvaluate, (entries, total): ([f32; 32], f32), progres
         position: curve.position(t).map(alike),
         tangent: curve.tangent(t).map(alike),
         rotation_deg: alike(curve.rotation_deg(t)),
+        raw: alike(raw(t)),
         length: alike(curve.arc_length()),
         table: stored(&entries, total),
     }
@@ -288,9 +278,9 @@ impl fmt::Display for Asked {
 impl fmt::Display for Answer {
     fn fmt(&self, f: &mut fmt::Formatter<'_>) -> fmt::Result {
         match self {
-            Known { position: [x, y], tangent: [u, v], rotation_deg, length, table } => {
+            Known { position: [x, y], tangent: [u, v], rotation_deg, raw, length, table } => {
                 write!(f, "position {x:08X} {y:08X}, tangent {u:08X} {v:08X}, rotation {rotation_deg:08X}, ")?;
-                write!(f, "length {length:08X}, table")?;
+                write!(f, "raw {raw:08X}, length {length:08X}, table")?;
                 table.iter().try_for_each(|own| write!(f, " {own:08X}"))
             }
             Refused(number, carried) => write!(f, "refused {number} with {carried}"),

@@ -103,33 +103,15 @@ answering! {
     fn kihavute_morph_default(from: [f32], to: [f32], out_from: mut [f32], out_to: mut [f32]);
     fn kihavute_evaluate(from: [f32], to: [f32], t: f32, out: mut [f32]);
     fn kihavute_bounds(from: [f32], to: [f32], t: f32);
-    fn kihavute_quad_position(sx: f32, sy: f32, cx: f32, cy: f32, ex: f32, ey: f32, progress: f32);
-    fn kihavute_quad_tangent(sx: f32, sy: f32, cx: f32, cy: f32, ex: f32, ey: f32, progress: f32);
-    fn kihavute_quad_rotation_deg(sx: f32, sy: f32, cx: f32, cy: f32, ex: f32, ey: f32, progress: f32);
-    fn kihavute_quad_length(sx: f32, sy: f32, cx: f32, cy: f32, ex: f32, ey: f32);
     fn kihavute_check(kinds: [u8], fields: [f32], tables: [f32], lengths: [f32]);
-    fn kihavute_cubic_position(sx: f32, sy: f32, ax: f32, ay: f32, bx: f32, by: f32, ex: f32, ey: f32, progress: f32);
-    fn kihavute_cubic_tangent(sx: f32, sy: f32, ax: f32, ay: f32, bx: f32, by: f32, ex: f32, ey: f32, progress: f32);
-    fn kihavute_cubic_rotation_deg(
-        sx: f32, sy: f32, ax: f32, ay: f32, bx: f32, by: f32, ex: f32, ey: f32, progress: f32
-    );
-    fn kihavute_cubic_length(sx: f32, sy: f32, ax: f32, ay: f32, bx: f32, by: f32, ex: f32, ey: f32);
+    fn kihavute_quad(sx: f32, sy: f32, cx: f32, cy: f32, ex: f32, ey: f32, progress: f32);
+    fn kihavute_cubic(sx: f32, sy: f32, ax: f32, ay: f32, bx: f32, by: f32, ex: f32, ey: f32, progress: f32);
     fn kihavute_quad_table(sx: f32, sy: f32, cx: f32, cy: f32, ex: f32, ey: f32, out: mut [f32]);
     fn kihavute_cubic_table(sx: f32, sy: f32, ax: f32, ay: f32, bx: f32, by: f32, ex: f32, ey: f32, out: mut [f32]);
-    fn kihavute_line_position(sx: f32, sy: f32, ex: f32, ey: f32, progress: f32);
-    fn kihavute_line_tangent(sx: f32, sy: f32, ex: f32, ey: f32);
-    fn kihavute_line_rotation_deg(sx: f32, sy: f32, ex: f32, ey: f32);
-    fn kihavute_line_length(sx: f32, sy: f32, ex: f32, ey: f32);
-    fn kihavute_arc_position(
+    fn kihavute_line(sx: f32, sy: f32, ex: f32, ey: f32, progress: f32);
+    fn kihavute_arc(
         sx: f32, sy: f32, rx: f32, ry: f32, rotation: f32, large: u32, sweep: u32, ex: f32, ey: f32, progress: f32
     );
-    fn kihavute_arc_tangent(
-        sx: f32, sy: f32, rx: f32, ry: f32, rotation: f32, large: u32, sweep: u32, ex: f32, ey: f32, progress: f32
-    );
-    fn kihavute_arc_rotation_deg(
-        sx: f32, sy: f32, rx: f32, ry: f32, rotation: f32, large: u32, sweep: u32, ex: f32, ey: f32, progress: f32
-    );
-    fn kihavute_arc_length(sx: f32, sy: f32, rx: f32, ry: f32, rotation: f32, large: u32, sweep: u32, ex: f32, ey: f32);
     fn kihavute_arc_shape(
         sx: f32, sy: f32, rx: f32, ry: f32, rotation: f32, large: u32, sweep: u32, ex: f32, ey: f32, out: mut [f32]
     );
@@ -468,90 +450,56 @@ pub fn build_text(
     Ok([0, 1, 2, 3].map(|k| given[k] as usize))
 }
 
-/// Where the quad of a start, a control and an end is at a progress.
-#[inline]
-pub fn quad_position(p: &[[f32; 2]; 3], progress: Progress) -> Result<[Bits; 2], Refusal> {
-    // SAFETY: the answer is the call's own
-    let given = judged(|answer, places| unsafe {
-        kihavute_quad_position(p[0][0], p[0][1], p[1][0], p[1][1], p[2][0], p[2][1], progress.0, answer, places)
-    })?;
-    Ok([given[0] as Bits, given[1] as Bits])
+/// What a lone segment answers at a progress along it: where it is and where it heads, with the length 1, or (0, 0) where
+/// nothing tells; the raw parameter at which both were taken; how long it is.
+#[derive(Clone, Copy, Debug, PartialEq)]
+pub struct Lone {
+    pub position: [Bits; 2],
+    pub tangent: [Bits; 2],
+    pub raw: RawParameter,
+    pub length: Bits,
 }
 
-/// Where the quad of these points heads at a progress, with the length 1.
-#[inline]
-pub fn quad_tangent(p: &[[f32; 2]; 3], progress: Progress) -> Result<[Bits; 2], Refusal> {
-    // SAFETY: the answer is the call's own
-    let given = judged(|answer, places| unsafe {
-        kihavute_quad_tangent(p[0][0], p[0][1], p[1][0], p[1][1], p[2][0], p[2][1], progress.0, answer, places)
-    })?;
-    Ok([given[0] as Bits, given[1] as Bits])
+impl Lone {
+    fn given(values: [u64; 8]) -> Self {
+        Self {
+            position: [values[0] as Bits, values[1] as Bits],
+            tangent: [values[2] as Bits, values[3] as Bits],
+            raw: RawParameter::of_bits(values[4] as Bits),
+            length: values[5] as Bits,
+        }
+    }
 }
 
-/// Where the quad of these points heads at a progress, in degrees.
+/// What the quad of a start, a control and an end answers at a progress.
+///
+/// ```
+/// use kihavute::{Progress, quad, rotation_deg};
+///
+/// let halfway = quad(&[[0.0, 0.0], [0.0, 1.0], [0.0, 2.0]], Progress(0.5)).unwrap();
+/// assert_eq!(halfway.position.map(f32::from_bits), [0.0, 1.0]);
+/// assert_eq!(f32::from_bits(halfway.length), 2.0);
+/// assert_eq!(f32::from_bits(rotation_deg(halfway.tangent.map(f32::from_bits))), 90.0);
+/// ```
 #[inline]
-pub fn quad_rotation_deg(p: &[[f32; 2]; 3], progress: Progress) -> Result<Bits, Refusal> {
+pub fn quad(p: &[[f32; 2]; 3], progress: Progress) -> Result<Lone, Refusal> {
     // SAFETY: the answer is the call's own
     let given = judged(|answer, places| unsafe {
-        kihavute_quad_rotation_deg(p[0][0], p[0][1], p[1][0], p[1][1], p[2][0], p[2][1], progress.0, answer, places)
+        kihavute_quad(p[0][0], p[0][1], p[1][0], p[1][1], p[2][0], p[2][1], progress.0, answer, places)
     })?;
-    Ok(given[0] as Bits)
+    Ok(Lone::given(given))
 }
 
-/// How long the quad of these points is.
+/// What the cubic of a start, two controls and an end answers at a progress.
 #[inline]
-pub fn quad_length(p: &[[f32; 2]; 3]) -> Result<Bits, Refusal> {
+pub fn cubic(p: &[[f32; 2]; 4], progress: Progress) -> Result<Lone, Refusal> {
     // SAFETY: the answer is the call's own
     let given = judged(|answer, places| unsafe {
-        kihavute_quad_length(p[0][0], p[0][1], p[1][0], p[1][1], p[2][0], p[2][1], answer, places)
-    })?;
-    Ok(given[0] as Bits)
-}
-
-/// Where the cubic of a start, two controls and an end is at a progress.
-#[inline]
-pub fn cubic_position(p: &[[f32; 2]; 4], progress: Progress) -> Result<[Bits; 2], Refusal> {
-    // SAFETY: the answer is the call's own
-    let given = judged(|answer, places| unsafe {
-        kihavute_cubic_position(
+        kihavute_cubic(
             p[0][0], p[0][1], p[1][0], p[1][1], p[2][0], p[2][1], p[3][0], p[3][1], progress.0, answer, places,
         )
     })?;
-    Ok([given[0] as Bits, given[1] as Bits])
-}
-
-/// Where the cubic of these points heads at a progress, with the length 1.
-#[inline]
-pub fn cubic_tangent(p: &[[f32; 2]; 4], progress: Progress) -> Result<[Bits; 2], Refusal> {
-    // SAFETY: the answer is the call's own
-    let given = judged(|answer, places| unsafe {
-        kihavute_cubic_tangent(
-            p[0][0], p[0][1], p[1][0], p[1][1], p[2][0], p[2][1], p[3][0], p[3][1], progress.0, answer, places,
-        )
-    })?;
-    Ok([given[0] as Bits, given[1] as Bits])
-}
-
-/// Where the cubic of these points heads at a progress, in degrees.
-#[inline]
-pub fn cubic_rotation_deg(p: &[[f32; 2]; 4], progress: Progress) -> Result<Bits, Refusal> {
-    // SAFETY: the answer is the call's own
-    let given = judged(|answer, places| unsafe {
-        kihavute_cubic_rotation_deg(
-            p[0][0], p[0][1], p[1][0], p[1][1], p[2][0], p[2][1], p[3][0], p[3][1], progress.0, answer, places,
-        )
-    })?;
-    Ok(given[0] as Bits)
-}
-
-/// How long the cubic of these points is.
-#[inline]
-pub fn cubic_length(p: &[[f32; 2]; 4]) -> Result<Bits, Refusal> {
-    // SAFETY: the answer is the call's own
-    let given = judged(|answer, places| unsafe {
-        kihavute_cubic_length(p[0][0], p[0][1], p[1][0], p[1][1], p[2][0], p[2][1], p[3][0], p[3][1], answer, places)
-    })?;
-    Ok(given[0] as Bits)
+    Ok(Lone::given(given))
 }
 
 /// Stores the table of a spline through points, x before y, from the table's start: the count of its entries.
@@ -699,42 +647,14 @@ pub fn cubic_table(p: &[[f32; 2]; 4]) -> Result<TableBits, Refusal> {
     Ok(out.map(f32::to_bits))
 }
 
-/// Where the line from the first point to the second is at a progress.
+/// What the line from the first point to the second answers at a progress.
 #[inline]
-pub fn line_position(p: &[[f32; 2]; 2], progress: Progress) -> Result<[Bits; 2], Refusal> {
+pub fn line(p: &[[f32; 2]; 2], progress: Progress) -> Result<Lone, Refusal> {
     // SAFETY: the answer is the call's own
     let given = judged(|answer, places| unsafe {
-        kihavute_line_position(p[0][0], p[0][1], p[1][0], p[1][1], progress.0, answer, places)
+        kihavute_line(p[0][0], p[0][1], p[1][0], p[1][1], progress.0, answer, places)
     })?;
-    Ok([given[0] as Bits, given[1] as Bits])
-}
-
-/// Where the line between these points heads, with the length 1.
-#[inline]
-pub fn line_tangent(p: &[[f32; 2]; 2]) -> Result<[Bits; 2], Refusal> {
-    // SAFETY: the answer is the call's own
-    let given =
-        judged(|answer, places| unsafe { kihavute_line_tangent(p[0][0], p[0][1], p[1][0], p[1][1], answer, places) })?;
-    Ok([given[0] as Bits, given[1] as Bits])
-}
-
-/// Where the line between these points heads, in degrees.
-#[inline]
-pub fn line_rotation_deg(p: &[[f32; 2]; 2]) -> Result<Bits, Refusal> {
-    // SAFETY: the answer is the call's own
-    let given = judged(|answer, places| unsafe {
-        kihavute_line_rotation_deg(p[0][0], p[0][1], p[1][0], p[1][1], answer, places)
-    })?;
-    Ok(given[0] as Bits)
-}
-
-/// How long the line between these points is.
-#[inline]
-pub fn line_length(p: &[[f32; 2]; 2]) -> Result<Bits, Refusal> {
-    // SAFETY: the answer is the call's own
-    let given =
-        judged(|answer, places| unsafe { kihavute_line_length(p[0][0], p[0][1], p[1][0], p[1][1], answer, places) })?;
-    Ok(given[0] as Bits)
+    Ok(Lone::given(given))
 }
 
 /// What the text of an arc gives: its ends, its radii, its rotation in degrees, its flags.
@@ -748,12 +668,12 @@ pub struct Chord {
     pub end: [f32; 2],
 }
 
-/// Where an arc is at a progress.
+/// What an arc answers at a progress; one that fell back to a line answers what the line does.
 #[inline]
-pub fn arc_position(c: &Chord, progress: Progress) -> Result<[Bits; 2], Refusal> {
+pub fn arc(c: &Chord, progress: Progress) -> Result<Lone, Refusal> {
     // SAFETY: the answer is the call's own
     let given = judged(|answer, places| unsafe {
-        kihavute_arc_position(
+        kihavute_arc(
             c.start[0],
             c.start[1],
             c.radii[0],
@@ -768,75 +688,7 @@ pub fn arc_position(c: &Chord, progress: Progress) -> Result<[Bits; 2], Refusal>
             places,
         )
     })?;
-    Ok([given[0] as Bits, given[1] as Bits])
-}
-
-/// Where an arc heads at a progress, with the length 1.
-#[inline]
-pub fn arc_tangent(c: &Chord, progress: Progress) -> Result<[Bits; 2], Refusal> {
-    // SAFETY: the answer is the call's own
-    let given = judged(|answer, places| unsafe {
-        kihavute_arc_tangent(
-            c.start[0],
-            c.start[1],
-            c.radii[0],
-            c.radii[1],
-            c.x_axis_rotation,
-            c.large_arc.into(),
-            c.sweep.into(),
-            c.end[0],
-            c.end[1],
-            progress.0,
-            answer,
-            places,
-        )
-    })?;
-    Ok([given[0] as Bits, given[1] as Bits])
-}
-
-/// Where an arc heads at a progress, in degrees.
-#[inline]
-pub fn arc_rotation_deg(c: &Chord, progress: Progress) -> Result<Bits, Refusal> {
-    // SAFETY: the answer is the call's own
-    let given = judged(|answer, places| unsafe {
-        kihavute_arc_rotation_deg(
-            c.start[0],
-            c.start[1],
-            c.radii[0],
-            c.radii[1],
-            c.x_axis_rotation,
-            c.large_arc.into(),
-            c.sweep.into(),
-            c.end[0],
-            c.end[1],
-            progress.0,
-            answer,
-            places,
-        )
-    })?;
-    Ok(given[0] as Bits)
-}
-
-/// How long an arc is.
-#[inline]
-pub fn arc_length(c: &Chord) -> Result<Bits, Refusal> {
-    // SAFETY: the answer is the call's own
-    let given = judged(|answer, places| unsafe {
-        kihavute_arc_length(
-            c.start[0],
-            c.start[1],
-            c.radii[0],
-            c.radii[1],
-            c.x_axis_rotation,
-            c.large_arc.into(),
-            c.sweep.into(),
-            c.end[0],
-            c.end[1],
-            answer,
-            places,
-        )
-    })?;
-    Ok(given[0] as Bits)
+    Ok(Lone::given(given))
 }
 
 /// The 11 numbers of an arc, and whether it fell back to a line.
@@ -1164,17 +1016,33 @@ mod tests {
     fn curves() {
         let refused = Refusal::answered(11, [0; 8]);
         let straight = [[0.0, 0.0], [1.0, 0.0], [2.0, 0.0]];
-        assert_eq!(quad_position(&straight, Progress(0.5)), Ok(bits([1.0, 0.0])));
-        assert_eq!(quad_tangent(&straight, Progress(f32::NAN)), Ok(bits([1.0, 0.0])));
-        assert_eq!(quad_rotation_deg(&[[0.0, 0.0], [0.0, 1.0], [0.0, 2.0]], Progress(0.5)), Ok(90.0f32.to_bits()));
-        assert_eq!(quad_length(&[[1.0, 2.0]; 3]), Ok(0));
-        assert_eq!(quad_length(&[[-3e38, 0.0], [0.0, 0.0], [3e38, 0.0]]), Err(refused));
+        let lone = |position, tangent, raw: f32, length: f32| Lone {
+            position: bits(position),
+            tangent: bits(tangent),
+            raw: RawParameter::of_bits(raw.to_bits()),
+            length: length.to_bits(),
+        };
+        assert_eq!(quad(&straight, Progress(0.5)), Ok(lone([1.0, 0.0], [1.0, 0.0], 0.5, 2.0)));
+        assert_eq!(quad(&straight, Progress(f32::NAN)), Ok(lone([0.0, 0.0], [1.0, 0.0], 0.0, 2.0)));
+        assert_eq!(quad(&[[1.0, 2.0]; 3], Progress(0.25)), Ok(lone([1.0, 2.0], [0.0, 0.0], 0.25, 0.0)));
+        assert_eq!(quad(&[[-3e38, 0.0], [0.0, 0.0], [3e38, 0.0]], Progress(0.5)), Err(refused));
         let straight = [[0.0, 0.0], [0.0, 1.0], [0.0, 2.0], [0.0, 3.0]];
-        assert_eq!(cubic_position(&straight, Progress(2.0)), Ok(bits([0.0, 3.0])));
-        assert_eq!(cubic_tangent(&straight, Progress(0.25)), Ok(bits([0.0, 1.0])));
-        assert_eq!(cubic_rotation_deg(&straight, Progress(0.25)), Ok(90.0f32.to_bits()));
-        assert_eq!(cubic_length(&[[1.0, 2.0]; 4]), Ok(0));
-        assert_eq!(cubic_length(&[[f32::NAN; 2]; 4]), Err(refused));
+        assert_eq!(cubic(&straight, Progress(2.0)), Ok(lone([0.0, 3.0], [0.0, 1.0], 1.0, 3.0)));
+        assert_eq!(cubic(&[[1.0, 2.0]; 4], Progress(0.5)), Ok(lone([1.0, 2.0], [0.0, 0.0], 0.5, 0.0)));
+        assert_eq!(cubic(&[[f32::NAN; 2]; 4], Progress(0.5)), Err(refused));
+        let ends = [[1.0, 2.0], [4.0, 6.0]];
+        assert_eq!(line(&ends, Progress(0.5)), Ok(lone([2.5, 4.0], [0.6, 0.8], 0.5, 5.0)));
+        assert_eq!(line(&[[0.0, 0.0], [2e19, 0.0]], Progress(0.0)), Ok(lone([0.0, 0.0], [1.0, 0.0], 0.0, 2e19)));
+        assert_eq!(line(&[[0.0, 0.0], [3e38, 3e38]], Progress(0.5)), Err(refused));
+        let fallback = Chord {
+            start: [1.0, 2.0],
+            radii: [0.0, 1.0],
+            x_axis_rotation: f32::NAN,
+            large_arc: false,
+            sweep: true,
+            end: [4.0, 6.0],
+        };
+        assert_eq!(arc(&fallback, Progress(0.5)), line(&ends, Progress(0.5)));
     }
 
     #[test]
@@ -1183,22 +1051,10 @@ mod tests {
         let straight = [[0.0, 0.0], [15.5, 0.0], [31.0, 0.0]];
         let table = quad_table(&straight).expect("a quad of length 31 has a table");
         assert_eq!((table[0], table[31] == table[32]), (0, true));
-        assert_eq!(Ok(table[32]), quad_length(&straight));
+        assert_eq!(Ok(table[32]), quad(&straight, Progress(0.5)).map(|lone| lone.length));
         assert_eq!(quad_table(&[[f32::NAN; 2]; 3]), Err(refused));
         assert_eq!(cubic_table(&[[1.0, 2.0]; 4]), Ok([0; 33]));
         assert_eq!(cubic_table(&[[f32::NAN; 2]; 4]), Err(refused));
-    }
-
-    #[test]
-    fn lines() {
-        let refused = Refusal::answered(11, [0; 8]);
-        let line = [[1.0, 2.0], [4.0, 6.0]];
-        assert_eq!(line_position(&line, Progress(0.5)), Ok(bits([2.5, 4.0])));
-        assert_eq!(line_tangent(&line), Ok(bits([0.6, 0.8])));
-        assert_eq!(line_rotation_deg(&[[0.0, 0.0], [0.0, 2.0]]), Ok(90.0f32.to_bits()));
-        assert_eq!(line_length(&line), Ok(5.0f32.to_bits()));
-        assert_eq!(line_length(&[[0.0, 0.0], [2e19, 0.0]]), Ok(2e19f32.to_bits()));
-        assert_eq!(line_length(&[[0.0, 0.0], [3e38, 3e38]]), Err(refused));
     }
 
     #[test]
@@ -1215,26 +1071,18 @@ mod tests {
         let (shape, fell_back) = arc_shape(&half).expect("half a circle is an arc");
         assert_eq!((shape[4], shape[5], fell_back), (1.0f32.to_bits(), 0, false));
         let table = arc_table(&half).expect("half a circle is an arc").expect("and has a table");
-        assert_eq!(Ok(table[32]), arc_length(&half));
-        assert!(
-            arc_position(&half, Progress(0.5)).is_ok()
-                && arc_tangent(&half, Progress(0.5)).is_ok()
-                && arc_rotation_deg(&half, Progress(0.5)).is_ok()
-        );
+        assert_eq!(Ok(table[32]), arc(&half, Progress(0.5)).map(|lone| lone.length));
         let line = Chord { radii: [0.0, 1.0], x_axis_rotation: f32::NAN, ..half };
         assert_eq!(arc_shape(&line).map(|(_, fell_back)| fell_back), Ok(true));
         assert_eq!(arc_table(&line), Ok(None));
-        assert_eq!(arc_position(&line, Progress(0.5)), Ok(bits([1.0, 0.0])));
-        assert_eq!(arc_rotation_deg(&line, Progress(0.5)), Ok(0));
-        assert_eq!(arc_length(&line), Ok(2.0f32.to_bits()));
         let turned = |x_axis_rotation| Chord { radii: [2.0, 1.0], x_axis_rotation, ..half };
         assert_eq!(arc_table(&turned(765.0)), arc_table(&turned(45.0)));
-        assert_eq!(arc_tangent(&turned(-765.0), Progress(0.5)), arc_tangent(&turned(-45.0), Progress(0.5)));
+        assert_eq!(arc(&turned(-765.0), Progress(0.5)), arc(&turned(-45.0), Progress(0.5)));
         assert_eq!(arc_shape(&turned(765.0)).map(|(shape, _)| shape[8]), Ok(765.0f32.to_bits()));
-        assert!(arc_length(&Chord { x_axis_rotation: f32::MAX, ..half }).is_ok());
-        assert_eq!(arc_length(&Chord { x_axis_rotation: f32::INFINITY, ..half }), Err(refused(10)));
+        assert!(arc(&Chord { x_axis_rotation: f32::MAX, ..half }, Progress(0.5)).is_ok());
+        assert_eq!(arc(&Chord { x_axis_rotation: f32::INFINITY, ..half }, Progress(0.5)), Err(refused(10)));
         assert_eq!(arc_table(&Chord { x_axis_rotation: f32::NAN, ..half }), Err(refused(10)));
-        assert_eq!(arc_length(&Chord { radii: [5e9, 5e9], end: [3.0, 4.0], ..half }), Err(refused(11)));
+        assert_eq!(arc(&Chord { radii: [5e9, 5e9], end: [3.0, 4.0], ..half }, Progress(0.5)), Err(refused(11)));
     }
 
     #[test]

@@ -25,7 +25,7 @@ pub struct Progress(pub f32);
 ///
 /// ```compile_fail,E0308
 /// let raw = kihavute::raw_parameter(&[0.0, 1.0], 1.0, kihavute::Progress(0.5)).unwrap();
-/// kihavute::line_position(&[[0.0, 0.0], [1.0, 0.0]], raw);
+/// kihavute::line(&[[0.0, 0.0], [1.0, 0.0]], raw);
 /// ```
 ///
 /// ```compile_fail,E0308

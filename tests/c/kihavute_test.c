@@ -185,6 +185,15 @@ static void answered(const char *what, uint32_t found, uint32_t due, size_t coun
     for (size_t i = 0; i < PLACES; i++) same(what, answer[i], i < count ? values[i] : UNTOUCHED);
 }
 
+/* an accepted call that writes six places, of which one is known */
+static void along(const char *what, uint32_t code, size_t place, uint64_t expected) {
+    same(what, code, 0);
+    same(what, answer[place], expected);
+    for (size_t k = 6; k < PLACES; k++) {
+        same(what, answer[k], UNTOUCHED);
+    }
+}
+
 static void lookups(void) {
     const float nan = kihavute_float(NAN_BITS), infinite = kihavute_float(INFINITE);
     float entries[32], lengths[] = {2, 2, 4};
@@ -343,42 +352,39 @@ static void curves(void) {
     const float nan = kihavute_float(NAN_BITS);
 
     fresh();
-    answered("a quad's place halfway", kihavute_quad_position(0, 0, 1, 0, 2, 0, 0.5f, answer, PLACES), 0, 2, (uint64_t[]){bits(1), 0});
+    answered("a quad halfway", kihavute_quad(0, 0, 1, 0, 2, 0, 0.5f, answer, PLACES), 0, 6, (uint64_t[]){bits(1), 0, bits(1), 0, bits(0.5f), bits(2)});
     fresh();
-    answered("a quad's place at a NaN", kihavute_quad_position(3, 4, 1, 0, 2, 0, nan, answer, PLACES), 0, 2, (uint64_t[]){bits(3), bits(4)});
+    answered("a quad at a NaN", kihavute_quad(3, 4, 3, 5, 3, 6, nan, answer, PLACES), 0, 6, (uint64_t[]){bits(3), bits(4), 0, bits(1), 0, bits(2)});
     fresh();
-    answered("a quad's place beyond", kihavute_quad_position(3, 4, 1, 0, 2, 5, 7, answer, 8), 0, 2, (uint64_t[]){bits(2), bits(5)});
+    answered("a quad beyond", kihavute_quad(3, 4, 3, 5, 3, 6, 7, answer, 8), 0, 6, (uint64_t[]){bits(3), bits(6), 0, bits(1), bits(1), bits(2)});
     fresh();
-    answered("a quad's direction", kihavute_quad_tangent(0, 0, 0, 1, 0, 2, 0.25f, answer, PLACES), 0, 2, (uint64_t[]){0, bits(1)});
+    answered("a quad by the second try", kihavute_quad(0, 0, 0, 0, 4, 0, 0, answer, PLACES), 0, 6, (uint64_t[]){0, 0, bits(1), 0, 0, bits(4)});
     fresh();
-    answered("a quad's direction by the second try", kihavute_quad_tangent(0, 0, 0, 0, 4, 0, 0, answer, PLACES), 0, 2, (uint64_t[]){bits(1), 0});
+    answered("a point", kihavute_quad(1, 2, 1, 2, 1, 2, 0.25f, answer, PLACES), 0, 6, (uint64_t[]){bits(1), bits(2), 0, 0, bits(0.25f), 0});
     fresh();
-    answered("a point's direction", kihavute_quad_tangent(1, 2, 1, 2, 1, 2, 0.5f, answer, PLACES), 0, 2, (uint64_t[]){0, 0});
+    answered("a quad, a short answer", kihavute_quad(1, 2, 1, 2, 1, 2, 0.5f, answer, 7), 255, 0, NULL);
     fresh();
-    answered("a quad's heading", kihavute_quad_rotation_deg(0, 0, 0, 1, 0, 2, 0.25f, answer, PLACES), 0, 1, (uint64_t[]){bits(90)});
+    answered("a quad too long", kihavute_quad(-3e38f, 0, 0, 0, 3e38f, 0, 0.5f, answer, PLACES), 11, 1, (uint64_t[]){0});
     fresh();
-    answered("a point's length", kihavute_quad_length(1, 2, 1, 2, 1, 2, answer, PLACES), 0, 1, (uint64_t[]){0});
+    answered("a quad of a NaN", kihavute_quad(0, 0, nan, 0, 1, 0, 0.5f, answer, PLACES), 11, 1, (uint64_t[]){0});
     fresh();
-    answered("a quad's length, a short answer", kihavute_quad_length(1, 2, 1, 2, 1, 2, answer, 7), 255, 0, NULL);
+    answered("a quad of a NaN, a short answer", kihavute_quad(0, 0, nan, 0, 1, 0, 0.5f, answer, 7), 255, 0, NULL);
+
+    /* the raw parameter is not the progress: half of the way along a quad that starts slowly is past the half of its parameter */
     fresh();
-    answered("a quad too long", kihavute_quad_length(-3e38f, 0, 0, 0, 3e38f, 0, answer, PLACES), 11, 1, (uint64_t[]){0});
-    fresh();
-    answered("a quad too long has no place", kihavute_quad_position(-3e38f, 0, 0, 0, 3e38f, 0, 0.5f, answer, PLACES), 11, 1, (uint64_t[]){0});
-    fresh();
-    answered("a quad of a NaN", kihavute_quad_tangent(0, 0, nan, 0, 1, 0, 0.5f, answer, PLACES), 11, 1, (uint64_t[]){0});
+    same("a quad that starts slowly", kihavute_quad(0, 0, 0, 0, 4, 0, 0.5f, answer, PLACES), 0);
+    same("its raw parameter is beyond the progress", kihavute_float((uint32_t)answer[4]) > 0.7f && kihavute_float((uint32_t)answer[4]) < 0.71f, 1);
 
     fresh();
-    answered("a cubic's place beyond", kihavute_cubic_position(0, 0, 0, 1, 0, 2, 0, 3, 2, answer, PLACES), 0, 2, (uint64_t[]){0, bits(3)});
+    answered("a cubic beyond", kihavute_cubic(0, 0, 0, 1, 0, 2, 0, 3, 2, answer, PLACES), 0, 6, (uint64_t[]){0, bits(3), 0, bits(1), bits(1), bits(3)});
     fresh();
-    answered("a cubic's place before", kihavute_cubic_position(5, 6, 0, 1, 0, 2, 0, 3, -1, answer, PLACES), 0, 2, (uint64_t[]){bits(5), bits(6)});
+    answered("a cubic before", kihavute_cubic(5, 0, 5, 1, 5, 2, 5, 3, -1, answer, PLACES), 0, 6, (uint64_t[]){bits(5), 0, 0, bits(1), 0, bits(3)});
     fresh();
-    answered("a cubic's direction", kihavute_cubic_tangent(0, 0, 0, 1, 0, 2, 0, 3, 0.25f, answer, PLACES), 0, 2, (uint64_t[]){0, bits(1)});
+    answered("a point", kihavute_cubic(1, 2, 1, 2, 1, 2, 1, 2, 0.75f, answer, PLACES), 0, 6, (uint64_t[]){bits(1), bits(2), 0, 0, bits(0.75f), 0});
     fresh();
-    answered("a cubic's heading", kihavute_cubic_rotation_deg(0, 0, -1, 0, -2, 0, -3, 0, 0.25f, answer, PLACES), 0, 1, (uint64_t[]){bits(180)});
+    answered("a cubic, a short answer", kihavute_cubic(1, 2, 1, 2, 1, 2, 1, 2, 0.75f, answer, 7), 255, 0, NULL);
     fresh();
-    answered("a cubic's length", kihavute_cubic_length(1, 2, 1, 2, 1, 2, 1, 2, answer, PLACES), 0, 1, (uint64_t[]){0});
-    fresh();
-    answered("a cubic of a NaN", kihavute_cubic_length(1, 2, 1, nan, 1, 2, 1, 2, answer, PLACES), 11, 1, (uint64_t[]){0});
+    answered("a cubic of a NaN", kihavute_cubic(1, 2, 1, nan, 1, 2, 1, 2, 0.5f, answer, PLACES), 11, 1, (uint64_t[]){0});
 }
 
 /* ---- splines */
@@ -488,7 +494,7 @@ static void curve_tables(void) {
     same("its total is its last entry", bits(out[32]), bits(out[31]));
     kept("a quad's table leaves the other places", 33);
     fresh();
-    answered("and its length", kihavute_quad_length(0, 0, 15.5f, 0, 31, 0, answer, PLACES), 0, 1, (uint64_t[]){bits(out[32])});
+    along("and its length", kihavute_quad(0, 0, 15.5f, 0, 31, 0, 0.5f, answer, PLACES), 5, bits(out[32]));
     lent();
     answered("a quad's table without room", kihavute_quad_table(0, 0, 15.5f, 0, 31, 0, out, 32, answer, PLACES), 8, 1, (uint64_t[]){33});
     kept("no room leaves all places", 0);
@@ -511,33 +517,25 @@ static void lines(void) {
     const float nan = kihavute_float(NAN_BITS);
 
     fresh();
-    answered("a line's place halfway", kihavute_line_position(1, 2, 4, 6, 0.5f, answer, PLACES), 0, 2, (uint64_t[]){bits(2.5f), bits(4)});
+    answered("a line halfway", kihavute_line(1, 2, 4, 6, 0.5f, answer, PLACES), 0, 6, (uint64_t[]){bits(2.5f), bits(4), bits(0.6f), bits(0.8f), bits(0.5f), bits(5)});
     fresh();
-    answered("a line's place at a NaN", kihavute_line_position(1, 2, 4, 6, nan, answer, PLACES), 0, 2, (uint64_t[]){bits(1), bits(2)});
+    answered("a line at a NaN", kihavute_line(1, 2, 4, 6, nan, answer, 8), 0, 6, (uint64_t[]){bits(1), bits(2), bits(0.6f), bits(0.8f), 0, bits(5)});
     fresh();
-    answered("a line that misses its end", kihavute_line_position(1e8f, 0, 0.1f, 0, 1, answer, PLACES), 0, 2, (uint64_t[]){0, 0});
+    answered("a line that misses its end", kihavute_line(1e8f, 0, 0.1f, 0, 7, answer, PLACES), 0, 6, (uint64_t[]){0, 0, bits(-1), 0, bits(1), bits(1e8f)});
     fresh();
-    answered("a line's direction", kihavute_line_tangent(1, 2, 4, 6, answer, PLACES), 0, 2, (uint64_t[]){bits(0.6f), bits(0.8f)});
+    answered("a point", kihavute_line(1, 2, 1, 2, 0.25f, answer, PLACES), 0, 6, (uint64_t[]){bits(1), bits(2), 0, 0, bits(0.25f), 0});
     fresh();
-    answered("a point's direction", kihavute_line_tangent(1, 2, 1, 2, answer, PLACES), 0, 2, (uint64_t[]){0, 0});
+    answered("a long line", kihavute_line(0, 0, 1e19f, 0, 0, answer, PLACES), 0, 6, (uint64_t[]){0, 0, bits(1), 0, 0, bits(1e19f)});
     fresh();
-    answered("a line's heading", kihavute_line_rotation_deg(0, 0, 0, 2, answer, PLACES), 0, 1, (uint64_t[]){bits(90)});
+    answered("a longer line", kihavute_line(0, 0, 2e19f, 0, 1, answer, PLACES), 0, 6, (uint64_t[]){0x5F8AC723, 0, bits(1), 0, bits(1), 0x5F8AC723});
     fresh();
-    answered("a line's length", kihavute_line_length(1, 2, 4, 6, answer, 8), 0, 1, (uint64_t[]){bits(5)});
+    answered("a line too long", kihavute_line(0, 0, 3e38f, 3e38f, 0.5f, answer, PLACES), 11, 1, (uint64_t[]){0});
     fresh();
-    answered("a long line", kihavute_line_length(0, 0, 1e19f, 0, answer, PLACES), 0, 1, (uint64_t[]){bits(1e19f)});
+    answered("ends too far apart", kihavute_line(-3e38f, 0, 3e38f, 0, 0.5f, answer, PLACES), 11, 1, (uint64_t[]){0});
     fresh();
-    answered("a longer line", kihavute_line_length(0, 0, 2e19f, 0, answer, PLACES), 0, 1, (uint64_t[]){0x5F8AC723});
+    answered("a line of a NaN", kihavute_line(0, nan, 1, 0, 0.5f, answer, PLACES), 11, 1, (uint64_t[]){0});
     fresh();
-    answered("a line too long", kihavute_line_length(0, 0, 3e38f, 3e38f, answer, PLACES), 11, 1, (uint64_t[]){0});
-    fresh();
-    answered("ends too far apart", kihavute_line_length(-3e38f, 0, 3e38f, 0, answer, PLACES), 11, 1, (uint64_t[]){0});
-    fresh();
-    answered("a line too long has no direction", kihavute_line_tangent(0, 0, 3e38f, 3e38f, answer, PLACES), 11, 1, (uint64_t[]){0});
-    fresh();
-    answered("a line of a NaN", kihavute_line_position(0, nan, 1, 0, 0.5f, answer, PLACES), 11, 1, (uint64_t[]){0});
-    fresh();
-    answered("a line, a short answer", kihavute_line_length(1, 2, 4, 6, answer, 7), 255, 0, NULL);
+    answered("a line, a short answer", kihavute_line(1, 2, 4, 6, 0.5f, answer, 7), 255, 0, NULL);
 }
 
 static void arcs(void) {
@@ -558,34 +556,38 @@ static void arcs(void) {
     same("its total is its last entry", bits(out[32]), bits(out[31]));
     kept("an arc's table leaves the other places", 33);
     fresh();
-    answered("an arc's length", kihavute_arc_length(0, 0, 1, 1, 0, 0, 1, 2, 0, answer, PLACES), 0, 1, (uint64_t[]){bits(out[32])});
+    along("an arc's length", kihavute_arc(0, 0, 1, 1, 0, 0, 1, 2, 0, 0.5f, answer, PLACES), 5, bits(out[32]));
     fresh();
-    answered("any flag but 0 is a yes", kihavute_arc_length(0, 0, 1, 1, 0, 0, 1u << 31, 2, 0, answer, PLACES), 0, 1, (uint64_t[]){bits(out[32])});
+    along("any flag but 0 is a yes", kihavute_arc(0, 0, 1, 1, 0, 0, 1u << 31, 2, 0, 0.5f, answer, PLACES), 5, bits(out[32]));
+    fresh();
+    along("an arc's raw parameter at its end", kihavute_arc(0, 0, 1, 1, 0, 0, 1, 2, 0, 2, answer, PLACES), 4, bits(1));
 
     /* large radii, and a denominator of at most 2^-23: docs/DIFFERENCES.md */
     fresh();
-    answered("a radius of 5e9", kihavute_arc_length(0, 0, 5e9f, 5e9f, 0, 0, 1, 3, 4, answer, PLACES), 11, 1, (uint64_t[]){0});
+    answered("a radius of 5e9", kihavute_arc(0, 0, 5e9f, 5e9f, 0, 0, 1, 3, 4, 0.5f, answer, PLACES), 11, 1, (uint64_t[]){0});
     fresh();
-    answered("a radius of 1e9", kihavute_arc_length(0, 0, 1e9f, 1e9f, 0, 0, 1, 3, 4, answer, PLACES), 0, 1, (uint64_t[]){0});
+    along("a radius of 1e9", kihavute_arc(0, 0, 1e9f, 1e9f, 0, 0, 1, 3, 4, 0.5f, answer, PLACES), 5, 0);
     fresh();
-    answered("a radius of 1e20", kihavute_arc_length(0, 0, 1e20f, 1e20f, 0, 0, 0, 3, 4, answer, PLACES), 0, 1, (uint64_t[]){0x61CC2BAB});
+    along("a radius of 1e20", kihavute_arc(0, 0, 1e20f, 1e20f, 0, 0, 0, 3, 4, 0.5f, answer, PLACES), 5, 0x61CC2BAB);
     fresh();
-    answered("an arc that misses its start", kihavute_arc_position(0, 0, 0.02f, 0.02f, 0, 0, 1, 0.01f, 0.01f, 0, answer, PLACES), 0, 2, (uint64_t[]){0xBC15C8E5, 0xBC15C8E5});
+    along("an arc that misses its start", kihavute_arc(0, 0, 0.02f, 0.02f, 0, 0, 1, 0.01f, 0.01f, 0, answer, PLACES), 0, 0xBC15C8E5);
+    same("in y too", answer[1], 0xBC15C8E5);
 
     /* the rotation: full turns are taken off, and it stays as it was given; infinity and NaN are 10, unless the arc falls back */
     fresh();
-    answered("a rotation of 3600", kihavute_arc_length(0, 0, 5, 5, 3600, 0, 1, 3, 4, answer, PLACES), 0, 1, (uint64_t[]){0x40A78B2C});
+    along("a rotation of 3600", kihavute_arc(0, 0, 5, 5, 3600, 0, 1, 3, 4, 0.5f, answer, PLACES), 5, 0x40A78B2C);
     fresh();
-    answered("the next above", kihavute_arc_length(0, 0, 5, 5, past, 0, 1, 3, 4, answer, PLACES), 0, 1, (uint64_t[]){0x40A78B2D});
+    along("the next above", kihavute_arc(0, 0, 5, 5, past, 0, 1, 3, 4, 0.5f, answer, PLACES), 5, 0x40A78B2D);
     fresh();
-    kihavute_arc_tangent(0, 0, 5, 3, -45, 0, 1, 3, 4, 0.5f, answer, PLACES);
-    uint64_t turned[2] = {answer[0], answer[1]};
+    kihavute_arc(0, 0, 5, 3, -45, 0, 1, 3, 4, 0.5f, answer, PLACES);
+    uint64_t turned[6];
+    memcpy(turned, answer, sizeof turned);
     fresh();
-    answered("a rotation of -765", kihavute_arc_tangent(0, 0, 5, 3, -765, 0, 1, 3, 4, 0.5f, answer, PLACES), 0, 2, turned);
+    answered("a rotation of -765", kihavute_arc(0, 0, 5, 3, -765, 0, 1, 3, 4, 0.5f, answer, PLACES), 0, 6, turned);
     fresh();
-    answered("an infinite rotation", kihavute_arc_length(0, 0, 5, 5, kihavute_float(INFINITE), 0, 1, 3, 4, answer, PLACES), 10, 1, (uint64_t[]){0});
+    answered("an infinite rotation", kihavute_arc(0, 0, 5, 5, kihavute_float(INFINITE), 0, 1, 3, 4, 0.5f, answer, PLACES), 10, 1, (uint64_t[]){0});
     fresh();
-    answered("a rotation of -infinity", kihavute_arc_tangent(0, 0, 5, 5, -kihavute_float(INFINITE), 0, 1, 3, 4, 0.5f, answer, PLACES), 10, 1, (uint64_t[]){0});
+    answered("a rotation of -infinity", kihavute_arc(0, 0, 5, 5, -kihavute_float(INFINITE), 0, 1, 3, 4, 0.5f, answer, PLACES), 10, 1, (uint64_t[]){0});
     lent();
     answered("4000 degrees, an infinite end", kihavute_arc_table(0, 0, 5, 5, 4000, 0, 1, kihavute_float(INFINITE), 4, out, 33, answer, PLACES), 11, 1, (uint64_t[]){0});
     lent();
@@ -605,13 +607,13 @@ static void arcs(void) {
     same("its radii", point(out[6], out[7]), 0);
     same("its rotation", bits(out[8]), NAN_BITS);
     fresh();
-    answered("a fallback's place", kihavute_arc_position(0, 0, 0, 1, past, 0, 1, 3, 4, 0.5f, answer, PLACES), 0, 2, (uint64_t[]){bits(1.5f), bits(2)});
+    answered("a fallback", kihavute_arc(0, 0, 0, 1, nan, 0, 1, 3, 4, 0.5f, answer, PLACES), 0, 6, (uint64_t[]){bits(1.5f), bits(2), bits(0.6f), bits(0.8f), bits(0.5f), bits(5)});
     fresh();
-    answered("a fallback's heading", kihavute_arc_rotation_deg(0, 0, 0, 1, past, 0, 1, 0, 4, 0.5f, answer, PLACES), 0, 1, (uint64_t[]){bits(90)});
+    answered("10 before 11", kihavute_arc(0, 0, 5, 5, nan, 0, 1, kihavute_float(INFINITE), 4, 0.5f, answer, PLACES), 10, 1, (uint64_t[]){0});
     fresh();
-    answered("a fallback's length", kihavute_arc_length(0, 0, 0, 1, past, 0, 1, 3, 4, answer, PLACES), 0, 1, (uint64_t[]){bits(5)});
+    answered("an arc, a short answer", kihavute_arc(0, 0, 1, 1, 0, 0, 1, 2, 0, 0.5f, answer, 7), 255, 0, NULL);
     fresh();
-    answered("a fallback too long", kihavute_arc_length(0, 0, 0, 1, past, 0, 1, 3e38f, 3e38f, answer, PLACES), 11, 1, (uint64_t[]){0});
+    answered("a fallback too long", kihavute_arc(0, 0, 0, 1, past, 0, 1, 3e38f, 3e38f, 0.5f, answer, PLACES), 11, 1, (uint64_t[]){0});
 }
 
 /* the code returned, and what stands in the first place of an answer that held 77 */
@@ -1418,24 +1420,12 @@ static void nulls(void) {
     const uint32_t found[] = {
         kihavute_raw_parameter(lengths, 1, 5, half, NULL, 0),
         kihavute_spot(lengths, 1, half, NULL, 0),
-        kihavute_quad_position(0, 0, 1, 1, 2, 0, half, NULL, 0),
-        kihavute_cubic_position(0, 0, 1, 1, 2, 1, 3, 0, half, NULL, 0),
-        kihavute_quad_tangent(0, 0, 1, 1, 2, 0, half, NULL, 0),
-        kihavute_cubic_tangent(0, 0, 1, 1, 2, 1, 3, 0, half, NULL, 0),
-        kihavute_quad_rotation_deg(0, 0, 1, 1, 2, 0, half, NULL, 0),
-        kihavute_cubic_rotation_deg(0, 0, 1, 1, 2, 1, 3, 0, half, NULL, 0),
-        kihavute_quad_length(0, 0, 1, 1, 2, 0, NULL, 0),
-        kihavute_cubic_length(0, 0, 1, 1, 2, 1, 3, 0, NULL, 0),
+        kihavute_quad(0, 0, 1, 1, 2, 0, half, NULL, 0),
+        kihavute_cubic(0, 0, 1, 1, 2, 1, 3, 0, half, NULL, 0),
         kihavute_quad_table(0, 0, 1, 1, 2, 0, NULL, 0, NULL, 0),
         kihavute_cubic_table(0, 0, 1, 1, 2, 1, 3, 0, NULL, 0, NULL, 0),
-        kihavute_line_position(0, 0, 3, 4, half, NULL, 0),
-        kihavute_line_tangent(0, 0, 3, 4, NULL, 0),
-        kihavute_line_rotation_deg(0, 0, 3, 4, NULL, 0),
-        kihavute_line_length(0, 0, 3, 4, NULL, 0),
-        kihavute_arc_position(0, 0, 1, 1, 0, 0, 1, 2, 0, half, NULL, 0),
-        kihavute_arc_tangent(0, 0, 1, 1, 0, 0, 1, 2, 0, half, NULL, 0),
-        kihavute_arc_rotation_deg(0, 0, 1, 1, 0, 0, 1, 2, 0, half, NULL, 0),
-        kihavute_arc_length(0, 0, 1, 1, 0, 0, 1, 2, 0, NULL, 0),
+        kihavute_line(0, 0, 3, 4, half, NULL, 0),
+        kihavute_arc(0, 0, 1, 1, 0, 0, 1, 2, 0, half, NULL, 0),
         kihavute_arc_shape(0, 0, 1, 1, 0, 0, 1, 2, 0, NULL, 0, NULL, 0),
         kihavute_arc_table(0, 0, 1, 1, 0, 0, 1, 2, 0, NULL, 0, NULL, 0),
         kihavute_spline_table(NULL, 0, NULL, 0, NULL, 0),

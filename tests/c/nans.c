@@ -84,55 +84,28 @@ static void r_spot(float nan) {
 }
 
 /* a lone line, curve or arc: a NaN coordinate makes a length that is refused, and a NaN progress is 0 */
-static void r_quad_position(float nan) {
-    refused(kihavute_quad_position(0, 0, nan, 1, 2, 0, 0.5f, answer, PLACES), 11);
-    accepted(kihavute_quad_position(0, 0, 1, 1, 2, 0, nan, answer, PLACES)), no_nan(answer[0]), no_nan(answer[1]);
+static void no_nans(void) {
+    for (size_t k = 0; k < 6; k++) no_nan(answer[k]);
 }
-static void r_cubic_position(float nan) {
-    refused(kihavute_cubic_position(0, 0, nan, 1, 2, 0, 3, 1, 0.5f, answer, PLACES), 11);
-    accepted(kihavute_cubic_position(0, 0, 1, 1, 2, 0, 3, 1, nan, answer, PLACES)), no_nan(answer[0]), no_nan(answer[1]);
+static void r_quad(float nan) {
+    refused(kihavute_quad(0, 0, nan, 1, 2, 0, 0.5f, answer, PLACES), 11);
+    accepted(kihavute_quad(0, 0, 1, 1, 2, 0, nan, answer, PLACES)), no_nans();
 }
-static void r_quad_tangent(float nan) {
-    refused(kihavute_quad_tangent(0, 0, nan, 1, 2, 0, 0.5f, answer, PLACES), 11);
-    accepted(kihavute_quad_tangent(0, 0, 1, 1, 2, 0, nan, answer, PLACES)), no_nan(answer[0]), no_nan(answer[1]);
+static void r_cubic(float nan) {
+    refused(kihavute_cubic(0, 0, nan, 1, 2, 0, 3, 1, 0.5f, answer, PLACES), 11);
+    accepted(kihavute_cubic(0, 0, 1, 1, 2, 0, 3, 1, nan, answer, PLACES)), no_nans();
 }
-static void r_cubic_tangent(float nan) {
-    refused(kihavute_cubic_tangent(0, 0, nan, 1, 2, 0, 3, 1, 0.5f, answer, PLACES), 11);
-    accepted(kihavute_cubic_tangent(0, 0, 1, 1, 2, 0, 3, 1, nan, answer, PLACES)), no_nan(answer[0]), no_nan(answer[1]);
-}
-static void r_quad_rotation_deg(float nan) {
-    refused(kihavute_quad_rotation_deg(0, 0, nan, 1, 2, 0, 0.5f, answer, PLACES), 11);
-    accepted(kihavute_quad_rotation_deg(0, 0, 1, 1, 2, 0, nan, answer, PLACES)), no_nan(answer[0]);
-}
-static void r_cubic_rotation_deg(float nan) {
-    refused(kihavute_cubic_rotation_deg(0, 0, nan, 1, 2, 0, 3, 1, 0.5f, answer, PLACES), 11);
-    accepted(kihavute_cubic_rotation_deg(0, 0, 1, 1, 2, 0, 3, 1, nan, answer, PLACES)), no_nan(answer[0]);
-}
-static void r_quad_length(float nan) { refused(kihavute_quad_length(0, 0, nan, 1, 2, 0, answer, PLACES), 11); }
-static void r_cubic_length(float nan) { refused(kihavute_cubic_length(0, 0, nan, 1, 2, 0, 3, 1, answer, PLACES), 11); }
 static void r_quad_table(float nan) { refused(kihavute_quad_table(0, 0, nan, 1, 2, 0, out, 64, answer, PLACES), 11); }
 static void r_cubic_table(float nan) { refused(kihavute_cubic_table(0, 0, nan, 1, 2, 0, 3, 1, out, 64, answer, PLACES), 11); }
-static void r_line_position(float nan) {
-    refused(kihavute_line_position(0, 0, nan, 1, 0.5f, answer, PLACES), 11);
-    accepted(kihavute_line_position(0, 0, 3, 4, nan, answer, PLACES)), no_nan(answer[0]), no_nan(answer[1]);
+static void r_line(float nan) {
+    refused(kihavute_line(0, 0, nan, 1, 0.5f, answer, PLACES), 11);
+    accepted(kihavute_line(0, 0, 3, 4, nan, answer, PLACES)), no_nans();
 }
-static void r_line_tangent(float nan) { refused(kihavute_line_tangent(0, 0, nan, 1, answer, PLACES), 11); }
-static void r_line_rotation_deg(float nan) { refused(kihavute_line_rotation_deg(0, 0, nan, 1, answer, PLACES), 11); }
-static void r_line_length(float nan) { refused(kihavute_line_length(0, 0, nan, 1, answer, PLACES), 11); }
-static void r_arc_position(float nan) {
-    refused(kihavute_arc_position(0, 0, 1, 1, nan, 0, 0, 1, 1, 0.5f, answer, PLACES), 10);
-    refused(kihavute_arc_position(0, 0, nan, 1, 0, 0, 0, 1, 1, 0.5f, answer, PLACES), 11);
-    accepted(kihavute_arc_position(0, 0, 1, 1, 0, 0, 0, 1, 1, nan, answer, PLACES)), no_nan(answer[0]), no_nan(answer[1]);
+static void r_arc(float nan) {
+    refused(kihavute_arc(0, 0, 1, 1, nan, 0, 0, 1, 1, 0.5f, answer, PLACES), 10);
+    refused(kihavute_arc(0, 0, nan, 1, 0, 0, 0, 1, 1, 0.5f, answer, PLACES), 11);
+    accepted(kihavute_arc(0, 0, 1, 1, 0, 0, 0, 1, 1, nan, answer, PLACES)), no_nans();
 }
-static void r_arc_tangent(float nan) {
-    refused(kihavute_arc_tangent(0, 0, nan, 1, 0, 0, 0, 1, 1, 0.5f, answer, PLACES), 11);
-    accepted(kihavute_arc_tangent(0, 0, 1, 1, 0, 0, 0, 1, 1, nan, answer, PLACES)), no_nan(answer[0]), no_nan(answer[1]);
-}
-static void r_arc_rotation_deg(float nan) {
-    refused(kihavute_arc_rotation_deg(0, 0, nan, 1, 0, 0, 0, 1, 1, 0.5f, answer, PLACES), 11);
-    accepted(kihavute_arc_rotation_deg(0, 0, 1, 1, 0, 0, 0, 1, 1, nan, answer, PLACES)), no_nan(answer[0]);
-}
-static void r_arc_length(float nan) { refused(kihavute_arc_length(0, 0, nan, 1, 0, 0, 0, 1, 1, answer, PLACES), 11); }
 static void r_arc_table(float nan) { refused(kihavute_arc_table(0, 0, nan, 1, 0, 0, 0, 1, 1, out, 64, answer, PLACES), 11); }
 /* a fallback keeps its rotation, whatever it is */
 static void r_arc_shape(float nan) { accepted(kihavute_arc_shape(0, 0, 0, 1, nan, 0, 0, 1, 1, out, 64, answer, PLACES)), is_nan(bits(out[8])); }
@@ -272,24 +245,12 @@ static const struct {
     NEVER(clamp01, "a NaN is 0"),
     NEVER(raw_parameter, "it lies between 0 and 1"),
     NEVER(spot, "the progress on a segment lies between 0 and 1"),
-    NEVER(quad_position, "a length that is not finite is refused"),
-    NEVER(cubic_position, "a length that is not finite is refused"),
-    NEVER(quad_tangent, "a length that is not finite is refused"),
-    NEVER(cubic_tangent, "a length that is not finite is refused"),
-    NEVER(quad_rotation_deg, "a length that is not finite is refused"),
-    NEVER(cubic_rotation_deg, "a length that is not finite is refused"),
-    NEVER(quad_length, "a length that is not finite is refused"),
-    NEVER(cubic_length, "a length that is not finite is refused"),
+    NEVER(quad, "a length that is not finite is refused"),
+    NEVER(cubic, "a length that is not finite is refused"),
     NEVER(quad_table, "a length that is not finite is refused"),
     NEVER(cubic_table, "a length that is not finite is refused"),
-    NEVER(line_position, "a length that is not finite is refused"),
-    NEVER(line_tangent, "a length that is not finite is refused"),
-    NEVER(line_rotation_deg, "a length that is not finite is refused"),
-    NEVER(line_length, "a length that is not finite is refused"),
-    NEVER(arc_position, "a length that is not finite is refused"),
-    NEVER(arc_tangent, "a length that is not finite is refused"),
-    NEVER(arc_rotation_deg, "a length that is not finite is refused"),
-    NEVER(arc_length, "a length that is not finite is refused"),
+    NEVER(line, "a length that is not finite is refused"),
+    NEVER(arc, "a length that is not finite is refused"),
     NEVER(arc_table, "a length that is not finite is refused"),
     ROW(arc_shape),
     NEVER(spline_table, "an entry that is not finite is refused"),

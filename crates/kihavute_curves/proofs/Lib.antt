@@ -1,4 +1,3 @@
 -- The laws of what curves give through C.
-pub mod CurvesGiven
-pub mod Asked
+pub mod LoneGiven
 pub mod SplinesGiven

@@ -1,5 +1,5 @@
 -- What curves give to C.
-pub mod Curves
+pub mod Lone
 pub mod CurveTables
 pub mod Arcs
 pub mod Splines

@@ -1,26 +1,24 @@
-// Lines and elliptical arcs: each call makes the segment that it is given, and asks it one thing.
+// Lines and elliptical arcs: each call makes the segment that it is given, and asks it once.
 ghost use mathlib.Core.Path.{_≡_};
 ghost use Rattle.math.specs.Math.{pointOf};
 ghost use Rattle.arc.specs.Lines.{madeLineOf};
 ghost use Rattle.arc.specs.Arcs.{madeArcOf};
 ghost use Rattle.c_answer.specs.Given.{Given};
-ghost use Rattle.kihavute_curves.specs.Arcs.{chordOf, linePositionGiven, lineTangentGiven, lineRotationGiven, lineLengthGiven, arcPositionGiven, arcTangentGiven, arcRotationGiven, arcLengthGiven, ArcShape, ArcTable};
-use crate::curves::measure;
-use crate::curves::place;
-use crate::curves::turn;
+ghost use Rattle.kihavute_curves.specs.Lone.{lineGiven, arcGiven};
+ghost use Rattle.kihavute_curves.specs.Arcs.{chordOf, ArcShape, ArcTable};
+use crate::lone::arc_lone;
+use crate::lone::give_lone;
+use crate::lone::line_lone;
 use answers::Values;
 use arc::MadeArc;
-use bezier::Placed;
-use bezier::Turned;
+use bezier::Verdict;
 use ellipse::Chord;
 use math::Point;
 use table::Progress;
 
-// ---- A line from (sx, sy) to (ex, ey).
-
-// Where it is at a progress.
+// What a line from (sx, sy) to (ex, ey) answers at a progress.
 #[no_mangle]
-pub extern "C" fn kihavute_line_position(
+pub extern "C" fn kihavute_line(
     sx: f32,
     sy: f32,
     ex: f32,
@@ -28,63 +26,16 @@ pub extern "C" fn kihavute_line_position(
     progress: f32,
     answer: &mut [u64],
 ) -> u32
-    ensures { λ r. ⌜ Given (linePositionGiven (madeLineOf (pointOf sx sy) (pointOf ex ey)) progress) (now (answer .entry)) r (now (answer .exit)) ⌝ }
+    ensures { λ r. ⌜ Given (lineGiven (madeLineOf (pointOf sx sy) (pointOf ex ey)) progress) (now (answer .entry)) r (now (answer .exit)) ⌝ }
 {
     let made = arc::line(Point { x: sx, y: sy }, Point { x: ex, y: ey });
     let verdict = made.verdict;
-    let found = arc::line_position(made.line, Progress { value: progress });
-    place(verdict, Placed::At(found), answer)
-}
-
-// Where it heads, with the length 1.
-#[no_mangle]
-pub extern "C" fn kihavute_line_tangent(
-    sx: f32,
-    sy: f32,
-    ex: f32,
-    ey: f32,
-    answer: &mut [u64],
-) -> u32
-    ensures { λ r. ⌜ Given (lineTangentGiven (madeLineOf (pointOf sx sy) (pointOf ex ey))) (now (answer .entry)) r (now (answer .exit)) ⌝ }
-{
-    let made = arc::line(Point { x: sx, y: sy }, Point { x: ex, y: ey });
-    let verdict = made.verdict;
-    let found = arc::line_tangent(made.line);
-    place(verdict, Placed::At(found), answer)
-}
-
-// Where it heads, in degrees.
-#[no_mangle]
-pub extern "C" fn kihavute_line_rotation_deg(
-    sx: f32,
-    sy: f32,
-    ex: f32,
-    ey: f32,
-    answer: &mut [u64],
-) -> u32
-    ensures { λ r. ⌜ Given (lineRotationGiven (madeLineOf (pointOf sx sy) (pointOf ex ey))) (now (answer .entry)) r (now (answer .exit)) ⌝ }
-{
-    let made = arc::line(Point { x: sx, y: sy }, Point { x: ex, y: ey });
-    let verdict = made.verdict;
-    let found = arc::line_rotation_deg(made.line);
-    turn(verdict, Turned::Degrees(found), answer)
-}
-
-// How long it is.
-#[no_mangle]
-pub extern "C" fn kihavute_line_length(
-    sx: f32,
-    sy: f32,
-    ex: f32,
-    ey: f32,
-    answer: &mut [u64],
-) -> u32
-    ensures { λ r. ⌜ Given (lineLengthGiven (madeLineOf (pointOf sx sy) (pointOf ex ey))) (now (answer .entry)) r (now (answer .exit)) ⌝ }
-{
-    let made = arc::line(Point { x: sx, y: sy }, Point { x: ex, y: ey });
-    let verdict = made.verdict;
-    let total = arc::line_length(made.line);
-    measure(verdict, total, answer)
+    match verdict {
+        Verdict::Accepted => {
+            give_lone(line_lone(made.line, Progress { value: progress }), answer)
+        }
+        Verdict::Refused(refusal) => c_answer::refuse(refusal, answer),
+    }
 }
 
 // ---- An arc from (sx, sy) to (ex, ey) with the radii rx and ry, its ellipse turned by so many degrees, and
@@ -114,9 +65,9 @@ fn made(
     })
 }
 
-// Where it is at a progress.
+// What it answers at a progress.
 #[no_mangle]
-pub extern "C" fn kihavute_arc_position(
+pub extern "C" fn kihavute_arc(
     sx: f32,
     sy: f32,
     rx: f32,
@@ -129,80 +80,14 @@ pub extern "C" fn kihavute_arc_position(
     progress: f32,
     answer: &mut [u64],
 ) -> u32
-    ensures { λ r. ⌜ Given (arcPositionGiven (madeArcOf (chordOf sx sy rx ry rotation large sweep ex ey)) progress) (now (answer .entry)) r (now (answer .exit)) ⌝ }
+    ensures { λ r. ⌜ Given (arcGiven (madeArcOf (chordOf sx sy rx ry rotation large sweep ex ey)) progress) (now (answer .entry)) r (now (answer .exit)) ⌝ }
 {
     let made = made(sx, sy, rx, ry, rotation, large, sweep, ex, ey);
     let verdict = made.verdict;
-    let found = arc::arc_position(made.arc, Progress { value: progress });
-    place(verdict, found, answer)
-}
-
-// Where it heads at a progress, with the length 1.
-#[no_mangle]
-pub extern "C" fn kihavute_arc_tangent(
-    sx: f32,
-    sy: f32,
-    rx: f32,
-    ry: f32,
-    rotation: f32,
-    large: u32,
-    sweep: u32,
-    ex: f32,
-    ey: f32,
-    progress: f32,
-    answer: &mut [u64],
-) -> u32
-    ensures { λ r. ⌜ Given (arcTangentGiven (madeArcOf (chordOf sx sy rx ry rotation large sweep ex ey)) progress) (now (answer .entry)) r (now (answer .exit)) ⌝ }
-{
-    let made = made(sx, sy, rx, ry, rotation, large, sweep, ex, ey);
-    let verdict = made.verdict;
-    let found = arc::arc_tangent(made.arc, Progress { value: progress });
-    place(verdict, found, answer)
-}
-
-// Where it heads at a progress, in degrees.
-#[no_mangle]
-pub extern "C" fn kihavute_arc_rotation_deg(
-    sx: f32,
-    sy: f32,
-    rx: f32,
-    ry: f32,
-    rotation: f32,
-    large: u32,
-    sweep: u32,
-    ex: f32,
-    ey: f32,
-    progress: f32,
-    answer: &mut [u64],
-) -> u32
-    ensures { λ r. ⌜ Given (arcRotationGiven (madeArcOf (chordOf sx sy rx ry rotation large sweep ex ey)) progress) (now (answer .entry)) r (now (answer .exit)) ⌝ }
-{
-    let made = made(sx, sy, rx, ry, rotation, large, sweep, ex, ey);
-    let verdict = made.verdict;
-    let found = arc::arc_rotation_deg(made.arc, Progress { value: progress });
-    turn(verdict, found, answer)
-}
-
-// How long it is.
-#[no_mangle]
-pub extern "C" fn kihavute_arc_length(
-    sx: f32,
-    sy: f32,
-    rx: f32,
-    ry: f32,
-    rotation: f32,
-    large: u32,
-    sweep: u32,
-    ex: f32,
-    ey: f32,
-    answer: &mut [u64],
-) -> u32
-    ensures { λ r. ⌜ Given (arcLengthGiven (madeArcOf (chordOf sx sy rx ry rotation large sweep ex ey))) (now (answer .entry)) r (now (answer .exit)) ⌝ }
-{
-    let made = made(sx, sy, rx, ry, rotation, large, sweep, ex, ey);
-    let verdict = made.verdict;
-    let total = arc::arc_length(made.arc);
-    measure(verdict, total, answer)
+    match verdict {
+        Verdict::Accepted => give_lone(arc_lone(made.arc, Progress { value: progress }), answer),
+        Verdict::Refused(refusal) => c_answer::refuse(refusal, answer),
+    }
 }
 
 // Its numbers: the ends, the centre, the radii, the rotation in degrees, the angle at which it

@@ -2,4 +2,5 @@
 mod arcs;
 mod curve_tables;
 mod curves;
+mod lone;
 mod splines;

@@ -6,7 +6,7 @@
 //! there. All numbers are patterns of eight hexadecimal digits without blanks; what there is none of is zeros.
 
 use super::bezier::patterns;
-use crate::arc::{Answer, Arc, Drawn, KINDS, Line, VECTORS, numbers, vector};
+use crate::arc::{Answer, Arc, Drawn, KINDS, Line, Lone, VECTORS, numbers, vector};
 use crate::bezier;
 use crate::compare::Report;
 use crate::samples::Stream;
@@ -37,7 +37,7 @@ pub fn list(report: &mut Report, seed: u64) -> (Vec<u8>, u64) {
         blocks.push_str(&arc_first(&all[0]));
         for arc in &all {
             let given = match arc.theirs() {
-                Answer::Known { position: [x, y], tangent: [u, v], rotation_deg, .. } => [x, y, u, v, rotation_deg],
+                Answer::Known { lone, .. } => five(&lone),
                 Answer::Refused(..) => [0; 5],
             };
             blocks.push_str(&line(arc.progress, given));
@@ -52,7 +52,7 @@ pub fn list(report: &mut Report, seed: u64) -> (Vec<u8>, u64) {
         blocks.push_str(&line_first(&all[0]));
         for own in &all {
             let given = match own.theirs() {
-                Drawn::Known { position: [x, y], tangent: [u, v], rotation_deg, .. } => [x, y, u, v, rotation_deg],
+                Drawn::Known(lone) => five(&lone),
                 Drawn::Refused(..) => [0; 5],
             };
             blocks.push_str(&line(own.progress, given));
@@ -68,6 +68,11 @@ fn six(entries: &[f32], total: f32, stream: &mut Stream) -> impl Iterator<Item =
     ALWAYS.into_iter().map(f32::to_bits).chain(drawn)
 }
 
+fn five(lone: &Lone) -> [u32; 5] {
+    let ([x, y], [u, v]) = (lone.position, lone.tangent);
+    [x, y, u, v, lone.rotation_deg]
+}
+
 fn arc_first(arc: &Arc) -> String {
     let (number, shape, fell_back, table) = match arc.theirs() {
         Answer::Known { shape, fell_back, table, .. } => (0, shape, fell_back, table.unwrap_or([0; 33])),
@@ -80,7 +85,7 @@ fn arc_first(arc: &Arc) -> String {
 
 fn line_first(own: &Line) -> String {
     let (number, length) = match own.theirs() {
-        Drawn::Known { length, .. } => (0, length),
+        Drawn::Known(lone) => (0, lone.length),
         Drawn::Refused(number, _) => (number, 0),
     };
     let [[sx, sy], [ex, ey]] = own.ends;
