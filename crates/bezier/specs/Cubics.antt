@@ -57,12 +57,17 @@ unfoldable pub cubicPositionOf : CubicBezierCurve → Float → Point
 unfolding cubicSampleOf
 cubicPositionOf curve progress = cubicSampleOf (curve .start) (curve .control1) (curve .control2) (curve .end) (cubicRaw curve progress)
 
--- `tangent`: the second try is made from the progress as it was given
-unfoldable pub cubicTangentOf : CubicBezierCurve → Float → Point
+-- `tangent` at the raw parameter of a progress: the second try is made from the progress as it was given
+unfoldable pub cubicTangentAt : CubicBezierCurve → Float → Float → Point
 unfolding cubicPositionOf
-cubicTangentOf curve progress =
-    secondTry (normalizeOf (cubicDerivativeOf (curve .start) (curve .control1) (curve .control2) (curve .end) (cubicRaw curve progress)))
-    (normalizeOf (subOf (cubicPositionOf curve (aheadOf progress)) (cubicPositionOf curve progress)))
+cubicTangentAt curve raw progress =
+    secondTry (normalizeOf (cubicDerivativeOf (curve .start) (curve .control1) (curve .control2) (curve .end) raw))
+    (normalizeOf (subOf (cubicPositionOf curve (aheadOf progress)) (cubicSampleOf (curve .start) (curve .control1) (curve .control2) (curve .end) raw)))
+
+-- `tangent`
+unfoldable pub cubicTangentOf : CubicBezierCurve → Float → Point
+unfolding cubicTangentAt
+cubicTangentOf curve progress = cubicTangentAt curve (cubicRaw curve progress) progress
 
 -- the two as answers
 unfoldable pub cubicPlacedOf : CubicBezierCurve → Float → Placed

@@ -46,12 +46,17 @@ unfoldable pub quadPositionOf : QuadBezier → Float → Point
 unfolding quadSampleOf
 quadPositionOf curve progress = quadSampleOf (curve .start) (curve .control) (curve .end) (quadRaw curve progress)
 
--- `tangent`: the second try is made from the progress as it was given
-unfoldable pub quadTangentOf : QuadBezier → Float → Point
+-- `tangent` at the raw parameter of a progress: the second try is made from the progress as it was given
+unfoldable pub quadTangentAt : QuadBezier → Float → Float → Point
 unfolding quadPositionOf
-quadTangentOf curve progress =
-    secondTry (normalizeOf (quadDerivativeOf (curve .start) (curve .control) (curve .end) (quadRaw curve progress)))
-    (normalizeOf (subOf (quadPositionOf curve (aheadOf progress)) (quadPositionOf curve progress)))
+quadTangentAt curve raw progress =
+    secondTry (normalizeOf (quadDerivativeOf (curve .start) (curve .control) (curve .end) raw))
+    (normalizeOf (subOf (quadPositionOf curve (aheadOf progress)) (quadSampleOf (curve .start) (curve .control) (curve .end) raw)))
+
+-- `tangent`
+unfoldable pub quadTangentOf : QuadBezier → Float → Point
+unfolding quadTangentAt
+quadTangentOf curve progress = quadTangentAt curve (quadRaw curve progress) progress
 
 -- the two as answers
 unfoldable pub quadPlacedOf : QuadBezier → Float → Placed

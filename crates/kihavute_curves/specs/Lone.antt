@@ -12,8 +12,8 @@ use Rattle.bezier.specs.declared.quads.QuadBezier.{QuadBezier}
 use Rattle.bezier.specs.declared.quads.MadeQuad.{MadeQuad}
 use Rattle.bezier.specs.declared.cubics.CubicBezierCurve.{CubicBezierCurve}
 use Rattle.bezier.specs.declared.cubics.MadeCubic.{MadeCubic}
-use Rattle.bezier.specs.Quads.{quadSampleOf, quadRaw, quadTangentOf}
-use Rattle.bezier.specs.Cubics.{cubicSampleOf, cubicRaw, cubicTangentOf}
+use Rattle.bezier.specs.Quads.{quadSampleOf, quadRaw, quadTangentAt}
+use Rattle.bezier.specs.Cubics.{cubicSampleOf, cubicRaw, cubicTangentAt}
 use Rattle.ellipse.specs.Shape.{pointOn, directionOn}
 use Rattle.arc.specs.declared.lines.LineSegment.{LineSegment}
 use Rattle.arc.specs.declared.lines.MadeLine.{MadeLine}
@@ -41,15 +41,17 @@ allowed (Verdict.Refused refusal) lone = refused refusal
 abbrev pub loneAt : Point → Point → Float → Float → Lone
 loneAt position tangent raw length = record { position = position; tangent = tangent; raw = record { value = raw }; length = length }
 
--- a quad: the sample at the raw parameter that its table gives, the direction there, its table's total
+-- a quad: the sample and the tangent at the raw parameter that its table gives, its table's total
 unfoldable pub quadLone : QuadBezier → Float → Lone
 quadLone curve progress =
-    loneAt (quadSampleOf (curve .start) (curve .control) (curve .end) (quadRaw curve progress)) (quadTangentOf curve progress) (quadRaw curve progress) (curve .table .total)
+    loneAt (quadSampleOf (curve .start) (curve .control) (curve .end) (quadRaw curve progress)) (quadTangentAt curve (quadRaw curve progress) progress) (quadRaw curve progress)
+    (curve .table .total)
 
 -- a cubic likewise
 unfoldable pub cubicLone : CubicBezierCurve → Float → Lone
 cubicLone curve progress =
-    loneAt (cubicSampleOf (curve .start) (curve .control1) (curve .control2) (curve .end) (cubicRaw curve progress)) (cubicTangentOf curve progress) (cubicRaw curve progress) (curve .table .total)
+    loneAt (cubicSampleOf (curve .start) (curve .control1) (curve .control2) (curve .end) (cubicRaw curve progress)) (cubicTangentAt curve (cubicRaw curve progress) progress)
+    (cubicRaw curve progress) (curve .table .total)
 
 -- a line: "The raw parameter of a line or fallback arc is its clamped local progress."
 unfoldable pub lineLone : LineSegment → Float → Lone

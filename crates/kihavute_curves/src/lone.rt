@@ -57,7 +57,7 @@ pub(crate) fn quad_lone(curve: QuadBezier, progress: Progress) -> Lone
     let table = curve.table;
     let raw = raw_parameter(table, progress);
     let position = bezier::quad_sample(curve.start, curve.control, curve.end, raw);
-    let tangent = bezier::inner::quad_tangent(curve, progress);
+    let tangent = bezier::inner::quad_tangent_at(curve, raw, progress);
     let length = bezier::quad_length(curve);
     Lone {
         position,
@@ -81,7 +81,7 @@ pub(crate) fn cubic_lone(curve: CubicBezierCurve, progress: Progress) -> Lone
         curve.end,
         raw,
     );
-    let tangent = bezier::inner::cubic_tangent(curve, progress);
+    let tangent = bezier::inner::cubic_tangent_at(curve, raw, progress);
     let length = bezier::cubic_length(curve);
     Lone {
         position,

@@ -1,37 +1,18 @@
--- The direction is the derivative's, normalized; where it is (0, 0), two positions tell (`tried-second`). Assumes nothing.
+-- The direction is taken at what the lookup gives. Assumes nothing.
 use borrow.Author.Needs.{needs}
-use mathlib.Core.Path.{_≡_, ap, _∙_}
-use Rattle.math.specs.declared.points.Point.{Point}
-use Rattle.math.specs.Math.{normalizeOf, subOf}
-use Rattle.bezier.specs.Curves.{isNothing}
-use Rattle.bezier.specs.Quads.{quadRaw, quadDerivativeOf, quadPositionOf, quadTangentOf}
-use Rattle.bezier.proofs.Queries.{tried-first, tried-second}
+use mathlib.Core.Path.{ap, _∙_}
+use lib.Ieee.{Float}
+use Rattle.bezier.specs.Quads.{quadTangentAt, quadTangentOf}
 use Rattle.bezier.proofs.inner.quad_tangent.Statement.{statement}
 use Rattle.bezier.proofs.inner.quad_tangent.Tie as tie
-
--- the first direction, by its definition
-first : (c : tie.After-normalize)
-    → let start = c .before .before .before .before in
-    c .normalize .result ≡ normalizeOf (quadDerivativeOf (start .args .curve .start) (start .args .curve .control) (start .args .curve .end) (quadRaw (start .args .curve) (start .args .progress .value)))
-first c = c .normalize .ensures ∙ ap normalizeOf (c .before .quad-derivative .ensures ∙ ap (quadDerivativeOf _ _ _) (c .before .before .raw-parameter .ensures))
 
 returns : tie.Need-returns
 unfolding quadTangentOf
 returns c =
-    let at-test = c .before .before .before .before .before .before in
-    let there = c .before .before .before .quad-position .ensures ∙ ap (quadPositionOf _) (c .before .before .before .before .ahead .ensures) in
-    let second = c .normalize2 .ensures ∙ ap normalizeOf (c .before .sub .ensures ∙ ap (λ (p : Point). subOf p (c .before .before .quad-position2 .result)) there ∙ ap (subOf _) (c .before .before .quad-position2 .ensures)) in
-    second ∙ tried-second _ _ _ (at-test .is-nothing .ensures ∙ ap isNothing (first (at-test .before))) (c .before .before .before .before .before .if1 .taken)
-
-returns-2 : tie.Need-returns-2
-unfolding quadTangentOf
-returns-2 c =
-    let is = first (c .before .before) in
-    is ∙ tried-first _ _ _ (c .before .is-nothing .ensures ∙ ap isNothing is) (c .if1 .left)
+    let start = c .before .before .before in
+    c .quad-tangent-at .ensures ∙ ap (λ (raw : Float). quadTangentAt (start .args .curve) raw (start .args .progress .value)) (c .before .raw-parameter .ensures)
 
 pub quad-tangent-spec : {M : Type 1} → statement M
 quad-tangent-spec =
     tie.close
-    (tie.spec (λ c κs. search needs) (λ c κs. search needs) (λ c κs. search needs) (λ c κs. search needs)
-    (λ c κs. search needs) (λ c κs. search needs) (λ c κs. search needs) (λ c κs. search needs) (λ c κs. search needs)
-    returns returns-2)
+    (tie.spec (λ c κs. search needs) (λ c κs. search needs) returns)
