@@ -211,12 +211,12 @@ uint32_t kihavute_cubic_table(float sx, float sy, float ax, float ay, float bx, 
 uint32_t kihavute_line(float sx, float sy, float ex, float ey, float progress, uint64_t *answer, size_t answer_len);
 
 /* ---- Elliptical arcs ----
- * From (sx, sy) to (ex, ey) as a path's text gives it: the radii rx and ry, whose signs do not
- * count, the rotation of the ellipse in degrees, and two flags, of which 0 is no and any other number yes. Where the ends
- * are within 2^-23, or a radius is that small, the arc falls back to the line. A rotation beyond 360 in size turns the
- * ellipse by what is left of full turns, exactly: 765 as 45 does, -765 as -45. Refused with 10, and answer[0] is 0, where
- * the arc does not fall back and the rotation is infinite or a NaN; then with 11, and answer[0] is 0, where its length is.
- * An arc may miss its ends: docs/DIFFERENCES.md has by how much. */
+ * From (sx, sy) to (ex, ey) as a path's text gives it: the radii rx and ry, whose signs do not count, the rotation of the
+ * ellipse in degrees, and two flags, of which 0 is no and any other number yes. Where the ends are within 2^-23, or a radius is
+ * that small, the arc falls back to the line. A rotation beyond 360 in size turns the ellipse by what is left of full turns,
+ * exactly: 765 as 45 does, -765 as -45. Refused with 10, and answer[0] is 0, where the arc does not fall back and the rotation
+ * is infinite or a NaN; then with 11, and answer[0] is 0, where its length is. An arc may miss its ends: docs/DIFFERENCES.md
+ * has by how much. */
 
 /* What the arc answers; a fallback answers what its line does. */
 uint32_t kihavute_arc(float sx, float sy, float rx, float ry, float rotation, uint32_t large, uint32_t sweep,
