@@ -2,14 +2,15 @@
 // prints how many answers there were and how many differ. `oracle/record query` writes the records to this crate's stdin.
 ghost use Prim.Native.Nat.{_+_, _≤_, _<_};
 ghost use lib.ListN.{length};
-use bezier::Placed;
-use bezier::Turned;
+use flight::Flown;
+use flight::Found;
 use path_batch::Batch;
 use path_build::Building;
-use path_query::Located;
 use replay_records::float;
+use replay_records::has_bits;
 use replay_records::pattern;
-use replay_records::same_answers;
+use replay_records::same_point;
+use replay_records::turned;
 use replay_records::two;
 use table::Progress;
 
@@ -24,9 +25,6 @@ const FIRST: usize = 93;
 const LINE: usize = 65;
 
 const LINES: usize = 6;
-
-// What stands for the segment of a path without any.
-const NOWHERE: u32 = 0xffff_ffff;
 
 fn main() {
     let mut space = io::large_buffer();
@@ -137,10 +135,21 @@ fn missed_on(
     ensures { λ r. ⌜ r ≤ 6 ⌝ }
 {
     let progresses = progresses_at(text, at);
-    let mut segments = [NOWHERE; 6];
-    let mut raws = [0.0f32; 6];
-    let mut flown = [77.0f32; 24];
+    let mut columns = [77u32; 6];
+    let mut others = [77.0f32; 6];
+    let mut segments = [77u32; 6];
+    let mut raws = [77.0f32; 6];
+    let mut numbers = [77.0f32; 24];
     let places = path_batch::places(
+        kinds,
+        fields,
+        tables,
+        lengths,
+        &progresses,
+        &mut columns,
+        &mut others,
+    );
+    let flights = path_batch::flights(
         kinds,
         fields,
         tables,
@@ -148,17 +157,19 @@ fn missed_on(
         &progresses,
         &mut segments,
         &mut raws,
+        &mut numbers,
     );
-    let positions = path_batch::positions(kinds, fields, tables, lengths, &progresses, &mut flown);
-    if is_filled(places, kinds.len()) && is_filled(positions, LINES) {
+    if is_filled(places) && is_filled(flights) {
         missed_lines(
             kinds,
             fields,
             tables,
             lengths,
+            &columns,
+            &others,
             &segments,
             &raws,
-            &flown,
+            &numbers,
             text,
             at,
         )
@@ -167,15 +178,17 @@ fn missed_on(
     }
 }
 
-// The same where the batches gave these segments, raw parameters and numbers.
+// The same where the batches gave these places, and these segments, raw parameters and numbers.
 fn missed_lines(
     kinds: &[u8],
     fields: &[f32],
     tables: &[f32],
     lengths: &[f32],
+    columns: &[u32; 6],
+    others: &[f32; 6],
     segments: &[u32; 6],
     raws: &[f32; 6],
-    flown: &[f32; 24],
+    numbers: &[f32; 24],
     text: &[u8],
     at: usize,
 ) -> u64
@@ -186,8 +199,9 @@ fn missed_lines(
     for i in 0..LINES {
         let line = at + i * LINE;
         let alone = agrees(kinds, fields, tables, lengths, text, line);
-        let among = agrees_with(segments[i], raws[i], flown, 4 * i, text, line);
-        different += missed_at(alone, among);
+        let placed = has_place(columns[i], others[i], text, line);
+        let among = agrees_with(segments[i], raws[i], numbers, 4 * i, text, line);
+        different += missed_at(alone, placed & among);
     }
     different
 }
@@ -199,11 +213,10 @@ fn missed_at(alone: bool, among: bool) -> u64
     if alone & among { 0 } else { 1 }
 }
 
-// Whether a batch looked six progresses up, or none because there is no segment.
-fn is_filled(batch: Batch, segments: usize) -> bool {
+// Whether a batch looked six progresses up.
+fn is_filled(batch: Batch) -> bool {
     match batch {
         Batch::Filled(count) => count == LINES,
-        Batch::NoSegment => segments == 0,
         Batch::Refused(_) => false,
     }
 }
@@ -236,32 +249,50 @@ fn agrees(
     let progress = Progress {
         value: float(pattern(text, line)),
     };
-    let place = path_query::place(kinds, fields, tables, lengths, progress);
-    let position = path_query::position(kinds, fields, tables, lengths, progress);
-    let tangent = path_query::tangent(kinds, fields, tables, lengths, progress);
-    let turned = path_query::rotation_deg(kinds, fields, tables, lengths, progress);
-    holds(place, position, tangent, turned, text, line)
+    let flown = path_query::flight(kinds, fields, tables, lengths, progress);
+    let heading = path_query::rotation_deg(kinds, fields, tables, lengths, progress);
+    holds(flown, text, line) && turned(heading, 0, pattern(text, line + 56))
 }
 
-// Whether the line at this place holds these answers.
-fn holds(
-    place: Located,
-    position: Placed,
-    tangent: Placed,
-    turned: Turned,
-    text: &[u8],
-    line: usize,
-) -> bool
+// Whether the line at this place holds what is flown.
+fn holds(flown: Flown, text: &[u8], line: usize) -> bool
     requires { ⌜ line + 65 ≤ length (now text) ⌝ }
 {
-    same_spot(place, text, line + 8) && same_answers(position, tangent, turned, text, line + 24)
+    match flown {
+        Flown::At(there) => {
+            let found = there.segment;
+            let raw = there.raw;
+            let position = there.position;
+            let tangent = there.tangent;
+            has_number(found, pattern(text, line + 8))
+                && has_bits(table::number_of(raw), pattern(text, line + 16))
+                && same_point(position, pattern(text, line + 24), pattern(text, line + 32))
+                && same_point(tangent, pattern(text, line + 40), pattern(text, line + 48))
+        }
+        Flown::Refused(_) => false,
+    }
 }
 
-// Whether the line at this place holds these answers of a batch, the four numbers from `at` on among them.
+// Whether a segment has this number. FFFFFFFF is none.
+fn has_number(found: Found, due: u32) -> bool {
+    match found {
+        Found::Segment(number) => number == due as usize,
+        Found::Nothing => due == 0xffff_ffff,
+    }
+}
+
+// Whether the line at this place holds this segment and this raw parameter of a batch.
+fn has_place(segment: u32, raw: f32, text: &[u8], line: usize) -> bool
+    requires { ⌜ line + 65 ≤ length (now text) ⌝ }
+{
+    segment == pattern(text, line + 8) && has_bits(raw, pattern(text, line + 16))
+}
+
+// The same, with the four numbers from `at` on.
 fn agrees_with(
     segment: u32,
     raw: f32,
-    flown: &[f32; 24],
+    numbers: &[f32; 24],
     at: usize,
     text: &[u8],
     line: usize,
@@ -269,26 +300,9 @@ fn agrees_with(
     requires { ⌜ at + 4 ≤ 24 ⌝ }
     requires { ⌜ line + 65 ≤ length (now text) ⌝ }
 {
-    segment == pattern(text, line + 8)
-        && floats::bits(raw) == pattern(text, line + 16)
-        && floats::bits(flown[at]) == pattern(text, line + 24)
-        && floats::bits(flown[at + 1]) == pattern(text, line + 32)
-        && floats::bits(flown[at + 2]) == pattern(text, line + 40)
-        && floats::bits(flown[at + 3]) == pattern(text, line + 48)
-}
-
-// Whether a segment and its raw parameter were given and have the two patterns at this place.
-fn same_spot(located: Located, text: &[u8], at: usize) -> bool
-    requires { ⌜ at + 16 ≤ length (now text) ⌝ }
-{
-    let segment = pattern(text, at);
-    let bits = pattern(text, at + 8);
-    match located {
-        Located::At(place) => {
-            let raw = place.raw;
-            place.segment == segment as usize && floats::bits(table::number_of(raw)) == bits
-        }
-        Located::NoSegment => segment == NOWHERE && bits == 0,
-        Located::Refused(_) => false,
-    }
+    has_place(segment, raw, text, line)
+        && has_bits(numbers[at], pattern(text, line + 24))
+        && has_bits(numbers[at + 1], pattern(text, line + 32))
+        && has_bits(numbers[at + 2], pattern(text, line + 40))
+        && has_bits(numbers[at + 3], pattern(text, line + 48))
 }
