@@ -12,20 +12,21 @@ use Rattle.table_samples.specs.Samples.{lengthsOf}
 use Rattle.table_samples.proofs.Made.{made-count}
 use Rattle.polyline.specs.Lengths.{firstNotFinite}
 use Rattle.polyline.proofs.FirstNotFinite.{finite-start, finite-more, finite-stop, finite-upto}
-use Rattle.spline_table.proofs.Passing.{Walking, lengths-first}
+use Rattle.spline_table.specs.Rows.{walkOf, Walking}
+use Rattle.spline_table.proofs.Passing.{lengths-first}
 
 pub record Finding (formula : Float → Point) (n : ℕ) (previous : Point) (total : Float) (k : ℕ) : Type 0 where
-  pub walking : Walking formula n previous total k
+  pub walking : Walking formula n (walkOf previous total) k
   pub fine : suc k ≤ firstNotFinite (lengthsOf formula n)
 
 within : (formula : Float → Point) (n k : ℕ) → k ≤ n → k < length (lengthsOf formula n)
 within formula n k h = omega (arith, made-count formula n)
 
 module _ {formula : Float → Point} {n : ℕ} where
-  pub finding-start : {previous : Point} → Walking formula n previous zeroF 0 → Finding formula n previous zeroF 0
+  pub finding-start : {previous : Point} → Walking formula n (walkOf previous zeroF) 0 → Finding formula n previous zeroF 0
   finding-start w = record { walking = w; fine = finite-start (lengthsOf formula n) (within formula n 0 (w .upto)) (lengths-first formula n) }
 
-  module _ {previous current : Point} {total sum : Float} {k : ℕ} (f : Finding formula n previous total k) (w : Walking formula n current sum (k + 1)) where
+  module _ {previous current : Point} {total sum : Float} {k : ℕ} (f : Finding formula n previous total k) (w : Walking formula n (walkOf current sum) (k + 1)) where
     still : k + 1 ≤ firstNotFinite (lengthsOf formula n)
     still = let g = f .fine in omega arith
 

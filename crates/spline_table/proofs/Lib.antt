@@ -2,6 +2,11 @@
 pub mod Passing
 pub mod Finding
 pub mod Filling
+pub mod Crossing
+pub mod Near
+pub mod Left
+pub mod Samples
+pub mod Calm
 pub mod Answering
 pub mod Made
 pub mod Unique

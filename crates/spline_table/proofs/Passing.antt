@@ -12,6 +12,7 @@ use Rattle.table.specs.Lookup.{at}
 use Rattle.table.proofs.Sums.{running-first, running-next}
 use Rattle.table_samples.specs.Samples.{sampleAt, stepsOf, lengthsOf}
 use Rattle.table_samples.proofs.Stepping.{steps-count, step-is}
+use Rattle.spline_table.specs.Rows.{walkOf, Walking}
 
 module _ (formula : Float → Point) (n : ℕ) where
   pub lengths-first : at (lengthsOf formula n) 0 ≡ zeroF
@@ -24,23 +25,18 @@ module _ (formula : Float → Point) (n : ℕ) where
       running-next (stepsOf formula n) k (subst (λ (m : ℕ). k < m) (sym (steps-count formula n)) h)
       ∙ ap (add binary32 (at (lengthsOf formula n) k)) (step-is formula n k h)
 
-pub record Walking (formula : Float → Point) (n : ℕ) (previous : Point) (total : Float) (k : ℕ) : Type 0 where
-  pub upto : k ≤ n
-  pub here : previous ≡ sampleAt formula n k
-  pub sum : total ≡ at (lengthsOf formula n) k
-
 module _ {formula : Float → Point} {n : ℕ} where
-  pub walking-start : (previous : Point) → previous ≡ sampleAt formula n 0 → Walking formula n previous zeroF 0
+  pub walking-start : (previous : Point) → previous ≡ sampleAt formula n 0 → Walking formula n (walkOf previous zeroF) 0
   walking-start previous e = record { upto = zero-le; here = e; sum = sym (lengths-first formula n) }
 
   -- the next sample is taken, and the distance to it added
-  pub walking-more : {previous : Point} {total : Float} {k : ℕ} → Walking formula n previous total k → k < n
+  pub walking-more : {previous : Point} {total : Float} {k : ℕ} → Walking formula n (walkOf previous total) k → k < n
       → (current : Point) (step : Float) → current ≡ sampleAt formula n (k + 1) → step ≡ distanceOf previous current
-      → Walking formula n current (add binary32 total step) (k + 1)
+      → Walking formula n (walkOf current (add binary32 total step)) (k + 1)
   walking-more {previous} {total} {k} w l current step e d =
       let there : current ≡ sampleAt formula n (suc k) = e ∙ ap (sampleAt formula n) (add-one k) in
       let sum : add binary32 total step ≡ at (lengthsOf formula n) (suc k) = ended w l there d in
       record { upto = omega arith; here = e; sum = sum ∙ ap (at (lengthsOf formula n)) (sym (add-one k)) }
     where
-      ended : Walking formula n previous total k → k < n → current ≡ sampleAt formula n (suc k) → step ≡ distanceOf previous current → add binary32 total step ≡ at (lengthsOf formula n) (suc k)
+      ended : Walking formula n (walkOf previous total) k → k < n → current ≡ sampleAt formula n (suc k) → step ≡ distanceOf previous current → add binary32 total step ≡ at (lengthsOf formula n) (suc k)
       ended w l there d = let s = w .sum in let h = w .here in cc (lengths-next formula n k l)

@@ -1,2 +1,4 @@
 -- What making a spline's table answers and stores.
 pub mod Tables
+pub mod Near
+pub mod Rows

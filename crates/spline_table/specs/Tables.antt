@@ -61,7 +61,7 @@ splineTableOf points room =
 -- ---- what the two passes ask: points that were judged, and each entry's number an f32; the second one, room for the entries
 pub record Sampled (points : List Float) (last : ℕ) : Type 0 where
   pub few : countOf points ≤ mostPoints
-  pub counted : last ≤ countable
+  pub counted : last < countable
 
 pub record Roomy (points : List Float) (last : ℕ) (table : List Float) : Type 0 where
   pub sampled : Sampled points last

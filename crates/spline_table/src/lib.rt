@@ -1,5 +1,6 @@
 // The table of running lengths of a Catmull-Rom spline through lent points (bezier.rs, `build_table`), stored in a lent slice.
 pub mod inner;
+mod rows;
 mod tables;
 
 pub use tables::Tabled;
