@@ -1,20 +1,17 @@
 // The lookups without their tests, for callers that know the path to be a stored one.
 use crate::cursors::Cursor;
 pub use crate::cursors::back;
-use crate::cursors::first_cursor;
 pub use crate::cursors::forward;
-use crate::places::Place;
 use path_segment::has_table;
 use table::Progress;
 use table::RawParameter;
 use table::inner::raw_parameter_in;
-use table::inner::spot;
 use table::inner::straight;
 ghost use mathlib.Core.Path.{_≡_};
 ghost use lib.Dec.{T};
 ghost use Rattle.path_segment.specs.Segments.{hasTable};
 ghost use Rattle.path_place.specs.Cursors.{Moving, cursorOf};
-ghost use Rattle.path_place.specs.Places.{SomePlace, Standing, TableThere, placeIn, rawFor, rawIn, rawWithin};
+ghost use Rattle.path_place.specs.Places.{Standing, TableThere, rawFor, rawIn, rawWithin};
 
 // The raw parameter of a local progress in the table that starts at a place.
 pub fn raw_in(tables: &[f32], place: usize, along: Progress) -> RawParameter
@@ -56,17 +53,4 @@ pub fn moved(kinds: &[u8], from: Cursor, segment: usize) -> Cursor
         return forward(kinds, from, segment);
     }
     back(kinds, from, segment)
-}
-
-// The place of a progress along a path with a segment.
-pub fn place(kinds: &[u8], tables: &[f32], lengths: &[f32], progress: Progress) -> Place
-    requires { ⌜ SomePlace (now kinds) (now tables) (now lengths) ⌝ }
-    ensures { λ r. ⌜ r ≡ placeIn (now (kinds .entry)) (now (tables .entry)) (now (lengths .entry)) (progress .value) ⌝ }
-{
-    let found = spot(lengths, progress);
-    let segment = found.segment;
-    let along = found.progress;
-    let at = forward(kinds, first_cursor(kinds), segment);
-    let raw = raw_within(kinds, tables, at, along);
-    Place { segment, raw }
 }

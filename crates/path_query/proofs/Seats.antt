@@ -66,9 +66,6 @@ module _ {b : Buffers} (s : Stored b) (some : 0 < length (b .kinds)) where
   pub a-flight : Flyable b
   a-flight = record { some = some; path = s }
 
-  pub a-place : SomePlace (b .kinds) (b .tables) (b .lengths)
-  a-place = some-place a-flight
-
 -- ---- what is worked out
 
 module _ (kinds : List ℕ) (fields tables : List Float) (at : Cursor) (along : Float) where
