@@ -22,7 +22,7 @@ use Rattle.svg_group.specs.declared.letters.Letter.the-variants.{Draws, Closes,
 use Rattle.svg_group.specs.declared.groups.Group.{Group}
 use Rattle.svg_group.specs.declared.groups.Group.the-variants.{Taken, Refused as GroupRefused}
 use Rattle.svg_group.proofs.Ahead.{group-ahead}
-use Rattle.svg_step.specs.Steps.{isRelativeOf, firstControlOf, needsPointOf, repeatedOf, afterOf, dueGroupOf, begun, dueLetterOf, again, dueAgainOf, nextDueOf, taken, stepped, readStepOf}
+use Rattle.svg_step.specs.Steps.{isRelativeOf, firstControlOf, needsPointOf, repeatedOf, afterOf, dueGroupOf, begun, dueLetterOf, again, dueAgainOf, dueAtOf, nextDueOf, offsetOf, taken, stepped, readStepOf}
 use Rattle.svg_step.specs.declared.steps.Reader.{Reader}
 use Rattle.svg_step.specs.declared.steps.Due.{Due}
 use Rattle.svg_step.specs.declared.steps.Due.the-variants.{Done as NothingDue, Refused as NotDue, Close, Group as GroupDue}
@@ -36,23 +36,23 @@ cond-elim P false x y f g = g refl
 -- ---- the state after a command
 
 -- it stands where the command ends, and there is a current point
-pub after-at : (command : PathCommand) (next letter : ℕ) (start : Point) → afterOf command next letter start .at ≡ next
+pub after-at : (command : PathCommand) (next letter offset : ℕ) (start : Point) → afterOf command next letter offset start .at ≡ next
 unfolding afterOf
-after-at (MoveTo end) next letter start = refl
-after-at (LineTo end) next letter start = refl
-after-at (QuadTo control end) next letter start = refl
-after-at (CubicTo control1 control2 end) next letter start = refl
-after-at (ArcTo radii rotation large sweep end) next letter start = refl
-after-at ClosePath next letter start = refl
+after-at (MoveTo end) next letter offset start = refl
+after-at (LineTo end) next letter offset start = refl
+after-at (QuadTo control end) next letter offset start = refl
+after-at (CubicTo control1 control2 end) next letter offset start = refl
+after-at (ArcTo radii rotation large sweep end) next letter offset start = refl
+after-at ClosePath next letter offset start = refl
 
-pub after-placed : (command : PathCommand) (next letter : ℕ) (start : Point) → afterOf command next letter start .placed ≡ true
+pub after-placed : (command : PathCommand) (next letter offset : ℕ) (start : Point) → afterOf command next letter offset start .placed ≡ true
 unfolding afterOf
-after-placed (MoveTo end) next letter start = refl
-after-placed (LineTo end) next letter start = refl
-after-placed (QuadTo control end) next letter start = refl
-after-placed (CubicTo control1 control2 end) next letter start = refl
-after-placed (ArcTo radii rotation large sweep end) next letter start = refl
-after-placed ClosePath next letter start = refl
+after-placed (MoveTo end) next letter offset start = refl
+after-placed (LineTo end) next letter offset start = refl
+after-placed (QuadTo control end) next letter offset start = refl
+after-placed (CubicTo control1 control2 end) next letter offset start = refl
+after-placed (ArcTo radii rotation large sweep end) next letter offset start = refl
+after-placed ClosePath next letter offset start = refl
 
 -- ---- what is due stands further on
 
@@ -89,69 +89,87 @@ module _ (text : List ℕ) where
   again-onward at letter Closes = tt
   again-onward at letter Unknown = tt
 
--- what is due from a place on stands further on, and the place within the text, unless nothing is due
+-- what is due at a place stands further on, and the place within the text, unless nothing is due
 Within : List ℕ → ℕ → Due → Type 0
-Within text from NothingDue = Unit
-Within text from (NotDue reason) = from < length text
-Within text from (Close next) = (from < next) × (from < length text)
-Within text from (GroupDue kind letter first) = (from ≤ first) × (from < length text)
+Within text at NothingDue = Unit
+Within text at (NotDue reason) = at < length text
+Within text at (Close next) = (at < next) × (at < length text)
+Within text at (GroupDue kind letter first) = (at ≤ first) × (at < length text)
 
-within : (text : List ℕ) (from : ℕ) (due : Due) → from < length text → Onward from due → Within text from due
+within : (text : List ℕ) (at : ℕ) (due : Due) → at < length text → Onward at due → Within text at due
 unfolding Onward Within
-within text from NothingDue w h = tt
-within text from (NotDue reason) w h = w
-within text from (Close next) w h = (h, w)
-within text from (GroupDue kind letter first) w h = (h, w)
+within text at NothingDue w h = tt
+within text at (NotDue reason) w h = w
+within text at (Close next) w h = (h, w)
+within text at (GroupDue kind letter first) w h = (h, w)
 
-due-within : (text : List ℕ) (from letter : ℕ) (placed : Bool) → Within text from (nextDueOf text from letter placed)
-unfolding nextDueOf Within dueLetterOf dueAgainOf
-due-within text from letter placed =
-    let at = pastSeparatorsOf text from in
-    let h : from ≤ at = all-onward separators text from in
+due-within : (text : List ℕ) (at letter : ℕ) (placed : Bool) → Within text at (dueAtOf text at letter placed)
+unfolding dueAtOf Within dueLetterOf dueAgainOf
+due-within text at letter placed =
     let byte = getD text at 0 in
-    cond-elim (Within text from) (ltb at (length text)) _ NothingDue
+    cond-elim (Within text at) (ltb at (length text)) _ NothingDue
     (λ e.
-    let w : from < length text = omega (arith, ltb-true at (length text) e) in
-    cond-elim (Within text from) (isLetterOf byte) _ _
-    (λ f. within text from (dueLetterOf text at byte placed) w (onward-le from at (dueLetterOf text at byte placed) h (begun-onward text at byte placed (meaningOf byte))))
-    (λ f. within text from (dueAgainOf text at letter) w (onward-le from at (dueAgainOf text at letter) h (again-onward text at letter (meaningOf letter)))))
+    let w : at < length text = omega (arith, ltb-true at (length text) e) in
+    cond-elim (Within text at) (isLetterOf byte) _ _
+    (λ f. within text at (dueLetterOf text at byte placed) w (begun-onward text at byte placed (meaningOf byte)))
+    (λ f. within text at (dueAgainOf text at letter) w (again-onward text at letter (meaningOf letter))))
     (λ e. tt)
 
 -- ---- the step
 
--- a command starts within the text, ends past where it starts, and leaves a current point; a refusal starts within the text
-Goes : List ℕ → Reader → Step → Type 0
-Goes text reader (Command command next) = (reader .at < next .at) × (reader .at < length text) × (next .placed ≡ true)
-Goes text reader Done = Unit
-Goes text reader (Refused reason) = reader .at < length text
+-- a command starts past separators within the text, ends past where it starts, and leaves a current point; a refusal starts within the text
+Goes : List ℕ → ℕ → Step → Type 0
+Goes text at (Command command next) = (at < next .at) × (at < length text) × (next .placed ≡ true)
+Goes text at Done = Unit
+Goes text at (Refused reason) = at < length text
 
-module _ (text : List ℕ) (reader : Reader) where
+module _ (text : List ℕ) (reader : Reader) (offset at : ℕ) where
   taken-goes :
-      (kind : Kind) (letter first : ℕ) (relative : Bool) (current control : Point) → reader .at ≤ first → reader .at < length text
-      → (group : Group) → readGroupOf text first kind relative current control ≡ group → Goes text reader (taken letter (reader .start) group)
+      (kind : Kind) (letter first : ℕ) (relative : Bool) (current control : Point) → at ≤ first → at < length text
+      → (group : Group) → readGroupOf text first kind relative current control ≡ group → Goes text at (taken letter offset (reader .start) group)
   unfolding Goes
-  taken-goes kind letter first relative current control h w (Taken command next) e =
-      (omega (arith, group-ahead text first relative current control kind command next e, after-at command next letter (reader .start)), w, after-placed command next letter (reader .start))
+  taken-goes kind letter first relative current control h w (Taken command next) e = (
+    omega (arith, group-ahead text first relative current control kind command next e, after-at command next letter offset (reader .start)),
+    w,
+    after-placed command next letter offset (reader .start),
+  )
   taken-goes kind letter first relative current control h w (GroupRefused reason) e = w
 
-  stepped-goes : (due : Due) → Within text (reader .at) due → Goes text reader (stepped text reader due)
+  stepped-goes : (due : Due) → Within text at due → Goes text at (stepped text reader offset due)
   unfolding Goes Within
   stepped-goes NothingDue h = tt
   stepped-goes (NotDue reason) h = h
-  stepped-goes (Close next) h = (omega (arith, h .0, after-at ClosePath next (reader .letter) (reader .start)), h .1, after-placed ClosePath next (reader .letter) (reader .start))
+  stepped-goes (Close next) h =
+      (omega (arith, h .0, after-at ClosePath next (reader .letter) offset (reader .start)), h .1, after-placed ClosePath next (reader .letter) offset (reader .start))
   stepped-goes (GroupDue kind letter first) h =
       let control = firstControlOf kind (reader .letter) (reader .current) (reader .control) in
       taken-goes kind letter first (isRelativeOf letter (reader .placed)) (reader .current) control (h .0) (h .1)
       (readGroupOf text first kind (isRelativeOf letter (reader .placed)) (reader .current) control) refl
 
-  step-goes : Goes text reader (readStepOf text reader)
-  unfolding readStepOf
-  step-goes = stepped-goes (nextDueOf text (reader .at) (reader .letter) (reader .placed)) (due-within text (reader .at) (reader .letter) (reader .placed))
+module _ (text : List ℕ) (reader : Reader) where
+  at : ℕ
+  at = pastSeparatorsOf text (reader .at)
 
-  pub step-ahead : (next : Reader) (command : PathCommand) → readStepOf text reader ≡ Command command next → (reader .at < next .at) × (reader .at < length text) × (next .placed ≡ true)
-  unfolding Goes
-  step-ahead next command e = subst (Goes text reader) e step-goes
+  onward : reader .at ≤ at
+  unfolding at
+  onward = all-onward separators text (reader .at)
+
+  step-goes : Goes text at (readStepOf text reader)
+  unfolding at readStepOf nextDueOf
+  step-goes =
+      let at = pastSeparatorsOf text (reader .at) in
+      stepped-goes text reader (offsetOf text reader) at (dueAtOf text at (reader .letter) (reader .placed)) (due-within text at (reader .letter) (reader .placed))
+
+  module _ (next : Reader) (command : PathCommand) (e : readStepOf text reader ≡ Command command next) where
+    -- the command starts past the separators
+    pub step-past : (reader .at ≤ pastSeparatorsOf text (reader .at)) × (pastSeparatorsOf text (reader .at) < next .at) × (pastSeparatorsOf text (reader .at) < length text)
+    unfolding at Goes
+    step-past = let g = subst (Goes text at) e step-goes in (onward, g .0, g .1)
+
+    pub step-ahead : (reader .at < next .at) × (reader .at < length text) × (next .placed ≡ true)
+    unfolding Goes
+    step-ahead = let g = subst (Goes text at) e step-goes in (omega (arith, onward, g .0), omega (arith, onward, g .1), g .2)
 
   pub step-within : (reason : Refusal) → readStepOf text reader ≡ Refused reason → reader .at < length text
   unfolding Goes
-  step-within reason e = subst (Goes text reader) e step-goes
+  step-within reason e = let g = subst (Goes text at) e step-goes in omega (arith, onward)

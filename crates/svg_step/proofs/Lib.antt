@@ -2,3 +2,4 @@
 pub mod StepCases
 pub mod Ahead
 pub mod Passed
+pub mod Offsets

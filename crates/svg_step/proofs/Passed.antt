@@ -18,7 +18,7 @@ use Rattle.svg_group.specs.declared.groups.Group.{Group}
 use Rattle.svg_group.specs.declared.groups.Group.the-variants.{Taken, Refused as GroupRefused}
 use Rattle.svg_group.proofs.Places.{groupPlace, group-place}
 use Rattle.svg_group.proofs.Widths.{group-width}
-use Rattle.svg_step.specs.Steps.{isRelativeOf, firstControlOf, afterOf, nextDueOf, taken, stepped, readStepOf, passedTo, passed, passStepOf}
+use Rattle.svg_step.specs.Steps.{isRelativeOf, firstControlOf, afterOf, nextDueOf, offsetOf, taken, stepped, readStepOf, passedTo, passed, passStepOf}
 use Rattle.svg_step.specs.declared.steps.Reader.{Reader}
 use Rattle.svg_step.specs.declared.steps.Due.{Due}
 use Rattle.svg_step.specs.declared.steps.Due.the-variants.{Done as NothingDue, Refused as NotDue, Close, Group as GroupDue}
@@ -35,14 +35,14 @@ passOf Done = PassDone
 passOf (Refused reason) = PassRefused reason
 
 -- a command with numbers keeps the letter
-after-letter : (command : PathCommand) (next letter : ℕ) (start : Point) → 0 < length (argumentsOf command) → afterOf command next letter start .letter ≡ letter
+after-letter : (command : PathCommand) (next letter offset : ℕ) (start : Point) → 0 < length (argumentsOf command) → afterOf command next letter offset start .letter ≡ letter
 unfolding afterOf
-after-letter (MoveTo end) next letter start w = refl
-after-letter (LineTo end) next letter start w = refl
-after-letter (QuadTo control end) next letter start w = refl
-after-letter (CubicTo control1 control2 end) next letter start w = refl
-after-letter (ArcTo radii rotation large sweep end) next letter start w = refl
-after-letter ClosePath next letter start w = absurd (omega arith)
+after-letter (MoveTo end) next letter offset start w = refl
+after-letter (LineTo end) next letter offset start w = refl
+after-letter (QuadTo control end) next letter offset start w = refl
+after-letter (CubicTo control1 control2 end) next letter offset start w = refl
+after-letter (ArcTo radii rotation large sweep end) next letter offset start w = refl
+after-letter ClosePath next letter offset start w = absurd (omega arith)
 
 some-width : (kind : Kind) → 0 < widthOf kind
 some-width Move = omega arith
@@ -55,18 +55,18 @@ some-width Quad = omega arith
 some-width SmoothQuad = omega arith
 some-width Arc = omega arith
 
-module _ (text : List ℕ) (reader : Reader) where
+module _ (text : List ℕ) (reader : Reader) (offset : ℕ) where
   taken-passed :
       (kind : Kind) (letter first : ℕ) (relative : Bool) (current control : Point) (group : Group) → readGroupOf text first kind relative current control ≡ group
-      → passOf (taken letter (reader .start) group) ≡ passedTo letter kind (groupPlace group)
+      → passOf (taken letter offset (reader .start) group) ≡ passedTo letter kind (groupPlace group)
   taken-passed kind letter first relative current control (Taken command next) e =
       let w = group-width text first relative current control kind command next e in
-      let a = after-at command next letter (reader .start) in
-      let l = after-letter command next letter (reader .start) (omega (arith, some-width kind)) in
+      let a = after-at command next letter offset (reader .start) in
+      let l = after-letter command next letter offset (reader .start) (omega (arith, some-width kind)) in
       cc
   taken-passed kind letter first relative current control (GroupRefused reason) e = refl
 
-  stepped-passed : (due : Due) → passOf (stepped text reader due) ≡ passed text due
+  stepped-passed : (due : Due) → passOf (stepped text reader offset due) ≡ passed text due
   unfolding afterOf
   stepped-passed NothingDue = refl
   stepped-passed (NotDue reason) = refl
@@ -77,7 +77,8 @@ module _ (text : List ℕ) (reader : Reader) where
       taken-passed kind letter first relative (reader .current) control (readGroupOf text first kind relative (reader .current) control) refl
       ∙ ap (passedTo letter kind) (group-place text relative (reader .current) control first kind)
 
-  -- a step without values agrees with the step
+-- a step without values agrees with the step
+module _ (text : List ℕ) (reader : Reader) where
   pub step-passed : passOf (readStepOf text reader) ≡ passStepOf text (reader .at) (reader .letter) (reader .placed)
   unfolding readStepOf passStepOf
-  step-passed = stepped-passed (nextDueOf text (reader .at) (reader .letter) (reader .placed))
+  step-passed = stepped-passed text reader (offsetOf text reader) (nextDueOf text (reader .at) (reader .letter) (reader .placed))

@@ -11,7 +11,7 @@ use Rattle.scan.specs.Runs.{pastSeparatorsOf}
 use Rattle.svg_group.specs.Letters.{isLetterOf, meaningOf}
 use Rattle.svg_group.specs.declared.letters.Kind.{Kind}
 use Rattle.svg_group.specs.declared.letters.Letter.the-variants.{Draws, Closes, Unknown}
-use Rattle.svg_step.specs.Steps.{needsPointOf, repeatedOf, dueGroupOf, dueLetterOf, dueAgainOf, nextDueOf}
+use Rattle.svg_step.specs.Steps.{needsPointOf, repeatedOf, dueGroupOf, dueLetterOf, dueAgainOf, dueAtOf}
 use Rattle.svg_step.specs.declared.steps.Due.{Due}
 use Rattle.svg_step.specs.declared.steps.Due.the-variants.{Done, Refused, Close, Group}
 
@@ -69,16 +69,16 @@ module _ (text : List ℕ) (at letter : ℕ) where
 
 -- ---- either
 
-module _ (text : List ℕ) (from letter : ℕ) (placed : Bool) (at : ℕ) (ea : at ≡ pastSeparatorsOf text from) where
-  pub due-done : length text ≤ at → Done ≡ nextDueOf text from letter placed
-  unfolding nextDueOf
-  due-done past = simp (sym ea, le-ltb at (length text) past)
+module _ (text : List ℕ) (at letter : ℕ) (placed : Bool) where
+  pub due-done : length text ≤ at → Done ≡ dueAtOf text at letter placed
+  unfolding dueAtOf
+  due-done past = simp (le-ltb at (length text) past)
 
   module _ (inside : at < length text) (due : Due) where
-    pub due-letter : isLetterOf (getD text at 0) ≡ true → due ≡ dueLetterOf text at (getD text at 0) placed → due ≡ nextDueOf text from letter placed
-    unfolding nextDueOf
-    due-letter l d = d ∙ simp (sym ea, lt-ltb at (length text) inside, l)
+    pub due-letter : isLetterOf (getD text at 0) ≡ true → due ≡ dueLetterOf text at (getD text at 0) placed → due ≡ dueAtOf text at letter placed
+    unfolding dueAtOf
+    due-letter l d = d ∙ simp (lt-ltb at (length text) inside, l)
 
-    pub due-other : isLetterOf (getD text at 0) ≡ false → due ≡ dueAgainOf text at letter → due ≡ nextDueOf text from letter placed
-    unfolding nextDueOf
-    due-other l d = d ∙ simp (sym ea, lt-ltb at (length text) inside, l)
+    pub due-other : isLetterOf (getD text at 0) ≡ false → due ≡ dueAgainOf text at letter → due ≡ dueAtOf text at letter placed
+    unfolding dueAtOf
+    due-other l d = d ∙ simp (lt-ltb at (length text) inside, l)

@@ -37,7 +37,7 @@ abbrev pub origin : Point
 origin = record { x = ofBits binary32 0; y = ofBits binary32 0 }
 
 abbrev pub freshOf : Reader
-freshOf = record { at = 0; current = origin; start = origin; placed = false; control = origin; letter = 0 }
+freshOf = record { at = 0; current = origin; start = origin; placed = false; control = origin; letter = 0; offset = 0 }
 
 -- "Lower case adds to the current point, with none it is absolute."
 unfoldable pub isRelativeOf : ℕ → Bool → Bool
@@ -120,18 +120,19 @@ firstControlOf kind last current control = cond (takesUpOf kind (meaningOf last)
 -- ---- the state after a command
 
 -- a command that ends at a point; `control` is its last control, or its end where it has none
-abbrev pub drawn : Point → Point → Point → ℕ → ℕ → Reader
-drawn end start control next letter = record { at = next; current = end; start = start; placed = true; control = control; letter = letter }
+abbrev pub drawn : Point → Point → Point → ℕ → ℕ → ℕ → Reader
+drawn end start control next letter offset =
+    record { at = next; current = end; start = start; placed = true; control = control; letter = letter; offset = offset }
 
--- the state after a command, read up to `next` with a letter remembered, in a subpath that starts at a point
-unfoldable pub afterOf : PathCommand → ℕ → ℕ → Point → Reader
-afterOf (MoveTo end) next letter start = drawn end end end next letter
-afterOf (LineTo end) next letter start = drawn end start end next letter
-afterOf (QuadTo control end) next letter start = drawn end start control next letter
-afterOf (CubicTo control1 control2 end) next letter start = drawn end start control2 next letter
-afterOf (ArcTo radii rotation large sweep end) next letter start = drawn end start end next letter
+-- the state after a command, read up to `next` with a letter remembered that stands at an offset, in a subpath that starts at a point
+unfoldable pub afterOf : PathCommand → ℕ → ℕ → ℕ → Point → Reader
+afterOf (MoveTo end) next letter offset start = drawn end end end next letter offset
+afterOf (LineTo end) next letter offset start = drawn end start end next letter offset
+afterOf (QuadTo control end) next letter offset start = drawn end start control next letter offset
+afterOf (CubicTo control1 control2 end) next letter offset start = drawn end start control2 next letter offset
+afterOf (ArcTo radii rotation large sweep end) next letter offset start = drawn end start end next letter offset
 -- "Z .. returns to the subpath's start, sets the current point and forgets the command."
-afterOf ClosePath next letter start = drawn start start start next 0
+afterOf ClosePath next letter offset start = drawn start start start next 0 offset
 
 -- ---- what is due at a place
 
@@ -163,31 +164,44 @@ again text at letter Unknown = NotDue (MissingMoveTo at)
 unfoldable pub dueAgainOf : List ℕ → ℕ → ℕ → Due
 dueAgainOf text at letter = again text at letter (meaningOf letter)
 
--- "After separators a letter becomes the remembered command; any other byte repeats it"
-unfoldable pub nextDueOf : List ℕ → ℕ → ℕ → Bool → Due
-nextDueOf text from letter placed =
-    let at = pastSeparatorsOf text from in
+-- "a letter becomes the remembered command; any other byte repeats it": at the place past separators
+unfoldable pub dueAtOf : List ℕ → ℕ → ℕ → Bool → Due
+dueAtOf text at letter placed =
     cond (ltb at (length text))
     (cond (isLetterOf (getD text at 0)) (dueLetterOf text at (getD text at 0) placed) (dueAgainOf text at letter))
     NothingDue
 
+-- "After separators"
+unfoldable pub nextDueOf : List ℕ → ℕ → ℕ → Bool → Due
+nextDueOf text from letter placed = dueAtOf text (pastSeparatorsOf text from) letter placed
+
+-- ---- the letter that makes a command (document 02, L5)
+
+-- "the offset of its command letter": at the place past separators stands a letter, or the one that is remembered stays; `last` is its offset
+unfoldable pub offsetAt : List ℕ → ℕ → ℕ → ℕ
+offsetAt text at last = cond (isLetterOf (getD text at 0)) at last
+
+-- "Implied LineTos carry the letter that started them.", and so does every repeated group
+abbrev pub offsetOf : List ℕ → Reader → ℕ
+offsetOf text reader = offsetAt text (pastSeparatorsOf text (reader .at)) (reader .offset)
+
 -- ---- the step
 
-abbrev pub taken : ℕ → Point → Group → Step
-taken letter start (Taken command next) = Command command (afterOf command next letter start)
-taken letter start (GroupRefused refusal) = Refused refusal
+abbrev pub taken : ℕ → ℕ → Point → Group → Step
+taken letter offset start (Taken command next) = Command command (afterOf command next letter offset start)
+taken letter offset start (GroupRefused refusal) = Refused refusal
 
 -- "Z stores ClosePath"
-abbrev pub stepped : List ℕ → Reader → Due → Step
-stepped text reader NothingDue = Done
-stepped text reader (NotDue refusal) = Refused refusal
-stepped text reader (Close next) = Command ClosePath (afterOf ClosePath next (reader .letter) (reader .start))
-stepped text reader (GroupDue kind letter first) =
-    taken letter (reader .start)
+abbrev pub stepped : List ℕ → Reader → ℕ → Due → Step
+stepped text reader offset NothingDue = Done
+stepped text reader offset (NotDue refusal) = Refused refusal
+stepped text reader offset (Close next) = Command ClosePath (afterOf ClosePath next (reader .letter) offset (reader .start))
+stepped text reader offset (GroupDue kind letter first) =
+    taken letter offset (reader .start)
     (readGroupOf text first kind (isRelativeOf letter (reader .placed)) (reader .current) (firstControlOf kind (reader .letter) (reader .current) (reader .control)))
 
 unfoldable pub readStepOf : List ℕ → Reader → Step
-readStepOf text reader = stepped text reader (nextDueOf text (reader .at) (reader .letter) (reader .placed))
+readStepOf text reader = stepped text reader (offsetOf text reader) (nextDueOf text (reader .at) (reader .letter) (reader .placed))
 
 -- ---- the step without values. That it agrees with the step is a law, and no promise of an entry rests on it.
 

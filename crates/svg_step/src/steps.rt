@@ -4,7 +4,7 @@ ghost use mathlib.Core.Path.{_≡_};
 ghost use lib.ListN.{length};
 ghost use Rattle.svg_group.specs.Letters.{meaningOf};
 ghost use Rattle.svg_step.specs.Steps.{freshOf, isRelativeOf, needsPointOf, repeatedOf, mirroredOf, takesUpOf, firstControlOf, drawn, afterOf};
-ghost use Rattle.svg_step.specs.Steps.{dueGroupOf, dueLetterOf, dueAgainOf, nextDueOf, readStepOf, passStepOf};
+ghost use Rattle.svg_step.specs.Steps.{dueGroupOf, dueLetterOf, dueAgainOf, dueAtOf, nextDueOf, offsetAt, readStepOf, passStepOf};
 use answers::Refusal;
 use commands::PathCommand;
 use math::Point;
@@ -25,6 +25,8 @@ pub struct Reader {
     pub control: Point,
     // The remembered command's letter, or 0 for none.
     pub letter: u8,
+    // Where the letter stands that made the last command, or 0 before the first.
+    pub offset: usize,
 }
 
 pub enum Step {
@@ -44,6 +46,7 @@ pub fn fresh() -> Reader
         placed: false,
         control: Point { x: 0.0, y: 0.0 },
         letter: 0,
+        offset: 0,
     }
 }
 
@@ -123,8 +126,15 @@ fn first_control(kind: Kind, last: u8, current: Point, control: Point) -> Point
 }
 
 // The state past a command that ends at a point.
-fn standing(end: Point, start: Point, control: Point, next: usize, letter: u8) -> Reader
-    ensures { λ r. ⌜ r ≡ drawn end start control next letter ⌝ }
+fn standing(
+    end: Point,
+    start: Point,
+    control: Point,
+    next: usize,
+    letter: u8,
+    offset: usize,
+) -> Reader
+    ensures { λ r. ⌜ r ≡ drawn end start control next letter offset ⌝ }
 {
     Reader {
         at: next,
@@ -133,30 +143,32 @@ fn standing(end: Point, start: Point, control: Point, next: usize, letter: u8) -
         placed: true,
         control,
         letter,
+        offset,
     }
 }
 
-// The state after a command, which is read up to `next`, with the letter that was remembered for it.
-fn after(command: PathCommand, next: usize, letter: u8, start: Point) -> Reader
-    ensures { λ r. ⌜ r ≡ afterOf command next letter start ⌝ }
+// The state after a command, which is read up to `next`, with the letter that was remembered for it and
+// the offset of the letter that made it.
+fn after(command: PathCommand, next: usize, letter: u8, offset: usize, start: Point) -> Reader
+    ensures { λ r. ⌜ r ≡ afterOf command next letter offset start ⌝ }
 {
     match command {
-        PathCommand::MoveTo(end) => standing(end, end, end, next, letter),
-        PathCommand::LineTo(end) => standing(end, start, end, next, letter),
-        PathCommand::QuadTo { control, end } => standing(end, start, control, next, letter),
+        PathCommand::MoveTo(end) => standing(end, end, end, next, letter, offset),
+        PathCommand::LineTo(end) => standing(end, start, end, next, letter, offset),
+        PathCommand::QuadTo { control, end } => standing(end, start, control, next, letter, offset),
         PathCommand::CubicTo {
             control1: _,
             control2,
             end,
-        } => standing(end, start, control2, next, letter),
+        } => standing(end, start, control2, next, letter, offset),
         PathCommand::ArcTo {
             radii: _,
             rotation: _,
             large_arc: _,
             sweep: _,
             end,
-        } => standing(end, start, end, next, letter),
-        PathCommand::ClosePath => standing(start, start, start, next, 0),
+        } => standing(end, start, end, next, letter, offset),
+        PathCommand::ClosePath => standing(start, start, start, next, 0, offset),
     }
 }
 
@@ -221,11 +233,10 @@ fn due_again(text: &[u8], at: usize, letter: u8) -> Due
     }
 }
 
-// What is due from a place on, with the remembered letter.
-pub fn next_due(text: &[u8], from: usize, letter: u8, placed: bool) -> Due
-    ensures { λ r. ⌜ r ≡ nextDueOf (now (text .entry)) from letter placed ⌝ }
+// What is due at a place past separators, with the remembered letter.
+fn due_at(text: &[u8], at: usize, letter: u8, placed: bool) -> Due
+    ensures { λ r. ⌜ r ≡ dueAtOf (now (text .entry)) at letter placed ⌝ }
 {
-    let at = scan::past_separators(text, from);
     if text.len() <= at {
         return Due::Done;
     }
@@ -236,17 +247,37 @@ pub fn next_due(text: &[u8], from: usize, letter: u8, placed: bool) -> Due
     due_again(text, at, letter)
 }
 
+// What is due from a place on, with the remembered letter.
+pub fn next_due(text: &[u8], from: usize, letter: u8, placed: bool) -> Due
+    ensures { λ r. ⌜ r ≡ nextDueOf (now (text .entry)) from letter placed ⌝ }
+{
+    due_at(text, scan::past_separators(text, from), letter, placed)
+}
+
+// The offset of the letter that makes what is due at a place past separators: the place itself, or
+// that of the last letter where no letter stands there.
+fn letter_offset(text: &[u8], at: usize, last: usize) -> usize
+    ensures { λ r. ⌜ r ≡ offsetAt (now (text .entry)) at last ⌝ }
+{
+    if svg_group::is_letter(scan::byte_at(text, at)) {
+        return at;
+    }
+    last
+}
+
 // The next command of a text.
 pub fn read_step(text: &[u8], reader: Reader) -> Step
     ensures { λ r. ⌜ r ≡ readStepOf (now (text .entry)) reader ⌝ }
 {
     let start = reader.start;
-    match next_due(text, reader.at, reader.letter, reader.placed) {
+    let at = scan::past_separators(text, reader.at);
+    let offset = letter_offset(text, at, reader.offset);
+    match due_at(text, at, reader.letter, reader.placed) {
         Due::Done => Step::Done,
         Due::Refused(refusal) => Step::Refused(refusal),
         Due::Close(next) => Step::Command {
             command: PathCommand::ClosePath,
-            next: after(PathCommand::ClosePath, next, reader.letter, start),
+            next: after(PathCommand::ClosePath, next, reader.letter, offset, start),
         },
         Due::Group {
             kind,
@@ -260,7 +291,7 @@ pub fn read_step(text: &[u8], reader: Reader) -> Step
                 Group::Refused(refusal) => Step::Refused(refusal),
                 Group::Taken { command, next } => Step::Command {
                     command,
-                    next: after(command, next, letter, start),
+                    next: after(command, next, letter, offset, start),
                 },
             }
         }

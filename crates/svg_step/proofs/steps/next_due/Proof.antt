@@ -1,27 +1,14 @@
--- `svg_step::steps::next_due` meets its contract: each way out is a case of its definition. Assumes nothing.
+-- `svg_step::steps::next_due` meets its contract: what is due past the separators. Assumes nothing.
 use borrow.Author.Needs.{needs}
-use mathlib.Core.Path.{sym, _∙_}
-use Rattle.svg_step.proofs.StepCases.{due-done, due-letter, due-other}
+use Rattle.svg_step.specs.Steps.{nextDueOf}
 use Rattle.svg_step.proofs.steps.next_due.Statement.{statement}
 use Rattle.svg_step.proofs.steps.next_due.Tie as tie
 
 returns : tie.Need-returns
-returns c = due-done _ _ _ _ _ (c .before .past-separators .ensures) (c .if1 .taken)
-
-returns-2 : tie.Need-returns-2
-returns-2 c =
-    let at-letter = c .before .before in
-    let at-end = at-letter .before .before in
-    due-letter _ _ _ _ _ (at-end .before .past-separators .ensures) (at-end .if1 .left) _ (sym (at-letter .is-letter .ensures) ∙ c .before .if2 .taken) (c .due-letter .ensures)
-
-returns-3 : tie.Need-returns-3
-returns-3 c =
-    let at-letter = c .before .before in
-    let at-end = at-letter .before .before in
-    due-other _ _ _ _ _ (at-end .before .past-separators .ensures) (at-end .if1 .left) _ (sym (at-letter .is-letter .ensures) ∙ c .before .if2 .left) (c .due-again .ensures)
+unfolding nextDueOf
+returns c = rw (← c .before .past-separators .ensures) (c .due-at .ensures)
 
 pub next-due-spec : {M : Type 1} → statement M
 next-due-spec =
     tie.close
-    (tie.spec (λ c κs. search needs) returns (λ c. search needs) (λ c κs. search needs) (λ c κs. search needs)
-    returns-2 (λ c κs. search needs) returns-3)
+    (tie.spec (λ c κs. search needs) (λ c κs. search needs) returns)
