@@ -1,4 +1,4 @@
--- What the storing pass holds between two commands, what a step does to that, and how it goes over from one pair of buffers to another. Assumes nothing.
+-- What the storing pass holds between two commands, what a step does to that, and how it goes over from buffers to others. Assumes nothing.
 use Prim.Native.Nat.{ℕ, _+_, _-_, _*_, _≤_, _<_}
 use mathlib.Core.Path.{_≡_, refl, sym, ap, subst, _∙_}
 use mathlib.Core.List.{List, [], _∷_, _++_}
@@ -12,7 +12,8 @@ use Rattle.answers.proofs.Writing.{written-more, length-written}
 use Rattle.commands.specs.Stored.{letterOf, argumentsOf, lettersOf, numbersOf, Store}
 use Rattle.commands.specs.declared.command.PathCommand.{PathCommand}
 use Rattle.svg_step.specs.Steps.{freshOf, readStepOf}
-use Rattle.svg.specs.Texts.{Outcome, commands, refusal, readFrom, commandsOf, measureOf, Room, Filled, onto, Known, Counting, Holding, Begun, Held, SaysStored, Stores}
+use Rattle.svg.specs.Lists.{CommandList, commandList, noList}
+use Rattle.svg.specs.Texts.{Outcome, commands, refusal, readFrom, commandsOf, offsetsFrom, offsetsOf, measureOf, Room, Roomed, Filled, FilledAll, onto, Known, Counting, Holding, Begun, Held, SaysStored, Stores}
 use Rattle.svg_step.specs.declared.steps.Reader.{Reader}
 use Rattle.svg_step.specs.declared.steps.Step.the-variants.{Command, Done, Refused}
 use Rattle.svg.specs.declared.passes.Size.{Size}
@@ -20,7 +21,8 @@ use Rattle.svg.specs.declared.passes.Size.the-variants.{Counted, Refused
 use Rattle.svg.specs.declared.passes.Stored.{Stored}
 use Rattle.svg.specs.declared.passes.Stored.the-variants.{Whole, Refused as Unstored, Full}
 use Rattle.svg_step.proofs.Ahead.{step-ahead}
-use Rattle.svg.proofs.PassLaws.{letters-append, numbers-append, letters-more, numbers-more, few-arguments, known-none, known-all, known-refused, known-more, counted, uncounted, room-of}
+use Rattle.svg.proofs.PassLaws.{letters-more, numbers-more, few-arguments, known-none, known-all, known-offsets, known-many, known-refused, known-more, known-offset, counted, uncounted, counting-within, room-of}
+use Rattle.svg.proofs.Offsets.{offsets-many}
 
 -- ---- what is written twice
 
@@ -43,41 +45,58 @@ module _ {A : Type 0} where
 
 -- ---- between two commands
 
-pub holding-none : (text before : List ℕ) (stood : List Float) → Holding text before before stood stood freshOf 0 0
-unfolding lettersOf numbersOf
-holding-none text before stood =
-    record { done = []; known = known-none text; places = refl; count = refl; place-le = omega arith; at-le = omega arith; lettersNow = refl; numbersNow = refl; lettersIn = omega arith; numbersIn = omega arith }
+pub holding-none : (text : List ℕ) (before : CommandList) → Holding text before before freshOf 0 0
+unfolding lettersOf numbersOf known-none
+holding-none text before =
+    record {
+      done = [];
+      known = known-none text;
+      places = refl;
+      count = refl;
+      place-le = omega arith;
+      at-le = omega arith;
+      lettersNow = refl;
+      numbersNow = refl;
+      offsetsNow = refl;
+      lettersIn = omega arith;
+      numbersIn = omega arith;
+      offsetsIn = omega arith;
+    }
 
 -- at the start nothing is held
-pub begun-none : (text : List ℕ) → Begun text [] [] freshOf
-unfolding lettersOf numbersOf
-begun-none text = record { done = []; known = known-none text; letters = refl; numbers = refl; place-le = omega arith; at-le = omega arith }
+pub begun-none : (text : List ℕ) → Begun text noList freshOf
+unfolding lettersOf numbersOf known-none
+begun-none text = record { done = []; known = known-none text; letters = refl; numbers = refl; offsets = refl; place-le = omega arith; at-le = omega arith }
 
-module _ (text before letters : List ℕ) (stood numbers : List Float) (reader : Reader) (place at : ℕ) (k : Holding text before letters stood numbers reader place at) where
+module _ {text : List ℕ} {before after : CommandList} {reader : Reader} {place at : ℕ} (k : Holding text before after reader place at) where
   counting : Counting text reader place at
   counting = record { done = k .done; known = k .known; letters = k .places; numbers = k .count; place-le = k .place-le; at-le = k .at-le }
 
-  pub held-letters : length letters ≡ length before
-  held-letters = ap length (k .lettersNow) ∙ length-written (lettersOf (k .done)) before (omega (arith, k .lettersIn, k .places))
+  pub held-letters : length (after .letters) ≡ length (before .letters)
+  held-letters = ap length (k .lettersNow) ∙ length-written (lettersOf (k .done)) (before .letters) (omega (arith, k .lettersIn, k .places))
 
-  pub held-numbers : length numbers ≡ length stood
-  held-numbers = ap length (k .numbersNow) ∙ length-written (numbersOf (k .done)) stood (omega (arith, k .numbersIn, k .count))
+  pub held-numbers : length (after .numbers) ≡ length (before .numbers)
+  held-numbers = ap length (k .numbersNow) ∙ length-written (numbersOf (k .done)) (before .numbers) (omega (arith, k .numbersIn, k .count))
 
-  pub held-within : (place ≤ length letters) × (at ≤ length numbers)
-  held-within = (omega (arith, held-letters, k .lettersIn), omega (arith, held-numbers, k .numbersIn))
+  pub held-offsets : length (after .offsets) ≡ length (before .offsets)
+  held-offsets = ap length (k .offsetsNow) ∙ length-written (k .known .marks) (before .offsets) (omega (arith, k .offsetsIn, k .places, k .known .many))
 
-  pub held-whole : readStepOf text reader ≡ Done → Stores text before letters stood numbers (Whole place at)
+  pub held-within : (place ≤ length (after .letters)) × (at ≤ length (after .numbers)) × (place ≤ length (after .offsets))
+  held-within = (omega (arith, held-letters, k .lettersIn), omega (arith, held-numbers, k .numbersIn), omega (arith, held-offsets, k .offsetsIn))
+
+  pub held-whole : readStepOf text reader ≡ Done → Stores text before after (Whole place at)
   held-whole e =
       let all : commandsOf text ≡ commands (k .done) = known-all text reader (k .done) (k .known) e in
+      let offsets : offsetsOf text ≡ k .known .marks = known-offsets text reader (k .done) (k .known) e in
       record {
         said = (
           counted text reader place at counting e,
-          rw all (omega (arith, k .lettersIn, k .places), omega (arith, k .numbersIn, k .count)),
-          rw all (k .lettersNow, k .numbersNow),
+          rw (all, offsets) ((omega (arith, k .lettersIn, k .places), omega (arith, k .numbersIn, k .count)), omega (arith, k .offsetsIn, k .places, k .known .many)),
+          rw (all, offsets) ((k .lettersNow, k .numbersNow), k .offsetsNow),
         );
       }
 
-  pub held-refused : (reason : Refusal) → readStepOf text reader ≡ Refused reason → Stores text before letters stood numbers (Unstored reason)
+  pub held-refused : (reason : Refusal) → readStepOf text reader ≡ Refused reason → Stores text before after (Unstored reason)
   held-refused reason e = record { said = uncounted text reader place at counting reason e }
 
   module _ (command : PathCommand) (next : Reader) (e : readStepOf text reader ≡ Command command next) where
@@ -90,23 +109,43 @@ module _ (text before letters : List ℕ) (stood numbers : List Float) (reader :
     its-numbers : length (numbersOf (k .done ++ (command ∷ []))) ≡ length (numbersOf (k .done)) + length (argumentsOf command)
     its-numbers = ap length (numbers-more (k .done) command) ∙ length-append (numbersOf (k .done)) (argumentsOf command)
 
-    -- room for the text is room for the command
-    roomed : Room (commandsOf text) (length before) (length stood) → (place + 1 ≤ length letters) × (at + length (argumentsOf command) ≤ length numbers)
-    roomed room =
-        let r = room-of (length before) (length stood) (k .done ++ (command ∷ [])) (commandsOf text) (readFrom (more .steps) text next) room (more .whole) in
-        (omega (arith, r .0, one-letter, k .places, held-letters), omega (arith, r .1, its-numbers, k .count, held-numbers))
+    -- the offset of its letter
+    pub held-offset : next .offset < length text
+    held-offset = known-offset text reader (k .done) (k .known) command next e
 
-    pub full-of-letters : length letters ≤ place → Stores text before letters stood numbers (Full reader place at)
+    -- the counts are small
+    pub held-small : (place < length text) × (at ≤ 7 * place) × (length (argumentsOf command) ≤ 7)
+    held-small = counting-within text reader place at counting command next e
+
+    -- room for the text is room for the command
+    roomed :
+        Roomed (offsetsOf text) (commandsOf text) before
+        → (place + 1 ≤ length (after .letters)) × (at + length (argumentsOf command) ≤ length (after .numbers)) × (place + 1 ≤ length (after .offsets))
+    roomed room =
+        let r = room-of (length (before .letters)) (length (before .numbers)) (k .done ++ (command ∷ [])) (commandsOf text) (readFrom (more .steps) text next) (room .0) (more .whole) in (
+          omega (arith, r .0, one-letter, k .places, held-letters),
+          omega (arith, r .1, its-numbers, k .count, held-numbers),
+          omega (arith, room .1, known-many text next (k .done ++ (command ∷ [])) more, more .many, one-letter, k .places, held-offsets),
+        )
+
+    pub full-of-letters : length (after .letters) ≤ place → Stores text before after (Full reader place at)
     full-of-letters h = record { said = (k, λ room. omega (arith, roomed room .0)) }
 
-    pub full-of-numbers : (width : ℕ) → width ≡ length (argumentsOf command) → length numbers < at + width → Stores text before letters stood numbers (Full reader place at)
+    pub full-of-numbers : (width : ℕ) → width ≡ length (argumentsOf command) → length (after .numbers) < at + width → Stores text before after (Full reader place at)
     full-of-numbers width w h = record { said = (k, λ room. omega (arith, roomed room .1, w)) }
 
+    pub full-of-offsets : length (after .offsets) ≤ place → Stores text before after (Full reader place at)
+    full-of-offsets h = record { said = (k, λ room. omega (arith, roomed room .2)) }
+
     pub holding-more :
-        (letters′ : List ℕ) (numbers′ : List Float) (width : ℕ) → width ≡ length (argumentsOf command) → place < length letters → at + width ≤ length numbers
-        → Store place at command letters numbers letters′ numbers′
-        → Holding text before letters′ stood numbers′ next (place + 1) (at + width)
-    holding-more letters′ numbers′ width w inside enough s =
+        {letters′ : List ℕ} {numbers′ : List Float} (width : ℕ) → width ≡ length (argumentsOf command)
+        → place < length (after .letters)
+        → at + width ≤ length (after .numbers)
+        → place < length (after .offsets)
+        → Store place at command (after .letters) (after .numbers) letters′ numbers′
+        → Holding text before (commandList letters′ numbers′ (set (after .offsets) place (next .offset))) next (place + 1) (at + width)
+    unfolding more known-more
+    holding-more width w inside enough free s =
         let l : lettersOf (k .done ++ (command ∷ [])) ≡ lettersOf (k .done) ++ (letterOf command ∷ []) = letters-more (k .done) command in
         let n : numbersOf (k .done ++ (command ∷ [])) ≡ numbersOf (k .done) ++ argumentsOf command = numbers-more (k .done) command in
         record {
@@ -120,99 +159,109 @@ module _ (text before letters : List ℕ) (stood numbers : List Float) (reader :
               rw l
               (s .letter
               ∙ ap (λ x. set x place (letterOf command)) (k .lettersNow)
-              ∙ ap (λ i. set (written (lettersOf (k .done)) before) i (letterOf command)) (k .places)
-              ∙ written-more (lettersOf (k .done)) (letterOf command ∷ []) before (omega (arith, inside, held-letters, k .places)));
+              ∙ ap (λ i. set (written (lettersOf (k .done)) (before .letters)) i (letterOf command)) (k .places)
+              ∙ written-more (lettersOf (k .done)) (letterOf command ∷ []) (before .letters) (omega (arith, inside, held-letters, k .places)));
           numbersNow =
               rw n
               (s .arguments
               ∙ ap (λ x. sets x at (argumentsOf command)) (k .numbersNow)
-              ∙ ap (λ i. sets (written (numbersOf (k .done)) stood) i (argumentsOf command)) (k .count)
-              ∙ written-more (numbersOf (k .done)) (argumentsOf command) stood (omega (arith, enough, held-numbers, k .count, w)));
+              ∙ ap (λ i. sets (written (numbersOf (k .done)) (before .numbers)) i (argumentsOf command)) (k .count)
+              ∙ written-more (numbersOf (k .done)) (argumentsOf command) (before .numbers) (omega (arith, enough, held-numbers, k .count, w)));
+          offsetsNow =
+              ap (λ x. set x place (next .offset)) (k .offsetsNow)
+              ∙ ap (λ i. set (written (k .known .marks) (before .offsets)) i (next .offset)) (k .places ∙ sym (k .known .many))
+              ∙ written-more (k .known .marks) (next .offset ∷ []) (before .offsets) (omega (arith, free, held-offsets, k .places, k .known .many));
           lettersIn = omega (arith, inside, held-letters);
           numbersIn = omega (arith, enough, held-numbers);
+          offsetsIn = omega (arith, free, held-offsets);
         }
 
-  -- what is held, as two lists
-  begun : Begun text (take place letters) (take at numbers) reader
+  -- what is held, as three lists
+  begun : Begun text (commandList (take place (after .letters)) (take at (after .numbers)) (take place (after .offsets))) reader
   begun =
-      let l : take place letters ≡ lettersOf (k .done) = ap (take place) (k .lettersNow) ∙ take-written (lettersOf (k .done)) before place (k .places) in
-      let n : take at numbers ≡ numbersOf (k .done) = ap (take at) (k .numbersNow) ∙ take-written (numbersOf (k .done)) stood at (k .count) in
+      let l : take place (after .letters) ≡ lettersOf (k .done) = ap (take place) (k .lettersNow) ∙ take-written (lettersOf (k .done)) (before .letters) place (k .places) in
+      let n : take at (after .numbers) ≡ numbersOf (k .done) = ap (take at) (k .numbersNow) ∙ take-written (numbersOf (k .done)) (before .numbers) at (k .count) in
+      let o : take place (after .offsets) ≡ k .known .marks =
+      ap (take place) (k .offsetsNow) ∙ take-written (k .known .marks) (before .offsets) place (k .places ∙ sym (k .known .many)) in
       record {
         done = k .done;
         known = k .known;
         letters = l;
         numbers = n;
+        offsets = o;
         place-le = omega (arith, ap length l, k .places, k .place-le);
         at-le = omega (arith, ap length l, ap length n, k .places, k .count, k .at-le);
       }
 
 -- ---- what an answer tells
 
--- all that is stored, as two lists
-held-of :
-    (before letters : List ℕ) (stood numbers : List Float) (places count : ℕ) (outcome : Outcome) → Counted places count ≡ measureOf outcome
-    → Filled outcome before stood letters numbers
-    → Held outcome (take places letters) (take count numbers)
-unfolding measureOf
-held-of before letters stood numbers places count (commands list) m f =
-    let l : places ≡ length (lettersOf list) = cc in
-    let n : count ≡ length (numbersOf list) = cc in
-    (ap (take places) (f .0) ∙ take-written (lettersOf list) before places l, ap (take count) (f .1) ∙ take-written (numbersOf list) stood count n)
-held-of before letters stood numbers places count (refusal reason) m f = absurd f
+module _ (text : List ℕ) (before after : CommandList) (places count : ℕ) where
+  -- all that is stored, as three lists
+  held-of :
+      (outcome : Outcome) → commandsOf text ≡ outcome → Counted places count ≡ measureOf outcome → FilledAll (offsetsOf text) outcome before after
+      → Held (offsetsOf text) outcome (commandList (take places (after .letters)) (take count (after .numbers)) (take places (after .offsets)))
+  unfolding measureOf
+  held-of (commands list) e m f =
+      let l : places ≡ length (lettersOf list) = cc in
+      let n : count ≡ length (numbersOf list) = cc in (
+        ap (take places) (f .0 .0) ∙ take-written (lettersOf list) (before .letters) places l,
+        ap (take count) (f .0 .1) ∙ take-written (numbersOf list) (before .numbers) count n,
+        ap (take places) (f .1) ∙ take-written (offsetsOf text) (before .offsets) places (l ∙ sym (offsets-many text list e)),
+      )
+  held-of (refusal reason) e m f = absurd (f .0)
 
-within-of :
-    (before letters : List ℕ) (stood numbers : List Float) (places count : ℕ) (outcome : Outcome) → Counted places count ≡ measureOf outcome
-    → Room outcome (length before) (length stood)
-    → Filled outcome before stood letters numbers
-    → (places ≤ length letters) × (count ≤ length numbers)
-unfolding measureOf
-within-of before letters stood numbers places count (commands list) m room f =
-    let p : places ≡ length (lettersOf list) = cc in
-    let q : count ≡ length (numbersOf list) = cc in (
-      omega (arith, p, room .0, ap length (f .0) ∙ length-written (lettersOf list) before (room .0)),
-      omega (arith, q, room .1, ap length (f .1) ∙ length-written (numbersOf list) stood (room .1)),
-    )
-within-of before letters stood numbers places count (refusal reason) m room f = absurd room
+  within-of :
+      (outcome : Outcome) → commandsOf text ≡ outcome → Counted places count ≡ measureOf outcome → Roomed (offsetsOf text) outcome before
+      → FilledAll (offsetsOf text) outcome before after
+      → (places ≤ length (after .letters)) × (count ≤ length (after .numbers)) × (places ≤ length (after .offsets))
+  unfolding measureOf
+  within-of (commands list) e m room f =
+      let p : places ≡ length (lettersOf list) = cc in
+      let q : count ≡ length (numbersOf list) = cc in (
+        omega (arith, p, room .0 .0, ap length (f .0 .0) ∙ length-written (lettersOf list) (before .letters) (room .0 .0)),
+        omega (arith, q, room .0 .1, ap length (f .0 .1) ∙ length-written (numbersOf list) (before .numbers) (room .0 .1)),
+        omega (arith, p, offsets-many text list e, room .1, ap length (f .1) ∙ length-written (offsetsOf text) (before .offsets) (room .1)),
+      )
+  within-of (refusal reason) e m room f = absurd (room .0)
 
-module _ (text before letters : List ℕ) (stood numbers : List Float) (r : Stored) (s : Stores text before letters stood numbers r) where
-  as-told : (q : Stored) → r ≡ q → Stores text before letters stood numbers q
-  as-told q e = subst (λ (x : Stored). Stores text before letters stood numbers x) e s
+module _ {text : List ℕ} {before after : CommandList} {r : Stored} (s : Stores text before after r) where
+  as-told : {q : Stored} → r ≡ q → Stores text before after q
+  as-told e = subst (λ (x : Stored). Stores text before after x) e s
 
-  pub told-refused : (reason : Refusal) → r ≡ Unstored reason → measureOf (commandsOf text) ≡ Unmeasured reason
-  told-refused reason e = sym (as-told (Unstored reason) e .said)
+  pub told-refused : {reason : Refusal} → r ≡ Unstored reason → measureOf (commandsOf text) ≡ Unmeasured reason
+  told-refused e = sym (as-told e .said)
 
-  module _ (places count : ℕ) (e : r ≡ Whole places count) where
-    pub whole-within : (places ≤ length letters) × (count ≤ length numbers)
-    whole-within =
-        let told = as-told (Whole places count) e .said in
-        within-of before letters stood numbers places count (commandsOf text) (told .0) (told .1) (told .2)
+  module _ {places count : ℕ} (e : r ≡ Whole places count) where
+    pub whole-within : (places ≤ length (after .letters)) × (count ≤ length (after .numbers)) × (places ≤ length (after .offsets))
+    whole-within = let told = as-told e .said in within-of text before after places count (commandsOf text) refl (told .0) (told .1) (told .2)
 
-    pub whole-held : Held (commandsOf text) (take places letters) (take count numbers)
-    whole-held =
-        let told = as-told (Whole places count) e .said in
-        held-of before letters stood numbers places count (commandsOf text) (told .0) (told .2)
+    pub whole-held : Held (offsetsOf text) (commandsOf text) (commandList (take places (after .letters)) (take count (after .numbers)) (take places (after .offsets)))
+    whole-held = let told = as-told e .said in held-of text before after places count (commandsOf text) refl (told .0) (told .2)
 
-  module _ (reader : Reader) (places count : ℕ) (e : r ≡ Full reader places count) where
-    full-holding : Holding text before letters stood numbers reader places count
-    full-holding = as-told (Full reader places count) e .said .0
+  module _ {reader : Reader} {places count : ℕ} (e : r ≡ Full reader places count) where
+    full-holding : Holding text before after reader places count
+    full-holding = as-told e .said .0
 
-    pub full-within : (places ≤ length letters) × (count ≤ length numbers)
-    full-within = held-within text before letters stood numbers reader places count full-holding
+    pub full-within : (places ≤ length (after .letters)) × (count ≤ length (after .numbers)) × (places ≤ length (after .offsets))
+    full-within = held-within full-holding
 
-    pub full-begun : Begun text (take places letters) (take count numbers) reader
-    full-begun = begun text before letters stood numbers reader places count full-holding
+    pub full-begun : Begun text (commandList (take places (after .letters)) (take count (after .numbers)) (take places (after .offsets))) reader
+    full-begun = begun full-holding
 
--- ---- from one pair of buffers to another
+-- ---- from buffers to others
 
 unmeasured : (outcome : Outcome) (l n : ℕ) (reason : Refusal) → Room outcome l n → Unmeasured reason ≡ measureOf outcome → ⊥
 unfolding measureOf
 unmeasured (commands list) l n reason room m = let z : _≡_ {A = ℕ} 0 1 = cc in omega arith
 unmeasured (refusal other) l n reason room m = room
 
-stored-filled : (text l l′ : List ℕ) (n n′ : List Float) (r : Stored) → Stores text l l′ n n′ r → Room (commandsOf text) (length l) (length n) → Filled (commandsOf text) l n l′ n′
-stored-filled text l l′ n n′ (Whole places count) s room = s .said .2
-stored-filled text l l′ n n′ (Unstored reason) s room = absurd (unmeasured (commandsOf text) (length l) (length n) reason room (s .said))
-stored-filled text l l′ n n′ (Full reader places count) s room = absurd (s .said .1 room)
+stored-filled :
+    (text : List ℕ) (before after : CommandList) (r : Stored) → Stores text before after r → Roomed (offsetsOf text) (commandsOf text) before
+    → FilledAll (offsetsOf text) (commandsOf text) before after
+stored-filled text before after (Whole places count) s room = s .said .2
+stored-filled text before after (Unstored reason) s room =
+    absurd (unmeasured (commandsOf text) (length (before .letters)) (length (before .numbers)) reason (room .0) (s .said))
+stored-filled text before after (Full reader places count) s room = absurd (s .said .1 room)
 
 -- a list that is written over its own beginning
 filled-over :
@@ -228,43 +277,68 @@ filled-over letters letters₁ letters′ numbers numbers₁ numbers′ done (co
     )
 filled-over letters letters₁ letters′ numbers numbers₁ numbers′ done (refusal reason) rest e l n f = absurd f
 
-module _ (text held : List ℕ) (kept : List Float) (reader : Reader) (k : Begun text held kept reader) where
-  pub begun-counting : Counting text reader (length held) (length kept)
+module _ {text : List ℕ} {held : CommandList} {reader : Reader} (k : Begun text held reader) where
+  pub begun-counting : Counting text reader (length (held .letters)) (length (held .numbers))
   begun-counting = record { done = k .done; known = k .known; letters = ap length (k .letters); numbers = ap length (k .numbers); place-le = k .place-le; at-le = k .at-le }
 
-  module _ (letters : List ℕ) (numbers : List Float) (room : Room (commandsOf text) (length letters) (length numbers)) where
-    pub begun-room : (length held ≤ length letters) × (length kept ≤ length numbers)
+  -- a letter and an offset for each command
+  many : length (held .offsets) ≡ length (held .letters)
+  many = ap length (k .offsets) ∙ k .known .many ∙ sym (ap length (k .letters))
+
+  module _ (before : CommandList) (room : Roomed (offsetsOf text) (commandsOf text) before) where
+    pub begun-room :
+        (length (held .letters) ≤ length (before .letters)) × (length (held .numbers) ≤ length (before .numbers)) × (length (held .offsets) ≤ length (before .offsets))
     begun-room =
-        let r = room-of (length letters) (length numbers) (k .done) (commandsOf text) (readFrom (k .known .steps) text reader) room (k .known .whole) in
-        (omega (arith, r .0, ap length (k .letters)), omega (arith, r .1, ap length (k .numbers)))
+        let r = room-of (length (before .letters)) (length (before .numbers)) (k .done) (commandsOf text) (readFrom (k .known .steps) text reader) (room .0) (k .known .whole) in (
+          omega (arith, r .0, ap length (k .letters)),
+          omega (arith, r .1, ap length (k .numbers)),
+          omega (arith, room .1, known-many text reader (k .done) (k .known), ap length (k .offsets)),
+        )
 
-    module _ (letters₁ : List ℕ) (numbers₁ : List Float) (l : letters₁ ≡ written held letters) (n : numbers₁ ≡ written kept numbers) where
-      same-letters : length letters₁ ≡ length letters
-      same-letters = ap length l ∙ length-written held letters (begun-room .0)
+    module _
+        (copied : CommandList)
+        (l : copied .letters ≡ written (held .letters) (before .letters))
+        (n : copied .numbers ≡ written (held .numbers) (before .numbers))
+        (o : copied .offsets ≡ written (held .offsets) (before .offsets))
+      where
+        same-letters : length (copied .letters) ≡ length (before .letters)
+        same-letters = ap length l ∙ length-written (held .letters) (before .letters) (begun-room .0)
 
-      same-numbers : length numbers₁ ≡ length numbers
-      same-numbers = ap length n ∙ length-written kept numbers (begun-room .1)
+        same-numbers : length (copied .numbers) ≡ length (before .numbers)
+        same-numbers = ap length n ∙ length-written (held .numbers) (before .numbers) (begun-room .1)
 
-      -- the beginning is copied
-      pub begun-holding : Holding text letters₁ letters₁ numbers₁ numbers₁ reader (length held) (length kept)
-      begun-holding =
-          record {
-            done = k .done;
-            known = k .known;
-            places = ap length (k .letters);
-            count = ap length (k .numbers);
-            place-le = k .place-le;
-            at-le = k .at-le;
-            lettersNow = l ∙ sym (written-over held held letters (omega arith)) ∙ ap (λ x. written x (written held letters)) (k .letters) ∙ ap (written (lettersOf (k .done))) (sym l);
-            numbersNow = n ∙ sym (written-over kept kept numbers (omega arith)) ∙ ap (λ x. written x (written kept numbers)) (k .numbers) ∙ ap (written (numbersOf (k .done))) (sym n);
-            lettersIn = omega (arith, begun-room, same-letters);
-            numbersIn = omega (arith, begun-room, same-numbers);
-          }
+        same-offsets : length (copied .offsets) ≡ length (before .offsets)
+        same-offsets = ap length o ∙ length-written (held .offsets) (before .offsets) (begun-room .2)
 
-      -- what is stored past the beginning makes the whole
-      pub begun-filled :
-          (letters′ : List ℕ) (numbers′ : List Float) (r : Stored) → Stores text letters₁ letters′ numbers₁ numbers′ r → Filled (commandsOf text) letters numbers letters′ numbers′
-      begun-filled letters′ numbers′ r s =
-          let f = stored-filled text letters₁ letters′ numbers₁ numbers′ r s (rw (same-letters, same-numbers) room) in
-          filled-over letters letters₁ letters′ numbers numbers₁ numbers′ (k .done) (commandsOf text) (readFrom (k .known .steps) text reader) (k .known .whole)
-          (l ∙ ap (λ x. written x letters) (k .letters)) (n ∙ ap (λ x. written x numbers) (k .numbers)) f
+        -- what is copied stays where it is written once more
+        again : {A : Type 0} (own out stood known : List A) → out ≡ written own stood → own ≡ known → out ≡ written known out
+        again own out stood known e f = e ∙ sym (written-over own own stood (omega arith)) ∙ ap (λ x. written x (written own stood)) f ∙ ap (written known) (sym e)
+
+        -- the beginning is copied
+        pub begun-holding : Holding text copied copied reader (length (held .letters)) (length (held .numbers))
+        begun-holding =
+            record {
+              done = k .done;
+              known = k .known;
+              places = ap length (k .letters);
+              count = ap length (k .numbers);
+              place-le = k .place-le;
+              at-le = k .at-le;
+              lettersNow = again (held .letters) (copied .letters) (before .letters) (lettersOf (k .done)) l (k .letters);
+              numbersNow = again (held .numbers) (copied .numbers) (before .numbers) (numbersOf (k .done)) n (k .numbers);
+              offsetsNow = again (held .offsets) (copied .offsets) (before .offsets) (k .known .marks) o (k .offsets);
+              lettersIn = omega (arith, begun-room, same-letters);
+              numbersIn = omega (arith, begun-room, same-numbers);
+              offsetsIn = omega (arith, begun-room, same-offsets, many);
+            }
+
+        -- what is stored past the beginning makes the whole
+        pub begun-filled : (after : CommandList) (r : Stored) → Stores text copied after r → FilledAll (offsetsOf text) (commandsOf text) before after
+        begun-filled after r s =
+            let f = stored-filled text copied after r s (rw (same-letters, same-numbers, same-offsets) room) in (
+              filled-over (before .letters) (copied .letters) (after .letters) (before .numbers) (copied .numbers) (after .numbers) (k .done) (commandsOf text)
+                  (readFrom (k .known .steps) text reader) (k .known .whole) (l ∙ ap (λ x. written x (before .letters)) (k .letters)) (n ∙ ap (λ x. written x (before .numbers)) (k .numbers)) (f .0),
+              f .1
+                  ∙ ap (written (offsetsOf text)) o
+                  ∙ written-over (held .offsets) (offsetsOf text) (before .offsets) (omega (arith, known-many text reader (k .done) (k .known), ap length (k .offsets))),
+            )

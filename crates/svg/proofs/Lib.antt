@@ -1,5 +1,6 @@
 -- Laws of the definitions of `specs/`.
 pub mod Texts
+pub mod Offsets
 pub mod PassLaws
 pub mod Copying
 pub mod Holding

@@ -13,14 +13,15 @@ use Rattle.commands.specs.Stored.{letterOf, argumentsOf, lettersOf, numbersOf, 
 use Rattle.commands.specs.declared.command.PathCommand.{PathCommand}
 use Rattle.commands.specs.declared.command.PathCommand.the-variants.{MoveTo, LineTo, QuadTo, CubicTo, ArcTo, ClosePath}
 use Rattle.svg_step.specs.Steps.{freshOf, readStepOf}
-use Rattle.svg.specs.Texts.{Outcome, commands, refusal, prepend, readFrom, commandsOf, measureOf, Room, Filled}
+use Rattle.svg.specs.Texts.{Outcome, commands, refusal, prepend, readFrom, commandsOf, offsetsFrom, offsetsOf, measureOf, Room, Filled}
 pub use Rattle.svg.specs.Texts.{onto, Known, Counting}
 use Rattle.svg_step.specs.declared.steps.Reader.{Reader}
 use Rattle.svg_step.specs.declared.steps.Step.the-variants.{Command, Done, Refused}
 use Rattle.svg.specs.declared.passes.Size.{Size}
 use Rattle.svg.specs.declared.passes.Size.the-variants.{Counted, Refused as Unmeasured}
 use Rattle.svg_step.proofs.Ahead.{step-ahead}
-use Rattle.svg.proofs.Texts.{from-done, from-refused, from-command}
+use Rattle.svg_step.proofs.Offsets.{offset-lies}
+use Rattle.svg.proofs.Texts.{from-done, offsets-done, from-refused, from-command}
 
 -- ---- lists of commands
 
@@ -53,29 +54,62 @@ few-arguments ClosePath = omega arith
 
 -- ---- the outcome of a text whose first commands are known
 
-onto-prepend : (done : List PathCommand) (command : PathCommand) (outcome : Outcome) → onto done (prepend command outcome) ≡ onto (done ++ (command ∷ [])) outcome
+pub onto-prepend : (done : List PathCommand) (command : PathCommand) (outcome : Outcome) → onto done (prepend command outcome) ≡ onto (done ++ (command ∷ [])) outcome
 onto-prepend done command (commands rest) = ap commands (sym (append-assoc done (command ∷ []) rest))
 onto-prepend done command (refusal reason) = refl
 
-onto-nothing : (outcome : Outcome) → outcome ≡ onto [] outcome
+pub onto-nothing : (outcome : Outcome) → outcome ≡ onto [] outcome
 onto-nothing (commands rest) = refl
 onto-nothing (refusal reason) = refl
 
-pub known-none : (text : List ℕ) → Known text freshOf []
-unfolding commandsOf
-known-none text = record { steps = suc (length text); enough = omega arith; whole = onto-nothing (readFrom (suc (length text)) text freshOf) }
+unfoldable pub known-none : (text : List ℕ) → Known text freshOf []
+unfolding commandsOf offsetsOf lettersOf
+known-none text =
+    record {
+      steps = suc (length text);
+      enough = omega arith;
+      whole = onto-nothing (readFrom (suc (length text)) text freshOf);
+      marks = [];
+      offsets = refl;
+      many = refl;
+      kept = omega arith;
+    }
 
 module _ (text : List ℕ) (reader : Reader) (done : List PathCommand) (k : Known text reader done) where
   pub known-all : readStepOf text reader ≡ Done → commandsOf text ≡ commands done
   known-all e = k .whole ∙ ap (onto done) (from-done text reader (k .steps) e) ∙ ap commands (append-nil done)
 
+  pub known-offsets : readStepOf text reader ≡ Done → offsetsOf text ≡ k .marks
+  known-offsets e = k .offsets ∙ ap (λ l. k .marks ++ l) (offsets-done text reader (k .steps) e) ∙ append-nil (k .marks)
+
+  -- those known are among the text's
+  pub known-many : length (k .marks) ≤ length (offsetsOf text)
+  known-many = omega (arith, ap length (k .offsets) ∙ length-append (k .marks) (offsetsFrom (k .steps) text reader))
+
   pub known-refused : (reason : Refusal) → readStepOf text reader ≡ Refused reason → commandsOf text ≡ refusal reason
   known-refused reason e = k .whole ∙ ap (onto done) (from-refused text reader (k .steps) reason (k .enough) e)
 
-  pub known-more : (command : PathCommand) (next : Reader) → readStepOf text reader ≡ Command command next → Known text next (done ++ (command ∷ []))
-  known-more command next e =
-      let m = from-command text reader (k .steps) command next (k .enough) e in
-      record { steps = m .0; enough = m .1; whole = k .whole ∙ ap (onto done) (m .2) ∙ onto-prepend done command (readFrom (m .0) text next) }
+  module _ (command : PathCommand) (next : Reader) (e : readStepOf text reader ≡ Command command next) where
+    unfoldable pub known-more : Known text next (done ++ (command ∷ []))
+    known-more =
+        let m = from-command text reader (k .steps) command next (k .enough) e in
+        let o = offset-lies text reader next command e (k .kept) in
+        record {
+          steps = m .0;
+          enough = m .1;
+          whole = k .whole ∙ ap (onto done) (m .2) ∙ onto-prepend done command (readFrom (m .0) text next);
+          marks = k .marks ++ (next .offset ∷ []);
+          offsets = k .offsets ∙ ap (λ l. k .marks ++ l) (m .3) ∙ sym (append-assoc (k .marks) (next .offset ∷ []) (offsetsFrom (m .0) text next));
+          many =
+              length-append (k .marks) (next .offset ∷ [])
+              ∙ ap (λ n. n + 1) (k .many)
+              ∙ sym (ap length (letters-more done command) ∙ length-append (lettersOf done) (letterOf command ∷ []));
+          kept = omega (arith, o .2);
+        }
+
+    -- the offset of its letter
+    pub known-offset : next .offset < length text
+    known-offset = offset-lies text reader next command e (k .kept) .1
 
 -- ---- the first pass
 

@@ -26,7 +26,7 @@ use Rattle.svg_group.specs.declared.groups.Group.{Group}
 use Rattle.svg_group.specs.declared.groups.Group.the-variants.{Taken, Refused as GroupRefused}
 use Rattle.svg_group.proofs.Ahead.{number-elim, flags-elim, pair-elim}
 use Rattle.svg_step.specs.Steps.{origin, freshOf, isRelativeOf, needsPointOf, repeatedOf, mirroredOf, drawsCubic, drawsQuad, ofKind, takesUpOf, firstControlOf}
-use Rattle.svg_step.specs.Steps.{afterOf, dueGroupOf, begun, dueLetterOf, again, dueAgainOf, nextDueOf, taken, stepped, readStepOf}
+use Rattle.svg_step.specs.Steps.{afterOf, dueGroupOf, begun, dueLetterOf, again, dueAgainOf, dueAtOf, nextDueOf, offsetOf, taken, stepped, readStepOf}
 use Rattle.svg_step.specs.declared.steps.Reader.{Reader}
 use Rattle.svg_step.specs.declared.steps.Due.{Due}
 use Rattle.svg_step.specs.declared.steps.Due.the-variants.{Done as NothingDue, Refused as NotDue, Close, Group as GroupDue}
@@ -125,7 +125,7 @@ module _ (text : List ℕ) where
   last-born at letter last (inr e) = rw e tt
 
   due-born : (from letter last : ℕ) (placed : Bool) → (letter ≡ last) ⊎ (meaningOf letter ≡ Unknown) → Born (madeBy text from last) (nextDueOf text from letter placed)
-  unfolding nextDueOf Born dueLetterOf
+  unfolding nextDueOf dueAtOf Born dueLetterOf
   due-born from letter last placed h =
       let at = pastSeparatorsOf text from in
       let byte = getD text at 0 in
@@ -194,8 +194,8 @@ record Past (reader : Reader) (last : ℕ) (previous : PathCommand) : Type 0 whe
   quad-is : ofKind drawsQuad (meaningOf (reader .letter)) ≡ isQuad previous
   letter-is : (reader .letter ≡ last) ⊎ (meaningOf (reader .letter) ≡ Unknown)
 
-module _ (next letter : ℕ) (start : Point) where
-  after-start : (command : PathCommand) → afterOf command next letter start .start ≡ startOf start command
+module _ (next letter offset : ℕ) (start : Point) where
+  after-start : (command : PathCommand) → afterOf command next letter offset start .start ≡ startOf start command
   unfolding afterOf
   after-start (MoveTo end) = refl
   after-start (LineTo end) = refl
@@ -206,7 +206,7 @@ module _ (next letter : ℕ) (start : Point) where
 
   past-after :
       (command : PathCommand) → ofKind drawsCubic (meaningOf letter) ≡ isCubic command → ofKind drawsQuad (meaningOf letter) ≡ isQuad command
-      → Past (afterOf command next letter start) letter command
+      → Past (afterOf command next letter offset start) letter command
   unfolding afterOf controlOf meaningOf among
   past-after (MoveTo end) c q = record { current-is = refl; control-is = refl; cubic-is = c; quad-is = q; letter-is = inl refl }
   past-after (LineTo end) c q = record { current-is = refl; control-is = refl; cubic-is = c; quad-is = q; letter-is = inl refl }
@@ -257,11 +257,11 @@ Good reader previous letter (Command command next) =
 Good reader previous letter Done = Unit
 Good reader previous letter (Refused reason) = Unit
 
-module _ (text : List ℕ) (reader : Reader) (last : ℕ) (previous : PathCommand) (k : Past reader last previous) where
+module _ (text : List ℕ) (reader : Reader) (offset last : ℕ) (previous : PathCommand) (k : Past reader last previous) where
   taken-good :
       (kind : Kind) (letter own : ℕ) → own ≡ letter → Same kind (meaningOf letter) → (group : Group)
       → Made kind (firstControlOf kind (reader .letter) (reader .current) (reader .control)) group
-      → Good reader previous letter (taken own (reader .start) group)
+      → Good reader previous letter (taken own offset (reader .start) group)
   unfolding Good Made SmoothFrom
   taken-good kind letter own o s (Taken command next) m =
       let cubic : ofKind drawsCubic (meaningOf letter) ≡ isCubic command = s .cubic ∙ m .0 in
@@ -272,8 +272,8 @@ module _ (text : List ℕ) (reader : Reader) (last : ℕ) (previous : PathComman
           cubic = cubic;
           quad = quad;
         },
-        subst (λ (l : ℕ). Past (afterOf command next l (reader .start)) letter command) (sym o) (past-after next letter (reader .start) command cubic quad),
-        after-start next own (reader .start) command,
+        subst (λ (l : ℕ). Past (afterOf command next l offset (reader .start)) letter command) (sym o) (past-after next letter offset (reader .start) command cubic quad),
+        after-start next own offset (reader .start) command,
       )
     where
       from-cubic : (kind : Kind) → kind ≡ SmoothCubic → SmoothFrom kind (firstControlOf kind (reader .letter) (reader .current) (reader .control)) command → CubicFrom (cubicFirst (reader .start) previous) command
@@ -289,7 +289,7 @@ module _ (text : List ℕ) (reader : Reader) (last : ℕ) (previous : PathComman
           subst (λ (p : Point). QuadFrom p command) (first-quad reader last previous k) f
   taken-good kind letter own o s (GroupRefused reason) m = tt
 
-  closed-good : (next letter : ℕ) → meaningOf letter ≡ Closes → Good reader previous letter (Command ClosePath (afterOf ClosePath next (reader .letter) (reader .start)))
+  closed-good : (next letter : ℕ) → meaningOf letter ≡ Closes → Good reader previous letter (Command ClosePath (afterOf ClosePath next (reader .letter) offset (reader .start)))
   unfolding Good afterOf controlOf meaningOf among
   closed-good next letter e = (
     record {
@@ -299,13 +299,13 @@ module _ (text : List ℕ) (reader : Reader) (last : ℕ) (previous : PathComman
       quad = rw e;
     },
     past-closed,
-    after-start next (reader .letter) (reader .start) ClosePath,
+    after-start next (reader .letter) offset (reader .start) ClosePath,
   )
     where
-      past-closed : Past (afterOf ClosePath next (reader .letter) (reader .start)) letter ClosePath
+      past-closed : Past (afterOf ClosePath next (reader .letter) offset (reader .start)) letter ClosePath
       past-closed = record { current-is = refl; control-is = refl; cubic-is = refl; quad-is = refl; letter-is = inr refl }
 
-  stepped-good : (letter : ℕ) (due : Due) → Born letter due → Good reader previous letter (stepped text reader due)
+  stepped-good : (letter : ℕ) (due : Due) → Born letter due → Good reader previous letter (stepped text reader offset due)
   unfolding Born Good
   stepped-good letter NothingDue b = tt
   stepped-good letter (NotDue reason) b = tt
@@ -315,10 +315,11 @@ module _ (text : List ℕ) (reader : Reader) (last : ℕ) (previous : PathComman
       let control = firstControlOf kind (reader .letter) (reader .current) (reader .control) in
       taken-good kind letter own (b .0) (b .1) (readGroupOf text first kind relative (reader .current) control) (group-made text first relative (reader .current) control kind)
 
+module _ (text : List ℕ) (reader : Reader) (last : ℕ) (previous : PathCommand) (k : Past reader last previous) where
   step-good : Good reader previous (madeBy text (reader .at) last) (readStepOf text reader)
   unfolding readStepOf
   step-good =
-      stepped-good (madeBy text (reader .at) last) (nextDueOf text (reader .at) (reader .letter) (reader .placed))
+      stepped-good text reader (offsetOf text reader) last previous k (madeBy text (reader .at) last) (nextDueOf text (reader .at) (reader .letter) (reader .placed))
       (due-born text (reader .at) (reader .letter) last (reader .placed) (k .letter-is))
 
 -- ---- the text

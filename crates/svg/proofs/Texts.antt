@@ -8,7 +8,7 @@ use lib.ListN.{length}
 use Rattle.answers.specs.declared.refusals.Refusal.{Refusal}
 use Rattle.commands.specs.declared.command.PathCommand.{PathCommand}
 use Rattle.svg_step.specs.Steps.{freshOf, readStepOf}
-use Rattle.svg.specs.Texts.{Outcome, commands, refusal, prepend, follow, readFrom, commandsOf}
+use Rattle.svg.specs.Texts.{Outcome, commands, refusal, prepend, follow, readFrom, commandsOf, offsetsFrom}
 use Rattle.svg_step.specs.declared.steps.Reader.{Reader}
 use Rattle.svg_step.specs.declared.steps.Step.{Step}
 use Rattle.svg_step.specs.declared.steps.Step.the-variants.{Command, Done, Refused}
@@ -21,6 +21,11 @@ module _ (text : List ℕ) (reader : Reader) where
   from-done zero e = refl
   from-done (suc steps) e = rw e
 
+  pub offsets-done : (steps : ℕ) → readStepOf text reader ≡ Done → offsetsFrom steps text reader ≡ []
+  unfolding offsetsFrom
+  offsets-done zero e = refl
+  offsets-done (suc steps) e = rw e
+
   -- enough steps are left to see a refusal
   pub from-refused : (steps : ℕ) (reason : Refusal) → length text < steps + reader .at → readStepOf text reader ≡ Refused reason → readFrom steps text reader ≡ refusal reason
   unfolding readFrom
@@ -30,10 +35,13 @@ module _ (text : List ℕ) (reader : Reader) where
   -- and to see what follows a command, and enough are left after it
   pub from-command :
       (steps : ℕ) (command : PathCommand) (next : Reader) → length text < steps + reader .at → readStepOf text reader ≡ Command command next
-      → (left : ℕ) × (length text < left + next .at) × (readFrom steps text reader ≡ prepend command (readFrom left text next))
-  unfolding readFrom
+      → (left : ℕ)
+      × (length text < left + next .at)
+      × (readFrom steps text reader ≡ prepend command (readFrom left text next))
+      × (offsetsFrom steps text reader ≡ next .offset ∷ offsetsFrom left text next)
+  unfolding readFrom offsetsFrom
   from-command zero command next h e = let g = step-ahead text reader next command e in absurd (omega arith)
-  from-command (suc steps) command next h e = let g = step-ahead text reader next command e in (steps, omega arith, rw e)
+  from-command (suc steps) command next h e = let g = step-ahead text reader next command e in (steps, omega arith, rw e, rw e)
 
 -- ---- the steps are enough
 

@@ -1,4 +1,5 @@
 -- What the contracts of this crate cite. Definitions only.
+pub mod Lists
 pub mod Texts
 pub mod Readings
 pub mod Smooth

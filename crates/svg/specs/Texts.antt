@@ -8,6 +8,7 @@ use Rattle.answers.specs.Report.{written}
 use Rattle.answers.specs.declared.refusals.Refusal.{Refusal}
 use Rattle.commands.specs.Stored.{lettersOf, numbersOf}
 use Rattle.commands.specs.declared.command.PathCommand.{PathCommand}
+use Rattle.svg.specs.Lists.{CommandList, commandList}
 use Rattle.svg_step.specs.Steps.{freshOf, readStepOf}
 use Rattle.svg_step.specs.declared.steps.Reader.{Reader}
 use Rattle.svg_step.specs.declared.steps.Step.{Step}
@@ -41,20 +42,50 @@ readFrom (suc steps) text reader = follow (readFrom steps text) (readStepOf text
 unfoldable pub commandsOf : List ℕ → Outcome
 commandsOf text = readFrom (suc (length text)) text freshOf
 
--- the counts of the list
+-- ---- the offsets of a text (document 02, L5), counted in its bytes from 0
+
+-- "Each stored command gains the offset of its command letter": the state past a command has it
+abbrev pub marked : (Reader → List ℕ) → Step → List ℕ
+marked rest (Command command next) = next .offset ∷ rest next
+marked rest Done = []
+marked rest (Refused reason) = []
+
+-- those of at most so many steps from a state on, as the commands are read
+unfoldable pub offsetsFrom : ℕ → List ℕ → Reader → List ℕ
+offsetsFrom zero text reader = []
+offsetsFrom (suc steps) text reader = marked (offsetsFrom steps text) (readStepOf text reader)
+
+unfoldable pub offsetsOf : List ℕ → List ℕ
+offsetsOf text = offsetsFrom (suc (length text)) text freshOf
+
+-- ---- the stored list
+
+-- a text's commands as they are stored
+abbrev pub listOf : List ℕ → List PathCommand → CommandList
+listOf text list = commandList (lettersOf list) (numbersOf list) (offsetsOf text)
+
+-- the counts of the list; there are as many offsets as letters
 unfoldable pub measureOf : Outcome → Size
 measureOf (commands list) = Counted (length (lettersOf list)) (length (numbersOf list))
 measureOf (refusal reason) = Unmeasured reason
 
--- the text reads, and its list has room in the buffers
+-- the text reads, and its list has room in two buffers
 abbrev pub Room : Outcome → ℕ → ℕ → Type 0
 Room (commands list) letters numbers = (length (lettersOf list) ≤ letters) × (length (numbersOf list) ≤ numbers)
 Room (refusal reason) letters numbers = ⊥
 
--- the text reads, and its list is stored from the start of each buffer
+-- the text reads, and its list is stored from the start of each
 abbrev pub Filled : Outcome → List ℕ → List Float → List ℕ → List Float → Type 0
 Filled (commands list) letters numbers letters′ numbers′ = (letters′ ≡ written (lettersOf list) letters) × (numbers′ ≡ written (numbersOf list) numbers)
 Filled (refusal reason) letters numbers letters′ numbers′ = ⊥
+
+-- the same in three, where the text has so many offsets
+abbrev pub Roomed : List ℕ → Outcome → CommandList → Type 0
+Roomed offsets outcome before = Room outcome (length (before .letters)) (length (before .numbers)) × (length offsets ≤ length (before .offsets))
+
+abbrev pub FilledAll : List ℕ → Outcome → CommandList → CommandList → Type 0
+FilledAll offsets outcome before after =
+    Filled outcome (before .letters) (before .numbers) (after .letters) (after .numbers) × (after .offsets ≡ written offsets (before .offsets))
 
 -- ---- what the passes know between two commands, and what they tell. No promise of an entry rests on it.
 
@@ -62,11 +93,15 @@ abbrev pub onto : List PathCommand → Outcome → Outcome
 onto done (commands rest) = commands (done ++ rest)
 onto done (refusal reason) = refusal reason
 
--- the commands up to a state are known, and enough steps are left for the others
+-- the commands up to a state are known and the offsets of their letters, and enough steps are left for the others
 pub record Known (text : List ℕ) (reader : Reader) (done : List PathCommand) : Type 0 where
   pub steps : ℕ
   pub enough : length text < steps + reader .at
   pub whole : commandsOf text ≡ onto done (readFrom steps text reader)
+  pub marks : List ℕ
+  pub offsets : offsetsOf text ≡ marks ++ offsetsFrom steps text reader
+  pub many : length marks ≡ length (lettersOf done)
+  pub kept : reader .offset ≤ reader .at
 
 -- they are counted
 pub record Counting (text : List ℕ) (reader : Reader) (place at : ℕ) : Type 0 where
@@ -77,40 +112,42 @@ pub record Counting (text : List ℕ) (reader : Reader) (place at : ℕ) : Type 
   pub place-le : place ≤ reader .at
   pub at-le : at ≤ 7 * place
 
--- they are stored from the start of two buffers, which held something else before
-pub record Holding (text before letters : List ℕ) (stood numbers : List Float) (reader : Reader) (place at : ℕ) : Type 0 where
+-- they are stored from the start of three buffers, which held something else before
+pub record Holding (text : List ℕ) (before after : CommandList) (reader : Reader) (place at : ℕ) : Type 0 where
   pub done : List PathCommand
   pub known : Known text reader done
   pub places : place ≡ length (lettersOf done)
   pub count : at ≡ length (numbersOf done)
   pub place-le : place ≤ reader .at
   pub at-le : at ≤ 7 * place
-  pub lettersNow : letters ≡ written (lettersOf done) before
-  pub numbersNow : numbers ≡ written (numbersOf done) stood
-  pub lettersIn : place ≤ length before
-  pub numbersIn : at ≤ length stood
+  pub lettersNow : after .letters ≡ written (lettersOf done) (before .letters)
+  pub numbersNow : after .numbers ≡ written (numbersOf done) (before .numbers)
+  pub offsetsNow : after .offsets ≡ written (known .marks) (before .offsets)
+  pub lettersIn : place ≤ length (before .letters)
+  pub numbersIn : at ≤ length (before .numbers)
+  pub offsetsIn : place ≤ length (before .offsets)
 
--- they are what two lists hold
-pub record Begun (text held : List ℕ) (kept : List Float) (reader : Reader) : Type 0 where
+-- they are what three lists hold
+pub record Begun (text : List ℕ) (held : CommandList) (reader : Reader) : Type 0 where
   pub done : List PathCommand
   pub known : Known text reader done
-  pub letters : held ≡ lettersOf done
-  pub numbers : kept ≡ numbersOf done
-  pub place-le : length held ≤ reader .at
-  pub at-le : length kept ≤ 7 * length held
+  pub letters : held .letters ≡ lettersOf done
+  pub numbers : held .numbers ≡ numbersOf done
+  pub offsets : held .offsets ≡ known .marks
+  pub place-le : length (held .letters) ≤ reader .at
+  pub at-le : length (held .numbers) ≤ 7 * length (held .letters)
 
--- all commands of a text are what two lists hold
-abbrev pub Held : Outcome → List ℕ → List Float → Type 0
-Held (commands list) held kept = (held ≡ lettersOf list) × (kept ≡ numbersOf list)
-Held (refusal reason) held kept = ⊥
+-- all commands of a text are what three lists hold
+abbrev pub Held : List ℕ → Outcome → CommandList → Type 0
+Held offsets (commands list) held = (held .letters ≡ lettersOf list) × (held .numbers ≡ numbersOf list) × (held .offsets ≡ offsets)
+Held offsets (refusal reason) held = ⊥
 
 -- how far a text is stored: as a whole, or up to a command that has no room
-abbrev pub SaysStored : Stored → List ℕ → List ℕ → List ℕ → List Float → List Float → Type 0
-SaysStored (Whole places count) text letters letters′ numbers numbers′ =
-    (Counted places count ≡ measureOf (commandsOf text)) × Room (commandsOf text) (length letters) (length numbers) × Filled (commandsOf text) letters numbers letters′ numbers′
-SaysStored (Unstored reason) text letters letters′ numbers numbers′ = Unmeasured reason ≡ measureOf (commandsOf text)
-SaysStored (Full reader places count) text letters letters′ numbers numbers′ =
-    Holding text letters letters′ numbers numbers′ reader places count × (Room (commandsOf text) (length letters) (length numbers) → ⊥)
+abbrev pub SaysStored : Stored → List ℕ → CommandList → CommandList → Type 0
+SaysStored (Whole places count) text before after =
+    (Counted places count ≡ measureOf (commandsOf text)) × Roomed (offsetsOf text) (commandsOf text) before × FilledAll (offsetsOf text) (commandsOf text) before after
+SaysStored (Unstored reason) text before after = Unmeasured reason ≡ measureOf (commandsOf text)
+SaysStored (Full reader places count) text before after = Holding text before after reader places count × (Roomed (offsetsOf text) (commandsOf text) before → ⊥)
 
-pub record Stores (text letters letters′ : List ℕ) (numbers numbers′ : List Float) (r : Stored) : Type 0 where
-  pub said : SaysStored r text letters letters′ numbers numbers′
+pub record Stores (text : List ℕ) (before after : CommandList) (r : Stored) : Type 0 where
+  pub said : SaysStored r text before after

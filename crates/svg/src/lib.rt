@@ -1,4 +1,4 @@
-// The permissive reader: from a text of path data to a list of commands in two lent buffers.
+// The permissive reader: from a text of path data to a list of commands in three lent buffers.
 pub mod inner;
 mod lean;
 mod passes;

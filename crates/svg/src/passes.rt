@@ -3,6 +3,7 @@ ghost use mathlib.Core.Path.{_≡_};
 ghost use Prim.Native.Nat.{_≤_};
 ghost use lib.ListN.{length};
 ghost use Rattle.answers.specs.Report.{written};
+ghost use Rattle.svg.specs.Lists.{lent, before, after};
 ghost use Rattle.svg.specs.Texts.{commandsOf, measureOf, Counting, Holding, Stores};
 use answers::Refusal;
 use commands::inner::store;
@@ -10,6 +11,7 @@ use commands::width;
 use svg_step::Pass;
 use svg_step::Reader;
 use svg_step::Step;
+use svg_step::fresh;
 use svg_step::pass_step;
 use svg_step::read_step;
 
@@ -24,7 +26,7 @@ pub fn measure(text: &[u8]) -> Size
     requires { ⌜ length (now text) ≤ 65536 ⌝ }
     ensures { λ r. ⌜ r ≡ measureOf (commandsOf (now (text .entry))) ⌝ }
 {
-    measure_on(text, svg_step::fresh(), 0, 0)
+    measure_on(text, fresh(), 0, 0)
 }
 
 // The same where the commands up to a state are counted already.
@@ -88,9 +90,10 @@ pub(crate) fn fill(
     start: usize,
     letters: &mut [u8],
     numbers: &mut [f32],
+    offsets: &mut [u32],
 ) -> Stored
-    requires { ⌜ Holding (now text) (now letters) (now letters) (now numbers) (now numbers) from first start ⌝ }
-    ensures { λ r. ⌜ Stores (now (text .entry)) (now (letters .entry)) (now (letters .exit)) (now (numbers .entry)) (now (numbers .exit)) r ⌝ }
+    requires { ⌜ (length (now text) ≤ 65536) × Holding (now text) (lent letters numbers offsets) (lent letters numbers offsets) from first start ⌝ }
+    ensures { λ r. ⌜ Stores (now (text .entry)) (before letters numbers offsets) (after letters numbers offsets) r ⌝ }
 {
     let mut reader = from;
     let mut place: usize = first;
@@ -122,7 +125,73 @@ pub(crate) fn fill(
                         numbers: at,
                     };
                 }
+                if offsets.len() <= place {
+                    return Stored::Full {
+                        reader,
+                        letters: place,
+                        numbers: at,
+                    };
+                }
                 store(letters, numbers, place, at, command);
+                offsets[place] = next.offset as u32;
+                at += more;
+                place += 1;
+                reader = next;
+            }
+        }
+    }
+}
+
+// The same from the start of a text on, in buffers of the reader's own. An offset is below 65,536, so
+// that 16 bits hold it.
+pub(crate) fn hold(
+    text: &[u8],
+    letters: &mut [u8],
+    numbers: &mut [f32],
+    offsets: &mut [u16],
+) -> Stored
+    requires { ⌜ length (now text) ≤ 65536 ⌝ }
+    ensures { λ r. ⌜ Stores (now (text .entry)) (before letters numbers offsets) (after letters numbers offsets) r ⌝ }
+{
+    let mut reader = fresh();
+    let mut place: usize = 0;
+    let mut at: usize = 0;
+    loop {
+        match read_step(text, reader) {
+            Step::Done => {
+                return Stored::Whole {
+                    letters: place,
+                    numbers: at,
+                };
+            }
+            Step::Refused(refusal) => {
+                return Stored::Refused(refusal);
+            }
+            Step::Command { command, next } => {
+                let more = width(command);
+                if letters.len() <= place {
+                    return Stored::Full {
+                        reader,
+                        letters: place,
+                        numbers: at,
+                    };
+                }
+                if numbers.len() - at < more {
+                    return Stored::Full {
+                        reader,
+                        letters: place,
+                        numbers: at,
+                    };
+                }
+                if offsets.len() <= place {
+                    return Stored::Full {
+                        reader,
+                        letters: place,
+                        numbers: at,
+                    };
+                }
+                store(letters, numbers, place, at, command);
+                offsets[place] = next.offset as u16;
                 at += more;
                 place += 1;
                 reader = next;
@@ -151,6 +220,18 @@ pub(crate) fn copy_numbers(numbers: &[f32], out: &mut [f32])
     let mut k: usize = 0;
     while k < numbers.len() {
         out[k] = numbers[k];
+        k += 1;
+    }
+}
+
+// The same of offsets, which are held in 16 bits.
+pub(crate) fn copy_offsets(offsets: &[u16], out: &mut [u32])
+    requires { ⌜ length (now offsets) ≤ length (now out) ⌝ }
+    ensures { λ _. ⌜ now (out .exit) ≡ written (now (offsets .entry)) (now (out .entry)) ⌝ }
+{
+    let mut k: usize = 0;
+    while k < offsets.len() {
+        out[k] = offsets[k] as u32;
         k += 1;
     }
 }

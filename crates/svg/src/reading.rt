@@ -3,21 +3,24 @@
 // counted before it is stored.
 ghost use Prim.Native.Nat.{_≤_};
 ghost use lib.ListN.{length};
+ghost use Rattle.svg.specs.Lists.{lent, before, after};
 ghost use Rattle.svg.specs.Readings.{ReadPath, Gives};
 ghost use Rattle.svg.specs.Texts.{Begun};
 use crate::passes::Size;
 use crate::passes::Stored;
 use crate::passes::copy_letters;
 use crate::passes::copy_numbers;
+use crate::passes::copy_offsets;
 use crate::passes::fill;
+use crate::passes::hold;
 use crate::passes::measure_on;
 use answers::Refusal;
 use answers::Values;
 use svg_step::Reader;
-use svg_step::fresh;
 
 pub enum Reading {
-    // The text is read, and stored in this many places of each buffer.
+    // The text is read, and stored in this many places of each buffer; of offsets there are as many
+    // as of letters.
     Read { letters: usize, numbers: usize },
     Refused(Refusal),
 }
@@ -28,11 +31,13 @@ pub(crate) fn read_on(
     reader: Reader,
     held: &[u8],
     kept: &[f32],
+    marks: &[u16],
     letters: &mut [u8],
     numbers: &mut [f32],
+    offsets: &mut [u32],
 ) -> Reading
-    requires { ⌜ (length (now text) ≤ 65536) × Begun (now text) (now held) (now kept) reader ⌝ }
-    ensures { λ r. ⌜ ReadPath (now (text .entry)) (now (letters .entry)) (now (numbers .entry)) r (now (letters .exit)) (now (numbers .exit)) ⌝ }
+    requires { ⌜ (length (now text) ≤ 65536) × Begun (now text) (lent held kept marks) reader ⌝ }
+    ensures { λ r. ⌜ ReadPath (now (text .entry)) (before letters numbers offsets) r (after letters numbers offsets) ⌝ }
 {
     let first = held.len();
     let start = kept.len();
@@ -45,14 +50,18 @@ pub(crate) fn read_on(
             numbers: count,
         } => {
             if letters.len() < places {
-                return Reading::Refused(Refusal::NoRoom(Values::Two(places, count)));
+                return Reading::Refused(Refusal::NoRoom(Values::Three(places, count, places)));
             }
             if numbers.len() < count {
-                return Reading::Refused(Refusal::NoRoom(Values::Two(places, count)));
+                return Reading::Refused(Refusal::NoRoom(Values::Three(places, count, places)));
+            }
+            if offsets.len() < places {
+                return Reading::Refused(Refusal::NoRoom(Values::Three(places, count, places)));
             }
             copy_letters(held, letters);
             copy_numbers(kept, numbers);
-            fill(text, reader, first, start, letters, numbers);
+            copy_offsets(marks, offsets);
+            fill(text, reader, first, start, letters, numbers, offsets);
             return Reading::Read {
                 letters: places,
                 numbers: count,
@@ -61,38 +70,51 @@ pub(crate) fn read_on(
     }
 }
 
-// Gives the commands of a text, all of which are held.
-fn give(held: &[u8], kept: &[f32], letters: &mut [u8], numbers: &mut [f32]) -> Reading
-    ensures { λ r. ⌜ Gives (now (held .entry)) (now (letters .entry)) (now (kept .entry)) (now (numbers .entry)) r (now (letters .exit)) (now (numbers .exit)) ⌝ }
+// Gives the commands of a text, all of which are held: a letter and an offset for each.
+fn give(
+    held: &[u8],
+    kept: &[f32],
+    marks: &[u16],
+    letters: &mut [u8],
+    numbers: &mut [f32],
+    offsets: &mut [u32],
+) -> Reading
+    ensures { λ r. ⌜ Gives (lent (held .entry) (kept .entry) (marks .entry)) (before letters numbers offsets) r (after letters numbers offsets) ⌝ }
 {
     let places = held.len();
     let count = kept.len();
     if letters.len() < places {
-        return Reading::Refused(Refusal::NoRoom(Values::Two(places, count)));
+        return Reading::Refused(Refusal::NoRoom(Values::Three(places, count, places)));
     }
     if numbers.len() < count {
-        return Reading::Refused(Refusal::NoRoom(Values::Two(places, count)));
+        return Reading::Refused(Refusal::NoRoom(Values::Three(places, count, places)));
+    }
+    if offsets.len() < marks.len() {
+        return Reading::Refused(Refusal::NoRoom(Values::Three(places, count, places)));
     }
     copy_letters(held, letters);
     copy_numbers(kept, numbers);
+    copy_offsets(marks, offsets);
     Reading::Read {
         letters: places,
         numbers: count,
     }
 }
 
-// Reads a text by way of two buffers, in which something else may stand before and after.
+// Reads a text by way of three buffers, in which something else may stand before and after.
 fn read_by(
     text: &[u8],
     held: &mut [u8],
     kept: &mut [f32],
+    marks: &mut [u16],
     letters: &mut [u8],
     numbers: &mut [f32],
+    offsets: &mut [u32],
 ) -> Reading
     requires { ⌜ length (now text) ≤ 65536 ⌝ }
-    ensures { λ r. ⌜ ReadPath (now (text .entry)) (now (letters .entry)) (now (numbers .entry)) r (now (letters .exit)) (now (numbers .exit)) ⌝ }
+    ensures { λ r. ⌜ ReadPath (now (text .entry)) (before letters numbers offsets) r (after letters numbers offsets) ⌝ }
 {
-    match fill(text, fresh(), 0, 0, held, kept) {
+    match hold(text, held, kept, marks) {
         Stored::Refused(refusal) => {
             return Reading::Refused(refusal);
         }
@@ -100,7 +122,14 @@ fn read_by(
             letters: places,
             numbers: count,
         } => {
-            return give(&held[..places], &kept[..count], letters, numbers);
+            return give(
+                &held[..places],
+                &kept[..count],
+                &marks[..places],
+                letters,
+                numbers,
+                offsets,
+            );
         }
         Stored::Full {
             reader,
@@ -112,44 +141,70 @@ fn read_by(
                 reader,
                 &held[..first],
                 &kept[..start],
+                &marks[..first],
                 letters,
                 numbers,
+                offsets,
             );
         }
     }
 }
 
 // Reads a text that most likely needs few places.
-fn read_short(text: &[u8], letters: &mut [u8], numbers: &mut [f32]) -> Reading
+fn read_short(text: &[u8], letters: &mut [u8], numbers: &mut [f32], offsets: &mut [u32]) -> Reading
     requires { ⌜ length (now text) ≤ 65536 ⌝ }
-    ensures { λ r. ⌜ ReadPath (now (text .entry)) (now (letters .entry)) (now (numbers .entry)) r (now (letters .exit)) (now (numbers .exit)) ⌝ }
+    ensures { λ r. ⌜ ReadPath (now (text .entry)) (before letters numbers offsets) r (after letters numbers offsets) ⌝ }
 {
     let mut held = [0u8; 256];
     let mut kept = [0.0f32; 512];
-    read_by(text, &mut held, &mut kept, letters, numbers)
+    let mut marks = [0u16; 256];
+    read_by(
+        text,
+        &mut held,
+        &mut kept,
+        &mut marks,
+        letters,
+        numbers,
+        offsets,
+    )
 }
 
 // The same with more room, which takes longer to clear.
-fn read_long(text: &[u8], letters: &mut [u8], numbers: &mut [f32]) -> Reading
+fn read_long(text: &[u8], letters: &mut [u8], numbers: &mut [f32], offsets: &mut [u32]) -> Reading
     requires { ⌜ length (now text) ≤ 65536 ⌝ }
-    ensures { λ r. ⌜ ReadPath (now (text .entry)) (now (letters .entry)) (now (numbers .entry)) r (now (letters .exit)) (now (numbers .exit)) ⌝ }
+    ensures { λ r. ⌜ ReadPath (now (text .entry)) (before letters numbers offsets) r (after letters numbers offsets) ⌝ }
 {
     let mut held = [0u8; 2048];
     let mut kept = [0.0f32; 4096];
-    read_by(text, &mut held, &mut kept, letters, numbers)
+    let mut marks = [0u16; 2048];
+    read_by(
+        text,
+        &mut held,
+        &mut kept,
+        &mut marks,
+        letters,
+        numbers,
+        offsets,
+    )
 }
 
-// Reads a text into a command list: letters and numbers, each from its buffer's start. A refusal
-// writes nothing, and what stands past the counted places is left as it was.
-pub fn read_path(text: &[u8], letters: &mut [u8], numbers: &mut [f32]) -> Reading
-    ensures { λ r. ⌜ ReadPath (now (text .entry)) (now (letters .entry)) (now (numbers .entry)) r (now (letters .exit)) (now (numbers .exit)) ⌝ }
+// Reads a text into a command list: letters, numbers and for each letter the offset in the text of the
+// letter that made the command, each from its buffer's start. A refusal writes nothing, and what stands
+// past the counted places is left as it was.
+pub fn read_path(
+    text: &[u8],
+    letters: &mut [u8],
+    numbers: &mut [f32],
+    offsets: &mut [u32],
+) -> Reading
+    ensures { λ r. ⌜ ReadPath (now (text .entry)) (before letters numbers offsets) r (after letters numbers offsets) ⌝ }
 {
     let size = text.len();
     if 65536 < size {
         return Reading::Refused(Refusal::TooLong(size));
     }
     if size <= 2048 {
-        return read_short(text, letters, numbers);
+        return read_short(text, letters, numbers, offsets);
     }
-    read_long(text, letters, numbers)
+    read_long(text, letters, numbers, offsets)
 }
