@@ -10,3 +10,4 @@ pub mod Unique
 pub mod ReadBack
 pub mod Readings
 pub mod Smooth
+pub mod Told

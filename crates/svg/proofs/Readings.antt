@@ -83,6 +83,11 @@ pub smooth-readings :
 unfolding readPathOf commandsOf readFrom offsetsOf offsetsFrom readStepOf offsetAt nextDueOf dueAtOf dueAgainOf dueLetterOf dueGroupOf afterOf repeatedOf needsPointOf firstControlOf takesUpOf mirroredOf isRelativeOf readGroupOf readMoveOf readLineOf readHorizontalOf readVerticalOf readCubicOf readSmoothCubicOf readQuadOf readSmoothQuadOf readArcOf readPairOf movedOf readFlagsOf readFlagOf flagAt readNumberOf meaningOf isLetterOf numberOf valueOf digitsAmong val riseOf fallOf falls addOf subOf round scanNumberOf noExponentDigit noDigit placesOf endOf exponentOf markOf fractionOf pointOf wholeOf pastMarkOf pastAll pastOne stands among scan leading lettersOf numbersOf ofBits ofInt add sub neg
 smooth-readings = (refl, refl, refl, refl, refl, refl)
 
+-- ` M1 2 3 4zL5 6`: the offset of the letter, blanks before it counted; a further pair has that of its M, and a Z its own
+pub offset-readings : offsetsOf (32 ∷ 77 ∷ 49 ∷ 32 ∷ 50 ∷ 32 ∷ 51 ∷ 32 ∷ 52 ∷ 122 ∷ 76 ∷ 53 ∷ 32 ∷ 54 ∷ []) ≡ 1 ∷ 1 ∷ 9 ∷ 10 ∷ []
+unfolding offsetsOf offsetsFrom readStepOf offsetAt nextDueOf dueAtOf dueAgainOf dueLetterOf dueGroupOf afterOf repeatedOf needsPointOf firstControlOf takesUpOf isRelativeOf readGroupOf readMoveOf readLineOf readHorizontalOf readVerticalOf readCubicOf readSmoothCubicOf readQuadOf readSmoothQuadOf readArcOf readPairOf movedOf readFlagsOf readFlagOf flagAt readNumberOf meaningOf isLetterOf numberOf valueOf digitsAmong val riseOf fallOf falls addOf round scanNumberOf noExponentDigit noDigit placesOf endOf exponentOf markOf fractionOf pointOf wholeOf pastMarkOf pastAll pastOne stands among scan leading lettersOf numbersOf ofBits ofInt add
+offset-readings = refl
+
 -- p + (p - c) at 0.1 and 0.3, where 2·p - c is another float; and the current point mirrored in itself, where -0 becomes +0 and an infinity a NaN
 pub mirror-bits :
     (toBits binary32 (mirroredOf (point 0x3dcc_cccd 0) (point 0x3e99_999a 0) .x) ≡ 0xbdcc_cccf)

@@ -3,3 +3,4 @@ pub mod Lists
 pub mod Texts
 pub mod Readings
 pub mod Smooth
+pub mod Told
