@@ -337,24 +337,28 @@ uint32_t kihavute_strict(const uint8_t *text, size_t text_len, uint32_t edition,
  * and its end, C two controls and its end, A two radii, the rotation, the flags large and sweep and its end. Coordinates
  * are absolute, H and V become L, S and T become C and Q: their first control is the last one mirrored, p + (p - c) by
  * coordinate, past C or S for S and past Q or T for T, and else the current point. A NaN that comes of adding is 0x7FC00000.
- * Separators are comma, space, tab, LF, FF and CR. answer[0] gets how many letters are stored, answer[1] how many numbers; both stand from their buffer's start,
- * and what stands past them is left as it was.
+ * Separators are comma, space, tab, LF, FF and CR. For each letter an offset is stored: where in the text, in bytes from 0, the
+ * letter stands that made the command; a group that repeats it and the pairs after an M carry the same, a Z its own. answer[0] gets
+ * how many letters are stored, answer[1] how many numbers, answer[2] how many offsets, as many as letters; all stand from their
+ * buffer's start, and what stands past them is left as it was.
  *
  * Refused with 1 above 65,536 bytes, else with the first of 2 to 7 in the text (4 is an exponent without digit, at its e,
  * and nothing else), else with 8 where a buffer is too short:
- * answer[0] is the count of letters needed, answer[1] that of numbers. A call that does not return 0 leaves both buffers
- * as they were, so that a call with buffers of length 0 asks for the sizes.
+ * answer[0] is the count of letters needed, answer[1] that of numbers, answer[2] that of offsets. A call that does not return 0
+ * leaves all buffers as they were, so that a call with buffers of length 0 asks for the sizes.
  *
  * It costs some 20 KB of stack, whatever the text, since most texts are passed once, by way of buffers of its own: about 4.3 ns a
  * byte on the machine of docs/RUNS.md. For a task with less stack there is the next one. */
 uint32_t kihavute_read(const uint8_t *text, size_t text_len, uint8_t *letters, size_t letters_len,
-                       float *numbers, size_t numbers_len, uint64_t *answer, size_t answer_len);
+                       float *numbers, size_t numbers_len, uint32_t *offsets, size_t offsets_len,
+                       uint64_t *answer, size_t answer_len);
 
 /* The same in every place and number: of two calls that are lent the same, one of each, answers and buffers are equal. It costs at
  * most 2,048 bytes of stack, and twice the time, about 8.5 ns a byte: it has no buffers of its own and passes each text twice, to
  * count and then to store. */
 uint32_t kihavute_read_lean(const uint8_t *text, size_t text_len, uint8_t *letters, size_t letters_len,
-                            float *numbers, size_t numbers_len, uint64_t *answer, size_t answer_len);
+                            float *numbers, size_t numbers_len, uint32_t *offsets, size_t offsets_len,
+                            uint64_t *answer, size_t answer_len);
 
 /* Whether letters and numbers are a command list as kihavute_read stores it: accepted, with nothing written, where each
  * letter is known and has its numbers, each flag is +0 or 1 by its bits, and no number is left over. Refused with 13 above

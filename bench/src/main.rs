@@ -232,15 +232,15 @@ fn drawings() {
 fn read() {
     let Some(drawings) = Drawings::new() else { return };
     let texts = drawings.texts();
-    let lent = std::cell::RefCell::new((vec![0u8; 65_536], vec![0f32; 65_536]));
+    let lent = std::cell::RefCell::new((vec![0u8; 65_536], vec![0f32; 65_536], vec![0u32; 65_536]));
     let ours = |text: &[u8]| {
-        let (letters, numbers) = &mut *lent.borrow_mut();
-        kihavute::read_into(text, letters, numbers).map_or(0, |(commands, _)| commands)
+        let (letters, numbers, offsets) = &mut *lent.borrow_mut();
+        kihavute::read_into(text, letters, numbers, offsets).map_or(0, |(commands, _)| commands)
     };
     row("read, drawings, a byte", per_byte(&texts, ours, original_reads));
     let lean = |text: &[u8]| {
-        let (letters, numbers) = &mut *lent.borrow_mut();
-        kihavute::read_lean_into(text, letters, numbers).map_or(0, |(commands, _)| commands)
+        let (letters, numbers, offsets) = &mut *lent.borrow_mut();
+        kihavute::read_lean_into(text, letters, numbers, offsets).map_or(0, |(commands, _)| commands)
     };
     row("read, lean, a byte", per_byte(&texts, lean, original_reads));
     // those with S and T, which the Rust does not read: it is handed Q and L in their place

@@ -17,6 +17,7 @@ pub enum Said {
     Read {
         letters: Vec<u8>,
         numbers: Vec<u32>,
+        offsets: Vec<u32>,
     },
     Refused {
         number: u32,
@@ -29,9 +30,10 @@ pub enum Said {
 impl fmt::Display for Said {
     fn fmt(&self, f: &mut fmt::Formatter<'_>) -> fmt::Result {
         match self {
-            Said::Read { letters, numbers } => {
+            Said::Read { letters, numbers, offsets } => {
                 write!(f, "{}", String::from_utf8_lossy(letters))?;
-                numbers.iter().try_for_each(|bits| write!(f, " {bits:08X}"))
+                numbers.iter().try_for_each(|bits| write!(f, " {bits:08X}"))?;
+                offsets.iter().try_for_each(|offset| write!(f, " {offset}"))
             }
             Said::Refused { number, carried } => write!(f, "{number} with {carried:?}"),
             Said::Wrong(what) => f.write_str(what),
@@ -44,34 +46,49 @@ impl fmt::Display for Said {
 // what stands in a buffer before a call
 const LETTER: u8 = 0xA5;
 const NUMBER: u32 = 0x42A5_A5A5;
+const OFFSET: u32 = 0xA5A5_A5A5;
 
-// how many places a refusal's number carries
+// how many places a refusal's number carries; 8 is asked for its counts
 fn carries(number: u32) -> usize {
-    if number == 6 || number == 8 { 2 } else { 1 }
+    if number == 6 { 2 } else { 1 }
 }
 
 // a refusal's number, and what it carries
 type Refused = (u32, [u64; 8]);
 
 // one of the two entries
-type Entry = fn(&[u8], &mut [u8], &mut [f32]) -> Result<(usize, usize), kihavute::Refusal>;
+type Entry = fn(&[u8], &mut [u8], &mut [f32], &mut [u32]) -> Result<(usize, usize), kihavute::Refusal>;
 
-// reads into buffers of so many places; the buffers afterwards
-fn read_into(
-    entry: Entry,
-    text: &[u8],
-    letters: usize,
-    numbers: usize,
-) -> (Result<(usize, usize), Refused>, Vec<u8>, Vec<u32>) {
-    let mut letters = vec![LETTER; letters];
-    let mut numbers = vec![f32::from_bits(NUMBER); numbers];
-    let found = entry(text, &mut letters, &mut numbers);
-    let found = found.map_err(|refusal| (refusal.number(), refusal.carried()));
-    (found, letters, numbers.into_iter().map(f32::to_bits).collect())
+// the three buffers
+#[derive(PartialEq)]
+struct Buffers {
+    letters: Vec<u8>,
+    numbers: Vec<u32>,
+    offsets: Vec<u32>,
 }
 
-fn untouched(letters: &[u8], numbers: &[u32]) -> bool {
-    letters.iter().all(|letter| *letter == LETTER) && numbers.iter().all(|bits| *bits == NUMBER)
+impl Buffers {
+    fn first(&self, [letters, numbers, offsets]: [usize; 3]) -> Buffers {
+        let letters = self.letters[..letters].to_vec();
+        Buffers { letters, numbers: self.numbers[..numbers].to_vec(), offsets: self.offsets[..offsets].to_vec() }
+    }
+
+    // past so many places of each nothing was written
+    fn untouched(&self, [letters, numbers, offsets]: [usize; 3]) -> bool {
+        self.letters[letters..].iter().all(|letter| *letter == LETTER)
+            && self.numbers[numbers..].iter().all(|bits| *bits == NUMBER)
+            && self.offsets[offsets..].iter().all(|offset| *offset == OFFSET)
+    }
+}
+
+// reads into buffers of so many places; the buffers afterwards
+fn read_into(entry: Entry, text: &[u8], places: [usize; 3]) -> (Result<(usize, usize), Refused>, Buffers) {
+    let mut letters = vec![LETTER; places[0]];
+    let mut numbers = vec![f32::from_bits(NUMBER); places[1]];
+    let mut offsets = vec![OFFSET; places[2]];
+    let found = entry(text, &mut letters, &mut numbers, &mut offsets);
+    let found = found.map_err(|refusal| (refusal.number(), refusal.carried()));
+    (found, Buffers { letters, numbers: numbers.into_iter().map(f32::to_bits).collect(), offsets })
 }
 
 /// What the proved reader says, by either of its entries.
@@ -80,49 +97,50 @@ pub fn ours(text: &[u8]) -> Said {
     if by(kihavute::read_lean_into, text) == said { said } else { Said::Wrong("the lean reading says otherwise") }
 }
 
-// what an entry says, after reading into buffers that just hold the list, that hold more, that are one place short of
-// letters or of numbers, and that hold nothing
+// what an entry says, after reading into buffers that just hold the list, that hold more, each of which is one place short,
+// and that hold nothing
 fn by(entry: Entry, text: &[u8]) -> Said {
-    let (sizes, _, _) = read_into(entry, text, 0, 0);
-    let (places, count) = match sizes {
-        Ok(counts) => counts,
-        Err((8, carried)) => (carried[0] as usize, carried[1] as usize),
+    let needs = match read_into(entry, text, [0; 3]).0 {
+        Ok((letters, numbers)) => [letters, numbers, letters],
+        Err((8, carried)) => [carried[0] as usize, carried[1] as usize, carried[2] as usize],
         Err((number, carried)) => {
-            let (again, letters, numbers) = read_into(entry, text, 9, 9);
+            let (again, buffers) = read_into(entry, text, [9; 3]);
             return if again != Err((number, carried)) {
                 Said::Wrong("another refusal with more room")
-            } else if !untouched(&letters, &numbers) {
+            } else if !buffers.untouched([0; 3]) {
                 Said::Wrong("a refusal wrote")
             } else {
                 Said::Refused { number, carried: carried[..carries(number)].to_vec() }
             };
         }
     };
-    let mut needs = [0; 8];
-    needs[..2].copy_from_slice(&[places as u64, count as u64]);
-    let no_room = Err((8, needs));
-    let (found, letters, numbers) = read_into(entry, text, places, count);
-    if found != Ok((places, count)) {
+    if needs[2] != needs[0] {
+        return Said::Wrong("not an offset for each letter");
+    }
+    let mut carried = [0; 8];
+    carried[..3].copy_from_slice(&needs.map(|count| count as u64));
+    let counts = Ok((needs[0], needs[1]));
+    let (found, held) = read_into(entry, text, needs);
+    if found != counts {
         return Said::Wrong("other counts with just the room that was asked for");
     }
-    let (found, longer, more) = read_into(entry, text, places + 3, count + 3);
-    if found != Ok((places, count)) || longer[..places] != letters || more[..count] != numbers {
+    let (found, longer) = read_into(entry, text, needs.map(|count| count + 3));
+    if found != counts || longer.first(needs) != held {
         return Said::Wrong("another list with more room");
     }
-    if !untouched(&longer[places..], &more[count..]) {
+    if !longer.untouched(needs) {
         return Said::Wrong("a place past the list was written");
     }
-    for (short, what) in [
-        (places.checked_sub(1).map(|less| (less, count + 1)), "no room for a letter"),
-        (count.checked_sub(1).map(|less| (places + 1, less)), "no room for a number"),
-    ] {
-        let Some((fewer, less)) = short else { continue };
-        let (found, letters, numbers) = read_into(entry, text, fewer, less);
-        if found != no_room || !untouched(&letters, &numbers) {
+    for (output, what) in ["no room for a letter", "no room for a number", "no room for an offset"].iter().enumerate() {
+        let Some(less) = needs[output].checked_sub(1) else { continue };
+        let mut places = needs.map(|count| count + 1);
+        places[output] = less;
+        let (found, buffers) = read_into(entry, text, places);
+        if found != Err((8, carried)) || !buffers.untouched([0; 3]) {
             return Said::Wrong(what);
         }
     }
-    Said::Read { letters, numbers }
+    Said::Read { letters: held.letters, numbers: held.numbers, offsets: held.offsets }
 }
 
 // ---- the original
@@ -131,13 +149,14 @@ fn tidy(numbers: &[f32]) -> impl Iterator<Item = u32> {
     numbers.iter().map(|x| if x.is_nan() { 0x7FC0_0000 } else { x.to_bits() })
 }
 
-fn list<'a>(commands: impl Iterator<Item = (u8, &'a [f32])>) -> Said {
-    let (mut letters, mut numbers) = (Vec::new(), Vec::new());
-    for (letter, values) in commands {
+fn list<'a>(commands: impl Iterator<Item = (u8, &'a [f32], usize)>) -> Said {
+    let (mut letters, mut numbers, mut offsets) = (Vec::new(), Vec::new(), Vec::new());
+    for (letter, values, offset) in commands {
         letters.push(letter);
         numbers.extend(tidy(values));
+        offsets.push(offset as u32);
     }
-    Said::Read { letters, numbers }
+    Said::Read { letters, numbers, offsets }
 }
 
 fn stored(command: &PathCommand) -> (u8, Vec<f32>) {
@@ -154,13 +173,15 @@ fn stored(command: &PathCommand) -> (u8, Vec<f32>) {
     }
 }
 
-/// What the original says of a text of UTF-8.
+/// What the original says of a text of UTF-8. It has no offsets: they are where the letters stand between which it reads more.
 pub fn theirs(text: &[u8]) -> Said {
     let text = std::str::from_utf8(text).expect("the original reads UTF-8");
     let (number, carried) = match smooth::try_parse(text) {
         Ok(commands) => {
+            let offsets = smooth::offsets(text, commands.len());
             let commands: Vec<_> = commands.iter().map(stored).collect();
-            return list(commands.iter().map(|(letter, numbers)| (*letter, &numbers[..])));
+            let commands = commands.iter().zip(offsets);
+            return list(commands.map(|((letter, numbers), offset)| (*letter, &numbers[..], offset)));
         }
         Err(SvgPathError::UnexpectedEnd { at }) => (2, vec![at as u64]),
         Err(SvgPathError::ExpectedNumber { at }) => (3, vec![at as u64]),
@@ -175,7 +196,7 @@ pub fn theirs(text: &[u8]) -> Said {
 /// What the second reader says of a text of any bytes.
 pub fn second(text: &[u8]) -> Said {
     match words::read(text) {
-        Ok(commands) => list(commands.iter().map(|(letter, numbers)| (*letter, &numbers[..]))),
+        Ok(commands) => list(commands.iter().map(|(letter, numbers, offset)| (*letter, &numbers[..], *offset))),
         Err((number, carried)) => Said::Refused { number, carried },
     }
 }
@@ -520,7 +541,7 @@ struct List {
 
 impl fmt::Display for List {
     fn fmt(&self, f: &mut fmt::Formatter<'_>) -> fmt::Result {
-        Said::Read { letters: self.letters.clone(), numbers: self.numbers.clone() }.fmt(f)
+        Said::Read { letters: self.letters.clone(), numbers: self.numbers.clone(), offsets: vec![] }.fmt(f)
     }
 }
 
@@ -544,14 +565,14 @@ impl crate::compare::Input for List {
 fn checked(list: &List) -> Said {
     let numbers: Vec<f32> = list.numbers.iter().map(|bits| f32::from_bits(*bits)).collect();
     match kihavute::check_commands(&list.letters, &numbers) {
-        Ok(()) => Said::Read { letters: vec![], numbers: vec![] },
+        Ok(()) => Said::Read { letters: vec![], numbers: vec![], offsets: vec![] },
         Err(refusal) => Said::Refused { number: refusal.number(), carried: refusal.carried()[..1].to_vec() },
     }
 }
 
 fn due(list: &List) -> Said {
     match words::check(&list.letters, &list.numbers) {
-        Ok(()) => Said::Read { letters: vec![], numbers: vec![] },
+        Ok(()) => Said::Read { letters: vec![], numbers: vec![], offsets: vec![] },
         Err((number, carried)) => Said::Refused { number, carried },
     }
 }
@@ -561,7 +582,7 @@ fn read_lists(seed: u64, count: u64) -> impl Iterator<Item = List> {
     let mut paths = Paths(Stream::new(seed));
     (0..count).filter_map(move |_| {
         let text = paths.text();
-        let Said::Read { mut letters, mut numbers } = second(&text) else { return None };
+        let Said::Read { mut letters, mut numbers, .. } = second(&text) else { return None };
         let stream = &mut paths.0;
         let letter = b"MLQCAZHmz\0\xFF"[stream.below(11) as usize];
         let number = [0, 0x3F80_0000, 0x8000_0000, 0x4000_0000, 0x7FC0_0000][stream.below(5) as usize];
@@ -586,7 +607,7 @@ fn lists(report: &mut Report, seed: u64, count: u64) {
     let name = format!("stored lists, seed {seed}");
     let calls = report.group(&name, inputs, checked, due);
     let inputs = read_lists(seed, count);
-    let well_formed = inputs.filter(|list| due(list) == Said::Read { letters: vec![], numbers: vec![] }).count();
+    let well_formed = inputs.filter(|list| due(list) == Said::Read { letters: vec![], numbers: vec![], offsets: vec![] }).count();
     println!("  {name}: {calls} lists, {well_formed} well formed, {:.0} s", report.seconds());
 }
 

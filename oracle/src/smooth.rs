@@ -10,10 +10,17 @@ pub fn try_parse(text: &str) -> Result<Vec<PathCommand>, SvgPathError> {
     let plain: String = text.chars().map(plain).collect();
     let mut commands = SvgPathParser::try_parse(&plain)?;
     if is_smooth(text.as_bytes()) {
-        let letters = makers(text.as_bytes(), &plain, commands.len());
+        let places = makers(text.as_bytes(), &plain, commands.len());
+        let letters: Vec<u8> = places.iter().map(|place| text.as_bytes()[*place]).collect();
         put_in(&mut commands, &letters);
     }
     Ok(commands)
+}
+
+/// Where the letter stands that made each of so many commands, of a text that reads.
+pub fn offsets(text: &str, count: usize) -> Vec<usize> {
+    let plain: String = text.chars().map(plain).collect();
+    makers(text.as_bytes(), &plain, count)
 }
 
 /// Whether a text has one of the letters that the original does not know.
@@ -31,9 +38,9 @@ fn plain(letter: char) -> char {
     }
 }
 
-// The letter that made each command. In a text that reads every letter but e and E is a command's, and its commands are those
-// that the original reads more once the text reaches to the next letter.
-fn makers(text: &[u8], plain: &str, count: usize) -> Vec<u8> {
+// The place of the letter that made each command. In a text that reads every letter but e and E is a command's, and its commands
+// are those that the original reads more once the text reaches to the next letter.
+fn makers(text: &[u8], plain: &str, count: usize) -> Vec<usize> {
     let is_command = |byte: u8| byte.is_ascii_alphabetic() && byte | 32 != b'e';
     let places: Vec<usize> = (0..text.len()).filter(|place| is_command(text[*place])).collect();
     let mut makers = Vec::new();
@@ -42,7 +49,7 @@ fn makers(text: &[u8], plain: &str, count: usize) -> Vec<u8> {
             Some(next) => SvgPathParser::try_parse(&plain[..*next]).expect("a text reads up to a letter").len(),
             None => count,
         };
-        makers.resize(read, text[*place]);
+        makers.resize(read, *place);
     }
     makers
 }

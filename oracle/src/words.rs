@@ -1,8 +1,8 @@
 //! A second reader, written from the rules' words alone: the letters' arguments are data, and the text is any bytes. It
 //! judges the proved reader where the original cannot, and it is held to the original where that can.
 
-/// A command as it is stored: its letter and its numbers.
-pub type Stored = (u8, Vec<f32>);
+/// A command as it is stored: its letter, its numbers and the offset of the letter that made it.
+pub type Stored = (u8, Vec<f32>, usize);
 
 /// A refusal: its number, and what it carries.
 pub type Refused = (u32, Vec<u64>);
@@ -27,6 +27,8 @@ pub fn read(text: &[u8]) -> Result<Vec<Stored>, Refused> {
         return Err((1, vec![text.len() as u64]));
     }
     let (mut remembered, mut current, mut start) = (None, None, [0.0, 0.0]);
+    // where the remembered letter stands
+    let mut offset = 0;
     // in capitals the letter of the last command
     let mut before = b'Z';
     let mut at = past_separators(text, 0);
@@ -34,12 +36,13 @@ pub fn read(text: &[u8]) -> Result<Vec<Stored>, Refused> {
         // "a letter becomes the remembered command; any other byte repeats it; with none, 7 at that byte"
         if text[at].is_ascii_alphabetic() {
             remembered = Some(text[at]);
+            offset = at;
             at += 1;
         }
         let letter = remembered.ok_or((7, vec![at as u64]))?;
         let capital = letter.to_ascii_uppercase();
         if capital == b'Z' {
-            commands.push((b'Z', vec![]));
+            commands.push((b'Z', vec![], offset));
             (remembered, current, before) = (None, Some(start), b'Z');
         } else {
             let Some((_, group)) = GROUPS.iter().find(|(name, _)| *name == capital) else {
@@ -76,7 +79,7 @@ pub fn read(text: &[u8]) -> Result<Vec<Stored>, Refused> {
                 // "the last control mirrored through the current point when the previous command was C or S (for S), Q or T
                 // (for T), and the current point itself otherwise": a curve's last control stands before its end
                 let control = |makers: &[u8]| match commands.last() {
-                    Some((_, last)) if makers.contains(&before) => {
+                    Some((_, last, _)) if makers.contains(&before) => {
                         let [.., u, v, _, _] = last[..] else { panic!("a curve has a control") };
                         [x + (x - u), y + (y - v)]
                     }
@@ -103,7 +106,7 @@ pub fn read(text: &[u8]) -> Result<Vec<Stored>, Refused> {
                 current = Some(end);
                 first = false;
                 before = capital;
-                commands.push((stored, numbers));
+                commands.push((stored, numbers, offset));
             }
         }
         at = past_separators(text, at);

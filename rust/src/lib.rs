@@ -124,8 +124,8 @@ answering! {
     fn kihavute_spline_length(points: [f32], table: [f32]);
     fn kihavute_number(text: [u8]);
     fn kihavute_strict(text: [u8], edition: u32);
-    fn kihavute_read(text: [u8], letters: mut [u8], numbers: mut [f32]);
-    fn kihavute_read_lean(text: [u8], letters: mut [u8], numbers: mut [f32]);
+    fn kihavute_read(text: [u8], letters: mut [u8], numbers: mut [f32], offsets: mut [u32]);
+    fn kihavute_read_lean(text: [u8], letters: mut [u8], numbers: mut [f32], offsets: mut [u32]);
     fn kihavute_check_commands(letters: [u8], numbers: [f32]);
 }
 
@@ -763,11 +763,13 @@ pub fn strict(text: &[u8], edition: Edition) -> Strict {
     }
 }
 
-/// A command list: a letter for each command, M, L, Q, C, A or Z, and its 2, 2, 4, 6, 7 or 0 numbers.
+/// A command list: a letter for each command, M, L, Q, C, A or Z, and its 2, 2, 4, 6, 7 or 0 numbers; and for each command the
+/// offset in the text, in bytes, of the letter that made it.
 #[derive(Clone, Debug, Default, PartialEq)]
 pub struct Commands {
     pub letters: Vec<u8>,
     pub numbers: Vec<f32>,
+    pub offsets: Vec<u32>,
 }
 
 /// Why a text is no path. Offsets count bytes of the text.
@@ -822,17 +824,21 @@ impl std::error::Error for ReadError {}
 /// Reads path data of any bytes: its commands, with absolute coordinates.
 pub fn read(text: &[u8]) -> Result<Commands, ReadError> {
     // one byte in three starts a number or a command in most texts; where this is too little, the call tells the counts
-    let mut commands = Commands { letters: vec![0; text.len() / 4 + 1], numbers: vec![0.0; text.len() / 2 + 2] };
-    let mut found = read_into(text, &mut commands.letters, &mut commands.numbers);
-    if let Err(Reason::NoRoom { needed: [letters, numbers, ..] }) = found.map_err(|refusal| refusal.reason()) {
+    let guess = text.len() / 4 + 1;
+    let mut commands =
+        Commands { letters: vec![0; guess], numbers: vec![0.0; text.len() / 2 + 2], offsets: vec![0; guess] };
+    let mut found = read_into(text, &mut commands.letters, &mut commands.numbers, &mut commands.offsets);
+    if let Err(Reason::NoRoom { needed: [letters, numbers, offsets, ..] }) = found.map_err(|refusal| refusal.reason()) {
         commands.letters.resize(letters as usize, 0);
         commands.numbers.resize(numbers as usize, 0.0);
-        found = read_into(text, &mut commands.letters, &mut commands.numbers);
+        commands.offsets.resize(offsets as usize, 0);
+        found = read_into(text, &mut commands.letters, &mut commands.numbers, &mut commands.offsets);
     }
     let refusal = match found {
         Ok((letters, numbers)) => {
             commands.letters.truncate(letters);
             commands.numbers.truncate(numbers);
+            commands.offsets.truncate(letters);
             return Ok(commands);
         }
         Err(refusal) => refusal,
@@ -850,10 +856,17 @@ pub fn read(text: &[u8]) -> Result<Commands, ReadError> {
 }
 
 // a reader of the library
-type Reader = unsafe extern "C" fn(*const u8, usize, *mut u8, usize, *mut f32, usize, *mut u64, usize) -> u32;
+type Reader =
+    unsafe extern "C" fn(*const u8, usize, *mut u8, usize, *mut f32, usize, *mut u32, usize, *mut u64, usize) -> u32;
 
 #[inline]
-fn read_by(reader: Reader, text: &[u8], letters: &mut [u8], numbers: &mut [f32]) -> Result<(usize, usize), Refusal> {
+fn read_by(
+    reader: Reader,
+    text: &[u8],
+    letters: &mut [u8],
+    numbers: &mut [f32],
+    offsets: &mut [u32],
+) -> Result<(usize, usize), Refusal> {
     // SAFETY: each pointer is good for the length beside it, no two overlap, and the library keeps none
     let given = judged(|answer, places| unsafe {
         reader(
@@ -863,6 +876,8 @@ fn read_by(reader: Reader, text: &[u8], letters: &mut [u8], numbers: &mut [f32])
             letters.len(),
             numbers.as_mut_ptr(),
             numbers.len(),
+            offsets.as_mut_ptr(),
+            offsets.len(),
             answer,
             places,
         )
@@ -870,18 +885,29 @@ fn read_by(reader: Reader, text: &[u8], letters: &mut [u8], numbers: &mut [f32])
     Ok((given[0] as usize, given[1] as usize))
 }
 
-/// Reads path data into lent buffers, from the start of each: how many letters and numbers are stored. A refusal leaves
-/// both as they were; it is 8, with the counts needed, where one is too short. It takes some 20 KB of stack.
+/// Reads path data into lent buffers, from the start of each: how many letters and numbers are stored, and as many offsets as
+/// letters. A refusal leaves all as they were; it is 8, with the counts needed, where one is too short. It takes some 24 KB of
+/// stack.
 #[inline]
-pub fn read_into(text: &[u8], letters: &mut [u8], numbers: &mut [f32]) -> Result<(usize, usize), Refusal> {
-    read_by(kihavute_read, text, letters, numbers)
+pub fn read_into(
+    text: &[u8],
+    letters: &mut [u8],
+    numbers: &mut [f32],
+    offsets: &mut [u32],
+) -> Result<(usize, usize), Refusal> {
+    read_by(kihavute_read, text, letters, numbers, offsets)
 }
 
 /// The same in every place and number, for a task with a small stack: at most 2,048 bytes of it, and twice as long, since
 /// each text is counted before it is stored.
 #[inline]
-pub fn read_lean_into(text: &[u8], letters: &mut [u8], numbers: &mut [f32]) -> Result<(usize, usize), Refusal> {
-    read_by(kihavute_read_lean, text, letters, numbers)
+pub fn read_lean_into(
+    text: &[u8],
+    letters: &mut [u8],
+    numbers: &mut [f32],
+    offsets: &mut [u32],
+) -> Result<(usize, usize), Refusal> {
+    read_by(kihavute_read_lean, text, letters, numbers, offsets)
 }
 
 /// Whether letters and numbers are a command list as `read` gives it.
@@ -1135,15 +1161,20 @@ mod tests {
 
     #[test]
     fn reading() {
-        let list = |letters: &[u8], numbers: &[f32]| {
-            Ok::<_, ReadError>(Commands { letters: letters.to_vec(), numbers: numbers.to_vec() })
+        let list = |letters: &[u8], numbers: &[f32], offsets: &[u32]| {
+            Ok::<_, ReadError>(Commands {
+                letters: letters.to_vec(),
+                numbers: numbers.to_vec(),
+                offsets: offsets.to_vec(),
+            })
         };
-        assert_eq!(read(b""), list(b"", &[]));
-        assert_eq!(read(b"m1 2 3 4"), list(b"ML", &[1.0, 2.0, 4.0, 6.0]));
-        assert_eq!(read(b"ZL1 2"), list(b"ZL", &[1.0, 2.0]));
-        assert_eq!(read(b"M0 0a1 2 3 01 4 5z"), list(b"MAZ", &[0.0, 0.0, 1.0, 2.0, 3.0, 0.0, 1.0, 4.0, 5.0]));
+        assert_eq!(read(b""), list(b"", &[], &[]));
+        assert_eq!(read(b" m1 2 3 4"), list(b"ML", &[1.0, 2.0, 4.0, 6.0], &[1, 1]));
+        assert_eq!(read(b"ZL1 2"), list(b"ZL", &[1.0, 2.0], &[0, 1]));
+        assert_eq!(read(b"M0 0a1 2 3 01 4 5z"), list(b"MAZ", &[0.0, 0.0, 1.0, 2.0, 3.0, 0.0, 1.0, 4.0, 5.0], &[0, 4, 17]));
         // more letters than bytes are guessed for
-        assert_eq!(read(&[b'z'; 100]), list(&[b'Z'; 100], &[]));
+        let places: Vec<u32> = (0..100).collect();
+        assert_eq!(read(&[b'z'; 100]), list(&[b'Z'; 100], &[], &places));
         let nan = read(b"M1e39 0m-1e39 0").unwrap().numbers[2];
         assert_eq!(nan.to_bits(), NAN);
         assert_eq!(read(&[b' '; 65_537]), Err(ReadError::TooLong(65_537)));
@@ -1151,24 +1182,30 @@ mod tests {
         assert_eq!(read(b"M"), Err(ReadError::ExpectedNumber(1)));
         assert_eq!(read(b"M1e 2"), Err(ReadError::InvalidNumber(2)));
         assert_eq!(read(b"M0 0A1 1 0 2 0 3 4"), Err(ReadError::ExpectedFlag(11)));
-        assert_eq!(read(b"M0 0S1 2 3 4"), list(b"MC", &[0.0, 0.0, 0.0, 0.0, 1.0, 2.0, 3.0, 4.0]));
-        assert_eq!(read(b"M1 2T4 6T9 9"), list(b"MQQ", &[1.0, 2.0, 1.0, 2.0, 4.0, 6.0, 7.0, 10.0, 9.0, 9.0]));
+        assert_eq!(read(b"M0 0S1 2 3 4"), list(b"MC", &[0.0, 0.0, 0.0, 0.0, 1.0, 2.0, 3.0, 4.0], &[0, 4]));
+        assert_eq!(
+            read(b"M1 2T4 6 9 9"),
+            list(b"MQQ", &[1.0, 2.0, 1.0, 2.0, 4.0, 6.0, 7.0, 10.0, 9.0, 9.0], &[0, 4, 4])
+        );
         assert_eq!(read(b"S1 2 3 4"), Err(ReadError::MissingMoveTo(1)));
         assert_eq!(read(b"M0 0R1 2 3 4"), Err(ReadError::UnsupportedCommand(b'R', 4)));
         assert_eq!(read(b"M1 2Z3 4"), Err(ReadError::MissingMoveTo(5)));
         // in words as the refusal that read_into gives
         for text in [&b"M1"[..], b"M", b"M1e 2", b"M0 0A1 1 0 2 0 3 4", b"M0 0R1 2 3 4", b"M1 2Z3 4", &[b' '; 65_537]] {
             let error: Box<dyn std::error::Error> = Box::new(read(text).unwrap_err());
-            assert_eq!(error.to_string(), read_into(text, &mut [], &mut []).unwrap_err().to_string());
-            assert_eq!(read_lean_into(text, &mut [], &mut []), read_into(text, &mut [], &mut []));
+            assert_eq!(error.to_string(), read_into(text, &mut [], &mut [], &mut []).unwrap_err().to_string());
+            assert_eq!(read_lean_into(text, &mut [], &mut [], &mut []), read_into(text, &mut [], &mut [], &mut []));
         }
         // the lean one stores the same, and writes nothing where it refuses
-        let (mut letters, mut numbers) = ([b'-'; 3], [-1.0; 5]);
-        assert_eq!(read_lean_into(b"m1 2 3 4x", &mut letters, &mut numbers).unwrap_err().number(), 6);
-        assert_eq!(read_lean_into(b"m1 2 3 4", &mut letters[..1], &mut numbers).unwrap_err().carried()[..2], [2, 4]);
-        assert_eq!((letters, numbers), ([b'-'; 3], [-1.0; 5]));
-        assert_eq!(read_lean_into(b"m1 2 3 4", &mut letters, &mut numbers), Ok((2, 4)));
-        assert_eq!((letters, numbers), (*b"ML-", [1.0, 2.0, 4.0, 6.0, -1.0]));
+        let (mut letters, mut numbers, mut offsets) = ([b'-'; 3], [-1.0; 5], [9; 3]);
+        assert_eq!(read_lean_into(b"m1 2 3 4x", &mut letters, &mut numbers, &mut offsets).unwrap_err().number(), 6);
+        let short = read_lean_into(b"m1 2 3 4", &mut letters[..1], &mut numbers, &mut offsets).unwrap_err();
+        assert_eq!(short.carried()[..3], [2, 4, 2]);
+        let short = read_lean_into(b"m1 2 3 4", &mut letters, &mut numbers, &mut offsets[..1]).unwrap_err();
+        assert_eq!(short.carried()[..3], [2, 4, 2]);
+        assert_eq!((letters, numbers, offsets), ([b'-'; 3], [-1.0; 5], [9; 3]));
+        assert_eq!(read_lean_into(b"m1 2 3 4", &mut letters, &mut numbers, &mut offsets), Ok((2, 4)));
+        assert_eq!((letters, numbers, offsets), (*b"ML-", [1.0, 2.0, 4.0, 6.0, -1.0], [0, 0, 9]));
     }
 
     #[test]

@@ -770,12 +770,13 @@ static void decimals(void) {
 #define ROOM 12
 static uint8_t list_letters[ROOM];
 static float list_numbers[ROOM];
+static uint32_t list_offsets[ROOM];
 
 /* one of the two readers */
 static __typeof__(&kihavute_read) reader = kihavute_read;
 
 /* reads into so many places of each buffer, with an answer of so many places */
-static uint32_t read_in(const char *text, size_t size, size_t letters_len, size_t numbers_len, size_t places) {
+static uint32_t read_in(const char *text, size_t size, size_t letters_len, size_t numbers_len, size_t offsets_len, size_t places) {
     curve_tables();
     lines();
     arcs();
@@ -783,71 +784,78 @@ static uint32_t read_in(const char *text, size_t size, size_t letters_len, size_
     memset(list_letters, 77, sizeof list_letters);
     for (size_t i = 0; i < ROOM; i++) {
         list_numbers[i] = 77;
+        list_offsets[i] = 77;
     }
-    return reader((const uint8_t *)text, size, list_letters, letters_len, list_numbers, numbers_len, answer, places);
+    return reader((const uint8_t *)text, size, list_letters, letters_len, list_numbers, numbers_len, list_offsets, offsets_len, answer,
+                  places);
 }
 
 /* the buffers hold this list, and 77s past it */
-static void stored(const char *what, const char *list, size_t count, const uint32_t *values) {
+static void stored(const char *what, const char *list, size_t count, const uint32_t *values, const uint32_t *offsets) {
     size_t places = strlen(list);
     for (size_t i = 0; i < ROOM; i++) {
         same(what, list_letters[i], i < places ? (uint8_t)list[i] : 77);
         same(what, bits(list_numbers[i]), i < count ? values[i] : bits(77));
+        same(what, list_offsets[i], i < places ? offsets[i] : 77);
     }
 }
 
 /* a text is read into buffers that just hold it, and not into ones that are one place short */
-static void read_is(const char *text, const char *list, size_t count, const uint32_t *values) {
+static void read_is(const char *text, const char *list, const uint32_t *offsets, size_t count, const uint32_t *values) {
     size_t size = strlen(text), places = strlen(list);
-    uint64_t counts[] = {places, count};
-    answered(text, read_in(text, size, places, count, PLACES), 0, 2, counts);
-    stored(text, list, count, values);
-    answered(text, read_in(text, size, ROOM, ROOM, PLACES), 0, 2, counts);
-    stored(text, list, count, values);
+    uint64_t counts[] = {places, count, places};
+    answered(text, read_in(text, size, places, count, places, PLACES), 0, 3, counts);
+    stored(text, list, count, values, offsets);
+    answered(text, read_in(text, size, ROOM, ROOM, ROOM, PLACES), 0, 3, counts);
+    stored(text, list, count, values, offsets);
     if (places > 0) {
-        answered(text, read_in(text, size, places - 1, count, PLACES), 8, 2, counts);
-        stored(text, "", 0, NULL);
+        answered(text, read_in(text, size, places - 1, count, places, PLACES), 8, 3, counts);
+        stored(text, "", 0, NULL, NULL);
+        answered(text, read_in(text, size, places, count, places - 1, PLACES), 8, 3, counts);
+        stored(text, "", 0, NULL, NULL);
     }
     if (count > 0) {
-        answered(text, read_in(text, size, places, count - 1, PLACES), 8, 2, counts);
-        stored(text, "", 0, NULL);
+        answered(text, read_in(text, size, places, count - 1, places, PLACES), 8, 3, counts);
+        stored(text, "", 0, NULL, NULL);
     }
-    answered(text, read_in(text, size, places, count, 7), 255, 0, NULL);
-    stored(text, "", 0, NULL);
+    answered(text, read_in(text, size, places, count, places, 7), 255, 0, NULL);
+    stored(text, "", 0, NULL, NULL);
 
     /* what is stored is a list */
-    read_in(text, size, places, count, PLACES);
+    read_in(text, size, places, count, places, PLACES);
     fresh();
     answered(text, kihavute_check_commands(list_letters, places, list_numbers, count, answer, PLACES), 0, 0, NULL);
 }
 
 static void read_refused(const char *text, uint32_t number, size_t count, const uint64_t *carried) {
-    answered(text, read_in(text, strlen(text), ROOM, ROOM, PLACES), number, count, carried);
-    stored(text, "", 0, NULL);
+    answered(text, read_in(text, strlen(text), ROOM, ROOM, ROOM, PLACES), number, count, carried);
+    stored(text, "", 0, NULL, NULL);
 }
 
 static void reading(void) {
     const uint32_t one = bits(1), two = bits(2), three = bits(3), four = bits(4);
 
-    read_is("", "", 0, NULL);
-    read_is("m1 2 3 4", "ML", 4, (uint32_t[]){one, two, four, bits(6)});
-    read_is("ZL1 2", "ZL", 2, (uint32_t[]){one, two});
-    read_is("M1 2h1v-1", "MLL", 6, (uint32_t[]){one, two, two, two, two, one});
-    read_is("M0 0a1 2 3 01 4-0", "MA", 9, (uint32_t[]){0, 0, one, two, three, 0, one, four, 0});
+    read_is("", "", NULL, 0, NULL);
+    read_is("m1 2 3 4", "ML", (uint32_t[]){0, 0}, 4, (uint32_t[]){one, two, four, bits(6)});
+    /* the offset is the letter's: blanks before it count, a further pair has that of its M */
+    read_is(" M1 2 3 4zL5 6", "MLZL", (uint32_t[]){1, 1, 9, 10}, 6, (uint32_t[]){one, two, three, four, bits(5), bits(6)});
+    read_is("ZL1 2", "ZL", (uint32_t[]){0, 1}, 2, (uint32_t[]){one, two});
+    read_is("M1 2h1v-1", "MLL", (uint32_t[]){0, 4, 6}, 6, (uint32_t[]){one, two, two, two, two, one});
+    read_is("M0 0a1 2 3 01 4-0", "MA", (uint32_t[]){0, 4}, 9, (uint32_t[]){0, 0, one, two, three, 0, one, four, 0});
     /* a minus before a radius reads, which strict reading refuses */
-    read_is("M0 0A-1 1 0 0 0 3 4", "MA", 9, (uint32_t[]){0, 0, bits(-1), one, 0, 0, 0, three, four});
-    read_is("M0 0Q1 2 3 4", "MQ", 6, (uint32_t[]){0, 0, one, two, three, four});
+    read_is("M0 0A-1 1 0 0 0 3 4", "MA", (uint32_t[]){0, 4}, 9, (uint32_t[]){0, 0, bits(-1), one, 0, 0, 0, three, four});
+    read_is("M0 0Q1 2 3 4", "MQ", (uint32_t[]){0, 4}, 6, (uint32_t[]){0, 0, one, two, three, four});
     /* smooth curves: from the current point, its own bits, or past a curve of their own kind mirrored */
-    read_is("M0 0S1 2 3 4", "MC", 8, (uint32_t[]){0, 0, 0, 0, one, two, three, four});
-    read_is("M1 2T4 6T9 9", "MQQ", 10,
+    read_is("M0 0S1 2 3 4", "MC", (uint32_t[]){0, 4}, 8, (uint32_t[]){0, 0, 0, 0, one, two, three, four});
+    read_is("M1 2T4 6T9 9", "MQQ", (uint32_t[]){0, 4, 8}, 10,
             (uint32_t[]){one, two, one, two, four, bits(6), bits(7), bits(10), bits(9), bits(9)});
-    read_is("ZS9 8 7 6", "ZC", 6, (uint32_t[]){0, 0, bits(9), bits(8), bits(7), bits(6)});
-    read_is("M1e39-0T1 2", "MQ", 6, (uint32_t[]){INFINITE, MINUS_ZERO, INFINITE, MINUS_ZERO, one, two});
-    read_is("M1 1c0 1 2 3 1e39-1e39", "MC", 8,
+    read_is("ZS9 8 7 6", "ZC", (uint32_t[]){0, 1}, 6, (uint32_t[]){0, 0, bits(9), bits(8), bits(7), bits(6)});
+    read_is("M1e39-0T1 2", "MQ", (uint32_t[]){0, 7}, 6, (uint32_t[]){INFINITE, MINUS_ZERO, INFINITE, MINUS_ZERO, one, two});
+    read_is("M1 1c0 1 2 3 1e39-1e39", "MC", (uint32_t[]){0, 4}, 8,
             (uint32_t[]){one, one, one, two, three, four, INFINITE, INFINITE | MINUS_ZERO});
     /* infinity less infinity */
-    read_is("M1e39 0m-1e39 0", "MM", 4, (uint32_t[]){INFINITE, 0, NAN_BITS, 0});
-    read_is("m-0 -0", "M", 2, (uint32_t[]){MINUS_ZERO, MINUS_ZERO});
+    read_is("M1e39 0m-1e39 0", "MM", (uint32_t[]){0, 7}, 4, (uint32_t[]){INFINITE, 0, NAN_BITS, 0});
+    read_is("m-0 -0", "M", (uint32_t[]){0}, 2, (uint32_t[]){MINUS_ZERO, MINUS_ZERO});
 
     read_refused("M", 3, 1, (uint64_t[]){1});
     read_refused("M #", 3, 1, (uint64_t[]){1});
@@ -862,10 +870,10 @@ static void reading(void) {
     read_refused("M0 0\xFF", 3, 1, (uint64_t[]){4});
 
     memset(many, ' ', sizeof many);
-    answered("65,536 spaces", read_in((const char *)many, 65536, ROOM, ROOM, PLACES), 0, 2, (uint64_t[]){0, 0});
-    stored("65,536 spaces", "", 0, NULL);
-    answered("65,537 spaces", read_in((const char *)many, 65537, ROOM, ROOM, PLACES), 1, 1, (uint64_t[]){65537});
-    stored("65,537 spaces", "", 0, NULL);
+    answered("65,536 spaces", read_in((const char *)many, 65536, ROOM, ROOM, ROOM, PLACES), 0, 3, (uint64_t[]){0, 0, 0});
+    stored("65,536 spaces", "", 0, NULL, NULL);
+    answered("65,537 spaces", read_in((const char *)many, 65537, ROOM, ROOM, ROOM, PLACES), 1, 1, (uint64_t[]){65537});
+    stored("65,537 spaces", "", 0, NULL, NULL);
 }
 
 static void list_refused(const char *list, size_t count, const float *values, uint32_t number, uint64_t at) {
@@ -1376,13 +1384,13 @@ static void nulls(void) {
     fresh();
     answered("a null text, strictly", kihavute_strict(NULL, 0, KIHAVUTE_SVG_2, answer, PLACES), 0, 1, (uint64_t[]){1});
     fresh();
-    answered("a null text into nulls", kihavute_read(NULL, 0, NULL, 0, NULL, 0, answer, PLACES), 0, 2, (uint64_t[]){0, 0});
+    answered("a null text into nulls", kihavute_read(NULL, 0, NULL, 0, NULL, 0, NULL, 0, answer, PLACES), 0, 3, (uint64_t[]){0, 0, 0});
     fresh();
-    answered("a text into nulls", kihavute_read(text, 8, NULL, 0, NULL, 0, answer, PLACES), 8, 2, (uint64_t[]){2, 4});
+    answered("a text into nulls", kihavute_read(text, 8, NULL, 0, NULL, 0, NULL, 0, answer, PLACES), 8, 3, (uint64_t[]){2, 4, 2});
     fresh();
-    answered("a null text, lean", kihavute_read_lean(NULL, 0, NULL, 0, NULL, 0, answer, PLACES), 0, 2, (uint64_t[]){0, 0});
+    answered("a null text, lean", kihavute_read_lean(NULL, 0, NULL, 0, NULL, 0, NULL, 0, answer, PLACES), 0, 3, (uint64_t[]){0, 0, 0});
     fresh();
-    answered("a text into nulls, lean", kihavute_read_lean(text, 8, NULL, 0, NULL, 0, answer, PLACES), 8, 2, (uint64_t[]){2, 4});
+    answered("a text into nulls, lean", kihavute_read_lean(text, 8, NULL, 0, NULL, 0, NULL, 0, answer, PLACES), 8, 3, (uint64_t[]){2, 4, 2});
     fresh();
     answered("a list of nulls", kihavute_check_commands(NULL, 0, NULL, 0, answer, PLACES), 0, 0, NULL);
 
@@ -1439,8 +1447,8 @@ static void nulls(void) {
         kihavute_bounds(NULL, 0, NULL, 0, half, NULL, 0),
         kihavute_number(NULL, 0, NULL, 0),
         kihavute_strict(NULL, 0, KIHAVUTE_SVG_1_1, NULL, 0),
-        kihavute_read(NULL, 0, NULL, 0, NULL, 0, NULL, 0),
-        kihavute_read_lean(NULL, 0, NULL, 0, NULL, 0, NULL, 0),
+        kihavute_read(NULL, 0, NULL, 0, NULL, 0, NULL, 0, NULL, 0),
+        kihavute_read_lean(NULL, 0, NULL, 0, NULL, 0, NULL, 0, NULL, 0),
         kihavute_check_commands(NULL, 0, NULL, 0, NULL, 0),
         kihavute_check(NULL, 0, NULL, 0, NULL, 0, NULL, 0, NULL, 0),
         kihavute_build(NULL, 0, NULL, 0, NULL, 0, NULL, 0, NULL, 0, NULL, 0, NULL, 0),

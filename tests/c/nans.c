@@ -20,6 +20,7 @@ static const char *row;
 static uint64_t answer[PLACES];
 static float out[256], other[256];
 static uint8_t kinds[2], text[ROOM];
+static uint32_t offsets[ROOM];
 static float fields[24], tables[70], lengths[2];
 
 static uint32_t bits(float x) {
@@ -156,11 +157,11 @@ static void r_bounds(float nan) {
 static const char apart[] = "M1e39 0m-1e39 0";
 static void r_read(float nan) {
     (void)nan;
-    accepted(kihavute_read((const uint8_t *)apart, sizeof apart - 1, text, ROOM, out, 64, answer, PLACES)), is_nan(bits(out[2]));
+    accepted(kihavute_read((const uint8_t *)apart, sizeof apart - 1, text, ROOM, out, 64, offsets, ROOM, answer, PLACES)), is_nan(bits(out[2]));
 }
 static void r_read_lean(float nan) {
     (void)nan;
-    accepted(kihavute_read_lean((const uint8_t *)apart, sizeof apart - 1, text, ROOM, out, 64, answer, PLACES)), is_nan(bits(out[2]));
+    accepted(kihavute_read_lean((const uint8_t *)apart, sizeof apart - 1, text, ROOM, out, 64, offsets, ROOM, answer, PLACES)), is_nan(bits(out[2]));
 }
 static void r_number(float nan) {
     (void)nan;

@@ -14,6 +14,7 @@
 enum { STACK = 1 << 18, PAINT = 0xA5, LONG = 65536, PLAN = 4096 };
 
 static uint8_t text[LONG + 64], letters[LONG], listing[LONG];
+static uint32_t offsets[LONG];
 static float numbers[LONG], fields[11 * LONG], tables[33 * LONG], lengths[LONG];
 static size_t size;
 static uint64_t answer[8];
@@ -32,7 +33,7 @@ static uint32_t nothing(void) { return 0; }
 
 static void number(void) { returned = AS(kihavute_number)(text, size, LENT(answer)); }
 static void strict(void) { returned = AS(kihavute_strict)(text, size, KIHAVUTE_SVG_1_1, LENT(answer)); }
-static void reading(void) { returned = AS(kihavute_read)(text, size, LENT(letters), LENT(numbers), LENT(answer)); }
+static void reading(void) { returned = AS(kihavute_read)(text, size, LENT(letters), LENT(numbers), LENT(offsets), LENT(answer)); }
 static void building(void) {
     returned = AS(kihavute_build_text)(text, size, LENT(letters), LENT(fields), LENT(tables), LENT(lengths), LENT(answer));
 }

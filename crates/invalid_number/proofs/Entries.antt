@@ -6,7 +6,6 @@ use mathlib.Core.Bool.{Bool, true, false, cond, _||_}
 use mathlib.Core.List.{List, [], _∷_}
 use native.Mathlib.Omega.{arith}
 use lib.Dec.{ltb}
-use lib.Ieee.{Float}
 use lib.ListN.{length, getD}
 use Rattle.answers.specs.Answers.{Answer, refused, accepted, numberOf, carriedOf, listed}
 use Rattle.answers.specs.Report.{short, written}
@@ -18,8 +17,9 @@ use Rattle.decimal.specs.declared.numbers.Read.the-variants.{Value, Refused as 
 use Rattle.decimal_text.specs.Converts.{BareExponent}
 use Rattle.decimal_text.proofs.Bare.{number-bare, bare-number}
 use Rattle.commands.specs.Stored.{lettersOf, numbersOf}
-use Rattle.svg.specs.Texts.{Outcome, commands, refusal, commandsOf}
-use Rattle.svg.specs.Readings.{answerOf, roomed, readPathOf, answered, ReadPath}
+use Rattle.svg.specs.Texts.{Outcome, commands, refusal, commandsOf, offsetsOf, listOf}
+use Rattle.svg.specs.Lists.{CommandList, countsOf}
+use Rattle.svg.specs.Readings.{answerOf, roomed, readPathOf, readInto, answered, ReadPath}
 use Rattle.svg.specs.declared.reading.Reading.{Reading}
 use Rattle.c_answer.specs.Given.{Given}
 use Rattle.kihavute.specs.Decimals.{readGiven, numberGiven}
@@ -65,30 +65,34 @@ module _ (text : List ℕ) where
 
   -- ---- reading a text
 
-  roomed-caused : (letters numbers : ℕ) (outcome : Outcome) → OutcomeCaused text outcome → OutcomeCaused text (roomed letters numbers outcome)
-  roomed-caused letters numbers (commands list) h =
-      cond-either (OutcomeCaused text) (ltb letters (length (lettersOf list)) || ltb numbers (length (numbersOf list))) _ _ (λ k e. let z : _≡_ {A = ℕ} 0 1 = cc in absurd (omega arith)) tt
-  roomed-caused letters numbers (refusal x) h = h
+  roomed-caused :
+      (letters numbers offsets : ℕ) (marks : List ℕ) (outcome : Outcome) → OutcomeCaused text outcome → OutcomeCaused text (roomed letters numbers offsets marks outcome)
+  roomed-caused letters numbers offsets marks (commands list) h =
+      cond-either (OutcomeCaused text) (ltb letters (length (lettersOf list)) || (ltb numbers (length (numbersOf list)) || ltb offsets (length marks))) _ _
+      (λ k e. let z : _≡_ {A = ℕ} 0 1 = cc in absurd (omega arith)) tt
+  roomed-caused letters numbers offsets marks (refusal x) h = h
 
   long-caused : (n : ℕ) → Caused text (TooLong n)
   long-caused n k e = let z : _≡_ {A = ℕ} 0 1 = cc in absurd (omega arith)
 
-  path-caused : (letters numbers : ℕ) → OutcomeCaused text (readPathOf text letters numbers)
+  path-caused : (before : CommandList) → OutcomeCaused text (readInto text before)
   unfolding readPathOf
-  path-caused letters numbers =
-      cond-either (OutcomeCaused text) (ltb 65536 (length text)) (refusal (TooLong (length text))) (roomed letters numbers (commandsOf text)) (long-caused (length text)) (roomed-caused letters numbers (commandsOf text) (text-caused text))
+  path-caused before =
+      let letters = length (before .letters) in
+      let numbers = length (before .numbers) in
+      let offsets = length (before .offsets) in
+      cond-either (OutcomeCaused text) (ltb 65536 (length text)) (refusal (TooLong (length text))) (roomed letters numbers offsets (offsetsOf text) (commandsOf text))
+      (long-caused (length text)) (roomed-caused letters numbers offsets (offsetsOf text) (commandsOf text) (text-caused text))
 
-  answered-caused : (outcome : Outcome) → OutcomeCaused text outcome → AnswerCaused (answered outcome)
-  answered-caused (commands list) h = accepted-caused (length (lettersOf list) ∷ length (numbersOf list) ∷ [])
+  answered-caused : (outcome : Outcome) → OutcomeCaused text outcome → AnswerCaused (answered text outcome)
+  answered-caused (commands list) h = accepted-caused (countsOf (listOf text list))
   answered-caused (refusal x) h = refused-caused x h
 
   -- any result that the contract of `svg::read_path` allows
   pub read-path-bare :
-      {letters letters′ : List ℕ} {numbers numbers′ : List Float} (r : Reading) → ReadPath text letters numbers r letters′ numbers′ → answerOf r .number ≡ 4
-      → (k : ℕ) × (answerOf r .values ≡ k ∷ []) × Bare text k
-  read-path-bare {letters} {letters′} {numbers} {numbers′} r p e =
-      let outcome = readPathOf text (length letters) (length numbers) in
-      let b = answered-caused outcome (path-caused (length letters) (length numbers)) (sym (ap (λ (a : Answer). a .number) (p .answer)) ∙ e) in
+      {before after : CommandList} (r : Reading) → ReadPath text before r after → answerOf r .number ≡ 4 → (k : ℕ) × (answerOf r .values ≡ k ∷ []) × Bare text k
+  read-path-bare {before} {after} r p e =
+      let b = answered-caused (readInto text before) (path-caused before) (sym (ap (λ (a : Answer). a .number) (p .answer)) ∙ e) in
       (b .0, ap (λ (a : Answer). a .values) (p .answer) ∙ b .1, b .2)
 
   -- ---- through C
@@ -109,11 +113,10 @@ module _ (text : List ℕ) where
 
   -- any result that the contract of `kihavute_read` allows
   pub kihavute-read-bare :
-      {letters letters′ answer answer′ : List ℕ} {numbers numbers′ : List Float} (returned : ℕ)
-      → PathRead text letters numbers answer returned letters′ numbers′ answer′ → returned ≡ 4 → (k : ℕ) × (getD answer′ 0 0 ≡ k) × Bare text k
-  kihavute-read-bare {letters} {letters′} {answer} {answer′} {numbers} {numbers′} returned p e =
-      reported (answered (readPathOf text (length letters) (length numbers))) answer returned answer′
-      (answered-caused (readPathOf text (length letters) (length numbers)) (path-caused (length letters) (length numbers))) (p .reported) e
+      {before after : CommandList} {answer answer′ : List ℕ} (returned : ℕ) → PathRead text before answer returned after answer′ → returned ≡ 4
+      → (k : ℕ) × (getD answer′ 0 0 ≡ k) × Bare text k
+  kihavute-read-bare {before} {after} {answer} {answer′} returned p e =
+      reported (answered text (readInto text before)) answer returned answer′ (answered-caused (readInto text before) (path-caused before)) (p .reported) e
 
   number-caused : AnswerCaused (numberGiven text)
   number-caused = cond-either AnswerCaused (ltb 65536 (length text)) (refused (TooLong (length text))) (readGiven (readNumber text 0)) (refused-caused (TooLong (length text)) (long-caused (length text))) (go (readNumber text 0) refl)

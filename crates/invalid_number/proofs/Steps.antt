@@ -19,7 +19,7 @@ use Rattle.svg_group.specs.declared.letters.Letter.{Letter}
 use Rattle.svg_group.specs.declared.letters.Letter.the-variants.{Draws, Closes, Unknown}
 use Rattle.svg_group.specs.declared.groups.Group.{Group}
 use Rattle.svg_group.specs.declared.groups.Group.the-variants.{Taken, Refused as GroupRefused}
-use Rattle.svg_step.specs.Steps.{freshOf, isRelativeOf, needsPointOf, repeatedOf, firstControlOf, dueGroupOf, begun, dueLetterOf, again, dueAgainOf, nextDueOf, taken, stepped, readStepOf}
+use Rattle.svg_step.specs.Steps.{freshOf, isRelativeOf, needsPointOf, repeatedOf, firstControlOf, dueGroupOf, begun, dueLetterOf, again, dueAgainOf, dueAtOf, nextDueOf, offsetOf, taken, stepped, readStepOf}
 use Rattle.svg.specs.Texts.{Outcome, commands, refusal, prepend, follow, readFrom, commandsOf}
 use Rattle.svg_step.specs.declared.steps.Reader.{Reader}
 use Rattle.svg_step.specs.declared.steps.Due.{Due}
@@ -68,7 +68,7 @@ module _ (text : List ℕ) where
   again-due at letter Unknown = no-point at
 
   next-due : (from letter : ℕ) (placed : Bool) → DueCaused (nextDueOf text from letter placed)
-  unfolding nextDueOf dueLetterOf dueAgainOf
+  unfolding nextDueOf dueAtOf dueLetterOf dueAgainOf
   next-due from letter placed =
       let at = pastSeparatorsOf text from in
       let byte = getD text at 0 in
@@ -83,23 +83,23 @@ module _ (text : List ℕ) where
   StepCaused Done = Unit
   StepCaused (Refused x) = Caused text x
 
-  taken-caused : (letter : ℕ) (start : Point) (group : Group) → GroupCaused text group → StepCaused (taken letter start group)
-  taken-caused letter start (Taken command next) h = tt
-  taken-caused letter start (GroupRefused x) h = h
+  taken-caused : (letter offset : ℕ) (start : Point) (group : Group) → GroupCaused text group → StepCaused (taken letter offset start group)
+  taken-caused letter offset start (Taken command next) h = tt
+  taken-caused letter offset start (GroupRefused x) h = h
 
-  stepped-caused : (reader : Reader) (due : Due) → DueCaused due → StepCaused (stepped text reader due)
-  stepped-caused reader NothingDue h = tt
-  stepped-caused reader (NotDue x) h = h
-  stepped-caused reader (Close next) h = tt
-  stepped-caused reader (GroupDue kind letter first) h =
+  stepped-caused : (reader : Reader) (offset : ℕ) (due : Due) → DueCaused due → StepCaused (stepped text reader offset due)
+  stepped-caused reader offset NothingDue h = tt
+  stepped-caused reader offset (NotDue x) h = h
+  stepped-caused reader offset (Close next) h = tt
+  stepped-caused reader offset (GroupDue kind letter first) h =
       let relative = isRelativeOf letter (reader .placed) in
       let control = firstControlOf kind (reader .letter) (reader .current) (reader .control) in
-      taken-caused letter (reader .start) (readGroupOf text first kind relative (reader .current) control)
+      taken-caused letter offset (reader .start) (readGroupOf text first kind relative (reader .current) control)
       (group-caused text kind first relative (reader .current) control)
 
   pub step-caused : (reader : Reader) → StepCaused (readStepOf text reader)
   unfolding readStepOf
-  step-caused reader = stepped-caused reader (nextDueOf text (reader .at) (reader .letter) (reader .placed)) (next-due (reader .at) (reader .letter) (reader .placed))
+  step-caused reader = stepped-caused reader (offsetOf text reader) (nextDueOf text (reader .at) (reader .letter) (reader .placed)) (next-due (reader .at) (reader .letter) (reader .placed))
 
   -- ---- the text
 

@@ -1,4 +1,5 @@
 // The permissive reader, and the check of a stored command list.
+ghost use Rattle.svg.specs.Lists.{before, after};
 ghost use Rattle.svg.specs.Readings.{answerOf};
 ghost use Rattle.commands.specs.Checked.{checkCommandsOf};
 ghost use Rattle.c_answer.specs.Given.{Given};
@@ -15,26 +16,28 @@ pub(crate) fn give_reading(reading: Reading, answer: &mut [u64]) -> u32
         Reading::Read {
             letters: places,
             numbers: count,
-        } => c_answer::accept(Values::Two(places, count), answer),
+        } => c_answer::accept(Values::Three(places, count, places), answer),
         Reading::Refused(refusal) => c_answer::refuse(refusal, answer),
     }
 }
 
-// Reads a text into a command list: letters and numbers, each from its buffer's start. Gives how many
-// of each are stored. Where answer is too short, or the text is refused, neither buffer is touched.
+// Reads a text into a command list: letters, numbers and the offset of the letter that made each
+// command, each from its buffer's start. Gives how many of each are stored. Where answer is too short,
+// or the text is refused, no buffer is touched.
 #[no_mangle]
 pub extern "C" fn kihavute_read(
     text: &[u8],
     letters: &mut [u8],
     numbers: &mut [f32],
+    offsets: &mut [u32],
     answer: &mut [u64],
 ) -> u32
-    ensures { λ r. ⌜ PathRead (now (text .entry)) (now (letters .entry)) (now (numbers .entry)) (now (answer .entry)) r (now (letters .exit)) (now (numbers .exit)) (now (answer .exit)) ⌝ }
+    ensures { λ r. ⌜ PathRead (now (text .entry)) (before letters numbers offsets) (now (answer .entry)) r (after letters numbers offsets) (now (answer .exit)) ⌝ }
 {
     if answer.len() < 8 {
         return 255;
     }
-    let reading = svg::read_path(text, letters, numbers);
+    let reading = svg::read_path(text, letters, numbers, offsets);
     give_reading(reading, answer)
 }
 

@@ -18,7 +18,7 @@ point x y = record { x = ofBits binary32 x; y = ofBits binary32 y }
 
 -- a text into buffers with room for it
 abbrev read : List ℕ → Outcome
-read text = readPathOf text 8 16
+read text = readPathOf text 8 16 8
 
 pub readings-whole :
     -- the empty text

@@ -12,8 +12,9 @@ use replay_records::two;
 use svg::Reading;
 
 // The bytes of a record: the text's length as two digits; the text, which has at most 32 bytes, and
-// blanks up to 32; the refusal's number, or 0, and two values as three digits each; what the buffers
-// hold afterwards, 6 letters and 10 numbers as patterns; and a line's end.
+// blanks up to 32; the refusal's number, or 0, and three values as three digits each; what the buffers
+// hold afterwards, 6 letters, 6 offsets as two digits each and 8 numbers as patterns; a blank and a
+// line's end.
 const RECORD: usize = 128;
 
 fn main() {
@@ -54,24 +55,43 @@ fn agrees(lines: &[u8], at: usize) -> bool
         return false;
     }
     let mut letters = [b' '; 6];
-    let mut numbers = [77.0f32; 10];
+    let mut numbers = [77.0f32; 8];
+    let mut offsets = [77u32; 6];
     let from = at + 2;
     let to = from + size;
-    let reading = svg::read_path(&lines[from..to], &mut letters, &mut numbers);
+    let reading = svg::read_path(&lines[from..to], &mut letters, &mut numbers, &mut offsets);
     let answered = answers_as(reading, lines, at + 34);
-    let lettered = same_bytes(&letters, 0, lines, at + 41);
-    let numbered = same_numbers(&numbers, lines, at + 47, 8);
-    answered & lettered & numbered
+    let lettered = same_bytes(&letters, 0, lines, at + 44);
+    let offset = same_offsets(offsets, lines, at + 50);
+    let numbered = same_numbers(&numbers, lines, at + 62, 8);
+    answered & lettered & offset & numbered
 }
 
-// Whether the number and the two values at this place are the reader's.
+// Whether an offset is that of the two digits at this place.
+fn marked(offset: u32, lines: &[u8], at: usize) -> bool
+    requires { ⌜ at + 2 ≤ length (now lines) ⌝ }
+{
+    offset as usize == two(lines, at)
+}
+
+// Whether the offsets are the six at this place.
+fn same_offsets(offsets: [u32; 6], lines: &[u8], at: usize) -> bool
+    requires { ⌜ at + 12 ≤ length (now lines) ⌝ }
+{
+    let first = marked(offsets[0], lines, at) & marked(offsets[1], lines, at + 2);
+    let second = marked(offsets[2], lines, at + 4) & marked(offsets[3], lines, at + 6);
+    let third = marked(offsets[4], lines, at + 8) & marked(offsets[5], lines, at + 10);
+    first & second & third
+}
+
+// Whether the number and the three values at this place are the reader's.
 fn answers_as(reading: Reading, lines: &[u8], at: usize) -> bool
-    requires { ⌜ at + 7 ≤ length (now lines) ⌝ }
+    requires { ⌜ at + 10 ≤ length (now lines) ⌝ }
 {
     match reading {
         Reading::Read { letters, numbers } => same_answer(
             0,
-            Values::Two(letters, numbers),
+            Values::Three(letters, numbers, letters),
             lines,
             at,
         ),
@@ -87,16 +107,17 @@ fn answers_as(reading: Reading, lines: &[u8], at: usize) -> bool
 }
 
 fn same_answer(number: u32, values: Values, lines: &[u8], at: usize) -> bool
-    requires { ⌜ at + 7 ≤ length (now lines) ⌝ }
+    requires { ⌜ at + 10 ≤ length (now lines) ⌝ }
 {
     let a = three(lines, at + 1);
     let b = three(lines, at + 4);
+    let c = three(lines, at + 7);
     let same = number as usize == one(lines, at);
     match values {
         Values::Nothing => false,
-        Values::One(x) => same & (x == a) & (b == 0),
-        Values::Two(x, y) => same & (x == a) & (y == b),
-        Values::Three(_, _, _) => false,
+        Values::One(x) => same & (x == a) & (b == 0) & (c == 0),
+        Values::Two(x, y) => same & (x == a) & (y == b) & (c == 0),
+        Values::Three(x, y, z) => same & (x == a) & (y == b) & (z == c),
         Values::Four(_, _, _, _) => false,
         Values::Five(_, _, _, _, _) => false,
     }
@@ -115,9 +136,10 @@ fn missed_text(text: &[u8], number: u32, value: usize) -> u64
     ensures { λ r. ⌜ r ≤ 1 ⌝ }
 {
     let mut letters = [b' '; 6];
-    let mut numbers = [77.0f32; 10];
+    let mut numbers = [77.0f32; 8];
+    let mut offsets = [77u32; 6];
     if has(
-        svg::read_path(text, &mut letters, &mut numbers),
+        svg::read_path(text, &mut letters, &mut numbers, &mut offsets),
         number,
         value,
     ) {

@@ -32,7 +32,7 @@ use Rattle.svg_group.specs.declared.letters.Kind.{Kind as Drawing}
 use Rattle.svg_group.specs.declared.letters.Kind.the-variants.{Move, Line, Horizontal, Vertical, Cubic, SmoothCubic, Quad, SmoothQuad, Arc as Ellipse}
 use Rattle.svg_group.specs.declared.letters.Letter.the-variants.{Draws, Closes}
 use Rattle.svg_group.specs.declared.passing.Passed.the-variants.{To}
-use Rattle.svg_step.specs.Steps.{needsPointOf, repeatedOf, dueGroupOf, dueLetterOf, nextDueOf, readStepOf, passed, passedTo, passStepOf}
+use Rattle.svg_step.specs.Steps.{needsPointOf, repeatedOf, dueGroupOf, dueLetterOf, dueAtOf, nextDueOf, readStepOf, passed, passedTo, passStepOf}
 use Rattle.svg_step.specs.declared.steps.Reader.{Reader}
 use Rattle.svg_step.specs.declared.steps.Due.{Due}
 use Rattle.svg_step.specs.declared.steps.Due.the-variants.{Close, Group}
@@ -138,6 +138,13 @@ pub data Passes (text : List ℕ) : ℕ → ℕ → Bool → Type 0 where
   steps : {from letter : ℕ} {placed : Bool} (width next kept : ℕ) → passStepOf text from letter placed ≡ PassCommand width next kept → Passes text next kept true → Passes text from letter placed
 
 module _ (text : List ℕ) where
+  -- what is due past the separators
+  due-next :
+      (from letter : ℕ) (placed : Bool) {at : ℕ} {due : Due} → at ≡ pastSeparatorsOf text from → due ≡ dueAtOf text at letter placed
+      → due ≡ nextDueOf text from letter placed
+  unfolding nextDueOf
+  due-next from letter placed e d = d ∙ ap (λ a. dueAtOf text a letter placed) e
+
   passed-group :
       (from letter : ℕ) (placed : Bool) (draws : Drawing) (kept first next : ℕ) → Group draws kept first ≡ nextDueOf text from letter placed
       → passGroupOf text first draws ≡ To next → passStepOf text from letter placed ≡ PassCommand (widthOf draws) next kept
@@ -150,7 +157,7 @@ module _ (text : List ℕ) where
 
   passed-end : (from letter : ℕ) (placed : Bool) (at : ℕ) → at ≡ pastSeparatorsOf text from → length text ≤ at → passStepOf text from letter placed ≡ PassDone
   unfolding passStepOf
-  passed-end from letter placed at e h = ap (passed text) (sym (due-done text from letter placed at e h))
+  passed-end from letter placed at e h = ap (passed text) (sym (due-next from letter placed e (due-done text at letter placed h)))
 
 module _ (edition : Edition) (text : List ℕ) where
   starts-past : (kind : Kind) (i j : ℕ) → argumentOf edition text kind i j → (pastSeparatorsOf text i ≡ i) × (among (getD text i 0) numberStarts ≡ true)
@@ -170,9 +177,9 @@ module _ (edition : Edition) (text : List ℕ) where
     again-due from i j o a =
         let h = argument-starts edition text kind i j a in
         let (p, n) = starts-past kind i j a in
-        due-other text from letter true i (sym (past-separator edition text from i o (number-no-separator text i h))) (stands-within numberStarts text i h) _
-        (number-isnt (getD text i 0) n)
-        (again-draws text i letter (m .draws) (repeatedOf (m .draws)) _ (m .means) refl (group-due text i (repeatedOf (m .draws)) letter i (getD text i 0) (sym p) refl n))
+        due-next text from letter true (sym (past-separator edition text from i o (number-no-separator text i h)))
+        (due-other text i letter true (stands-within numberStarts text i h) _ (number-isnt (getD text i 0) n)
+        (again-draws text i letter (m .draws) (repeatedOf (m .draws)) _ (m .means) refl (group-due text i (repeatedOf (m .draws)) letter i (getD text i 0) (sym p) refl n)))
 
     items-pass : {i j : ℕ} → star (Item edition text kind) i j → Follows text j → Passes text j letter true → Passes text i letter true
     items-pass {i} {j} (none z) f t = subst (λ (y : ℕ). Passes text y letter true) (sym z) t
@@ -190,7 +197,7 @@ module _ (edition : Edition) (text : List ℕ) where
       letter-due free x y w a =
           let h = argument-starts edition text kind x y a in
           let d = group-due text (i + 1) (m .draws) (getD text i 0) x (getD text x 0) (sym (past-white edition text (i + 1) x w (number-no-separator text x h))) refl (stands-among numberStarts text x h) in
-          due-letter text from letter placed i at there _ is (drawn free (either-way (needsPointOf (m .draws))) d)
+          due-next text from letter placed at (due-letter text i letter placed there _ is (drawn free (either-way (needsPointOf (m .draws))) d))
         where
           drawn : (needsPointOf (m .draws) ≡ false) ⊎ (placed ≡ true) → (needsPointOf (m .draws) ≡ true) ⊎ (needsPointOf (m .draws) ≡ false)
               → {due : Due} → due ≡ dueGroupOf text (i + 1) (m .draws) (getD text i 0) → due ≡ dueLetterOf text i (getD text i 0) placed
@@ -224,7 +231,7 @@ module _ (edition : Edition) (text : List ℕ) where
         closes : Byte text closeLetters i j → Passes text from letter placed
         closes b =
             let e = close-means (getD text i 0) (stands-among closeLetters text i (b .there)) in
-            let c = due-letter text from letter placed i at (stands-within closeLetters text i (b .there)) _ (lettered closeLetters tt (b .there)) (letter-closes text i (getD text i 0) placed e) in
+            let c = due-next text from letter placed at (due-letter text i letter placed (stands-within closeLetters text i (b .there)) _ (lettered closeLetters tt (b .there)) (letter-closes text i (getD text i 0) placed e)) in
             steps 0 (i + 1) 0 (passed-close text from letter placed (i + 1) c) (subst (λ (y : ℕ). Passes text y 0 true) (b .next) (t 0))
 
         draws : (kind : Kind) × (Byte text (lettersOf kind) · Arguments edition text kind) i j → Passes text from letter placed

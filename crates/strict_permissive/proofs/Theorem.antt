@@ -15,9 +15,9 @@ use Rattle.strict.proofs.Rests.{to-started, white-found}
 use Rattle.commands.specs.Stored.{lettersOf, numbersOf}
 use Rattle.commands.specs.declared.command.PathCommand.{PathCommand}
 use Rattle.svg_step.specs.Steps.{freshOf}
-use Rattle.answers.specs.declared.refusals.Values.the-variants.{Two}
+use Rattle.answers.specs.declared.refusals.Values.the-variants.{Three}
 use Rattle.answers.specs.declared.refusals.Refusal.the-variants.{NoRoom}
-use Rattle.svg.specs.Texts.{Outcome, commands, refusal, commandsOf}
+use Rattle.svg.specs.Texts.{Outcome, commands, refusal, commandsOf, offsetsOf}
 use Rattle.svg.specs.Readings.{roomed, readPathOf}
 use Rattle.strict_permissive.specs.Read.{ReadOrNoRoom}
 use Rattle.strict_permissive.proofs.Follows.{past-white}
@@ -39,10 +39,14 @@ module _ (edition : Edition) (text : List ℕ) (m : Matches edition text) where
   unfolding readPathOf
   strict-reads short =
       let (list, e) = matching-reads in
-      record { list = list; reads = e; into = λ letters numbers. room list e letters numbers (either-way (ltb letters (length (lettersOf list)) || ltb numbers (length (numbersOf list)))) }
+      record { list = list; reads = e; into = λ letters numbers offsets. room list e letters numbers offsets (either-way (short-of list letters numbers offsets)) }
     where
-      room : (list : List PathCommand) → commandsOf text ≡ commands list → (letters numbers : ℕ)
-          → ((ltb letters (length (lettersOf list)) || ltb numbers (length (numbersOf list))) ≡ true) ⊎ ((ltb letters (length (lettersOf list)) || ltb numbers (length (numbersOf list))) ≡ false)
-          → (readPathOf text letters numbers ≡ commands list) ⊎ (readPathOf text letters numbers ≡ refusal (NoRoom (Two (length (lettersOf list)) (length (numbersOf list)))))
-      room list e letters numbers (inl h) = inr (rw (le-ltb 65536 (length text) short, e, h) refl)
-      room list e letters numbers (inr h) = inl (rw (le-ltb 65536 (length text) short, e, h) refl)
+      short-of : List PathCommand → ℕ → ℕ → ℕ → Bool
+      short-of list letters numbers offsets = ltb letters (length (lettersOf list)) || (ltb numbers (length (numbersOf list)) || ltb offsets (length (offsetsOf text)))
+
+      room : (list : List PathCommand) → commandsOf text ≡ commands list → (letters numbers offsets : ℕ)
+          → (short-of list letters numbers offsets ≡ true) ⊎ (short-of list letters numbers offsets ≡ false)
+          → (readPathOf text letters numbers offsets ≡ commands list)
+          ⊎ (readPathOf text letters numbers offsets ≡ refusal (NoRoom (Three (length (lettersOf list)) (length (numbersOf list)) (length (offsetsOf text)))))
+      room list e letters numbers offsets (inl h) = inr (rw (le-ltb 65536 (length text) short, e, h) refl)
+      room list e letters numbers offsets (inr h) = inl (rw (le-ltb 65536 (length text) short, e, h) refl)

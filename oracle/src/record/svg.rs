@@ -1,8 +1,8 @@
 //! The list of recorded readings that the program replay_svg runs through the permissive reader.
 //!
 //! A record is 128 bytes: the text's length as two digits; the text and blanks up to 32 bytes; the refusal's number or 0,
-//! and two values as three digits each; what buffers of 6 blanks and 10 times 77 hold afterwards, the numbers as eight
-//! hexadecimal digits each; and a line's end. The answers are the original's, of other bytes than UTF-8 the second reader's.
+//! and three values as three digits each; what buffers of 6 blanks, 6 times 77 and 8 times 77 hold afterwards, the letters, the
+//! offsets as two digits each and the numbers as eight hexadecimal digits each; a blank and a line's end. The answers are the original's, of other bytes than UTF-8 the second reader's.
 
 use crate::compare::Report;
 use crate::read::{Paths, Said, judge, ours};
@@ -12,7 +12,7 @@ use crate::strict::Text;
 // the longest text that a record holds, and the places of the buffers
 const LONGEST: usize = 32;
 const LETTERS: usize = 6;
-const NUMBERS: usize = 10;
+const NUMBERS: usize = 8;
 
 // how many records there are, and how many texts the program makes itself: 65,536 spaces and one more
 const RECORDS: usize = 598;
@@ -147,30 +147,32 @@ pub fn list(report: &mut Report, seed: u64) -> (Vec<u8>, u64) {
 }
 
 // what is said of a text for which there may be no room
-fn said(text: &[u8]) -> (u32, Vec<u64>, Vec<u8>, Vec<u32>) {
+fn said(text: &[u8]) -> (u32, Vec<u64>, Vec<u8>, Vec<u32>, Vec<u32>) {
     match judge(text) {
-        Said::Read { letters, numbers } => {
-            let counts = vec![letters.len() as u64, numbers.len() as u64];
+        Said::Read { letters, numbers, offsets } => {
+            let counts = [letters.len(), numbers.len(), offsets.len()].map(|count| count as u64).to_vec();
             let fits = letters.len() <= LETTERS && numbers.len() <= NUMBERS;
-            if fits { (0, counts, letters, numbers) } else { (8, counts, vec![], vec![]) }
+            if fits { (0, counts, letters, numbers, offsets) } else { (8, counts, vec![], vec![], vec![]) }
         }
-        Said::Refused { number, carried } => (number, carried, vec![], vec![]),
+        Said::Refused { number, carried } => (number, carried, vec![], vec![], vec![]),
         Said::Wrong(what) => panic!("{what}"),
     }
 }
 
 fn line(text: &[u8]) -> Vec<u8> {
-    let (number, mut values, mut letters, mut numbers) = said(text);
-    values.resize(2, 0);
+    let (number, mut values, mut letters, mut numbers, mut offsets) = said(text);
+    values.resize(3, 0);
     letters.resize(LETTERS, b' ');
+    offsets.resize(LETTERS, 77);
     numbers.resize(NUMBERS, 77.0f32.to_bits());
     let mut line = format!("{:02}", text.len()).into_bytes();
     line.extend(text);
     line.resize(2 + LONGEST, b' ');
-    line.extend(format!("{number}{:03}{:03}", values[0], values[1]).into_bytes());
+    line.extend(format!("{number}{:03}{:03}{:03}", values[0], values[1], values[2]).into_bytes());
     line.extend(letters);
+    line.extend(offsets.iter().flat_map(|offset| format!("{offset:02}").into_bytes()));
     line.extend(numbers.iter().flat_map(|bits| format!("{bits:08X}").into_bytes()));
-    line.push(b'\n');
+    line.extend(b" \n");
     assert_eq!(line.len(), 128, "a record's size");
     line
 }

@@ -5,16 +5,16 @@ use Rattle.kihavute_reading.proofs.reading.kihavute_read.Statement.{sta
 use Rattle.kihavute_reading.proofs.reading.kihavute_read.Tie as tie
 
 returns : tie.Need-returns
-returns c = not-read _ _ _ _ (c .if1 .taken)
+returns c = not-read _ _ _ (c .if1 .taken)
 
 returns-2 : tie.Need-returns-2
 returns-2 c =
     let given = c .before .before in
-    let read = given .before .before .before .before .before .before in
-    read-reported _ _ _ _ _ (read .before .before .before .if1 .left) (read .read-path .ensures) (given .give-reading .ensures)
+    let read = given .before .before .before .before .before .before .before .before in
+    read-reported _ _ _ _ (read .before .before .before .before .if1 .left) (read .read-path .ensures) (given .give-reading .ensures)
 
 pub kihavute-read-spec : {M : Type 1} → statement M
 kihavute-read-spec =
     tie.close
     (tie.spec returns (λ c κs. search needs) (λ c κs. search needs) (λ c. search needs) (λ c. search needs)
-    (λ c. search needs) returns-2)
+    (λ c. search needs) (λ c. search needs) returns-2)
