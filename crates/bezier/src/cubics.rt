@@ -78,7 +78,9 @@ fn cubic_steps(start: Point, control1: Point, control2: Point, end: Point) -> [f
 {
     let x = cubic_differences(start.x, control1.x, control2.x, end.x);
     let y = cubic_differences(start.y, control1.y, control2.y, end.y);
-    lengths(&x, &y)
+    let mut steps = [0.0f32; 31];
+    lengths(&x, &y, &mut steps);
+    steps
 }
 
 // The table of the curve.

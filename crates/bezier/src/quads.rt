@@ -5,7 +5,8 @@ use crate::curves::Verdict;
 use crate::curves::tidied;
 use crate::curves::verdict_of;
 use crate::inner;
-use crate::rows::quad_differences;
+use crate::rows::quad_coordinate;
+use crate::rows::sample_mark;
 use angles::rotation_deg;
 use answers::Refusal;
 use floats::tidy;
@@ -54,13 +55,26 @@ pub fn quad_derivative(start: Point, control: Point, end: Point, raw: RawParamet
     add(a, b)
 }
 
-// The distances from each of the 32 samples to the next.
+// The distances from each of the 32 samples to the next. Both rows of differences are worked out in one loop, each sample's place for
+// both at once; the last place of a row leaves no rest in lanes, and nothing reads it.
 fn quad_steps(start: Point, control: Point, end: Point) -> [f32; 31]
     ensures { λ r. ⌜ r ≡ stepsOf (quadSampleOf start control end) 31 ⌝ }
 {
-    let x = quad_differences(start.x, control.x, end.x);
-    let y = quad_differences(start.y, control.y, end.y);
-    lengths(&x, &y)
+    let mut x = [0.0f32; 32];
+    let mut y = [0.0f32; 32];
+    let mut k = 0usize;
+    while k < 32 {
+        let here = sample_mark(k);
+        let next = sample_mark(k + 1);
+        x[k] = quad_coordinate(start.x, control.x, end.x, next)
+            - quad_coordinate(start.x, control.x, end.x, here);
+        y[k] = quad_coordinate(start.y, control.y, end.y, next)
+            - quad_coordinate(start.y, control.y, end.y, here);
+        k += 1;
+    }
+    let mut steps = [0.0f32; 31];
+    lengths(&x, &y, &mut steps);
+    steps
 }
 
 // The table of the curve.

@@ -5,6 +5,7 @@ mod exact;
 mod passes;
 
 ghost use mathlib.Core.Path.{_≡_};
+ghost use lib.ListN.{length};
 ghost use Rattle.lengths.specs.Length.{lengthOf, lengthsOf};
 
 // The length of the vector (x, y).
@@ -18,21 +19,27 @@ pub fn length(x: f32, y: f32) -> f32
     known
 }
 
-// The lengths of the first 31 of 32 vectors. There are 32 so that the pass over them leaves no rest.
-pub fn lengths(x: &[f32; 32], y: &[f32; 32]) -> [f32; 31]
-    ensures { λ r. ⌜ r ≡ lengthsOf 31 (now (x .entry)) (now (y .entry)) ⌝ }
+// Puts the lengths of the first 31 of 32 vectors. They are judged in two runs of 16, which leave no rest in lanes and have one in common;
+// what a run did not settle is 0.
+pub fn lengths(x: &[f32; 32], y: &[f32; 32], out: &mut [f32; 31])
+    requires { ⌜ length (now out) ≡ 31 ⌝ }
+    ensures { λ _. ⌜ now (out .exit) ≡ lengthsOf 31 (now (x .entry)) (now (y .entry)) ⌝ }
 {
-    let known = passes::judged_all(x, y);
-    let mut r = [0.0f32; 31];
-    let mut k = 0usize;
-    while k < 31 {
-        let length = known[k];
-        if length == 0.0 {
-            r[k] = exact::length(x[k], y[k]);
-        } else {
-            r[k] = length;
+    let mut at = 0usize;
+    while at < 16 {
+        let known = passes::judged_run(x, y, at);
+        let mut k = 0usize;
+        while k < 16 {
+            out[at + k] = known[k];
+            k += 1;
         }
-        k += 1;
+        at += 15;
     }
-    r
+    let mut j = 0usize;
+    while j < 31 {
+        if out[j] == 0.0 {
+            out[j] = exact::length(x[j], y[j]);
+        }
+        j += 1;
+    }
 }

@@ -1,7 +1,6 @@
 -- The two rows are the differences of the samples' coordinates, and their lengths the steps (`steps-are`). Assumes nothing.
 use borrow.Author.Needs.{needs}
-use native.Mathlib.Omega.{arith}
-use mathlib.Core.Path.{ap, _∙_}
+use mathlib.Core.Path.{refl, ap, _∙_}
 use mathlib.Core.List.{List}
 use lib.ListN.{length, getD}
 use lib.Ieee.{Float, nan}
@@ -16,13 +15,13 @@ use Rattle.bezier.proofs.cubics.cubic_steps.Tie as tie
 returns : tie.Need-returns
 unfolding sampleAt cubicSampleOf lerpPointOf
 returns c =
-    let x = c .before .before .before .before .cubic-differences in
-    let y = c .before .before .before .cubic-differences2 in
+    let x = c .before .before .before .before .before .cubic-differences in
+    let y = c .before .before .before .before .cubic-differences2 in
     let e = c .lengths .ensures in
-    steps-are (cubicSampleOf _ _ _ _) (x .result) (y .result) _ 31 (ap length e ∙ lengths-count 31 _ _) (λ k h. x .ensures k (omega (arith, h))) (λ k h. y .ensures k (omega (arith, h)))
+    steps-are (cubicSampleOf _ _ _ _) (x .result) (y .result) _ 31 (ap length e ∙ lengths-count 31 _ _) (x .ensures) (y .ensures)
     (λ k h. ap (λ (z : List Float). getD z k nan) e ∙ lengths-at 31 _ _ k h)
 
 pub cubic-steps-spec : {M : Type 1} → statement M
 cubic-steps-spec =
     tie.close
-    (tie.spec (λ c κs. search needs) (λ c κs. search needs) (λ c κs. search needs) returns)
+    (tie.spec (λ c κs. search needs) (λ c κs. search needs) (λ c κs. refl) returns)

@@ -4,7 +4,7 @@ use borrow.Author.Needs.{needs}
 use native.Mathlib.Omega.{arith}
 use mathlib.Core.Path.{_≡_, refl}
 use mathlib.Core.Logic.{_⊎_}
-use Prim.Native.Nat.{ℕ, _-_}
+use Prim.Native.Nat.{ℕ, _+_, _-_}
 use mathlib.Core.List.{List}
 use lib.ListN.{getD}
 use lib.Ieee.{Float, nan}
@@ -12,36 +12,36 @@ use Rattle.floats.specs.Floats.{zeroF}
 use Rattle.lengths.specs.Length.{lengthOf, Summed}
 use Rattle.lengths.proofs.Far.{judged-at}
 use Rattle.lengths.proofs.Lists.{Passing, passing-start, passing-more}
-use Rattle.lengths.proofs.passes.judged_all.Statement.{statement}
-use Rattle.lengths.proofs.passes.judged_all.Tie as tie
+use Rattle.lengths.proofs.passes.judged_run.Statement.{statement}
+use Rattle.lengths.proofs.passes.judged_run.Tie as tie
 
--- what place j is to have: a sum, anything, and a length or 0
-abbrev Sum : List Float → List Float → ℕ → Float → Type 0
-Sum x y j s = Summed (getD x j nan) (getD y j nan) s
+-- what place j of the run from `at` on is to have: a sum, anything, and a length or 0
+abbrev Sum : List Float → List Float → ℕ → ℕ → Float → Type 0
+Sum x y at j s = Summed (getD x (at + j) nan) (getD y (at + j) nan) s
 
 abbrev Anything : ℕ → Float → Type 0
 Anything j g = g ≡ g
 
-abbrev Judged : List Float → List Float → ℕ → Float → Type 0
-Judged x y j r = (r ≡ zeroF) ⊎ (r ≡ lengthOf (getD x j nan) (getD y j nan))
+abbrev Judged : List Float → List Float → ℕ → ℕ → Float → Type 0
+Judged x y at j r = (r ≡ zeroF) ⊎ (r ≡ lengthOf (getD x (at + j) nan) (getD y (at + j) nan))
 
 abbrev Inv-loop : tie.InvT-loop
-Inv-loop x y sums₀ i₀ sums i = Passing (Sum x y) sums 32 i
+Inv-loop x y at sums₀ i₀ sums i = Passing (Sum x y at) sums 16 i
 
 abbrev μ-loop : tie.MeasureT-loop
-μ-loop x y sums₀ i₀ sums i = 32 - i
+μ-loop x y at sums₀ i₀ sums i = 16 - i
 
 abbrev Inv-loop2 : tie.InvT-loop2
-Inv-loop2 x y sums i guesses₀ j₀ guesses j = Passing Anything guesses 32 j
+Inv-loop2 x y at sums i guesses₀ j₀ guesses j = Passing Anything guesses 16 j
 
 abbrev μ-loop2 : tie.MeasureT-loop2
-μ-loop2 x y sums i guesses₀ j₀ guesses j = 32 - j
+μ-loop2 x y at sums i guesses₀ j₀ guesses j = 16 - j
 
 abbrev Inv-loop3 : tie.InvT-loop3
-Inv-loop3 x y sums i guesses j r₀ k₀ r k = Passing (Judged x y) r 32 k
+Inv-loop3 x y at sums i guesses j r₀ k₀ r k = Passing (Judged x y at) r 16 k
 
 abbrev μ-loop3 : tie.MeasureT-loop3
-μ-loop3 x y sums i guesses j r₀ k₀ r k = 32 - k
+μ-loop3 x y at sums i guesses j r₀ k₀ r k = 16 - k
 
 loop-holds : tie.Need-loop-holds Inv-loop μ-loop Inv-loop2 μ-loop2 Inv-loop3 μ-loop3
 loop-holds c = passing-start refl
@@ -106,11 +106,12 @@ loop3-again c =
 returns : tie.Need-returns Inv-loop μ-loop Inv-loop2 μ-loop2 Inv-loop3 μ-loop3
 returns c = λ k h. c .before .loop3 .inv .done k (omega (arith, h, c .loop3-test .left))
 
-pub judged-all-spec : {M : Type 1} → statement M
-judged-all-spec =
+pub judged-run-spec : {M : Type 1} → statement M
+judged-run-spec =
     tie.close
     (tie.spec Inv-loop μ-loop Inv-loop2 μ-loop2 Inv-loop3 μ-loop3 loop-holds (λ c. search needs)
-    element-copy-out-square-sum (λ c. search needs) element-copy-out-square-sum-2 square-sum-requires
+    (λ c. search needs) element-copy-out-square-sum (λ c. search needs) (λ c. search needs)
+    element-copy-out-square-sum-2 square-sum-requires
     (λ c. search needs) (λ c. search needs) (λ c. search needs) (λ c. search needs) loop-again loop2-holds
     (λ c. search needs) (λ c. search needs) guess-requires (λ c. search needs) array-write-guesses (λ c. search needs)
     (λ c. search needs) loop2-again loop3-holds (λ c. search needs) array-read-root-or-zero mul-root-or-zero-2
