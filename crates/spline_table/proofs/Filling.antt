@@ -1,7 +1,7 @@
 -- The second pass: the entries up to k stand at the start of the table, and past them what stood there. Assumes nothing.
 use mathlib.Core.Path.{_≡_, refl, sym, ap, _∙_, subst}
 use mathlib.Core.List.{List, [], _∷_, _++_}
-use Prim.Native.Nat.{ℕ, zero, suc, _+_, _≤_, _<_}
+use Prim.Native.Nat.{ℕ, suc, _+_, _≤_, _<_}
 use native.Mathlib.Numerals.{add-one}
 use native.Mathlib.Omega.{arith}
 use lib.ListN.{length, set, take, length-take}
@@ -48,7 +48,8 @@ module _ {formula : Float → Point} {n : ℕ} {before : List Float} where
       record { walking = w; room = f .room; filled = filled-next f ∙ ap (λ (m : ℕ). written (take m (lengthsOf formula n)) before) (sym (add-one k)) }
 
   -- a whole row is stored
-  pub filling-row : {table after : List Float} {previous : Point} {total : Float} {walk : Walk} {k : ℕ} → Filling formula n before table previous total k → Walking formula n walk (k + 31) → Entered (lengthsOf formula n) before (k + 31) after
+  pub filling-row : {table after : List Float} {previous : Point} {total : Float} {walk : Walk} {k : ℕ}
+      → Filling formula n before table previous total k → Walking formula n walk (k + 31) → Entered (lengthsOf formula n) before (k + 31) after
       → Filling formula n before after (walk .previous) (walk .total) (k + 31)
   filling-row f w e = record { walking = w; room = f .room; filled = e }
 

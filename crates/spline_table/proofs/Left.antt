@@ -1,25 +1,26 @@
--- What is left of a scaled parameter in its span is from 0 to 1: the whole part is at most the parameter and more than one below it, and past the last span's start the parameter is at most
+-- What is left of a scaled parameter in its span is from 0 to 1: the parameter is from its whole part to one more, and past the last span's start at most
 -- one above that. Assumes nothing.
-use mathlib.Core.Path.{_≡_, refl, sym, ap, _∙_, subst}
+use mathlib.Core.Path.{_≡_, sym, ap, _∙_, subst}
 use mathlib.Core.Logic.{_⊎_, inl, inr}
-use mathlib.Core.Bool.{Bool, true, false}
-use Prim.Native.Nat.{ℕ, zero, suc, _+_, _-_, _*_, _/_, _^_, _≤_, _<_, min, zero-le}
-use native.Mathlib.Nat.{le-trans, le-of-eq, le-of-lt, le-refl, lt-of-lt-of-le, mul-one, one-mul, mul-assoc, mul-comm, mul-right-comm, mul-le-mul-right, min-le-left, min-le-right, min-eq-left, min-eq-right, div-mul-le-self, lt-div-mul-add, zero-mul, add-mul, le-of-mul-le-mul-right}
+use mathlib.Core.Bool.{true, false}
+use Prim.Native.Nat.{ℕ, suc, _+_, _-_, _*_, _/_, _^_, _≤_, _<_, min, zero-le}
+use native.Mathlib.Nat.{le-trans, le-of-eq, le-of-lt, zero-mul, mul-one, mul-right-comm, add-mul, mul-le-mul-right, le-of-mul-le-mul-right}
+use native.Mathlib.Nat.{min-le-left, min-le-right, min-eq-left, min-eq-right, div-mul-le-self, lt-div-mul-add}
 use native.Mathlib.Omega.{arith}
 use lib.Dec.{T, lit≤, leb, leb→le, nleb→lt, eqb→eq}
 use lib.IntN.{pos}
-use lib.Ieee.{Float, nan, inf, fin, binary32, sub, le, ofInt, ofBits, toUnsigned, up, down, prec}
+use lib.Ieee.{Float, nan, inf, fin, binary32, sub, le, ofInt, toUnsigned, up, down}
 use lib.Ieee.Fits.{down-pos}
 use lib.Ieee.Positive.{num, den, den-pos}
 use Rattle.floats.specs.Floats.{zeroF}
 use Rattle.floats.specs.Kinds.{nonneg}
 use Rattle.floats.proofs.Tests.{decide}
 use Rattle.floats.proofs.Fractions.{le→cross, cross→le}
-use Rattle.floats.proofs.Rounded.{Rounds, sub-rounds}
+use Rattle.floats.proofs.Rounded.{sub-rounds}
 use Rattle.floats.proofs.Between.{nonneg-between}
 use Rattle.floats.proofs.Constants.{zero-held}
-use Rattle.floats.proofs.Whole.{whole-value, whole-held}
-use Rattle.float_bounds.proofs.Within.{Within, Holds, round-within}
+use Rattle.floats.proofs.Whole.{whole-value}
+use Rattle.float_bounds.proofs.Within.{Within, round-within}
 use Rattle.path_bounds.proofs.Roots.{holds-power}
 use Rattle.spline.specs.Formula.{indexOf, InSpans}
 
@@ -103,7 +104,8 @@ module _ (segments : ℕ) (x : Float) (i : InSpans segments x) where
       let r = sub-rounds binary32 x w scaled-nonneg (v .0) (cross→le w x (v .0) scaled-nonneg least) in
       let most : num x * den w ≤ n * den x * den w + den x * den w = le-trans (mul-le-mul-right (den w) index-over) (le-of-eq (step n (den x) (den w))) in
       subst (Within 1) (sym (r .same))
-      (round-within binary32 (r .sign) (num x * den w - num w * den x) (den x * den w) 1 (r .above) (holds-power 0 (omega arith)) (rest (num x * den w) (num w * den x) (n * den x * den w) (den x * den w) swap most))
+      (round-within binary32 (r .sign) (num x * den w - num w * den x) (den x * den w) 1 (r .above) (holds-power 0 (omega arith))
+      (rest (num x * den w) (num w * den x) (n * den x * den w) (den x * den w) swap most))
     where
       index-few : (n : ℕ) → n ≤ segments - 1 → n ≤ 4095
       index-few n h = let k = i .few in omega arith

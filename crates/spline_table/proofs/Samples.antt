@@ -1,20 +1,18 @@
 -- The samples of a spline through points within 2^40 are within 2^48, since what is left of the parameter in its span is at most 1; so that no running length is infinite or a NaN. Assumes nothing.
-use mathlib.Core.Path.{_≡_, refl, sym, ap, _∙_, subst}
-use mathlib.Core.Logic.{_⊎_, inl, inr}
+use mathlib.Core.Path.{_≡_, refl, sym, subst}
+use mathlib.Core.Logic.{inl, inr}
 use mathlib.Core.Bool.{true, false, not}
 use mathlib.Core.List.{List}
 use Prim.Native.Nat.{ℕ, zero, suc, _+_, _-_, _*_, _/_, _^_, _≤_, _<_, zero-le}
-use native.Mathlib.Nat.{mul-one, one-mul, le-trans}
 use native.Mathlib.Omega.{arith}
-use borrow.Author.Tests.{lt-ltb, le-ltb, eq-eqb, ne-eqb}
+use borrow.Author.Tests.{lt-ltb, le-ltb, ne-eqb}
 use lib.Dec.{T, ltb, ltb→lt, nltb→le}
 use lib.IntN.{pos}
 use lib.ListN.{length}
 use lib.Pow.{pow-add, pow-mono}
 use lib.Ieee.{Float, binary32, ofBits, add, sub, mul, neg, ofInt}
-use lib.Ieee.Scale.{finite}
 use Rattle.floats.specs.Floats.{zeroF, clamp01Of}
-use Rattle.floats.proofs.Tests.{decide, passed}
+use Rattle.floats.proofs.Tests.{decide}
 use Rattle.math.specs.declared.points.Point.{Point}
 use Rattle.math.specs.Math.{originF, lerpPointOf}
 use Rattle.table.specs.Lookup.{at}

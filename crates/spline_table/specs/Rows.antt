@@ -45,3 +45,7 @@ pub record Differences (formula : Float → Point) (n k : ℕ) (row : Row) : Typ
 -- the entries before k stand at the start of the table, and past them what stood there before
 abbrev pub Entered : List Float → List Float → ℕ → List Float → Type 0
 Entered lengths before k table = table ≡ written (take k lengths) before
+
+-- a table with the entries before j becomes one with those before k
+abbrev pub Grown : List Float → ℕ → ℕ → List Float → List Float → Type 0
+Grown lengths j k table after = (before : List Float) → Entered lengths before j table → Entered lengths before k after

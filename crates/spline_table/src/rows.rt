@@ -3,12 +3,10 @@ use lengths::lengths;
 use math::Point;
 use spline::inner::sample;
 use table::inner::mark;
-ghost use Prim.Native.Nat.{ℕ, _+_};
-ghost use mathlib.Core.List.{List};
-ghost use lib.Ieee.{Float};
+ghost use Prim.Native.Nat.{_+_};
 ghost use Rattle.table_samples.specs.Samples.{lengthsOf};
 ghost use Rattle.spline.specs.Formula.{splineSampleOf};
-ghost use Rattle.spline_table.specs.Rows.{Walking, Ahead, Roomed, Differences, Entered};
+ghost use Rattle.spline_table.specs.Rows.{Walking, Ahead, Roomed, Differences, Grown};
 
 // How far a pass has come: the sample made last, and the running length at it.
 pub(crate) struct Walk {
@@ -51,7 +49,7 @@ fn differences(points: &[f32], last: usize, k: usize, first: Point) -> Row
 pub(crate) fn fill_row(points: &[f32], last: usize, k: usize, walk: Walk, table: &mut [f32]) -> Walk
     requires { ⌜ Roomed (now points) last walk k (now table) ⌝ }
     ensures walked { λ r. ⌜ Walking (splineSampleOf (now (points .entry))) last r (k + 31) ⌝ }
-    ensures stored { λ _. ⌜ ((before : List Float) → Entered (lengthsOf (splineSampleOf (now (points .entry))) last) before k (now (table .entry)) → Entered (lengthsOf (splineSampleOf (now (points .entry))) last) before (k + 31) (now (table .exit))) ⌝ }
+    ensures stored { λ _. ⌜ Grown (lengthsOf (splineSampleOf (now (points .entry))) last) k (k + 31) (now (table .entry)) (now (table .exit)) ⌝ }
 {
     let first = walk.previous;
     let row = differences(points, last, k, first);

@@ -28,7 +28,9 @@ abbrev μ-loop2 : tie.MeasureT-loop2
 
 loop-holds : tie.Need-loop-holds Inv-loop μ-loop Inv-loop2 μ-loop2
 unfolding sampleAt zeroF
-loop-holds c = filling-start {formula = splineSampleOf (c .before .before .before .before .args .points .now)} (walking-start _ (c .sample .ensures ∙ ap (splineSampleOf _) (c .before .mark .ensures))) (c .before .before .before .before .pre .room)
+loop-holds c =
+    filling-start {formula = splineSampleOf (c .before .before .before .before .args .points .now)}
+    (walking-start _ (c .sample .ensures ∙ ap (splineSampleOf _) (c .before .mark .ensures))) (c .before .before .before .before .pre .room)
 
 fill-row-requires : tie.Need-fill-row-requires Inv-loop μ-loop Inv-loop2 μ-loop2
 fill-row-requires c κs =

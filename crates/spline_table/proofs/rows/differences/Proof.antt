@@ -21,7 +21,8 @@ loop-again : tie.Need-loop-again Inv-loop μ-loop
 unfolding sampleAt
 loop-again c =
     let at-loop = c .before .before .before .before .before .before .before in
-    crossing-more (at-loop .loop .inv) (c .before .before .before .before .before .before .loop-test .taken) _ (c .before .before .before .before .sample .ensures ∙ ap (splineSampleOf _) (c .before .before .before .before .before .mark .ensures))
+    crossing-more (at-loop .loop .inv) (c .before .before .before .before .before .before .loop-test .taken) _
+    (c .before .before .before .before .sample .ensures ∙ ap (splineSampleOf _) (c .before .before .before .before .before .mark .ensures))
 
 returns : tie.Need-returns Inv-loop μ-loop
 returns c = crossing-done (c .before .loop .inv) (c .loop-test .left)
