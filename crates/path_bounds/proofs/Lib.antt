@@ -3,3 +3,5 @@ pub mod Tested
 pub mod Roots
 pub mod Lengths
 pub mod Segments
+pub mod Sines
+pub mod Arcs

@@ -1,8 +1,10 @@
 -- Numbers of at most 2^40 in size, and points of such numbers, in path units. What they are for is a law: no length between them is infinite or a NaN.
--- Definitions only.
+-- So too of an arc whose centre and radii are such points and whose angles are at most 16 radians. Definitions only.
 use mathlib.Core.Bool.{Bool, _&&_}
 use lib.Ieee.{Float, binary32, ofBits, neg, le}
 use Rattle.math.specs.declared.points.Point.{Point}
+use Rattle.rotation.specs.Rotation.{phiOf}
+use Rattle.ellipse.specs.declared.ends.Arc.{Arc}
 
 -- 2^40 and -2^40
 unfoldable pub farF : Float
@@ -20,3 +22,21 @@ isNear x = le x farF && le backF x
 unfoldable pub isCalm : Point → Bool
 unfolding isNear
 isCalm p = isNear (p .x) && isNear (p .y)
+
+-- 16 and -16
+unfoldable pub wideF : Float
+wideF = ofBits binary32 0x4180_0000
+
+unfoldable pub wideBackF : Float
+unfolding wideF
+wideBackF = neg wideF
+
+unfoldable pub isNarrow : Float → Bool
+unfolding wideF wideBackF
+isNarrow x = le x wideF && le wideBackF x
+
+-- an arc's angles are in radians, but for its rotation, whose radians are `phiOf`
+unfoldable pub isCalmArc : Arc → Bool
+unfolding isCalm isNarrow
+isCalmArc shape =
+    isCalm (shape .center) && isCalm (shape .radii) && isNarrow (shape .«start_angle») && isNarrow (shape .«delta_angle») && isNarrow (phiOf (shape .«x_axis_rotation»))
