@@ -22,6 +22,7 @@ use ellipse::turn_of;
 use floats::EPSILON;
 use floats::is_finite;
 use floats::tidy;
+use lengths::lengths;
 use math::Point;
 use math::distance;
 use table::Progress;
@@ -80,27 +81,23 @@ pub fn arc_heading(shape: Arc, raw: RawParameter) -> Point
     tidied(direction(shape, raw))
 }
 
-// The point at a raw parameter, with the arc's turn lent.
-fn turned_sample(shape: Arc, turn: SinCos, raw: RawParameter) -> Point
-    ensures { λ r. ⌜ r ≡ pointTurned shape turn (raw .value) ⌝ }
-{
-    tidied(point_turned(shape, turn, raw))
-}
-
-// The distances from each of the 32 samples to the next. They share the turn, so that it is taken once for all.
+// The distances from each of the 32 samples to the next. They share the turn, so that it is taken once for all, and are measured
+// together. The last place of a row leaves no rest in lanes; nothing reads it.
 fn arc_steps(shape: Arc, turn: SinCos) -> [f32; 31]
     ensures { λ r. ⌜ r ≡ stepsOf (pointTurned shape turn) 31 ⌝ }
 {
-    let mut steps = [0.0f32; 31];
-    let mut previous = turned_sample(shape, turn, mark(0, 31));
+    let mut x = [1.0f32; 32];
+    let mut y = [1.0f32; 32];
+    let mut previous = point_turned(shape, turn, mark(0, 31));
     let mut k = 0usize;
     while k < 31 {
-        let current = turned_sample(shape, turn, mark(k + 1, 31));
-        steps[k] = distance(previous, current);
+        let current = point_turned(shape, turn, mark(k + 1, 31));
+        x[k] = current.x - previous.x;
+        y[k] = current.y - previous.y;
         previous = current;
         k += 1;
     }
-    steps
+    lengths(&x, &y)
 }
 
 // The table of an ellipse's arc.
