@@ -174,9 +174,9 @@ fn read_long(text: &[u8], letters: &mut [u8], numbers: &mut [f32], offsets: &mut
     requires { ⌜ length (now text) ≤ 65536 ⌝ }
     ensures { λ r. ⌜ ReadPath (now (text .entry)) (before letters numbers offsets) r (after letters numbers offsets) ⌝ }
 {
-    let mut held = [0u8; 2048];
+    let mut held = [0u8; 1792];
     let mut kept = [0.0f32; 4096];
-    let mut marks = [0u16; 2048];
+    let mut marks = [0u16; 1792];
     read_by(
         text,
         &mut held,
