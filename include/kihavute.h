@@ -8,7 +8,7 @@
  * Limits: 65,536 bytes of text, 65,536 commands, 65,536 segments of a path, 4,096 points of a list; 4,096 bytes, 256 commands
  *         and 2 to 1,000 stations of a plan; angles of 64 radians for sine and cosine. What lies beyond is refused,
  *         or a NaN where that is said. The rotation of an arc is any finite number of degrees.
- * Stack:  at most 64 KiB, which is kihavute_stations; of the others that take a text kihavute_read some 20 KB,
+ * Stack:  at most 64 KiB, which is kihavute_stations; of the others that take a text kihavute_read some 24 KB,
  *         kihavute_build_text at most 5 KiB, and the rest at most 2. docs/RUNS.md has the table, and tests/c/stack.c holds each entry to its limit.
  * Units:  coordinates and lengths are in the unit of the path, times t are pure numbers, angles say theirs.
  * Sizes:  a coordinate is a float of 24 bits, so the larger it is, the further apart its neighbours are: 2^-10 (0.00098) from 8,192 to
@@ -347,7 +347,7 @@ uint32_t kihavute_strict(const uint8_t *text, size_t text_len, uint32_t edition,
  * answer[0] is the count of letters needed, answer[1] that of numbers, answer[2] that of offsets. A call that does not return 0
  * leaves all buffers as they were, so that a call with buffers of length 0 asks for the sizes.
  *
- * It costs some 20 KB of stack, whatever the text, since most texts are passed once, by way of buffers of its own: about 4.3 ns a
+ * It costs some 24 KB of stack, whatever the text, since most texts are passed once, by way of buffers of its own: about 4.3 ns a
  * byte on the machine of docs/RUNS.md. For a task with less stack there is the next one. */
 uint32_t kihavute_read(const uint8_t *text, size_t text_len, uint8_t *letters, size_t letters_len,
                        float *numbers, size_t numbers_len, uint32_t *offsets, size_t offsets_len,
