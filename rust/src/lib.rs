@@ -1171,7 +1171,10 @@ mod tests {
         assert_eq!(read(b""), list(b"", &[], &[]));
         assert_eq!(read(b" m1 2 3 4"), list(b"ML", &[1.0, 2.0, 4.0, 6.0], &[1, 1]));
         assert_eq!(read(b"ZL1 2"), list(b"ZL", &[1.0, 2.0], &[0, 1]));
-        assert_eq!(read(b"M0 0a1 2 3 01 4 5z"), list(b"MAZ", &[0.0, 0.0, 1.0, 2.0, 3.0, 0.0, 1.0, 4.0, 5.0], &[0, 4, 17]));
+        assert_eq!(
+            read(b"M0 0a1 2 3 01 4 5z"),
+            list(b"MAZ", &[0.0, 0.0, 1.0, 2.0, 3.0, 0.0, 1.0, 4.0, 5.0], &[0, 4, 17])
+        );
         // more letters than bytes are guessed for
         let places: Vec<u32> = (0..100).collect();
         assert_eq!(read(&[b'z'; 100]), list(&[b'Z'; 100], &[], &places));
