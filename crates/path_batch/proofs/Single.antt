@@ -5,7 +5,6 @@ use native.Mathlib.Omega.{arith}
 use mathlib.Core.List.{List, [], _∷_, _++_}
 use lib.ListN.{length, getD, take, drop}
 use lib.Ieee.{Float, nan}
-use Rattle.answers.specs.Report.{written}
 use Rattle.flight.specs.Flights.{segmentGiven}
 use Rattle.path_stored.specs.Buffers.{Buffers}
 use Rattle.path_query.specs.Flights.{flightOf}

@@ -1,7 +1,7 @@
 -- Demand 3 of the letter over the answers of `flight`: an accepted call shows it of every call on its buffers, and of any accepted calls it says that the one whose progress counts for no less has
 -- the pair of segment and raw parameter that is no earlier, that the first and the last pair are the path's ends, and that the pair answered is where running lengths and table put the target.
 -- `demand-3` of path_place/proofs/Demand3.antt is the demand of the lookup. Assumes nothing.
-use mathlib.Core.Path.{_≡_, refl, sym, ap, _∙_, subst}
+use mathlib.Core.Path.{_≡_, sym, ap, _∙_, subst}
 use Prim.Native.Nat.{_-_, _<_}
 use mathlib.Core.Bool.{true}
 use lib.Dec.{T}
@@ -12,7 +12,6 @@ use Rattle.floats.proofs.Tests.{passed}
 use Rattle.table.specs.Spots.{pathTotal, spotOf}
 use Rattle.table_order.specs.Stated.{NoStepBack}
 use Rattle.table_order.specs.Swept.{Inside}
-use Rattle.flight.specs.declared.Found.the-variants.{Segment}
 use Rattle.flight.specs.declared.Flight.{Flight}
 use Rattle.flight.specs.declared.Flown.{Flown}
 use Rattle.flight.specs.declared.Flown.the-variants as Flown

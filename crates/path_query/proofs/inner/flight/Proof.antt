@@ -1,9 +1,7 @@
 -- With a segment or without: both cases of `flightOf`. Assumes nothing.
 use borrow.Author.Needs.{needs}
 use mathlib.Core.Path.{_∙_}
-use Prim.Native.Nat.{_<_}
 use native.Mathlib.Omega.{arith}
-use lib.ListN.{length}
 use Rattle.path_query.proofs.Seats.{a-flight}
 use Rattle.path_query.proofs.Answering.{flight-some, flight-none}
 use Rattle.path_query.proofs.inner.flight.Statement.{statement}

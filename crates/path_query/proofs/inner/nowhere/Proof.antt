@@ -4,7 +4,6 @@ use mathlib.Core.Path.{ap}
 use lib.Ieee.{Float, lt, le, ne, isNan, ofBits}
 use Rattle.floats.specs.Floats.{zeroF, oneF, minOf, maxOf, clampOf, clamp01Of}
 use Rattle.flight.specs.declared.Found.the-variants.{Nothing}
-use Rattle.flight.specs.declared.Flight.{Flight}
 use Rattle.math.specs.Math.{originF}
 use Rattle.path_query.proofs.inner.nowhere.Statement.{statement}
 use Rattle.path_query.proofs.inner.nowhere.Tie as tie
