@@ -11,8 +11,7 @@ use Rattle.answers.specs.declared.refusals.Refusal.the-variants.{TooLong}
 use Rattle.commands.specs.Stored.{lettersOf, numbersOf}
 use Rattle.commands.specs.declared.command.PathCommand.{PathCommand}
 use Rattle.commands.proofs.ReadBack.{read-back, stored-passes}
-use Rattle.svg.specs.Texts.{Outcome, commands, refusal as unread, commandsOf, measureOf as lengthOf}
-use Rattle.svg.specs.declared.passes.Size.the-variants as Length
+use Rattle.svg.specs.Texts.{Outcome, commands, refusal as unread, commandsOf}
 use Rattle.svg.proofs.Texts.{commands-few}
 use Rattle.path_stored.specs.Buffers.{Buffers}
 use Rattle.path_drawing.specs.Building.{refusal, buildOf}
@@ -28,31 +27,16 @@ use Rattle.path_text.specs.Builds.{builtFrom, buildTextOf, BuildFromText
 
 -- ---- reading before building
 
-unread-whole : (reason : Refusal) (outcome : Outcome) → Length.Refused reason ≡ lengthOf outcome → outcome ≡ unread reason
-unfolding lengthOf
-unread-whole reason (commands list) e = let z : _≡_ {A = ℕ} 0 1 = cc in absurd (omega arith)
-unread-whole reason (unread other) e = let f : other ≡ reason = cc in ap unread f
-
-read-whole : (letters numbers : ℕ) (outcome : Outcome) → Length.Counted letters numbers ≡ lengthOf outcome → (list : List PathCommand) × (outcome ≡ commands list)
-unfolding lengthOf
-read-whole letters numbers (commands list) e = (list, refl)
-read-whole letters numbers (unread reason) e = let z : _≡_ {A = ℕ} 0 1 = cc in absurd (omega arith)
-
 module _ (text : List ℕ) where
   -- the text does not read
   pub unread-size : (reason : Refusal) → commandsOf text ≡ unread reason → Size.Refused reason ≡ measureOf (builtFrom (commandsOf text))
   unread-size reason e = refused-is reason (builtFrom (commandsOf text)) (ap builtFrom e)
 
-  pub unread-later : (first : Refusal) → Length.Refused first ≡ lengthOf (commandsOf text) → Size.Refused first ≡ measureOf (builtFrom (commandsOf text))
-  unread-later first m = unread-size first (unread-whole first (commandsOf text) m)
-
   -- it reads, and a segment is refused
   pub unbuilt-size :
-      (reason : Refusal) (letters numbers : ℕ) → ((list : List PathCommand) → commandsOf text ≡ commands list → buildOf list ≡ refusal reason)
-      → Length.Counted letters numbers ≡ lengthOf (commandsOf text) → Size.Refused reason ≡ measureOf (builtFrom (commandsOf text))
-  unbuilt-size reason letters numbers f m =
-      let r = read-whole letters numbers (commandsOf text) m in
-      refused-is reason (builtFrom (commandsOf text)) (ap builtFrom (r .1) ∙ f (r .0) (r .1))
+      (reason : Refusal) (list : List PathCommand) → ((list : List PathCommand) → commandsOf text ≡ commands list → buildOf list ≡ refusal reason)
+      → commandsOf text ≡ commands list → Size.Refused reason ≡ measureOf (builtFrom (commandsOf text))
+  unbuilt-size reason list f e = refused-is reason (builtFrom (commandsOf text)) (ap builtFrom e ∙ f list e)
 
   -- ---- the ways out
 

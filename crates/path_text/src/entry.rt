@@ -9,6 +9,7 @@ ghost use Rattle.path_text.specs.Builds.{builtFrom, BuildFromText};
 use crate::texts::Found;
 use crate::texts::fill;
 use crate::texts::measure;
+use crate::texts::unbuilt;
 use answers::Refusal;
 use answers::Values;
 use path_build::Building;
@@ -36,17 +37,9 @@ fn size_of(text: &[u8]) -> Size
         Found::Unread(refusal) => {
             return Size::Refused(refusal);
         }
-        Found::Unbuilt(refusal) => match svg::inner::measure(text) {
-            svg::inner::Size::Refused(first) => {
-                return Size::Refused(first);
-            }
-            svg::inner::Size::Counted {
-                letters: _,
-                numbers: _,
-            } => {
-                return Size::Refused(refusal);
-            }
-        },
+        Found::Unbuilt(refusal) => {
+            return unbuilt(text, refusal);
+        }
     }
 }
 

@@ -4,9 +4,11 @@ ghost use Prim.Native.Nat.{_≤_};
 ghost use lib.ListN.{length};
 ghost use Rattle.svg.specs.Texts.{commandsOf};
 ghost use Rattle.path_stored.specs.Buffers.{after, before, lent};
-ghost use Rattle.path_build.specs.Answers.{Foretells, Holding, Filled};
+ghost use Rattle.path_build.specs.Answers.{measureOf, Foretells, Holding, Filled};
 ghost use Rattle.path_text.specs.Builds.{builtFrom, Finds};
+ghost use Rattle.path_text.specs.declared.texts.Found.the-variants.{Unbuilt};
 use answers::Refusal;
+use path_build::inner::Size;
 use path_storing::Advanced;
 use path_storing::Outlook;
 use path_storing::Tallied;
@@ -116,6 +118,28 @@ pub(crate) fn measure(text: &[u8]) -> Found
         }
         Outlook::Unsure => {
             return judge(text);
+        }
+    }
+}
+
+// What a text comes to where a segment is refused: a refusal of reading further on comes first. It steps as the other passes do, since
+// a pass of its own would lie on the stack of every call.
+pub(crate) fn unbuilt(text: &[u8], refusal: Refusal) -> Size
+    requires { ⌜ (length (now text) ≤ 65536) × Finds (now text) (Unbuilt refusal) ⌝ }
+    ensures { λ r. ⌜ r ≡ measureOf (builtFrom (commandsOf (now (text .entry)))) ⌝ }
+{
+    let mut reader = fresh();
+    loop {
+        match read_step(text, reader) {
+            Step::Done => {
+                return Size::Refused(refusal);
+            }
+            Step::Refused(first) => {
+                return Size::Refused(first);
+            }
+            Step::Command { command: _, next } => {
+                reader = next;
+            }
         }
     }
 }

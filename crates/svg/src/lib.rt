@@ -1,5 +1,4 @@
 // The permissive reader: from a text of path data to a list of commands in three lent buffers.
-pub mod inner;
 mod lean;
 mod passes;
 mod reading;

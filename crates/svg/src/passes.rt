@@ -21,15 +21,8 @@ pub enum Size {
     Refused(Refusal),
 }
 
-// How many letters and numbers a text stores, or its first refusal. No number is converted.
-pub fn measure(text: &[u8]) -> Size
-    requires { ⌜ length (now text) ≤ 65536 ⌝ }
-    ensures { λ r. ⌜ r ≡ measureOf (commandsOf (now (text .entry))) ⌝ }
-{
-    measure_on(text, fresh(), 0, 0)
-}
-
-// The same where the commands up to a state are counted already.
+// How many letters and numbers a text stores, or its first refusal, where the commands up to a state are counted already. No number is
+// converted.
 pub(crate) fn measure_on(text: &[u8], reader: Reader, letters: usize, numbers: usize) -> Size
     requires { ⌜ (length (now text) ≤ 65536) × Counting (now text) reader letters numbers ⌝ }
     ensures { λ r. ⌜ r ≡ measureOf (commandsOf (now (text .entry))) ⌝ }

@@ -1,8 +1,8 @@
--- `path_text::entry::size_of` meets its contract: a refusal of reading comes first. Assumes nothing.
+-- `path_text::entry::size_of` meets its contract: what the first pass finds is what is answered. Assumes nothing.
 use borrow.Author.Needs.{needs}
-use mathlib.Core.Path.{sym, subst, _∙_}
+use mathlib.Core.Path.{subst}
 use Rattle.path_text.specs.Builds.{Finds}
-use Rattle.path_text.proofs.Entering.{unread-size, unread-later, unbuilt-size}
+use Rattle.path_text.proofs.Entering.{unread-size}
 use Rattle.path_text.proofs.entry.size_of.Statement.{statement}
 use Rattle.path_text.proofs.entry.size_of.Tie as tie
 
@@ -12,16 +12,16 @@ returns c = subst (Finds _) (c .before .segments .given .1) (c .before .before .
 returns-2 : tie.Need-returns-2
 returns-2 c = unread-size _ _ (subst (Finds _) (c .before .refusal .given .1) (c .before .before .before .measure .ensures))
 
-returns-3 : tie.Need-returns-3
-returns-3 c = unread-later _ _ (sym (c .before .first .given .1) ∙ c .before .before .before .measure2 .ensures)
+unbuilt-requires : tie.Need-unbuilt-requires
+unbuilt-requires c κs =
+    let found = c .before in
+    (found .before .before .before .before .pre, subst (Finds _) (found .refusal2 .given .1) (found .before .before .measure .ensures))
 
-returns-4 : tie.Need-returns-4
-returns-4 c =
-    let found = c .before .before .before .before in
-    unbuilt-size _ _ _ _ (subst (Finds _) (found .refusal2 .given .1) (found .before .before .measure .ensures)) (sym (c .enum-told .given .1) ∙ c .before .before .measure2 .ensures)
+returns-3 : tie.Need-returns-3
+returns-3 c = c .unbuilt .ensures
 
 pub size-of-spec : {M : Type 1} → statement M
 size-of-spec =
     tie.close
     (tie.spec (λ c κs. search needs) (λ c. search needs) returns (λ c. search needs) returns-2 (λ c. search needs)
-    (λ c κs. search needs) (λ c. search needs) returns-3 (λ c. search needs) returns-4)
+    unbuilt-requires returns-3)
