@@ -11,6 +11,7 @@ use floats::tidy;
 use math::Point;
 use table::Table;
 ghost use mathlib.Core.Path.{_≡_};
+ghost use Rattle.path_segment.specs.declared.segments.PathSegment.the-variants as Segment;
 ghost use Rattle.path_segment.specs.Segments.{kindOf, widthOf, hasTable, tableFor, lengthFor};
 
 // A segment with the Rust's fields without `length` and `line_fallback`, in path units; angles are in radians but for the rotation.
@@ -103,6 +104,25 @@ pub fn segment_table(segment: PathSegment) -> Table
     }
 }
 
+// How long a quad, a cubic and an arc are. Each has a function of its own, so that their tables take turns on the stack.
+fn quad_length(start: Point, control: Point, end: Point) -> f32
+    ensures { λ r. ⌜ r ≡ lengthFor (Segment.Quad start control end) ⌝ }
+{
+    tidy(quad_table(start, control, end).total)
+}
+
+fn cubic_length(start: Point, control1: Point, control2: Point, end: Point) -> f32
+    ensures { λ r. ⌜ r ≡ lengthFor (Segment.Cubic start control1 control2 end) ⌝ }
+{
+    tidy(cubic_table(start, control1, control2, end).total)
+}
+
+fn arc_length(shape: Arc) -> f32
+    ensures { λ r. ⌜ r ≡ lengthFor (Segment.Arc shape) ⌝ }
+{
+    tidy(arc_table(shape).total)
+}
+
 // How long a segment is: its table's total, or the length of its line. Infinite or a NaN where that is so.
 pub fn segment_length(segment: PathSegment) -> f32
     ensures { λ r. ⌜ r ≡ lengthFor segment ⌝ }
@@ -113,14 +133,14 @@ pub fn segment_length(segment: PathSegment) -> f32
             start,
             control,
             end,
-        } => tidy(quad_table(start, control, end).total),
+        } => quad_length(start, control, end),
         PathSegment::Cubic {
             start,
             control1,
             control2,
             end,
-        } => tidy(cubic_table(start, control1, control2, end).total),
-        PathSegment::Arc(shape) => tidy(arc_table(shape).total),
+        } => cubic_length(start, control1, control2, end),
+        PathSegment::Arc(shape) => arc_length(shape),
         PathSegment::Fallback(shape) => line_length(chord_line(shape)),
     }
 }

@@ -12,15 +12,15 @@ returns c = rw (c .before .before .segment .given .1) (c .line-length .ensures)
 
 returns-2 : tie.Need-returns-2
 unfolding lengthFor
-returns-2 c = rw (c .before .before .before .segment2 .given .1) (c .tidy .ensures ∙ ap (λ t. t .total) (c .before .quad-table .ensures))
+returns-2 c = rw (c .before .before .segment2 .given .1) (c .quad-length .ensures)
 
 returns-3 : tie.Need-returns-3
 unfolding lengthFor
-returns-3 c = rw (c .before .before .before .segment3 .given .1) (c .tidy2 .ensures ∙ ap (λ t. t .total) (c .before .cubic-table .ensures))
+returns-3 c = rw (c .before .before .segment3 .given .1) (c .cubic-length .ensures)
 
 returns-4 : tie.Need-returns-4
 unfolding lengthFor
-returns-4 c = rw (c .before .before .before .segment4 .given .1) (c .tidy3 .ensures ∙ ap (λ t. t .total) (c .before .arc-table .ensures))
+returns-4 c = rw (c .before .before .segment4 .given .1) (c .arc-length .ensures)
 
 returns-5 : tie.Need-returns-5
 unfolding lengthFor
@@ -30,6 +30,6 @@ pub segment-length-spec : {M : Type 1} → statement M
 segment-length-spec =
     tie.close
     (tie.spec (λ c. search needs) (λ c κs. search needs) (λ c. search needs) (λ c κs. search needs)
-    (λ c κs. search needs) (λ c. search needs) (λ c κs. search needs) (λ c κs. search needs) (λ c. search needs)
-    (λ c κs. search needs) (λ c κs. search needs) (λ c. search needs) (λ c κs. search needs) (λ c κs. search needs)
+    (λ c. search needs) (λ c κs. search needs) (λ c. search needs)
+    (λ c κs. search needs) (λ c. search needs) (λ c κs. search needs) (λ c κs. search needs)
     returns returns-2 returns-3 returns-4 returns-5)
