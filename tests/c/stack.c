@@ -1,4 +1,4 @@
-/* Measures the stack of each entry that reads a text, and fails where one takes more than its limit. The call is made on a stack of
+/* Measures the stack of each entry that reads a text, and of building from a list, and fails where one takes more than its limit. The call is made on a stack of
  * its own, which was painted before; what it takes is counted from its caller's frame down to the last byte that was written. So each
  * count has a little of the measurement's own, the registers and arguments that the caller puts below its frame: as much as is counted
  * where an empty function stands in the entry's place. It is printed, and not subtracted. What an entry reserves below its last write
@@ -13,10 +13,10 @@
 
 enum { STACK = 1 << 18, PAINT = 0xA5, LONG = 65536, PLAN = 4096 };
 
-static uint8_t text[LONG + 64], letters[LONG], listing[LONG];
+static uint8_t text[LONG + 64], letters[LONG], kinds[LONG], listing[LONG];
 static uint32_t offsets[LONG];
 static float numbers[LONG], fields[11 * LONG], tables[33 * LONG], lengths[LONG];
-static size_t size;
+static size_t size, commands, arguments; /* of the text, and of the list that it is read as */
 static uint64_t answer[8];
 static uint32_t returned;
 
@@ -35,11 +35,14 @@ static void number(void) { returned = AS(kihavute_number)(text, size, LENT(answe
 static void strict(void) { returned = AS(kihavute_strict)(text, size, KIHAVUTE_SVG_1_1, LENT(answer)); }
 static void reading(void) { returned = AS(kihavute_read)(text, size, LENT(letters), LENT(numbers), LENT(offsets), LENT(answer)); }
 static void building(void) {
-    returned = AS(kihavute_build_text)(text, size, LENT(letters), LENT(fields), LENT(tables), LENT(lengths), LENT(answer));
+    returned = AS(kihavute_build_text)(text, size, LENT(kinds), LENT(fields), LENT(tables), LENT(lengths), LENT(answer));
+}
+static void from_list(void) {
+    returned = AS(kihavute_build)(letters, commands, numbers, arguments, LENT(kinds), LENT(fields), LENT(tables), LENT(lengths), LENT(answer));
 }
 static void stations(void) { returned = AS(kihavute_stations)(text, size, LENT(listing), LENT(answer)); }
 
-enum takes { A_NUMBER, A_PATH, A_PLAN };
+enum takes { A_NUMBER, A_PATH, A_LIST, A_PLAN };
 
 static struct entry {
     const char *name;
@@ -52,7 +55,8 @@ static struct entry {
     {"kihavute_number", (function)kihavute_number, number, A_NUMBER, 256, 0, ""},
     {"kihavute_strict", (function)kihavute_strict, strict, A_PATH, 512, 0, ""},
     {"kihavute_read_lean", (function)kihavute_read_lean, reading, A_PATH, 2048, 0, ""},
-    {"kihavute_build_text", (function)kihavute_build_text, building, A_PATH, 5 << 10, 0, ""},
+    {"kihavute_build_text", (function)kihavute_build_text, building, A_PATH, 2048, 0, ""},
+    {"kihavute_build", (function)kihavute_build, from_list, A_LIST, 2048, 0, ""},
     {"kihavute_read", (function)kihavute_read, reading, A_PATH, 24 << 10, 0, ""},
     {"kihavute_stations", (function)kihavute_stations, stations, A_PLAN, 64 << 10, 0, ""},
 };
@@ -98,6 +102,7 @@ static const struct text single[] = {
 static const struct text whole[] = {
     {"the empty text", "", "", 0, "", 1},
     {"every command", "M0 0l9 0H20v9C20 20 9 20 9 9s1 2 3 4Q5 5 0 9t1 2A5 5 0 0 1-9 9A0 1 0 0 1-9 8Z", "", 0, "", 1},
+    {"curves so far away that they are measured first", "M0 0Q2e12 0 2e12 2e12C0 9e12 1 2 3 4l5 6A5 5 0 0 1 9 9", "", 0, "", 1},
     {"the reader's smaller buffers, just full", "M0 0", "l1 2 ", 255, "", 1},
     {"the reader's smaller buffers and a command", "M0 0", "l1 2 ", 256, "", 1},
     {"the reader's larger buffers, just full", "M0 0", "l1 2 ", 1791, "", 1},
@@ -155,11 +160,17 @@ static size_t deepest(function caller, function of) {
 static int every, wrong;
 
 static void measure(struct entry *entry, const char *what, int right) {
+    if (entry->takes == A_LIST) {
+        if (kihavute_read(text, size, LENT(letters), LENT(numbers), LENT(offsets), LENT(answer))) return; /* no list */
+        commands = answer[0];
+        arguments = answer[1];
+    }
     size_t needed = deepest(entry->caller, entry->entry);
     if (every) printf("  %s, %s: %zu bytes, returned %u\n", entry->name, what, needed, (unsigned)returned);
     /* a listing and a verdict are given of every text; a path may be too long to be built */
     int due = entry->takes == A_PLAN || (entry->caller == strict && size <= LONG) || right;
-    if ((returned == 0) != due && !(entry->caller == building && returned == KIHAVUTE_NOT_FINITE)) {
+    int builds = entry->caller == building || entry->caller == from_list;
+    if ((returned == 0) != due && !(builds && returned == KIHAVUTE_NOT_FINITE)) {
         printf("  %s, %s: returned %u\n", entry->name, what, (unsigned)returned);
         wrong = 1;
     }
@@ -176,13 +187,13 @@ int main(int count, char **words) {
         for (size_t k = 0; k < sizeof single / sizeof *single; k++) {
             const struct text *of = single + k;
             if (entry->takes == A_NUMBER) write_text("", of, LONG, LONG, "");
-            if (entry->takes == A_PATH) write_text("M", of, LONG, LONG, " 0l1 2");
+            if (entry->takes == A_PATH || entry->takes == A_LIST) write_text("M", of, LONG, LONG, " 0l1 2");
             if (entry->takes == A_PLAN) write_text("2\nM", of, LONG, PLAN - 200, " 0l1 2");
             measure(entry, of->what, of->right);
         }
         for (size_t k = 0; entry->takes != A_NUMBER && k < sizeof whole / sizeof *whole; k++) {
             const struct text *of = whole + k;
-            if (entry->takes == A_PATH) write_text("", of, LONG, LONG, "");
+            if (entry->takes == A_PATH || entry->takes == A_LIST) write_text("", of, LONG, LONG, "");
             if (entry->takes == A_PLAN) write_text("1000\n", of, 255, PLAN - 20, "");
             measure(entry, of->what, of->right);
         }
