@@ -34,6 +34,14 @@ fn past_24(product: u64) -> u64
     if product < 576460752303423488 { 35 } else { 36 }
 }
 
+// 1 above the half, else 0: a number and no branch, since nothing foretells which.
+fn is_above(rest: u64, half: u64) -> u64
+    requires { ⌜ (rest < 2 ^ 62) × (half < 2 ^ 62) ⌝ }
+    ensures { λ r. ⌜ (r ≤ 1) × (rest ≤ half + r * 2 ^ 62) × (half + r * 2 ^ 62 < rest + 2 ^ 62) ⌝ }
+{
+    if half < rest { 1 } else { 0 }
+}
+
 // The product cut by its last binary digits, and rounded by them: what they are short of the number
 // is less than 5.
 fn cut(product: u64, dropped: u64, k: u64) -> Near
@@ -43,13 +51,12 @@ fn cut(product: u64, dropped: u64, k: u64) -> Near
     let m = product >> dropped;
     let rest = product - (m << dropped);
     let half = 1u64 << (dropped - 1);
-    if rest + 5 <= half {
-        return Near::Bits(k * 8388608 + m);
+    let above = is_above(rest, half);
+    let reaches = is_above(rest + 5, half);
+    if above < reaches {
+        return Near::Between(m, k);
     }
-    if half < rest {
-        return Near::Bits(k * 8388608 + m + 1);
-    }
-    Near::Between(m, k)
+    Near::Bits(k * 8388608 + m + above)
 }
 
 // The answer to a product that was moved up by so many binary digits. Below 2^-126 more digits are
