@@ -4,6 +4,7 @@ use crate::inner::short;
 use answers::Refusal;
 use decimal_digits::inner::exponent;
 use decimal_digits::inner::gather;
+use decimal_digits::inner::gather_many;
 use scan::Places;
 use scan::byte_at;
 use scan::is_exponent_mark;
@@ -45,7 +46,7 @@ fn find(text: &[u8], at: usize) -> Found
     let first = gather(text, whole, 0, 0);
     let point = first.at;
     let fraction = past_point(text, point);
-    let all = gather(text, fraction, first.w, first.dropped);
+    let all = gather_many(text, fraction, first.w, first.dropped);
     let mark = all.at;
     if (whole == point) & (fraction == mark) {
         return Found::Nothing(Refusal::ExpectedNumber(at));

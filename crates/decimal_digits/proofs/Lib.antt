@@ -3,3 +3,5 @@ pub mod Values
 pub mod Places
 pub mod Holding
 pub mod Capping
+pub mod Lanes
+pub mod Taking

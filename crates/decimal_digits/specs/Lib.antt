@@ -2,3 +2,4 @@
 pub mod Digits
 pub mod Leading
 pub mod Exponent
+pub mod Words
