@@ -97,7 +97,9 @@ fn arc_steps(shape: Arc, turn: SinCos) -> [f32; 31]
         previous = current;
         k += 1;
     }
-    lengths(&x, &y)
+    let mut steps = [0.0f32; 31];
+    lengths(&x, &y, &mut steps);
+    steps
 }
 
 // The table of an ellipse's arc.

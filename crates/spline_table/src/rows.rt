@@ -56,7 +56,8 @@ pub(crate) fn fill_row(points: &[f32], last: usize, k: usize, walk: Walk, table:
     let x = row.x;
     let y = row.y;
     let previous = row.next;
-    let steps = lengths(&x, &y);
+    let mut steps = [0.0f32; 31];
+    lengths(&x, &y, &mut steps);
     let mut total = walk.total;
     let mut i = 0usize;
     while i < 31 {

@@ -26,11 +26,11 @@ loop-again c =
     (c .before .before .before .before .point-turned2 .ensures ∙ ap (pointTurned _ _) (c .before .before .before .before .before .mark2 .ensures))
 
 returns : tie.Need-returns Inv-loop μ-loop
-returns c = spreading-done (c .before .before .before .before .loop .inv) (c .before .before .before .loop-test .left) _ (c .lengths .ensures)
+returns c = spreading-done (c .before .before .before .before .before .loop .inv) (c .before .before .before .before .loop-test .left) _ (c .lengths .ensures)
 
 pub arc-steps-spec : {M : Type 1} → statement M
 arc-steps-spec =
     tie.close
     (tie.spec Inv-loop μ-loop (λ c κs. search needs) (λ c κs. search needs) loop-holds (λ c. search needs)
     (λ c κs. search needs) (λ c κs. search needs) (λ c. search needs) (λ c. search needs) (λ c. search needs)
-    (λ c. search needs) (λ c. search needs) (λ c. search needs) loop-again (λ c κs. search needs) returns)
+    (λ c. search needs) (λ c. search needs) (λ c. search needs) loop-again (λ c κs. refl) returns)
