@@ -382,8 +382,8 @@ fn original_tangent(spline: &CatmullRomSpline, t: f32) -> [f32; 2] {
     spline.tangent(t)
 }
 
-// splines of 2, 3 and 9 points: a span more, and eight; ours makes two passes, since a refusal writes nothing, and judges
-// every entry at each query
+// splines of 2, 3 and 9 points: a span more, and eight; ours looks at the points before it stores, since a refusal writes
+// nothing, and judges every entry at each query
 fn splines() {
     let metres = |bits: u32| (bits % 1_000_000) as f32 / 1000.0;
     let numbers: Vec<f32> = patterns().map(metres).collect();
