@@ -4,7 +4,9 @@ use Rattle.replay_query.proofs.missed_on.Statement.{statement}
 use Rattle.replay_query.proofs.missed_on.Tie as tie
 
 missed-lines-requires : tie.Need-missed-lines-requires
-missed-lines-requires c κs = c .before .before .before .before .before .before .before .before .before .before .before .before .before .before .before .before .before .before .before .before .before .before .before .before .before .before .before .before .before .pre
+missed-lines-requires c κs =
+    let midway = c .before .before .before .before .before .before .before .before .before .before .before .before .before .before in
+    midway .before .before .before .before .before .before .before .before .before .before .before .before .before .before .before .pre
 
 pub missed-on-spec : {M : Type 1} → statement M
 missed-on-spec =
