@@ -512,10 +512,10 @@ fn long_texts(report: &mut Report) {
 }
 
 // so many commands, whole or with an end that is refused, that the reader's own buffers of 256 letters and 512 numbers,
-// and past 2,048 bytes of 1,792 and 4,096, are just full or one command too small
+// and past 2,048 bytes of 1,024 and 4,096, are just full or one command too small
 fn full_buffers(report: &mut Report) {
     let parts = ["z", "h1 ", "l1 2 ", "t1 2 ", "q1 2 3 4 ", "s1 2 3 4 ", "c1 2 3 4 5 6 ", "a1 2 3 011.5 6 "];
-    let counts = [84, 85, 86, 127, 128, 129, 254, 255, 256, 257, 258, 682, 683, 1023, 1024, 1790, 1791, 1792, 1793];
+    let counts = [84, 85, 86, 127, 128, 129, 254, 255, 256, 257, 258, 682, 683, 1022, 1023, 1024, 1025, 2046, 2047, 2048];
     let ends = ["", "z", "l7 8", "h", "l1", "x", "a1 1 0 2", "l1e"];
     let mut inputs = Vec::new();
     for part in parts {

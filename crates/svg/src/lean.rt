@@ -21,7 +21,7 @@ pub fn read_lean(
         return Reading::Refused(Refusal::TooLong(size));
     }
     let no_numbers = [0.0f32; 0];
-    let no_offsets = [0u16; 0];
+    let no_offsets = [0u32; 0];
     read_on(
         text,
         fresh(),

@@ -11,7 +11,6 @@ use commands::width;
 use svg_step::Pass;
 use svg_step::Reader;
 use svg_step::Step;
-use svg_step::fresh;
 use svg_step::pass_step;
 use svg_step::read_step;
 
@@ -135,64 +134,6 @@ pub(crate) fn fill(
     }
 }
 
-// The same from the start of a text on, in buffers of the reader's own. An offset is below 65,536, so
-// that 16 bits hold it.
-pub(crate) fn hold(
-    text: &[u8],
-    letters: &mut [u8],
-    numbers: &mut [f32],
-    offsets: &mut [u16],
-) -> Stored
-    requires { ⌜ length (now text) ≤ 65536 ⌝ }
-    ensures { λ r. ⌜ Stores (now (text .entry)) (before letters numbers offsets) (after letters numbers offsets) r ⌝ }
-{
-    let mut reader = fresh();
-    let mut place: usize = 0;
-    let mut at: usize = 0;
-    loop {
-        match read_step(text, reader) {
-            Step::Done => {
-                return Stored::Whole {
-                    letters: place,
-                    numbers: at,
-                };
-            }
-            Step::Refused(refusal) => {
-                return Stored::Refused(refusal);
-            }
-            Step::Command { command, next } => {
-                let more = width(command);
-                if letters.len() <= place {
-                    return Stored::Full {
-                        reader,
-                        letters: place,
-                        numbers: at,
-                    };
-                }
-                if numbers.len() - at < more {
-                    return Stored::Full {
-                        reader,
-                        letters: place,
-                        numbers: at,
-                    };
-                }
-                if offsets.len() <= place {
-                    return Stored::Full {
-                        reader,
-                        letters: place,
-                        numbers: at,
-                    };
-                }
-                store(letters, numbers, place, at, command);
-                offsets[place] = next.offset as u16;
-                at += more;
-                place += 1;
-                reader = next;
-            }
-        }
-    }
-}
-
 // Puts letters at the start of a buffer, and touches no other place.
 pub(crate) fn copy_letters(letters: &[u8], out: &mut [u8])
     requires { ⌜ length (now letters) ≤ length (now out) ⌝ }
@@ -217,14 +158,14 @@ pub(crate) fn copy_numbers(numbers: &[f32], out: &mut [f32])
     }
 }
 
-// The same of offsets, which are held in 16 bits.
-pub(crate) fn copy_offsets(offsets: &[u16], out: &mut [u32])
+// The same of offsets.
+pub(crate) fn copy_offsets(offsets: &[u32], out: &mut [u32])
     requires { ⌜ length (now offsets) ≤ length (now out) ⌝ }
     ensures { λ _. ⌜ now (out .exit) ≡ written (now (offsets .entry)) (now (out .entry)) ⌝ }
 {
     let mut k: usize = 0;
     while k < offsets.len() {
-        out[k] = offsets[k] as u32;
+        out[k] = offsets[k];
         k += 1;
     }
 }

@@ -12,11 +12,11 @@ use crate::passes::copy_letters;
 use crate::passes::copy_numbers;
 use crate::passes::copy_offsets;
 use crate::passes::fill;
-use crate::passes::hold;
 use crate::passes::measure_on;
 use answers::Refusal;
 use answers::Values;
 use svg_step::Reader;
+use svg_step::fresh;
 
 pub enum Reading {
     // The text is read, and stored in this many places of each buffer; of offsets there are as many
@@ -31,7 +31,7 @@ pub(crate) fn read_on(
     reader: Reader,
     held: &[u8],
     kept: &[f32],
-    marks: &[u16],
+    marks: &[u32],
     letters: &mut [u8],
     numbers: &mut [f32],
     offsets: &mut [u32],
@@ -74,7 +74,7 @@ pub(crate) fn read_on(
 fn give(
     held: &[u8],
     kept: &[f32],
-    marks: &[u16],
+    marks: &[u32],
     letters: &mut [u8],
     numbers: &mut [f32],
     offsets: &mut [u32],
@@ -106,7 +106,7 @@ fn read_by(
     text: &[u8],
     held: &mut [u8],
     kept: &mut [f32],
-    marks: &mut [u16],
+    marks: &mut [u32],
     letters: &mut [u8],
     numbers: &mut [f32],
     offsets: &mut [u32],
@@ -114,7 +114,7 @@ fn read_by(
     requires { ⌜ length (now text) ≤ 65536 ⌝ }
     ensures { λ r. ⌜ ReadPath (now (text .entry)) (before letters numbers offsets) r (after letters numbers offsets) ⌝ }
 {
-    match hold(text, held, kept, marks) {
+    match fill(text, fresh(), 0, 0, held, kept, marks) {
         Stored::Refused(refusal) => {
             return Reading::Refused(refusal);
         }
@@ -157,7 +157,7 @@ fn read_short(text: &[u8], letters: &mut [u8], numbers: &mut [f32], offsets: &mu
 {
     let mut held = [0u8; 256];
     let mut kept = [0.0f32; 512];
-    let mut marks = [0u16; 256];
+    let mut marks = [0u32; 256];
     read_by(
         text,
         &mut held,
@@ -174,9 +174,9 @@ fn read_long(text: &[u8], letters: &mut [u8], numbers: &mut [f32], offsets: &mut
     requires { ⌜ length (now text) ≤ 65536 ⌝ }
     ensures { λ r. ⌜ ReadPath (now (text .entry)) (before letters numbers offsets) r (after letters numbers offsets) ⌝ }
 {
-    let mut held = [0u8; 1792];
+    let mut held = [0u8; 1024];
     let mut kept = [0.0f32; 4096];
-    let mut marks = [0u16; 1792];
+    let mut marks = [0u32; 1024];
     read_by(
         text,
         &mut held,

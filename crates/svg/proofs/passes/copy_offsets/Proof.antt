@@ -2,7 +2,6 @@
 use borrow.Author.Needs.{needs}
 use Prim.Native.Nat.{_-_}
 use mathlib.Core.Path.{refl}
-use native.Mathlib.Omega.{arith}
 use lib.ListN.{length}
 use Rattle.svg.proofs.Copying.{Copied, copied-start, copied-more, copied-done}
 use Rattle.svg.proofs.passes.copy_offsets.Statement.{statement}
@@ -17,9 +16,6 @@ abbrev μ-loop : tie.MeasureT-loop
 loop-holds : tie.Need-loop-holds Inv-loop μ-loop
 loop-holds c = copied-start (search needs)
 
-cast-out : tie.Need-cast-out Inv-loop μ-loop
-cast-out c = omega (arith, c .shared-slice-known .given (c .before .before .loop .k))
-
 loop-again : tie.Need-loop-again Inv-loop μ-loop
 loop-again c = let l = c .before in copied-more 0 _ (l .before .loop .inv) (l .loop-test .taken) refl
 
@@ -32,5 +28,5 @@ returns c = copied-done (c .before .loop .inv) (c .loop-test .left)
 pub copy-offsets-spec : {M : Type 1} → statement M
 copy-offsets-spec =
     tie.close
-    (tie.spec Inv-loop μ-loop loop-holds (λ c. search needs) (λ c. search needs) cast-out (λ c. search needs)
+    (tie.spec Inv-loop μ-loop loop-holds (λ c. search needs) (λ c. search needs) (λ c. search needs)
     (λ c. search needs) (λ c. search needs) (λ c. search needs) loop-again same-length returns)
