@@ -7,7 +7,7 @@ use native.Mathlib.Omega.{arith}
 use lib.Dec.{eqb}
 use borrow.Author.Tests.{ne-eqb}
 use lib.IntN.{ℤ, pos}
-use lib.Ieee.{Float, nan, inf, fin, Format, binary32, up, down, unlike, round, div, ofInt}
+use lib.Ieee.{Float, nan, inf, fin, Format, binary64, up, down, unlike, round, div, ofInt}
 use lib.Ieee.Fits.{up-pos, down-pos}
 use lib.Ieee.Exact.{HasValue}
 use lib.Ieee.Scale.{round-same}
@@ -36,6 +36,6 @@ div-at f (fin s m e) (fin t n d) a b p h g =
     ∙ ap (λ (z : Bool). round f (unlike false z) (m * up e * down d) (n * up d * down e)) (g .0)
     ∙ round-same f false (m * up e * down d) (n * up d * down e) a b (mul-pos P (down-pos e)) p (cross (m * up e) (n * up d) a b (down d) (down e) X Y))
 
-pub whole : (n : ℕ) → n ≤ 2 ^ 24 → HasValue (ofInt binary32 (pos n)) false n 1
+pub whole : (n : ℕ) → n ≤ 2 ^ 53 → HasValue (ofInt binary64 (pos n)) false n 1
 unfolding ofInt
-whole n h = round-whole binary32 false n h
+whole n h = round-whole binary64 false n h

@@ -1,24 +1,22 @@
 -- The value of a number from what is gathered of it. Assumes nothing.
-use Prim.Native.Nat.{ℕ, zero, suc, _+_, _-_, _*_, _%_, _^_, _≤_, _<_}
+use Prim.Native.Nat.{ℕ, _+_, _-_, _*_, _%_, _^_, _≤_, _<_}
 use mathlib.Core.Path.{_≡_, refl, ap, sym, _∙_, subst}
 use mathlib.Core.Logic.{_⊎_, inl, inr, ⊎-elim}
 use mathlib.Core.List.{List}
 use mathlib.Core.Bool.{Bool, true, false, not, cond, _&&_}
 use native.Mathlib.Nat.{mul-one, add-zero}
 use native.Mathlib.Omega.{arith}
-use lib.Dec.{T, ltb, leb, eqb}
-use borrow.Author.Tests.{le-ltb, leb-true, eqb-true}
-use lib.ListN.{length, getD}
-use lib.Ieee.{Float, binary32, round, neg, ofBits, nanBits}
+use lib.Dec.{T}
+use borrow.Author.Tests.{le-ltb}
+use lib.ListN.{length}
+use lib.Ieee.{Float, binary32, round, nanBits}
 use lib.Ieee.Bits.{nanBits-above}
-use Rattle.decimal_rounding.proofs.Limits.{round-neg}
 use Rattle.scan.specs.declared.numbers.Places.{Places}
 use Rattle.decimal_digits.specs.Digits.{val}
-use Rattle.decimal_digits.specs.Leading.{Leads}
 use Rattle.decimal_digits.specs.Exponent.{most, capped}
 use Rattle.decimal_digits.proofs.Capping.{capped-small, capped-either}
 use Rattle.decimal.specs.Decimal.{digitsOf, placesOf, powerOf, falls, riseOf, fallOf, numerator, denominator, negative, valueOf}
-use Rattle.decimal.specs.Bits.{Nearest, Gathered, Held}
+use Rattle.decimal.specs.Bits.{Gathered, Held}
 
 -- ---- tests
 
@@ -34,11 +32,19 @@ all-four false b c d e = let z : _≡_ {A = ℕ} 0 1 = cc in absurd (omega arith
 plain : (n : ℕ) → n % 2147483648 ≤ 2139095040 → T (not (nanBits binary32 n))
 plain n h = subst (λ (b : Bool). T (not b)) (sym (nanBits-above binary32 n ∙ le-ltb 2139095040 (n % 2147483648) h)) tt
 
+pub plain-signed : (s : Bool) (n : ℕ) → n ≤ 2139095040 → T (not (nanBits binary32 (cond s 2147483648 0 + n)))
+plain-signed true n h = plain (2147483648 + n) (omega arith)
+plain-signed false n h = plain (0 + n) (omega arith)
+
 pub plain-bits : (n : ℕ) → n ≤ 2139095040 → T (not (nanBits binary32 n))
 plain-bits n h = plain n (omega arith)
 
-pub plain-signed : (n : ℕ) → n ≤ 2139095040 → T (not (nanBits binary32 (n + 2147483648)))
-plain-signed n h = plain (n + 2147483648) (omega arith)
+pub plain-negative : (n : ℕ) → n ≤ 2139095040 → T (not (nanBits binary32 (n + 2147483648)))
+plain-negative n h = plain (n + 2147483648) (omega arith)
+
+pub sign-le : (s : Bool) → cond s 2147483648 0 ≤ 2147483648
+sign-le true = omega arith
+sign-le false = omega arith
 
 -- ---- capped exponents
 
@@ -83,22 +89,18 @@ module _ (text : List ℕ) (p : Places) (w dropped rise fall : ℕ) (h : Held te
       one : (r : ℕ) → r < 1 → r ≡ 0
       one r l = omega arith
 
-  pub short-is : w ≤ 2 ^ 24 → rise ≡ 0 → fall ≡ 0 → (s : Bool) → round binary32 s w (10 ^ placesOf p) ≡ round binary32 s (numerator text p) (denominator text p)
+  pub short-is : w ≤ 2 ^ 53 → rise ≡ 0 → fall ≡ 0 → (s : Bool) → round binary32 s w (10 ^ placesOf p) ≡ round binary32 s (numerator text p) (denominator text p)
   short-is l e f s =
       let up = capped-none (riseOf text p) (sym (h .rises) ∙ e) in
       let down = capped-none (fallOf text p) (sym (h .drops) ∙ f) in
       ap (λ (n : ℕ). round binary32 s n (10 ^ placesOf p)) (sym (ap (λ (n : ℕ). val (digitsOf text p) * 10 ^ n) up ∙ mul-one (val (digitsOf text p)) ∙ all-held (small w l)))
       ∙ ap (λ (n : ℕ). round binary32 s (numerator text p) (10 ^ n)) (sym (ap (λ (n : ℕ). placesOf p + n) down ∙ add-zero (placesOf p)))
     where
-      small : (w : ℕ) → w ≤ 2 ^ 24 → w < 10 ^ 18
+      small : (w : ℕ) → w ≤ 2 ^ 53 → w < 10 ^ 18
       small w l = omega arith
 
   -- ---- the sign
 
-  pub value-plain : (x : Float) → negative text p ≡ false → x ≡ round binary32 false (numerator text p) (denominator text p) → x ≡ valueOf text p
+  pub value-signed : (x : Float) (s : Bool) → s ≡ negative text p → x ≡ round binary32 s (numerator text p) (denominator text p) → x ≡ valueOf text p
   unfolding valueOf
-  value-plain x e r = r ∙ ap (λ (b : Bool). round binary32 b (numerator text p) (denominator text p)) (sym e)
-
-  pub value-negative : (x : Float) → negative text p ≡ true → x ≡ round binary32 true (numerator text p) (denominator text p) → x ≡ valueOf text p
-  unfolding valueOf
-  value-negative x e r = r ∙ ap (λ (b : Bool). round binary32 b (numerator text p) (denominator text p)) (sym e)
+  value-signed x s e r = r ∙ ap (λ (b : Bool). round binary32 b (numerator text p) (denominator text p)) e

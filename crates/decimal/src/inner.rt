@@ -1,23 +1,23 @@
-// The bits of the f32 nearest to a number whose digits are passed and gathered. A few digits without
-// an exponent are one division; most others one product; what lies too near a middle for that is
+// The bits of the f32 nearest to a number whose digits are passed and gathered. Up to 2^53 without an
+// exponent it is one division; most others one product; what lies too near a middle for that is
 // compared with it digit by digit.
 ghost use mathlib.Core.Path.{_≡_};
 ghost use mathlib.Core.Logic.{_⊎_};
-ghost use mathlib.Core.Bool.{false};
+ghost use mathlib.Core.Bool.{false, true, cond};
 ghost use Prim.Native.Nat.{ℕ, _+_, _-_, _*_, _^_, _≤_, _<_};
-ghost use lib.Ieee.{binary32, round};
+ghost use lib.Ieee.{binary32, binary64, round, ofBits, toBits};
 ghost use lib.Ieee.Exact.{HasValue};
 ghost use Rattle.decimal_digits.specs.Digits.{digitsAmong};
 ghost use Rattle.decimal_digits.specs.Exponent.{capped, most};
-ghost use Rattle.decimal.specs.Bits.{Sides, Gathered, Rounds, Settles};
+ghost use Rattle.decimal.specs.Bits.{Tells, narrowedOf, Sides, Gathered, Rounds, Settles};
 use decimal_product::inner::Near;
 use decimal_product::inner::nearest;
 use decimal_tie::inner::Order;
 use decimal_tie::inner::weigh;
 
 // 10^places.
-fn ten(places: u64) -> f32
-    requires { ⌜ places ≤ 10 ⌝ }
+fn ten(places: u64) -> f64
+    requires { ⌜ places ≤ 8 ⌝ }
     ensures { λ r. ⌜ HasValue r false (10 ^ places) 1 ⌝ }
 {
     match places {
@@ -29,18 +29,54 @@ fn ten(places: u64) -> f32
         5 => 100000.0,
         6 => 1000000.0,
         7 => 10000000.0,
-        8 => 100000000.0,
-        9 => 1000000000.0,
-        _ => 10000000000.0,
+        _ => 100000000.0,
     }
 }
 
-// w / 10^places, both of which are floats: one division.
-pub fn short(w: u64, places: u64) -> f32
-    requires { ⌜ (w ≤ 2 ^ 24) × (places ≤ 10) ⌝ }
-    ensures { λ r. ⌜ r ≡ round binary32 false w (10 ^ places) ⌝ }
+// w / 10^places, both of which are f64: one division.
+fn quotient(w: u64, places: u64) -> f64
+    requires { ⌜ (w ≤ 2 ^ 53) × (places ≤ 8) ⌝ }
+    ensures { λ r. ⌜ r ≡ round binary64 false w (10 ^ places) ⌝ }
 {
-    (w as u32) as f32 / ten(places)
+    std::num::nearest_u64_to_f64(w) / ten(places)
+}
+
+// The bits of the quotient.
+pub fn pattern(w: u64, places: u64) -> u64
+    requires { ⌜ (w ≤ 2 ^ 53) × (places ≤ 8) ⌝ }
+    ensures { λ r. ⌜ r ≡ toBits binary64 (round binary64 false w (10 ^ places)) ⌝ }
+{
+    f64::to_bits(quotient(w, places))
+}
+
+// Whether a quotient's bits tell the nearest f32: from 2^-31 to 2^65, and no middle of two f32.
+pub fn tells(b: u64) -> bool
+    ensures { λ r. ⌜ (r ≡ true → Tells b) ⌝ }
+{
+    (0x3E00_0000_0000_0000 <= b) & (b < 0x4400_0000_0000_0000) & (b % 536870912 != 268435456)
+}
+
+// The bits of the f32: the last 29 digits are rounded off.
+pub fn narrow(b: u64) -> u64
+    requires { ⌜ Tells b ⌝ }
+    ensures { λ r. ⌜ r ≡ narrowedOf b ⌝ }
+{
+    (b + 268435456) / 536870912 - 7516192768
+}
+
+// A sign's bit: a number and no branch.
+fn sign_of(negative: bool) -> u64
+    ensures { λ r. ⌜ r ≡ cond negative 2147483648 0 ⌝ }
+{
+    if negative { 2147483648 } else { 0 }
+}
+
+// The f32 of the bits and the sign.
+pub fn signed(bits: u64, negative: bool) -> f32
+    requires { ⌜ bits ≤ 2139095040 ⌝ }
+    ensures { λ r. ⌜ r ≡ ofBits binary32 (cond negative 2147483648 0 + bits) ⌝ }
+{
+    f32::from_bits((sign_of(negative) + bits) as u32)
 }
 
 // a + b, or 93 * 10^17 where it is more.

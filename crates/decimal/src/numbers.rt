@@ -1,6 +1,9 @@
 // A number of a text: its places, its digits and its value in one pass.
 use crate::inner::magnitude;
-use crate::inner::short;
+use crate::inner::narrow;
+use crate::inner::pattern;
+use crate::inner::signed;
+use crate::inner::tells;
 use answers::Refusal;
 use decimal_digits::inner::exponent;
 use decimal_digits::inner::gather;
@@ -114,9 +117,11 @@ fn value(text: &[u8], parts: Parts) -> f32
     let fall = parts.fall;
     let negative = byte_at(text, p.start) == b'-';
     let places = (p.mark - p.fraction) as u64;
-    if (w <= 16777216) & (rise == 0) & (fall == 0) & (places <= 10) {
-        let size = short(w, places);
-        return if negative { -size } else { size };
+    if (w < 9007199254740992) & (rise == 0) & (fall == 0) & (places <= 8) {
+        let b = pattern(w, places);
+        if tells(b) {
+            return signed(narrow(b), negative);
+        }
     }
     let from = p.whole;
     let to = p.mark;

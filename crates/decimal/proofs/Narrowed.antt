@@ -1,0 +1,162 @@
+-- A quotient's f64 with its last 29 digits rounded off is the quotient's f32, unless they are the middle: what lies past the middle of two f32, which is an f64, is
+-- not rounded to this side of it. Assumes nothing.
+use Prim.Native.Nat.{ℕ, suc, _+_, _-_, _*_, _/_, _%_, _^_, _≤_, _<_}
+use mathlib.Core.Path.{_≡_, refl, ap, ap₂, sym, _∙_, subst}
+use mathlib.Core.Logic.{_⊎_, inl, inr, ⊎-elim}
+use mathlib.Core.Bool.{Bool, false, cond}
+use native.Mathlib.Nat.{mul-assoc, mul-comm, mul-pos, mul-le-mul-right, mul-lt-mul-of-pos-right, lt-of-lt-of-le, lt-of-not-le, not-le-of-lt, le-of-mul-le-mul-right, lt-of-mul-lt-mul-right, pow-suc, add-mul, one-mul, suc-mul}
+use native.Mathlib.Omega.{arith}
+use lib.Pow.{pow-pos, pow-mono, pow-add, shl-lt}
+use lib.Ieee.{Float, binary32, binary64, round, ofBits, toBits}
+use lib.Ieee.Bits.{ofBits-toBits}
+use lib.Ieee.Fits.{round-fits}
+use lib.Ieee.Exact.{HasValue, round-exact}
+use lib.Ieee.Order.{round-mono}
+use lib.Ieee.Positive.{positive-of-value, values-of-le}
+use Rattle.decimal_rounding.proofs.Compares.{below-or-not}
+use Rattle.decimal_rounding.proofs.Halves.{near-down, near-up}
+use Rattle.decimal_rounding.proofs.Pattern.{units-pattern}
+use Rattle.lengths.proofs.Wide.{digitsOf, powerOf, pattern-value}
+use Rattle.decimal.specs.Bits.{Nearest, Tells, narrowedOf}
+
+abbrev sized : ℕ → ℕ
+sized c = digitsOf c * 2 ^ powerOf c
+
+-- ---- patterns in order
+
+sized-pos : (c : ℕ) → 0 < sized c
+sized-pos c = mul-pos (let p : 0 < digitsOf c = omega arith in p) (pow-pos (powerOf c))
+
+sized-lt : (c b : ℕ) → 0x10000000000000 ≤ c → c < b → sized c < sized b
+sized-lt c b l h = go (below-or-not (powerOf c) (powerOf b))
+  where
+    go : (powerOf c < powerOf b) ⊎ (powerOf b ≤ powerOf c) → sized c < sized b
+    go (inl less) =
+        let next : suc (powerOf c) ≤ powerOf b = less in
+        let twice : 0x10000000000000 * 2 ^ suc (powerOf c) ≡ 0x20000000000000 * 2 ^ powerOf c = ap (λ (z : ℕ). 0x10000000000000 * z) (pow-suc 2 (powerOf c)) ∙ omega arith in
+        let below : digitsOf c * 2 ^ powerOf c < 0x20000000000000 * 2 ^ powerOf c = mul-lt-mul-of-pos-right (let p : digitsOf c < 0x20000000000000 = omega arith in p) (pow-pos (powerOf c)) in
+        let least : 0x10000000000000 * 2 ^ powerOf b ≤ digitsOf b * 2 ^ powerOf b = mul-le-mul-right (2 ^ powerOf b) (let p : 0x10000000000000 ≤ digitsOf b = omega arith in p) in
+        let up = pow-mono next in
+        omega (arith, twice, below, least, up)
+    go (inr more) =
+        let same : powerOf b ≡ powerOf c = omega arith in
+        let less : digitsOf c < digitsOf b = omega arith in
+        subst (λ (k : ℕ). digitsOf c * 2 ^ powerOf c < digitsOf b * 2 ^ k) (sym same) (mul-lt-mul-of-pos-right less (pow-pos (powerOf c)))
+
+-- a pattern's own value is not rounded
+own : (c : ℕ) → c < 0x7FF0000000000000 → HasValue (round binary64 false (sized c) (2 ^ 1074)) false (sized c) (2 ^ 1074)
+own c h =
+    let few : digitsOf c < 2 ^ 53 = omega arith in
+    let fits : 53 + powerOf c ≤ 2098 = omega arith in
+    round-exact binary64 false (sized c) (2 ^ 1074) (digitsOf c) (powerOf c) (pow-pos 1074) few (lt-of-lt-of-le (shl-lt 53 (powerOf c) few) (pow-mono fits)) refl
+
+module _ (w d b : ℕ) (D : 0 < d) (is : round binary64 false w d ≡ ofBits binary64 b) (low : 0x3E00000000000000 ≤ b) (high : b < 0x4400000000000000) where
+  value : HasValue (round binary64 false w d) false (sized b) (2 ^ 1074)
+  value = subst (λ (x : Float). HasValue x false (sized b) (2 ^ 1074)) (sym is) (pattern-value b (omega arith) (omega arith))
+
+  -- a pattern below the quotient's is below the fraction, and one above it above
+  above : (c : ℕ) → 0x10000000000000 ≤ c → c < b → sized c * d < w * 2 ^ 1074
+  above c l h =
+      lt-of-not-le
+      (λ (g : w * 2 ^ 1074 ≤ sized c * d).
+      let v = own c (omega arith) in
+      not-le-of-lt (sized-lt c b l h)
+      (le-of-mul-le-mul-right
+      (values-of-le (round binary64 false w d) (round binary64 false (sized c) (2 ^ 1074)) (sized b) (2 ^ 1074) (sized c) (2 ^ 1074)
+      (positive-of-value (round binary64 false w d) (sized b) (2 ^ 1074) value (sized-pos b)) (positive-of-value (round binary64 false (sized c) (2 ^ 1074)) (sized c) (2 ^ 1074) v (sized-pos c)) value v (round-mono binary64 w d (sized c) (2 ^ 1074) D (pow-pos 1074) g))
+      (pow-pos 1074)))
+
+  below : (c : ℕ) → b < c → c < 0x7FF0000000000000 → w * 2 ^ 1074 < sized c * d
+  below c h u =
+      lt-of-not-le
+      (λ (g : sized c * d ≤ w * 2 ^ 1074).
+      let v = own c u in
+      not-le-of-lt (sized-lt b c (omega arith) h)
+      (le-of-mul-le-mul-right
+      (values-of-le (round binary64 false (sized c) (2 ^ 1074)) (round binary64 false w d) (sized c) (2 ^ 1074) (sized b) (2 ^ 1074) (positive-of-value (round binary64 false (sized c) (2 ^ 1074)) (sized c) (2 ^ 1074) v (sized-pos c))
+      (positive-of-value (round binary64 false w d) (sized b) (2 ^ 1074) value (sized-pos b)) v value (round-mono binary64 (sized c) (2 ^ 1074) w d (pow-pos 1074) D g))
+      (pow-pos 1074)))
+
+  -- ---- the fraction among the steps of f32
+
+  -- the middle of q and q + 1 steps of 2 ^ k smallest values, which a pattern has
+  middle : (c q k : ℕ) → digitsOf c ≡ q * 536870912 + 268435456 → powerOf c ≡ k + 896 → sized c * d ≡ (2 * (q * (d * 2 ^ k)) + d * 2 ^ k) * 2 ^ 924
+  middle c q k e p =
+      let P = 2 ^ k in
+      let split : 2 ^ (k + 896) ≡ P * 2 ^ 896 = pow-add 2 k 896 in
+      ap₂ (λ (x : ℕ) (y : ℕ). x * 2 ^ y * d) e p
+      ∙ ap (λ (z : ℕ). (q * 536870912 + 268435456) * z * d) split
+      ∙ scaled q P (2 ^ 896)
+    where
+      scaled : (q P M : ℕ) → (q * 536870912 + 268435456) * (P * M) * d ≡ (2 * (q * (d * P)) + d * P) * (268435456 * M)
+      scaled q P M =
+          let u : q * 536870912 + 268435456 ≡ (2 * q + 1) * 268435456 = omega arith in
+          let v : (2 * q + 1) * (d * P) ≡ 2 * (q * (d * P)) + d * P = add-mul (2 * q) 1 (d * P) ∙ ap₂ _+_ (mul-assoc 2 q (d * P)) (one-mul (d * P)) in
+          let swap : 268435456 * (P * M) ≡ P * (268435456 * M) = sym (mul-assoc 268435456 P M) ∙ ap (λ (z : ℕ). z * M) (mul-comm 268435456 P) ∙ mul-assoc P 268435456 M in
+          ap (λ (z : ℕ). z * (P * M) * d) u
+          ∙ ap (λ (z : ℕ). z * d) (mul-assoc (2 * q + 1) 268435456 (P * M))
+          ∙ mul-assoc (2 * q + 1) (268435456 * (P * M)) d
+          ∙ ap (λ (z : ℕ). (2 * q + 1) * z) (mul-comm (268435456 * (P * M)) d ∙ ap (λ (z : ℕ). d * z) swap ∙ sym (mul-assoc d P (268435456 * M)))
+          ∙ sym (mul-assoc (2 * q + 1) (d * P) (268435456 * M))
+          ∙ ap (λ (z : ℕ). z * (268435456 * M)) v
+
+  twice : w * 2 ^ 1074 ≡ 2 * (w * 2 ^ 149) * 2 ^ 924
+  twice = sym (ap (λ (z : ℕ). z * 2 ^ 924) (mul-comm 2 (w * 2 ^ 149) ∙ mul-assoc w (2 ^ 149) 2) ∙ mul-assoc w (2 ^ 150) (2 ^ 924))
+
+  module _ (no-tie : b % 536870912 ≡ 268435456 → ⊥) where
+    -- past the middle below, and short of the middle above
+    past : (q k : ℕ) → q ≡ ((b + 268435456) / 536870912 - 1) % 8388608 + 8388608 → k ≡ ((b + 268435456) / 536870912 - 1) / 8388608 - 897 → 2 * (q * (d * 2 ^ k)) + d * 2 ^ k < 2 * (w * 2 ^ 149)
+    past q k e f =
+        let c = (b + 268435456) / 536870912 * 536870912 - 268435456 in
+        let m = middle c q k (omega arith) (omega arith) in
+        let a = above c (omega arith) (omega arith) in
+        lt-of-mul-lt-mul-right (2 ^ 924) (subst (λ (z : ℕ). (2 * (q * (d * 2 ^ k)) + d * 2 ^ k) * 2 ^ 924 < z) twice (subst (λ (z : ℕ). z < w * 2 ^ 1074) m a))
+
+    short : (q k : ℕ) → q ≡ (b + 268435456) / 536870912 % 8388608 + 8388608 → k ≡ (b + 268435456) / 536870912 / 8388608 - 897 → 2 * (w * 2 ^ 149) < 2 * (q * (d * 2 ^ k)) + d * 2 ^ k
+    short q k e f =
+        let c = (b + 268435456) / 536870912 * 536870912 + 268435456 in
+        let m = middle c q k (omega arith) (omega arith) in
+        let a = below c (omega arith) (omega arith) in
+        lt-of-mul-lt-mul-right (2 ^ 924) (subst (λ (z : ℕ). z < (2 * (q * (d * 2 ^ k)) + d * 2 ^ k) * 2 ^ 924) twice (subst (λ (z : ℕ). w * 2 ^ 1074 < z) m a))
+
+    -- the next step of the one is the other
+    step : (q k p j : ℕ) → ((p ≡ suc q) × (j ≡ k)) ⊎ ((q ≡ 16777215) × (p ≡ 8388608) × (j ≡ suc k)) → p * (d * 2 ^ j) ≡ q * (d * 2 ^ k) + d * 2 ^ k
+    step q k p j (inl e) = ap₂ (λ (x : ℕ) (y : ℕ). x * (d * 2 ^ y)) (e .0) (e .1) ∙ suc-mul q (d * 2 ^ k)
+    step q k p j (inr e) =
+        let u = d * 2 ^ k in
+        let v : d * 2 ^ suc k ≡ u * 2 = ap (λ (z : ℕ). d * z) (pow-suc 2 k) ∙ sym (mul-assoc d (2 ^ k) 2) in
+        ap₂ (λ (x : ℕ) (y : ℕ). x * (d * 2 ^ y)) (e .1) (e .2) ∙ ap (λ (z : ℕ). 8388608 * z) v ∙ omega (arith, ap (λ (z : ℕ). z * u) (e .0))
+
+    narrowed : Nearest w d ((b + 268435456) / 536870912 - 7516192768)
+    narrowed =
+        let q = ((b + 268435456) / 536870912 - 1) % 8388608 + 8388608 in
+        let k = ((b + 268435456) / 536870912 - 1) / 8388608 - 897 in
+        let p = (b + 268435456) / 536870912 % 8388608 + 8388608 in
+        let j = (b + 268435456) / 536870912 / 8388608 - 897 in
+        record {
+          finite-or-infinite = omega arith;
+          is = λ s. go s q k p j refl refl refl refl (below-or-not (w * 2 ^ 149) (p * (d * 2 ^ j)));
+        }
+      where
+        which : (t q k p j : ℕ) → 8128000000 ≤ t → q ≡ (t - 1) % 8388608 + 8388608 → k ≡ (t - 1) / 8388608 - 897 → p ≡ t % 8388608 + 8388608 → j ≡ t / 8388608 - 897
+            → ((p ≡ suc q) × (j ≡ k)) ⊎ ((q ≡ 16777215) × (p ≡ 8388608) × (j ≡ suc k))
+        which t q k p j l a b c e = ⊎-elim (λ (h : 0 < t % 8388608). inl (omega arith, omega arith)) (λ (h : t % 8388608 ≤ 0). inr (omega arith, omega arith, omega arith)) (below-or-not 0 (t % 8388608))
+
+        go : (s : Bool) (q k p j : ℕ) → q ≡ ((b + 268435456) / 536870912 - 1) % 8388608 + 8388608 → k ≡ ((b + 268435456) / 536870912 - 1) / 8388608 - 897
+            → p ≡ (b + 268435456) / 536870912 % 8388608 + 8388608 → j ≡ (b + 268435456) / 536870912 / 8388608 - 897
+            → (w * 2 ^ 149 < p * (d * 2 ^ j)) ⊎ (p * (d * 2 ^ j) ≤ w * 2 ^ 149)
+            → round binary32 s w d ≡ ofBits binary32 (cond s 2147483648 0 + ((b + 268435456) / 536870912 - 7516192768))
+        go s q k p j eq ek ep ej (inl under) =
+            near-up binary32 s w d q k D (omega arith) (inl (omega arith)) (subst (λ (z : ℕ). w * 2 ^ 149 < z) (step q k p j (which ((b + 268435456) / 536870912) q k p j (omega arith) eq ek ep ej)) under) (inl (past q k eq ek))
+            ∙ units-pattern s (suc q) k (omega arith) (inl (omega arith)) (omega arith)
+            ∙ ap (λ (z : ℕ). ofBits binary32 z) (omega arith)
+        go s q k p j eq ek ep ej (inr over) =
+            near-down binary32 s w d p j D (omega arith) (inl (omega arith)) over (inl (short p j ep ej))
+            ∙ units-pattern s p j (omega arith) (inl (omega arith)) (omega arith)
+            ∙ ap (λ (z : ℕ). ofBits binary32 z) (omega arith)
+
+-- the quotient's bits, where they tell
+pub quotient-nearest : (w d b : ℕ) → 0 < d → b ≡ toBits binary64 (round binary64 false w d) → Tells b → Nearest w d (narrowedOf b)
+quotient-nearest w d b D e t =
+    let is : round binary64 false w d ≡ ofBits binary64 b = sym (ap (λ (n : ℕ). ofBits binary64 n) e ∙ ofBits-toBits binary64 (round binary64 false w d) (round-fits binary64 false w d)) in
+    narrowed w d b D is (t .low) (t .high) (t .no-tie)
