@@ -38,7 +38,7 @@ fn quotient(w: u64, places: u64) -> f64
     requires { ⌜ (w ≤ 2 ^ 53) × (places ≤ 8) ⌝ }
     ensures { λ r. ⌜ r ≡ round binary64 false w (10 ^ places) ⌝ }
 {
-    std::num::nearest_u64_to_f64(w) / ten(places)
+    w as f64 / ten(places)
 }
 
 // The bits of the quotient.
