@@ -7,6 +7,7 @@ use lib.Dec.{T, eqb}
 use lib.Ieee.{Float, nan, inf, fin, binary32, isNan, ne, nanBits}
 use lib.Ieee.Compare.{nan-differs}
 use borrow.Author.Tests.{ne-eqb}
+use Rattle.floats.specs.Patterns.{hidden, signPlace}
 
 pub is-number : (x : Float) → ne x x ≡ false → isNan x ≡ false
 unfolding isNan
@@ -17,6 +18,6 @@ is-number (fin s m e) h = refl
 pub no-nan : (x : Float) → isNan x ≡ false → T (not (isNan x))
 no-nan x h = subst (λ (b : Bool). T (not b)) (sym h) tt
 
-pub no-nan-bits : (b : ℕ) → b % 2147483648 ≤ 1078530011 → T (not (nanBits binary32 b))
+pub no-nan-bits : (b : ℕ) → b % signPlace ≤ 1078530011 → T (not (nanBits binary32 b))
 unfolding nanBits
-no-nan-bits b h = subst (λ (t : Bool). T (not (t && not (eqb (b % 8388608) 0)))) (sym (ne-eqb (b % 2147483648 / 8388608) 255 (λ (e : b % 2147483648 / 8388608 ≡ 255). omega arith))) tt
+no-nan-bits b h = subst (λ (t : Bool). T (not (t && not (eqb (b % hidden) 0)))) (sym (ne-eqb (b % signPlace / hidden) 255 (λ (e : b % signPlace / hidden ≡ 255). omega arith))) tt

@@ -8,6 +8,7 @@ use lib.Dec.{leb, ltb, eqb, lit≤}
 use lib.Pow.{pow-pos, pow-add}
 use lib.Ieee.{Float, binary32, binary64, toBits, ofBits, isNan, div}
 use borrow.Author.Tests.{ltb-false, leb-true, leb-false, le-leb, lt-leb}
+use Rattle.floats.specs.Patterns.{hidden, signPlace}
 use Rattle.trig_rule.specs.Reduction.{turn, Reduced}
 use Rattle.trig_rule.specs.Rule.{Is}
 use Rattle.trig_rule.specs.Sums.{factorial}
@@ -34,13 +35,13 @@ module _ (b : ℕ) (low : least ≤ b) (high : b ≤ piBits) where
   pub place-value : Is (ofBits binary32 b) false (fixedOf b * 2 ^ 93)
   place-value = subst (λ (n : ℕ). Is (ofBits binary32 b) false n) value (normal-value b (le-trans (lit≤ tt) low) (lt-of-le-of-lt high (lit≤ tt)))
     where
-      split : b / 8388608 - 1 ≡ b / 8388608 - 94 + 93
+      split : b / hidden - 1 ≡ b / hidden - 94 + 93
       split = let h = wide in omega arith
 
-      value : (b % 8388608 + 8388608) * 2 ^ (b / 8388608 - 1) ≡ fixedOf b * 2 ^ 93
-      value = ap (λ (k : ℕ). (b % 8388608 + 8388608) * 2 ^ k) split ∙ ap (λ (n : ℕ). (b % 8388608 + 8388608) * n) (pow-add 2 (b / 8388608 - 94) 93) ∙ sym (mul-assoc (b % 8388608 + 8388608) (2 ^ (b / 8388608 - 94)) (2 ^ 93))
+      value : (b % hidden + hidden) * 2 ^ (b / hidden - 1) ≡ fixedOf b * 2 ^ 93
+      value = ap (λ (k : ℕ). (b % hidden + hidden) * 2 ^ k) split ∙ ap (λ (n : ℕ). (b % hidden + hidden) * n) (pow-add 2 (b / hidden - 94) 93) ∙ sym (mul-assoc (b % hidden + hidden) (2 ^ (b / hidden - 94)) (2 ^ 93))
 
-  pub signed-value : (p : Bool) → Is (ofBits binary32 (bit p * 2147483648 + b)) p (fixedOf b * 2 ^ 93)
+  pub signed-value : (p : Bool) → Is (ofBits binary32 (bit p * signPlace + b)) p (fixedOf b * 2 ^ 93)
   signed-value p = with-sign p b (fixedOf b * 2 ^ 93) (lt-of-le-of-lt high (lit≤ tt)) place-value
 
   pub place-range : fixedOf b * 2 ^ 93 ≤ piUnits
@@ -80,7 +81,7 @@ flipped x h k =
 
 -- ---- bits that pass the test
 module _ (y x : Float) (p q : Bool) (Y X u v : ℕ) (hy : Is y p Y) (hx : Is x q X) (pr : Pair Y X u v) where
-  pub made : (b R : ℕ) (f : Bool) → least ≤ b → b ≤ piBits → R ≤ half → Reduced (fixedOf b * 2 ^ 93) (R * 2 ^ 93) f → Passed u v q f R → Atan2Rule y x (ofBits binary32 (bit p * 2147483648 + b))
+  pub made : (b R : ℕ) (f : Bool) → least ≤ b → b ≤ piBits → R ≤ half → Reduced (fixedOf b * 2 ^ 93) (R * 2 ^ 93) f → Passed u v q f R → Atan2Rule y x (ofBits binary32 (bit p * signPlace + b))
   made b R f low high m red t = record {
     minus = p;
     rise = Y;
@@ -97,11 +98,11 @@ module _ (y x : Float) (p q : Bool) (Y X u v : ℕ) (hy : Is y p Y) (hx : Is x q
     points = points q f Y X (R * 2 ^ 93) (kept-scaled q f Y X R (kept u v Y X (pr .scale) (2 ^ 925) R m (pr .rise) (pr .run) (pow-pos 925) (pr .scale-pos) (pr .large) q f t)) p;
   }
 
-  pub passing-rule : (b : ℕ) → least ≤ b → b ≤ piBits → passes u v (bit q) b ≡ true → Atan2Rule y x (ofBits binary32 (bit p * 2147483648 + b))
+  pub passing-rule : (b : ℕ) → least ≤ b → b ≤ piBits → passes u v (bit q) b ≡ true → Atan2Rule y x (ofBits binary32 (bit p * signPlace + b))
   unfolding passes
   passing-rule b low high h = go (leb (fixedOf b) half) refl h
     where
-      go : (t : Bool) → leb (fixedOf b) half ≡ t → cond t (passesAt u v (bit q) 0 (fixedOf b)) (passesAt u v (bit q) 1 (turn - fixedOf b)) ≡ true → Atan2Rule y x (ofBits binary32 (bit p * 2147483648 + b))
+      go : (t : Bool) → leb (fixedOf b) half ≡ t → cond t (passesAt u v (bit q) 0 (fixedOf b)) (passesAt u v (bit q) 1 (turn - fixedOf b)) ≡ true → Atan2Rule y x (ofBits binary32 (bit p * signPlace + b))
       go true e k = let m = leb-true (fixedOf b) half e in made b (fixedOf b) false low high m (straight (fixedOf b) m) (passed u v q false (fixedOf b) k)
       go false e k =
           let m = leb-false (fixedOf b) half e in
@@ -139,13 +140,13 @@ not-tiny u v false h e = let k = leb-false (u * 8192 + 0 * 2 ^ 30) v h in omega 
 not-tiny u v true h e = omega arith
 
 module _ (y x : Float) (p q : Bool) (Y X u v : ℕ) (hy : Is y p Y) (hx : Is x q X) (pr : Pair Y X u v) where
-  pub slanted-rule : (g : ℕ) → least ≤ g → g ≤ piBits → tiny u v (bit q) ≡ false → Atan2Rule y x (ofBits binary32 (bit p * 2147483648 + angleBits u v (bit q) g))
+  pub slanted-rule : (g : ℕ) → least ≤ g → g ≤ piBits → tiny u v (bit q) ≡ false → Atan2Rule y x (ofBits binary32 (bit p * signPlace + angleBits u v (bit q) g))
   slanted-rule g low high far = go (passes u v (bit q) g) refl
     where
       good : Good u v (eqb (bit q) 0) (fallbackOf u v (bit q))
       good = fallback-good u v (bit q) (lt-of-lt-of-le (lit≤ tt) (pr .large)) (not-tiny u v q far)
 
-      go : (t : Bool) → passes u v (bit q) g ≡ t → Atan2Rule y x (ofBits binary32 (bit p * 2147483648 + cond t g (fallbackOf u v (bit q))))
+      go : (t : Bool) → passes u v (bit q) g ≡ t → Atan2Rule y x (ofBits binary32 (bit p * signPlace + cond t g (fallbackOf u v (bit q))))
       go true e = passing-rule y x p q Y X u v hy hx pr g low high e
       go false e = passing-rule y x p q Y X u v hy hx pr (fallbackOf u v (bit q)) (good .low) (le-trans (good .high) (lit≤ tt)) (good-passes u v (bit q) (fallbackOf u v (bit q)) good)
 
@@ -238,7 +239,7 @@ no-rise (suc u) G H pos c = absurd (none (lt-of-lt-of-le (mul-pos {m = suc u} (o
     none : 0 < 0 → ⊥
     none z = omega arith
 
-pub pi-rule : (y x : Float) (p : Bool) (X u v : ℕ) → Is y p 0 → Is x true X → Pair 0 X u v → Atan2Rule y x (ofBits binary32 (bit p * 2147483648 + piBits))
+pub pi-rule : (y x : Float) (p : Bool) (X u v : ℕ) → Is y p 0 → Is x true X → Pair 0 X u v → Atan2Rule y x (ofBits binary32 (bit p * signPlace + piBits))
 pi-rule y x p X u v hy hx pr =
     made y x p true 0 X u v hy hx pr piBits (turn - fixedOf piBits) true (lit≤ tt) (le-refl piBits) (lit≤ tt) (flipped (fixedOf piBits) (lit≤ tt) (lit≤ tt))
     (subst (λ (n : ℕ). Passed n v true true (turn - fixedOf piBits)) (sym (no-rise u (pr .scale) (2 ^ 925) (pr .scale-pos) (pr .rise))) (pi-passed v))

@@ -11,6 +11,7 @@ use lib.Ieee.Bits.{is-true, is-false}
 use lib.Ieee.Fits.{up-pos, down-pos}
 use lib.Ieee.Scale.{finite}
 use borrow.Author.Tests.{leb-true, le-leb, eq-eqb, ne-eqb}
+use Rattle.floats.specs.Patterns.{signPlace}
 use Rattle.floats.specs.Kinds.{isZero}
 use Rattle.trig_rule.specs.Rule.{Is}
 use Rattle.trig_rule.proofs.Patterns.{bit}
@@ -81,7 +82,7 @@ module _ (y x : Float) (p q : Bool) (Y X : ℕ) (hy : Is y p Y) (hx : Is x q X) 
       g : ℕ
       g = guessOf a b (ltb v u) (bit q)
 
-      go : (t : Bool) → tiny u v (bit q) ≡ t → Atan2Rule y x (cond t (div binary32 y x) (ofBits binary32 (bit p * 2147483648 + angleBits u v (bit q) g)))
+      go : (t : Bool) → tiny u v (bit q) ≡ t → Atan2Rule y x (cond t (div binary32 y x) (ofBits binary32 (bit p * signPlace + angleBits u v (bit q) g)))
       go true e = tiny-right q u v e hx pr
       go false e = let r = guess-range a b (ltb v u) (bit q) in slanted-rule y x p q Y X u v hy hx pr g (r .0) (r .1) e
 
@@ -92,14 +93,14 @@ module _ (y x : Float) (p q : Bool) (Y X : ℕ) (hy : Is y p Y) (hx : Is x q X) 
   level-answer : Y ≡ 0 → atan2Of y x ≡ level y b (bit p) (bit q)
   level-answer e = by-sizes ∙ ap (λ (t : Bool). cond t (level y b (bit p) (bit q)) (slanted y x a b (bit p) (bit q))) (eq-eqb a 0 (ap (λ (n : ℕ). wideBits (n * 2 ^ 925)) e ∙ ap wideBits (zero-mul (2 ^ 925)) ∙ wide-zero))
 
-  level-is : 0 < X → level y b (bit p) (bit q) ≡ cond (eqb (bit q) 0) y (ofBits binary32 (bit p * 2147483648 + piBits))
-  level-is h = ap (λ (t : Bool). cond t (ofBits binary32 0) (cond (eqb (bit q) 0) y (ofBits binary32 (bit p * 2147483648 + piBits)))) (ne-eqb b 0 (wide-pos X h))
+  level-is : 0 < X → level y b (bit p) (bit q) ≡ cond (eqb (bit q) 0) y (ofBits binary32 (bit p * signPlace + piBits))
+  level-is h = ap (λ (t : Bool). cond t (ofBits binary32 0) (cond (eqb (bit q) 0) y (ofBits binary32 (bit p * signPlace + piBits)))) (ne-eqb b 0 (wide-pos X h))
 
 -- ---- the sizes as variables, so that y's may be 0
 zero-le : (n : ℕ) → 0 ≤ n
 zero-le n = omega arith
 
-level-meets : (y x : Float) (p q : Bool) (X : ℕ) → Is y p 0 → Is x q X → X < 2 ^ 277 → 0 < X → Atan2Rule y x (cond (eqb (bit q) 0) y (ofBits binary32 (bit p * 2147483648 + piBits)))
+level-meets : (y x : Float) (p q : Bool) (X : ℕ) → Is y p 0 → Is x q X → X < 2 ^ 277 → 0 < X → Atan2Rule y x (cond (eqb (bit q) 0) y (ofBits binary32 (bit p * signPlace + piBits)))
 level-meets y x p false X hy hx sx pos =
     small-rule y x y p 0 X 0 hy hx hy (lit≤ tt) pos (zero-le X) (le-trans (le-of-eq (mul-zero (2 ^ 149))) (zero-le (0 * X + 2 ^ 127 * X))) (le-trans (le-of-eq (zero-mul X)) (zero-le (2 ^ 149 * 0 + 2 ^ 127 * X)))
 level-meets y x p true X hy hx sx pos = pi-rule y x p X _ _ hy hx (pair 0 X (le-trans pos (le-add-left X 0)))
@@ -177,12 +178,12 @@ atan2-both-zero y x fy fx ny nx zy zx =
     let ez : a .units ≡ 0 = zero-units y p (a .units) (a .is) zy in
     let fz : b .units ≡ 0 = zero-units x q (b .units) (b .is) zx in
     level-answer y x p q (a .units) (b .units) (a .is) (b .is) (a .small) (b .small) ez
-    ∙ ap (λ (t : Bool). cond t (ofBits binary32 0) (cond (eqb (bit q) 0) y (ofBits binary32 (bit p * 2147483648 + piBits))))
+    ∙ ap (λ (t : Bool). cond t (ofBits binary32 0) (cond (eqb (bit q) 0) y (ofBits binary32 (bit p * signPlace + piBits))))
     (eq-eqb (wideBits (b .units * 2 ^ 925)) 0 (ap (λ (n : ℕ). wideBits (n * 2 ^ 925)) fz ∙ ap wideBits (zero-mul (2 ^ 925)) ∙ wide-zero))
 
 -- "for y zero it is zero with x above 0 and PI in size with x below": y is a zero of the sign p, and x is X units, above 0 or below
 module _ (y x : Float) (p : Bool) (X : ℕ) (hy : Is y p 0) (fx : T (fits binary32 x)) (pos : 0 < X) where
-  on-axis : (q : Bool) → Is x q X → atan2Of y x ≡ cond (eqb (bit q) 0) y (ofBits binary32 (bit p * 2147483648 + piBits))
+  on-axis : (q : Bool) → Is x q X → atan2Of y x ≡ cond (eqb (bit q) 0) y (ofBits binary32 (bit p * signPlace + piBits))
   on-axis q hx =
       let b = whole x fx (finite-of x q X hx) in
       let same = units-same x q (b .minus) X (b .units) hx (b .is) in
@@ -217,7 +218,7 @@ atan2-tiny y x p Y X fy fx hy hx pos h =
     let v = partOf b (topOf a b) in
     let pr : Pair Y X u v = pair Y X (le-trans pos (le-add-right Y X)) in
     slanted-answer y x p false Y X hy hx sy sx pos
-    ∙ ap (λ (t : Bool). cond t (div binary32 y x) (ofBits binary32 (bit p * 2147483648 + angleBits u v 0 (guessOf a b (ltb v u) 0))))
+    ∙ ap (λ (t : Bool). cond t (div binary32 y x) (ofBits binary32 (bit p * signPlace + angleBits u v 0 (guessOf a b (ltb v u) 0))))
     (le-leb (u * 8192 + 0 * 2 ^ 30) v (near u v (tiny-parts Y X u v (pr .scale) (2 ^ 925) (pr .scale-pos) (pr .rise) (pr .run) h)))
   where
     near : (u v : ℕ) → u * 8192 ≤ v → u * 8192 + 0 * 2 ^ 30 ≤ v

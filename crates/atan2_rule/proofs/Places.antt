@@ -6,31 +6,32 @@ use native.Mathlib.Omega.{arith}
 use native.Mathlib.Decide.{ℕ-discrete}
 use lib.Dec.{lit≤}
 use lib.Pow.{pow-mono}
+use Rattle.floats.specs.Patterns.{hidden}
 use Rattle.trig_rule.specs.Steps.{half, fixedOf}
 use Rattle.atan2_rule.specs.Steps.{least, most}
 
 -- the unit of the binade of b
 abbrev unit : ℕ → ℕ
-unit b = 2 ^ (b / 8388608 - 94)
+unit b = 2 ^ (b / hidden - 94)
 
 -- below the binade's last place the digits go up by one; at it the field does
 within : (m e n f : ℕ) → n ≡ m + 1 → f ≡ e → n * 2 ^ f ≡ m * 2 ^ e + 2 ^ e
 within m e n f a b = ap (λ (k : ℕ). n * 2 ^ k) b ∙ ap (λ (k : ℕ). k * 2 ^ e) a ∙ add-mul m 1 (2 ^ e) ∙ ap (λ (k : ℕ). m * 2 ^ e + k) (one-mul (2 ^ e))
 
-across : (m e n f : ℕ) → m ≡ 16777215 → n ≡ 8388608 → f ≡ suc e → n * 2 ^ f ≡ m * 2 ^ e + 2 ^ e
+across : (m e n f : ℕ) → m ≡ 16777215 → n ≡ hidden → f ≡ suc e → n * 2 ^ f ≡ m * 2 ^ e + 2 ^ e
 across m e n f a b c =
-    ap (λ (k : ℕ). n * 2 ^ k) c ∙ ap (λ (k : ℕ). k * 2 ^ suc e) b ∙ ap (λ (k : ℕ). 8388608 * k) (pow-succ' 2 e) ∙ twice (2 ^ e)
+    ap (λ (k : ℕ). n * 2 ^ k) c ∙ ap (λ (k : ℕ). k * 2 ^ suc e) b ∙ ap (λ (k : ℕ). hidden * k) (pow-succ' 2 e) ∙ twice (2 ^ e)
     ∙ ap (λ (k : ℕ). k * 2 ^ e + 2 ^ e) (sym a)
   where
-    twice : (w : ℕ) → 8388608 * (2 * w) ≡ 16777215 * w + w
+    twice : (w : ℕ) → hidden * (2 * w) ≡ 16777215 * w + w
     twice w = omega arith
 
 pub fixed-step : (b : ℕ) → 788529152 ≤ b → fixedOf (b + 1) ≡ fixedOf b + unit b
-fixed-step b h = go (ℕ-discrete (b % 8388608) 8388607)
+fixed-step b h = go (ℕ-discrete (b % hidden) 8388607)
   where
-    go : Dec (b % 8388608 ≡ 8388607) → fixedOf (b + 1) ≡ fixedOf b + unit b
-    go (yes e) = across (b % 8388608 + 8388608) (b / 8388608 - 94) ((b + 1) % 8388608 + 8388608) ((b + 1) / 8388608 - 94) (omega arith) (omega arith) (omega arith)
-    go (no n) = within (b % 8388608 + 8388608) (b / 8388608 - 94) ((b + 1) % 8388608 + 8388608) ((b + 1) / 8388608 - 94) (omega arith) (omega arith)
+    go : Dec (b % hidden ≡ 8388607) → fixedOf (b + 1) ≡ fixedOf b + unit b
+    go (yes e) = across (b % hidden + hidden) (b / hidden - 94) ((b + 1) % hidden + hidden) ((b + 1) / hidden - 94) (omega arith) (omega arith) (omega arith)
+    go (no n) = within (b % hidden + hidden) (b / hidden - 94) ((b + 1) % hidden + hidden) ((b + 1) / hidden - 94) (omega arith) (omega arith)
 
 fixed-on : (n b : ℕ) → 788529152 ≤ b → fixedOf b ≤ fixedOf (b + n)
 fixed-on zero b h = le-of-eq (ap fixedOf (sym (add-zero b)))
@@ -58,5 +59,5 @@ module _ (b : ℕ) (low : least ≤ b) where
   pub step-near : b < most → fixedOf (b + 1) ≤ fixedOf b + 2 ^ 34
   step-near h = le-trans (le-of-eq (fixed-step b wide)) (add-le-add (le-refl (fixedOf b)) (pow-mono (few h)))
     where
-      few : b < most → b / 8388608 - 94 ≤ 34
+      few : b < most → b / hidden - 94 ≤ 34
       few k = omega arith

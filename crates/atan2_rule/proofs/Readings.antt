@@ -2,6 +2,7 @@
 use mathlib.Core.Path.{_≡_, refl}
 use Prim.Native.Nat.{ℕ}
 use lib.Ieee.{binary32, toBits, ofBits, isNan, add, sub, mul, div}
+use Rattle.floats.specs.Patterns.{infinityBits, signPlace}
 use Rattle.trig_rule.specs.Sums.{factorial}
 use Rattle.trig_rule.specs.Steps.{ladder}
 use Rattle.atan2_rule.specs.Steps.{ahead, behind, along, against, passes, nearOf, guessOf, aheadAt, missAt, climb, betweenOf, fallbackOf, atan2Of}
@@ -23,21 +24,21 @@ pub straight-up : answer 1065353216 0 ≡ 1070141403
 unfolding atan2Of toBits ofBits isNan guessOf nearOf passes ahead behind along against ladder factorial add sub mul div
 straight-up = refl
 
-pub straight-up-minus : answer 1065353216 2147483648 ≡ 1070141403
+pub straight-up-minus : answer 1065353216 signPlace ≡ 1070141403
 unfolding atan2Of toBits ofBits isNan guessOf nearOf passes ahead behind along against ladder factorial add sub mul div
 straight-up-minus = refl
 
 -- y is zero: y itself on the right, and on the left PI with y's sign
-pub right-zero : answer 2147483648 1065353216 ≡ 2147483648
+pub right-zero : answer signPlace 1065353216 ≡ signPlace
 unfolding atan2Of toBits ofBits
 right-zero = refl
 
-pub left-zero : answer 2147483648 3212836864 ≡ 3226013659
+pub left-zero : answer signPlace 3212836864 ≡ 3226013659
 unfolding atan2Of toBits ofBits
 left-zero = refl
 
 -- both zero: 0, whatever their signs
-pub no-direction : answer 2147483648 2147483648 ≡ 0
+pub no-direction : answer signPlace signPlace ≡ 0
 unfolding atan2Of toBits ofBits
 no-direction = refl
 
@@ -46,7 +47,7 @@ pub least-kept : answer 2147483649 1065353216 ≡ 2147483649
 unfolding atan2Of toBits ofBits div
 least-kept = refl
 
-pub least-halved : answer 2147483649 1073741824 ≡ 2147483648
+pub least-halved : answer 2147483649 1073741824 ≡ signPlace
 unfolding atan2Of toBits ofBits div
 least-halved = refl
 
@@ -60,7 +61,7 @@ pub steepest : answer 2139095039 1 ≡ 1070141403
 unfolding atan2Of toBits ofBits isNan guessOf nearOf passes ahead behind along against ladder factorial add sub mul div
 steepest = refl
 
-pub infinite : answer 2139095040 1065353216 ≡ 2143289344
+pub infinite : answer infinityBits 1065353216 ≡ 2143289344
 unfolding atan2Of toBits ofBits
 infinite = refl
 

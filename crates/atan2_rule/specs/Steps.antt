@@ -5,6 +5,7 @@ use mathlib.Core.Bool.{Bool, cond, _&&_}
 use lib.Dec.{leb, ltb, eqb}
 use lib.Ieee.{Float, nan, binary32, binary64, toBits, ofBits, isNan, add, sub, mul, div}
 use lib.Ieee.Scale.{finite}
+use Rattle.floats.specs.Patterns.{signPlace}
 use Rattle.trig_rule.specs.Reduction.{turn}
 use Rattle.trig_rule.specs.Steps.{half, fixedOf, sinePlus, sineMinus, cosinePlus, cosineMinus}
 
@@ -148,11 +149,11 @@ abbrev pub slanted : Float → Float → ℕ → ℕ → ℕ → ℕ → Float
 slanted y x a b s t =
     let u = partOf a (topOf a b) in
     let v = partOf b (topOf a b) in
-    cond (tiny u v t) (div binary32 y x) (ofBits binary32 (s * 2147483648 + angleBits u v t (guessOf a b (ltb v u) t)))
+    cond (tiny u v t) (div binary32 y x) (ofBits binary32 (s * signPlace + angleBits u v t (guessOf a b (ltb v u) t)))
 
 -- "for y zero it is zero with x above 0 and PI in size with x below. Both zero: 0."
 abbrev pub level : Float → ℕ → ℕ → ℕ → Float
-level y b s t = cond (eqb b 0) (ofBits binary32 0) (cond (eqb t 0) y (ofBits binary32 (s * 2147483648 + piBits)))
+level y b s t = cond (eqb b 0) (ofBits binary32 0) (cond (eqb t 0) y (ofBits binary32 (s * signPlace + piBits)))
 
 -- "Not finite: NaN."
 unfoldable pub atan2Of : Float → Float → Float

@@ -12,6 +12,7 @@ use lib.Ieee.{Float, nan, inf, fin, binary32, round, mul, ofInt, ofBits, toBits,
 use lib.Ieee.Back.{round-whole}
 use lib.Ieee.Bits.{ofBits-toBits, toBits-lt}
 use lib.Ieee.Scale.{round-same}
+use Rattle.floats.specs.Patterns.{hidden}
 use Rattle.root.proofs.Units.{units-of-value}
 use Rattle.trig_rule.specs.Rule.{Is}
 use Rattle.trig_rule.specs.Steps.{plain, signBit}
@@ -25,84 +26,84 @@ use Rattle.rotation.proofs.Laws.{sizeIn, reduced-within, beyond-is}
 
 -- ---- 360 among the patterns
 units-under : (a : ℕ) → a ≤ 0x43b4_0000 → unitsAt a ≤ fullTurn
-units-under a h = go (decLe 135 (a / 8388608))
+units-under a h = go (decLe 135 (a / hidden))
   where
-    go : Dec (135 ≤ a / 8388608) → unitsAt a ≤ fullTurn
+    go : Dec (135 ≤ a / hidden) → unitsAt a ≤ fullTurn
     go (yes k) =
-        let d : a % 8388608 + 8388608 ≤ 11796480 = omega arith in
-        let e : a / 8388608 - 1 ≤ 134 = omega arith in
+        let d : a % hidden + hidden ≤ 11796480 = omega arith in
+        let e : a / hidden - 1 ≤ 134 = omega arith in
         le-trans (mul-le-mul d (pow-mono e)) (lit≤ tt)
     go (no f) =
-        let d : a % 8388608 + 8388608 ≤ 16777216 = omega arith in
-        let e : a / 8388608 - 1 ≤ 133 = let g = lt-of-not-le f in omega arith in
+        let d : a % hidden + hidden ≤ 16777216 = omega arith in
+        let e : a / hidden - 1 ≤ 133 = let g = lt-of-not-le f in omega arith in
         le-trans (mul-le-mul d (pow-mono e)) (lit≤ tt)
 
 units-over : (a : ℕ) → 0x43b4_0000 < a → fullTurn < unitsAt a
-units-over a h = go (decLe 136 (a / 8388608))
+units-over a h = go (decLe 136 (a / hidden))
   where
-    go : Dec (136 ≤ a / 8388608) → fullTurn < unitsAt a
+    go : Dec (136 ≤ a / hidden) → fullTurn < unitsAt a
     go (yes k) =
-        let d : 8388608 ≤ a % 8388608 + 8388608 = omega arith in
-        let e : 135 ≤ a / 8388608 - 1 = omega arith in
+        let d : hidden ≤ a % hidden + hidden = omega arith in
+        let e : 135 ≤ a / hidden - 1 = omega arith in
         lt-of-lt-of-le (lit< tt) (mul-le-mul d (pow-mono e))
     go (no f) =
-        let d : 11796481 ≤ a % 8388608 + 8388608 = let g = lt-of-not-le f in omega arith in
-        let e : 134 ≤ a / 8388608 - 1 = omega arith in
+        let d : 11796481 ≤ a % hidden + hidden = let g = lt-of-not-le f in omega arith in
+        let e : 134 ≤ a / hidden - 1 = omega arith in
         lt-of-lt-of-le (lit< tt) (mul-le-mul d (pow-mono e))
 
 -- ---- the digits and their unit, below 2 ^ 26
 shifted-turn : (k : ℕ) → k ≤ 18 → 45 * 2 ^ k % 2 ^ 32 ≡ 45 * 2 ^ k
 shifted-turn k h = shl-exact 6 k 32 (lit< tt) (omega arith)
 
-module _ (a : ℕ) (beyond : 0x43b4_0000 < a) (low : a / 8388608 < 153) where
+module _ (a : ℕ) (beyond : 0x43b4_0000 < a) (low : a / hidden < 153) where
   -- 360 in that unit, as the shift makes it
-  pub turn-shifted : 45 * 2 ^ (153 - a / 8388608) % 2 ^ 32 ≡ 45 * 2 ^ (153 - a / 8388608)
-  turn-shifted = shifted-turn (153 - a / 8388608) (omega arith)
+  pub turn-shifted : 45 * 2 ^ (153 - a / hidden) % 2 ^ 32 ≡ 45 * 2 ^ (153 - a / hidden)
+  turn-shifted = shifted-turn (153 - a / hidden) (omega arith)
 
-  pub unit-bits : T (not (nanBits binary32 ((a / 8388608 - 23) * 8388608)))
-  unit-bits = number-bits ((a / 8388608 - 23) * 8388608) (omega arith)
+  pub unit-bits : T (not (nanBits binary32 ((a / hidden - 23) * hidden)))
+  unit-bits = number-bits ((a / hidden - 23) * hidden) (omega arith)
 
   pub low-is :
-      mul binary32 (ofInt binary32 (pos ((a % 8388608 + 8388608) % (45 * 2 ^ (153 - a / 8388608) % 2 ^ 32)))) (ofBits binary32 ((a / 8388608 - 23) * 8388608))
+      mul binary32 (ofInt binary32 (pos ((a % hidden + hidden) % (45 * 2 ^ (153 - a / hidden) % 2 ^ 32)))) (ofBits binary32 ((a / hidden - 23) * hidden))
       ≡ round binary32 false (unitsAt a % fullTurn) (2 ^ 149)
   unfolding ofInt
   low-is =
-      let d = a % 8388608 + 8388608 in
-      let e = a / 8388608 in
+      let d = a % hidden + hidden in
+      let e = a / hidden in
       let r = d % (45 * 2 ^ (153 - e)) in
-      let u = (e - 23) * 8388608 in
-      let digits : u % 8388608 + 8388608 ≡ 8388608 = omega arith in
-      let field : u / 8388608 - 1 ≡ e - 24 = omega arith in
+      let u = (e - 23) * hidden in
+      let digits : u % hidden + hidden ≡ hidden = omega arith in
+      let field : u / hidden - 1 ≡ e - 24 = omega arith in
       let up : 23 + (e - 24) ≡ e - 1 = omega arith in
       let down : 152 - (e - 1) ≡ 153 - e = omega arith in
-      let unit : (u % 8388608 + 8388608) * 2 ^ (u / 8388608 - 1) ≡ 2 ^ (e - 1) =
-      ap (λ (n : ℕ). n * 2 ^ (u / 8388608 - 1)) digits ∙ ap (λ (n : ℕ). 8388608 * 2 ^ n) field ∙ sym (pow-add 2 23 (e - 24)) ∙ ap (λ (n : ℕ). 2 ^ n) up in
+      let unit : (u % hidden + hidden) * 2 ^ (u / hidden - 1) ≡ 2 ^ (e - 1) =
+      ap (λ (n : ℕ). n * 2 ^ (u / hidden - 1)) digits ∙ ap (λ (n : ℕ). hidden * 2 ^ n) field ∙ sym (pow-add 2 23 (e - 24)) ∙ ap (λ (n : ℕ). 2 ^ n) up in
       let few : r ≤ 2 ^ 24 = le-trans (mod-le d (45 * 2 ^ (153 - e))) (omega arith) in
       ap (λ (n : ℕ). mul binary32 (round binary32 false (d % n) 1) (ofBits binary32 u)) turn-shifted
-      ∙ mul-values binary32 (round binary32 false r 1) (ofBits binary32 u) false false r 1 ((u % 8388608 + 8388608) * 2 ^ (u / 8388608 - 1)) (2 ^ 149) (lit< tt) (pow-pos 149)
+      ∙ mul-values binary32 (round binary32 false r 1) (ofBits binary32 u) false false r 1 ((u % hidden + hidden) * 2 ^ (u / hidden - 1)) (2 ^ 149) (lit< tt) (pow-pos 149)
       (round-whole binary32 false r few) (normal-value u (omega arith) (omega arith))
       ∙ ap (λ (n : ℕ). round binary32 false (r * n) (2 ^ 149)) unit
       ∙ ap (λ (n : ℕ). round binary32 false n (2 ^ 149)) (sym (rest-low d (e - 1) (omega arith) ∙ ap (λ (n : ℕ). d % (45 * 2 ^ n) * 2 ^ (e - 1)) down))
 
 -- from 2 ^ 26 on every size is a multiple of 8
-pub high-is : (a : ℕ) → 153 ≤ a / 8388608 → (r : ℕ) → r ≡ (a % 8388608 + 8388608) * 2 ^ (a / 8388608 - 153) % 45 → ofInt binary32 (pos (r * 8)) ≡ round binary32 false (unitsAt a % fullTurn) (2 ^ 149)
+pub high-is : (a : ℕ) → 153 ≤ a / hidden → (r : ℕ) → r ≡ (a % hidden + hidden) * 2 ^ (a / hidden - 153) % 45 → ofInt binary32 (pos (r * 8)) ≡ round binary32 false (unitsAt a % fullTurn) (2 ^ 149)
 unfolding ofInt
 high-is a h r e =
-    let z : a / 8388608 - 1 - 152 ≡ a / 8388608 - 153 = omega arith in
+    let z : a / hidden - 1 - 152 ≡ a / hidden - 153 = omega arith in
     round-same binary32 false (r * 8) 1 (r * 2 ^ 152) (2 ^ 149) (lit< tt) (pow-pos 149) (mul-assoc r 8 (2 ^ 149) ∙ sym (mul-one (r * 2 ^ 152)))
     ∙ ap (λ (n : ℕ). round binary32 false n (2 ^ 149))
     (ap (λ (n : ℕ). n * 2 ^ 152) e
-    ∙ sym (rest-high (a % 8388608 + 8388608) (a / 8388608 - 1) (omega arith) ∙ ap (λ (n : ℕ). (a % 8388608 + 8388608) * 2 ^ n % 45 * 2 ^ 152) z))
+    ∙ sym (rest-high (a % hidden + hidden) (a / hidden - 1) (omega arith) ∙ ap (λ (n : ℕ). (a % hidden + hidden) * 2 ^ n % 45 * 2 ^ 152) z))
 
 -- ---- a rotation by its bits
 module _ (x : Float) (held : T (fits binary32 x)) where
   pub within-bits : plain x ≤ 0x43b4_0000 → reducedOf x ≡ x
-  within-bits h = reduced-within x (small (decLe 8388608 (plain x)))
+  within-bits h = reduced-within x (small (decLe hidden (plain x)))
     where
       of-units : (n : ℕ) → Is (ofBits binary32 (plain x)) false n → n ≤ fullTurn → sizeIn x ≤ fullTurn
       of-units n v l = subst (λ (k : ℕ). k ≤ fullTurn) (sym (units-of-value binary32 x (signed x held .minus) n (signed x held .value n v))) l
 
-      small : Dec (8388608 ≤ plain x) → sizeIn x ≤ fullTurn
+      small : Dec (hidden ≤ plain x) → sizeIn x ≤ fullTurn
       small (yes k) = of-units (unitsAt (plain x)) (normal-value (plain x) k (omega arith)) (units-under (plain x) h)
       small (no f) = of-units (plain x) (subnormal-value (plain x) (lt-of-not-le f)) (le-trans (le-of-lt (lt-of-not-le f)) (lit≤ tt))
 

@@ -4,6 +4,7 @@ use Prim.Native.Nat.{ℕ, _+_, _-_, _*_, _/_, _%_, _^_}
 use mathlib.Core.Bool.{Bool, cond}
 use lib.Dec.{T, ltb}
 use lib.Ieee.{Float, nan, inf, fin, binary32, round, fits}
+use Rattle.floats.specs.Patterns.{hidden}
 use Rattle.root.specs.Root.{unitsOf}
 use Rattle.trig_rule.specs.Rule.{Is}
 use Rattle.math.specs.Math.{degToRadOf}
@@ -37,4 +38,4 @@ pub record Left (x y : Float) : Type 0 where
 
 -- the size of a normal f32, from its bits without the sign
 abbrev pub unitsAt : ℕ → ℕ
-unitsAt a = (a % 8388608 + 8388608) * 2 ^ (a / 8388608 - 1)
+unitsAt a = (a % hidden + hidden) * 2 ^ (a / hidden - 1)

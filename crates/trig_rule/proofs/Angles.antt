@@ -9,21 +9,22 @@ use lib.Dec.{T, lit≤, lit<}
 use lib.Pow.{pow-add, pow-mono}
 use lib.Ieee.{Float, binary32, fits, toBits, ofBits}
 use lib.Ieee.Bits.{ofBits-toBits, toBits-lt}
+use Rattle.floats.specs.Patterns.{hidden, signPlace}
 use Rattle.trig_rule.specs.Rule.{Is}
-use Rattle.trig_rule.specs.Steps.{fixedOf, plain, signBit}
+use Rattle.trig_rule.specs.Steps.{tinyBits, fixedOf, plain, signBit}
 use Rattle.trig_rule.proofs.Patterns.{bit, with-sign, sign-of-bits, sign-and-rest, normal-value, subnormal-value}
 
 -- ---- bits without the sign
 -- at least 2 ^ -33, so that it is a whole number of 2 ^ -56
-pub angle-value : (a : ℕ) → 964689920 ≤ a → a ≤ 1115684864 → Is (ofBits binary32 a) false (fixedOf a * 2 ^ 93)
+pub angle-value : (a : ℕ) → tinyBits ≤ a → a ≤ 1115684864 → Is (ofBits binary32 a) false (fixedOf a * 2 ^ 93)
 angle-value a lo hi = subst (λ (n : ℕ). Is (ofBits binary32 a) false n) value (normal-value a (omega arith) (omega arith))
   where
-    split : a / 8388608 - 1 ≡ a / 8388608 - 94 + 93
+    split : a / hidden - 1 ≡ a / hidden - 94 + 93
     split = omega arith
 
-    value : (a % 8388608 + 8388608) * 2 ^ (a / 8388608 - 1) ≡ (a % 8388608 + 8388608) * 2 ^ (a / 8388608 - 94) * 2 ^ 93
+    value : (a % hidden + hidden) * 2 ^ (a / hidden - 1) ≡ (a % hidden + hidden) * 2 ^ (a / hidden - 94) * 2 ^ 93
     value =
-        ap (λ (k : ℕ). (a % 8388608 + 8388608) * 2 ^ k) split ∙ ap (λ (n : ℕ). (a % 8388608 + 8388608) * n) (pow-add 2 (a / 8388608 - 94) 93) ∙ sym (mul-assoc (a % 8388608 + 8388608) (2 ^ (a / 8388608 - 94)) (2 ^ 93))
+        ap (λ (k : ℕ). (a % hidden + hidden) * 2 ^ k) split ∙ ap (λ (n : ℕ). (a % hidden + hidden) * n) (pow-add 2 (a / hidden - 94) 93) ∙ sym (mul-assoc (a % hidden + hidden) (2 ^ (a / hidden - 94)) (2 ^ 93))
 
 -- below 2 ^ -12
 pub record Small (a : ℕ) : Type 0 where
@@ -31,14 +32,14 @@ pub record Small (a : ℕ) : Type 0 where
   pub value : Is (ofBits binary32 a) false units
   pub under : units < 2 ^ 137
 
-pub small-value : (a : ℕ) → a < 964689920 → Small a
-small-value a h = go (decLe 8388608 a)
+pub small-value : (a : ℕ) → a < tinyBits → Small a
+small-value a h = go (decLe hidden a)
   where
-    go : Dec (8388608 ≤ a) → Small a
+    go : Dec (hidden ≤ a) → Small a
     go (yes k) =
-        let f : a / 8388608 - 1 ≤ 113 = omega arith in
-        let q : a % 8388608 + 8388608 ≤ 16777215 = omega arith in
-        record { units = (a % 8388608 + 8388608) * 2 ^ (a / 8388608 - 1); value = normal-value a k (omega arith); under = lt-of-le-of-lt (mul-le-mul q (pow-mono f)) (lit< tt) }
+        let f : a / hidden - 1 ≤ 113 = omega arith in
+        let q : a % hidden + hidden ≤ 16777215 = omega arith in
+        record { units = (a % hidden + hidden) * 2 ^ (a / hidden - 1); value = normal-value a k (omega arith); under = lt-of-le-of-lt (mul-le-mul q (pow-mono f)) (lit< tt) }
     go (no g) = record { units = a; value = subnormal-value a (lt-of-not-le g); under = lt-of-lt-of-le h (lit≤ tt) }
 
 -- ---- a float with the sign that its bits have
@@ -56,5 +57,5 @@ signed x f =
       bits = p .1;
       value = λ n v.
           subst (λ (y : Float). Is y (p .0) n) (ofBits-toBits binary32 x f)
-          (subst (λ (c : ℕ). Is (ofBits binary32 c) (p .0) n) (sym (sign-and-rest b (p .0) (p .1))) (with-sign (p .0) (b % 2147483648) n (omega arith) v));
+          (subst (λ (c : ℕ). Is (ofBits binary32 c) (p .0) n) (sym (sign-and-rest b (p .0) (p .1))) (with-sign (p .0) (b % signPlace) n (omega arith) v));
     }

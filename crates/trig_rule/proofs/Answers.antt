@@ -10,7 +10,7 @@ use lib.Ieee.Bits.{ofBits-fits}
 use lib.Ieee.Fits.{nan-fits, down-pos}
 use Rattle.trig_rule.specs.Reduction.{turnUnits, Reduced}
 use Rattle.trig_rule.specs.Rule.{inReach, Is}
-use Rattle.trig_rule.specs.Steps.{fixedOf, flipOf, restOf, plain, signBit, sineAt, cosineAt, sineOf, cosineOf}
+use Rattle.trig_rule.specs.Steps.{tinyBits, fixedOf, flipOf, restOf, plain, signBit, sineAt, cosineAt, sineOf, cosineOf}
 use Rattle.trig_rule.proofs.Turns.{reduced, reduced-unique, rest-no-half}
 use Rattle.trig_rule.proofs.Angles.{angle-value, small-value, Signed, signed}
 use Rattle.trig_rule.proofs.Reach.{reach-plain}
@@ -19,17 +19,17 @@ use Rattle.trig_rule.proofs.Ruled.{sine-far, sine-tiny, sine-main, cosi
 
 -- ---- the format
 pub sine-fits : (x : Float) → T (fits binary32 x) → T (fits binary32 (sineOf x))
-sine-fits x f = go (inReach x) refl (decLe 964689920 (plain x))
+sine-fits x f = go (inReach x) refl (decLe tinyBits (plain x))
   where
-    go : (b : Bool) → inReach x ≡ b → Dec (964689920 ≤ plain x) → T (fits binary32 (sineOf x))
+    go : (b : Bool) → inReach x ≡ b → Dec (tinyBits ≤ plain x) → T (fits binary32 (sineOf x))
     go false h d = subst (λ (y : Float). T (fits binary32 y)) (sym (sine-far x h)) (nan-fits binary32)
     go true h (no g) = subst (λ (y : Float). T (fits binary32 y)) (sym (sine-tiny x h (lt-of-not-le g))) f
     go true h (yes l) = subst (λ (y : Float). T (fits binary32 y)) (sym (sine-main x h l)) (ofBits-fits binary32 (sineAt (signBit x + flipOf (fixedOf (plain x))) (restOf (fixedOf (plain x)))))
 
 pub cosine-fits : (x : Float) → T (fits binary32 (cosineOf x))
-cosine-fits x = go (inReach x) refl (decLe 964689920 (plain x))
+cosine-fits x = go (inReach x) refl (decLe tinyBits (plain x))
   where
-    go : (b : Bool) → inReach x ≡ b → Dec (964689920 ≤ plain x) → T (fits binary32 (cosineOf x))
+    go : (b : Bool) → inReach x ≡ b → Dec (tinyBits ≤ plain x) → T (fits binary32 (cosineOf x))
     go false h d = subst (λ (y : Float). T (fits binary32 y)) (sym (cosine-far x h)) (nan-fits binary32)
     go true h (no g) = subst (λ (y : Float). T (fits binary32 y)) (sym (cosine-tiny x h (lt-of-not-le g))) (ofBits-fits binary32 1065353216)
     go true h (yes l) = subst (λ (y : Float). T (fits binary32 y)) (sym (cosine-main x h l)) (ofBits-fits binary32 (cosineAt (restOf (fixedOf (plain x)))))
@@ -48,12 +48,12 @@ tiny-no-half n h e = lt-irrefl turnUnits (lt-of-le-of-lt (le-of-eq (sym e)) (lt-
     twice n h = le-of-lt (mul-lt-mul-of-pos-left h (lit< tt))
 
 pub no-half : (x : Float) → T (fits binary32 x) → T (inReach x) → (s b : Bool) (n r : ℕ) → Is x s n → Reduced n r b → 2 * r ≡ turnUnits → ⊥
-no-half x f t s b n r v d e = go (decLe 964689920 (plain x))
+no-half x f t s b n r v d e = go (decLe tinyBits (plain x))
   where
     z : Signed x
     z = signed x f
 
-    go : Dec (964689920 ≤ plain x) → ⊥
+    go : Dec (tinyBits ≤ plain x) → ⊥
     go (yes l) =
         let X = fixedOf (plain x) in
         let same : n ≡ X * 2 ^ 93 = size-unique x s (z .minus) n (X * 2 ^ 93) v (z .value (X * 2 ^ 93) (angle-value (plain x) l (reach-plain x f t))) in

@@ -10,6 +10,7 @@ use lib.Pow.{pow-pos, pow-mono, pow-add, shl-lt}
 use lib.Count.{leadingZeros, leading-top, leading-le}
 use lib.Ieee.{binary32, ofBits}
 use borrow.Author.Tests.{ne-eqb, eq-eqb}
+use Rattle.floats.specs.Patterns.{hidden, signPlace}
 use Rattle.trig_rule.specs.Rule.{Is}
 use Rattle.trig_rule.specs.Steps.{packOf, roundedOf}
 use Rattle.trig_rule.proofs.Patterns.{bits-value, subnormal-value}
@@ -18,7 +19,7 @@ pub pow-lt-cancel : {a b : ℕ} → 2 ^ a < 2 ^ b → a < b
 pow-lt-cancel h = lt-of-not-le (λ g. not-le-of-lt h (pow-mono g))
 
 -- ---- rounding to 24 digits
-rounded-low : (n : ℕ) → 2 ^ 63 ≤ n → 8388608 ≤ roundedOf n
+rounded-low : (n : ℕ) → 2 ^ 63 ≤ n → hidden ≤ roundedOf n
 rounded-low n h = omega arith
 
 rounded-high : (n : ℕ) → n < 2 ^ 64 → roundedOf n ≤ 16777216
@@ -87,9 +88,9 @@ module _ (w s z j f : ℕ) (ez : z + suc j ≡ 64) (lo : 2 ^ j ≤ w) (hi : w < 
       le-of-mul-le-mul-right {k = 2 ^ z} (omega arith) (pow-pos z)
 
 -- the bits where w is not 0
-pack-is : (w s : ℕ) → (w ≡ 0 → ⊥) → w * 2 ^ leadingZeros 64 w < 2 ^ 64 → packOf w s ≡ (103 + s - leadingZeros 64 w) * 8388608 + roundedOf (w * 2 ^ leadingZeros 64 w)
+pack-is : (w s : ℕ) → (w ≡ 0 → ⊥) → w * 2 ^ leadingZeros 64 w < 2 ^ 64 → packOf w s ≡ (103 + s - leadingZeros 64 w) * hidden + roundedOf (w * 2 ^ leadingZeros 64 w)
 pack-is w s h l =
-    simp (ne-eqb w 0 h) (ap (λ (n : ℕ). (103 + s - leadingZeros 64 w) * 8388608 + roundedOf n) (mod-eq-of-lt l))
+    simp (ne-eqb w 0 h) (ap (λ (n : ℕ). (103 + s - leadingZeros 64 w) * hidden + roundedOf n) (mod-eq-of-lt l))
 
 pack-none : (w s : ℕ) → w ≡ 0 → packOf w s ≡ 0
 pack-none w s e = simp (eq-eqb w 0 e)
@@ -125,9 +126,9 @@ pack-near w s h hs under = go (eq-zero-or-pos w)
         }
 
 -- the bits are below the sign's
-pack-lt-at : (t : Bool) (w s : ℕ) → s ≤ 60 → cond t 0 ((103 + s - leadingZeros 64 w) * 8388608 + (w * 2 ^ leadingZeros 64 w % 2 ^ 64 / 2 ^ 40 + w * 2 ^ leadingZeros 64 w % 2 ^ 64 / 2 ^ 39 % 2)) < 2147483648
+pack-lt-at : (t : Bool) (w s : ℕ) → s ≤ 60 → cond t 0 ((103 + s - leadingZeros 64 w) * hidden + (w * 2 ^ leadingZeros 64 w % 2 ^ 64 / 2 ^ 40 + w * 2 ^ leadingZeros 64 w % 2 ^ 64 / 2 ^ 39 % 2)) < signPlace
 pack-lt-at true w s h = omega arith
 pack-lt-at false w s h = omega (arith, mod-lt (w * 2 ^ leadingZeros 64 w) {m = 2 ^ 64} (omega arith))
 
-pub pack-lt : (w s : ℕ) → s ≤ 60 → packOf w s < 2147483648
+pub pack-lt : (w s : ℕ) → s ≤ 60 → packOf w s < signPlace
 pack-lt w s h = pack-lt-at (eqb w 0) w s h

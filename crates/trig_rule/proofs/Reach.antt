@@ -13,8 +13,9 @@ use lib.IntN.{ℤ, pos}
 use lib.Ieee.{Float, nan, inf, fin, up, down, below, level, binary32, fits, toBits, ofBits, le, isNan}
 use lib.Ieee.Bits.{ofBits-toBits, toBits-lt}
 use lib.Ieee.Fits.{and-l, and-r, and-i, eq→eqb, down-pos}
+use Rattle.floats.specs.Patterns.{hidden, infinityBits}
 use Rattle.trig_rule.specs.Rule.{inReach, Is}
-use Rattle.trig_rule.specs.Steps.{plain}
+use Rattle.trig_rule.specs.Steps.{tinyBits, plain}
 use Rattle.trig_rule.proofs.Patterns.{normal-value, subnormal-value, finite-lt}
 use Rattle.trig_rule.proofs.Angles.{Signed, signed}
 
@@ -103,10 +104,10 @@ pub record Sized (x : Float) : Type 0 where
   pub minus : Bool
   pub units : ℕ
   pub value : Is x minus units
-  pub from-tiny : 964689920 ≤ plain x → 2 ^ 137 ≤ units
+  pub from-tiny : tinyBits ≤ plain x → 2 ^ 137 ≤ units
   pub from-far : 1115684864 < plain x → 2 ^ 155 < units
 
-far : (f q : ℕ) → 8388608 ≤ q → 132 ≤ f → (f ≡ 132 → 8388608 < q) → 2 ^ 155 < q * 2 ^ f
+far : (f q : ℕ) → hidden ≤ q → 132 ≤ f → (f ≡ 132 → hidden < q) → 2 ^ 155 < q * 2 ^ f
 far f q hq hf k =
     elim (eq-or-lt-of-le hf) [
       | inl e ↦ lt-of-lt-of-le (lit< tt) (mul-le-mul (k (sym e)) (pow-mono hf))
@@ -114,7 +115,7 @@ far f q hq hf k =
     ]
 
 pub sized : (x : Float) (t : Bool) (m : ℕ) (e : ℤ) → T (fits binary32 x) → x ≡ fin t m e → Sized x
-sized x t m e f h = go (decLe 8388608 (plain x))
+sized x t m e f h = go (decLe hidden (plain x))
   where
     a : ℕ
     a = plain x
@@ -122,25 +123,25 @@ sized x t m e f h = go (decLe 8388608 (plain x))
     s : Signed x
     s = signed x f
 
-    finite : plain x < 2139095040
+    finite : plain x < infinityBits
     finite = finite-lt (toBits binary32 x) t m e (toBits-lt binary32 x f) (ofBits-toBits binary32 x f ∙ h)
 
-    go : Dec (8388608 ≤ plain x) → Sized x
+    go : Dec (hidden ≤ plain x) → Sized x
     go (yes k) =
         record {
           minus = s .minus;
-          units = (a % 8388608 + 8388608) * 2 ^ (a / 8388608 - 1);
-          value = s .value ((a % 8388608 + 8388608) * 2 ^ (a / 8388608 - 1)) (normal-value a k finite);
-          from-tiny = λ (l : 964689920 ≤ plain x). le-trans (lit≤ tt) (mul-le-mul (low (a % 8388608)) (pow-mono (field l)));
-          from-far = λ (l : 1115684864 < plain x). far (a / 8388608 - 1) (a % 8388608 + 8388608) (low (a % 8388608)) (omega arith) (λ e. omega arith);
+          units = (a % hidden + hidden) * 2 ^ (a / hidden - 1);
+          value = s .value ((a % hidden + hidden) * 2 ^ (a / hidden - 1)) (normal-value a k finite);
+          from-tiny = λ (l : tinyBits ≤ plain x). le-trans (lit≤ tt) (mul-le-mul (low (a % hidden)) (pow-mono (field l)));
+          from-far = λ (l : 1115684864 < plain x). far (a / hidden - 1) (a % hidden + hidden) (low (a % hidden)) (omega arith) (λ e. omega arith);
         }
       where
-        low : (r : ℕ) → 8388608 ≤ r + 8388608
+        low : (r : ℕ) → hidden ≤ r + hidden
         low r = omega arith
 
-        field : 964689920 ≤ plain x → 114 ≤ plain x / 8388608 - 1
+        field : tinyBits ≤ plain x → 114 ≤ plain x / hidden - 1
         field l = omega arith
-    go (no g) = record { minus = s .minus; units = a; value = s .value a (subnormal-value a (lt-of-not-le g)); from-tiny = λ (l : 964689920 ≤ plain x). absurd (g (le-trans (omega arith) l)); from-far = λ (l : 1115684864 < plain x). absurd (g (le-trans (omega arith) l)) }
+    go (no g) = record { minus = s .minus; units = a; value = s .value a (subnormal-value a (lt-of-not-le g)); from-tiny = λ (l : tinyBits ≤ plain x). absurd (g (le-trans (omega arith) l)); from-far = λ (l : 1115684864 < plain x). absurd (g (le-trans (omega arith) l)) }
 
 -- ---- what the steps ask of the bits
 pub reach-plain : (x : Float) → T (fits binary32 x) → T (inReach x) → plain x ≤ 1115684864

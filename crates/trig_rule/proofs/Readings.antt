@@ -4,6 +4,7 @@ use Prim.Native.Nat.{ℕ, _+_, _*_}
 use mathlib.Core.List.{[], _∷_}
 use lib.Count.{leadingZeros}
 use lib.Ieee.{nan, binary32, ofBits, toBits, le}
+use Rattle.floats.specs.Patterns.{signPlace}
 use Rattle.trig_rule.specs.Sums.{factorial, term, terms, whole}
 use Rattle.trig_rule.specs.Steps.{ladder, coefficient, sineOf, cosineOf}
 
@@ -54,6 +55,6 @@ pub sine-of-little : sineOf (ofBits binary32 507307272) ≡ ofBits binary32 5073
 unfolding sineOf ofBits toBits le
 sine-of-little = refl
 
-pub sine-of-minus-zero : sineOf (ofBits binary32 2147483648) ≡ ofBits binary32 2147483648
+pub sine-of-minus-zero : sineOf (ofBits binary32 signPlace) ≡ ofBits binary32 signPlace
 unfolding sineOf ofBits toBits le
 sine-of-minus-zero = refl

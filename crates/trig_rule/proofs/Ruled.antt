@@ -9,9 +9,10 @@ use lib.Dec.{T, leb, lit≤}
 use lib.Ieee.{Float, nan, binary32, fits, ofBits, unlike}
 use lib.Ieee.Bits.{is-true}
 use borrow.Author.Tests.{le-ltb, lt-ltb}
+use Rattle.floats.specs.Patterns.{hidden, signPlace}
 use Rattle.trig_rule.specs.Sums.{whole, sineSide, cosineSide}
 use Rattle.trig_rule.specs.Rule.{inReach, Is, Within, SineRule, CosineRule}
-use Rattle.trig_rule.specs.Steps.{fixedOf, turnsOf, restOf, flipOf, sinePlus, sineMinus, cosinePlus, cosineMinus, gapOf, overOf, dropOf, packOf, plain, signBit, sineAt, cosineAt, sineOf, cosineOf}
+use Rattle.trig_rule.specs.Steps.{tinyBits, fixedOf, turnsOf, restOf, flipOf, sinePlus, sineMinus, cosinePlus, cosineMinus, gapOf, overOf, dropOf, packOf, plain, signBit, sineAt, cosineAt, sineOf, cosineOf}
 use Rattle.trig_rule.proofs.Patterns.{bit, with-sign, bits-value}
 use Rattle.trig_rule.proofs.Packed.{pack-lt}
 use Rattle.trig_rule.proofs.Bound.{SineAt, sine-at, CosineAt, cosine-at}
@@ -54,28 +55,28 @@ pub sine-far : (x : Float) → inReach x ≡ false → sineOf x ≡ nan
 unfolding sineOf
 sine-far x h = simp h
 
-pub sine-tiny : (x : Float) → inReach x ≡ true → plain x < 964689920 → sineOf x ≡ x
+pub sine-tiny : (x : Float) → inReach x ≡ true → plain x < tinyBits → sineOf x ≡ x
 unfolding sineOf
-sine-tiny x h l = simp (h, lt-ltb (plain x) 964689920 l)
+sine-tiny x h l = simp (h, lt-ltb (plain x) tinyBits l)
 
-pub sine-main : (x : Float) → inReach x ≡ true → 964689920 ≤ plain x → sineOf x ≡ ofBits binary32 (sineAt (signBit x + flipOf (fixedOf (plain x))) (restOf (fixedOf (plain x))))
+pub sine-main : (x : Float) → inReach x ≡ true → tinyBits ≤ plain x → sineOf x ≡ ofBits binary32 (sineAt (signBit x + flipOf (fixedOf (plain x))) (restOf (fixedOf (plain x))))
 unfolding sineOf
-sine-main x h l = simp (h, le-ltb (plain x) 964689920 l)
+sine-main x h l = simp (h, le-ltb (plain x) tinyBits l)
 
 pub cosine-far : (x : Float) → inReach x ≡ false → cosineOf x ≡ nan
 unfolding cosineOf
 cosine-far x h = simp h
 
-pub cosine-tiny : (x : Float) → inReach x ≡ true → plain x < 964689920 → cosineOf x ≡ ofBits binary32 1065353216
+pub cosine-tiny : (x : Float) → inReach x ≡ true → plain x < tinyBits → cosineOf x ≡ ofBits binary32 1065353216
 unfolding cosineOf
-cosine-tiny x h l = simp (h, lt-ltb (plain x) 964689920 l)
+cosine-tiny x h l = simp (h, lt-ltb (plain x) tinyBits l)
 
-pub cosine-main : (x : Float) → inReach x ≡ true → 964689920 ≤ plain x → cosineOf x ≡ ofBits binary32 (cosineAt (restOf (fixedOf (plain x))))
+pub cosine-main : (x : Float) → inReach x ≡ true → tinyBits ≤ plain x → cosineOf x ≡ ofBits binary32 (cosineAt (restOf (fixedOf (plain x))))
 unfolding cosineOf
-cosine-main x h l = simp (h, le-ltb (plain x) 964689920 l)
+cosine-main x h l = simp (h, le-ltb (plain x) tinyBits l)
 
 -- ---- from 2 ^ -12 to 64: the angle is X units of 2 ^ -56, and R is what the turns leave
-module _ (x : Float) (f : T (fits binary32 x)) (lo : 964689920 ≤ plain x) (hi : plain x ≤ 1115684864) where
+module _ (x : Float) (f : T (fits binary32 x)) (lo : tinyBits ≤ plain x) (hi : plain x ≤ 1115684864) where
   abbrev X : ℕ
   X = fixedOf (plain x)
 
@@ -97,12 +98,12 @@ module _ (x : Float) (f : T (fits binary32 x)) (lo : 964689920 ≤ plain x) (hi 
   abbrev packed : ℕ
   packed = packOf (R / 2 ^ dropOf R * gapOf (sinePlus R) (sineMinus R)) (dropOf R)
 
-  sine-bits : sineAt (signBit x + flipOf X) R ≡ bit (unlike (unlike (s .minus) flip) (not plus)) * 2147483648 + packed
+  sine-bits : sineAt (signBit x + flipOf X) R ≡ bit (unlike (unlike (s .minus) flip) (not plus)) * signPlace + packed
   sine-bits =
-      ap (λ (n : ℕ). (n + flipOf X + overOf (sinePlus R) (sineMinus R)) % 2 * 2147483648 + packed) (s .bits)
-      ∙ ap (λ (n : ℕ). (bit (s .minus) + n + overOf (sinePlus R) (sineMinus R)) % 2 * 2147483648 + packed) (bit-not (leb (turnsOf X) X))
-      ∙ ap (λ (n : ℕ). (bit (s .minus) + bit flip + n) % 2 * 2147483648 + packed) (bit-not plus)
-      ∙ ap (λ (n : ℕ). n * 2147483648 + packed) (signs (s .minus) flip (not plus))
+      ap (λ (n : ℕ). (n + flipOf X + overOf (sinePlus R) (sineMinus R)) % 2 * signPlace + packed) (s .bits)
+      ∙ ap (λ (n : ℕ). (bit (s .minus) + n + overOf (sinePlus R) (sineMinus R)) % 2 * signPlace + packed) (bit-not (leb (turnsOf X) X))
+      ∙ ap (λ (n : ℕ). (bit (s .minus) + bit flip + n) % 2 * signPlace + packed) (bit-not plus)
+      ∙ ap (λ (n : ℕ). n * signPlace + packed) (signs (s .minus) flip (not plus))
 
   sine-found : SineAt R
   sine-found = sine-at R (rest-le X)
@@ -147,7 +148,7 @@ module _ (x : Float) (f : T (fits binary32 x)) (lo : 964689920 ≤ plain x) (hi 
         reduced = reduced X;
         negative = not right;
         units = m;
-        answer = subst (λ (n : ℕ). Is (ofBits binary32 (n * 2147483648 + g)) (not right) m) (sym (bit-not right))
+        answer = subst (λ (n : ℕ). Is (ofBits binary32 (n * signPlace + g)) (not right) m) (sym (bit-not right))
             (with-sign (not right) g m (pack-lt (gapOf (cosinePlus R) (cosineMinus R)) 58 (omega arith)) (cosine-found .value));
         within = subst (λ (b : Bool). Within m (cosineSide b r (2 ^ 149)) (cosineSide (not right) r (2 ^ 149)) (whole 30 (2 ^ 149))) (sym (not-not right)) (cosine-rescaled m R right (cosine-found .bound));
       }
@@ -158,9 +159,9 @@ same true = refl
 same false = refl
 
 one-value : Is (ofBits binary32 1065353216) false (2 ^ 149)
-one-value = bits-value 126 8388608 (lit≤ tt) (lit≤ tt) (lit≤ tt)
+one-value = bits-value 126 hidden (lit≤ tt) (lit≤ tt) (lit≤ tt)
 
-module _ (x : Float) (f : T (fits binary32 x)) (lo : plain x < 964689920) where
+module _ (x : Float) (f : T (fits binary32 x)) (lo : plain x < tinyBits) where
   sign : Signed x
   sign = signed x f
 
@@ -204,15 +205,15 @@ module _ (x : Float) (f : T (fits binary32 x)) (lo : plain x < 964689920) where
 
 -- ---- every f32 of at most 64 in size
 pub sine-keeps-rule : (x : Float) → T (fits binary32 x) → T (inReach x) → SineRule x (sineOf x)
-sine-keeps-rule x f t = go (decLe 964689920 (plain x))
+sine-keeps-rule x f t = go (decLe tinyBits (plain x))
   where
-    go : Dec (964689920 ≤ plain x) → SineRule x (sineOf x)
+    go : Dec (tinyBits ≤ plain x) → SineRule x (sineOf x)
     go (yes l) = subst (λ (y : Float). SineRule x y) (sym (sine-main x (is-true (inReach x) t) l)) (sine-rule x f l (reach-plain x f t))
     go (no g) = subst (λ (y : Float). SineRule x y) (sym (sine-tiny x (is-true (inReach x) t) (lt-of-not-le g))) (little-sine-rule x f (lt-of-not-le g))
 
 pub cosine-keeps-rule : (x : Float) → T (fits binary32 x) → T (inReach x) → CosineRule x (cosineOf x)
-cosine-keeps-rule x f t = go (decLe 964689920 (plain x))
+cosine-keeps-rule x f t = go (decLe tinyBits (plain x))
   where
-    go : Dec (964689920 ≤ plain x) → CosineRule x (cosineOf x)
+    go : Dec (tinyBits ≤ plain x) → CosineRule x (cosineOf x)
     go (yes l) = subst (λ (y : Float). CosineRule x y) (sym (cosine-main x (is-true (inReach x) t) l)) (cosine-rule x f l (reach-plain x f t))
     go (no g) = subst (λ (y : Float). CosineRule x y) (sym (cosine-tiny x (is-true (inReach x) t) (lt-of-not-le g))) (little-cosine-rule x f (lt-of-not-le g))

@@ -10,8 +10,9 @@ use lib.IntN.{ℤ}
 use lib.Ieee.{Float, nan, inf, fin, up, down, size, binary32, fits, toBits, ofBits, ofFields, odd, neg}
 use lib.Ieee.Bits.{is-true, toBits-lt}
 use lib.Ieee.Fits.{neg-fits}
+use Rattle.floats.specs.Patterns.{hidden, signPlace}
 use Rattle.trig_rule.specs.Rule.{inReach, Is}
-use Rattle.trig_rule.specs.Steps.{fixedOf, flipOf, restOf, sinePlus, sineMinus, gapOf, overOf, dropOf, packOf, plain, signBit, sineAt, cosineAt, sineOf, cosineOf}
+use Rattle.trig_rule.specs.Steps.{tinyBits, fixedOf, flipOf, restOf, sinePlus, sineMinus, gapOf, overOf, dropOf, packOf, plain, signBit, sineAt, cosineAt, sineOf, cosineOf}
 use Rattle.trig_rule.proofs.Patterns.{ofBits-plus, ofBits-minus}
 use Rattle.trig_rule.proofs.Packed.{pack-lt}
 use Rattle.trig_rule.proofs.Reach.{reach-finite, reach-size, size-reach, sized}
@@ -33,24 +34,24 @@ lower : ℕ → ℤ → ℕ
 lower m e =
     let n = m * up e * 2 ^ 149 / down e in
     let k = size n - 24 in
-    k * 8388608 + n / 2 ^ k
+    k * hidden + n / 2 ^ k
 
-bits-are : (s : Bool) (m : ℕ) (e : ℤ) → toBits binary32 (fin s m e) ≡ cond s 2147483648 0 + lower m e
+bits-are : (s : Bool) (m : ℕ) (e : ℤ) → toBits binary32 (fin s m e) ≡ cond s signPlace 0 + lower m e
 unfolding toBits lower
 bits-are s m e =
     let n = m * up e * 2 ^ 149 / down e in
     let k = size n - 24 in
-    add-assoc (cond s 2147483648 0) (k * 8388608) (n / 2 ^ k)
+    add-assoc (cond s signPlace 0) (k * hidden) (n / 2 ^ k)
 
-lower-lt : (s : Bool) (m : ℕ) (e : ℤ) → T (fits binary32 (fin s m e)) → lower m e < 2147483648
+lower-lt : (s : Bool) (m : ℕ) (e : ℤ) → T (fits binary32 (fin s m e)) → lower m e < signPlace
 unfolding neg
 lower-lt true m e f = below (subst (λ (b : ℕ). b < 4294967296) (bits-are true m e) (toBits-lt binary32 (fin true m e) f))
   where
-    below : 2147483648 + lower m e < 4294967296 → lower m e < 2147483648
+    below : signPlace + lower m e < 4294967296 → lower m e < signPlace
     below h = omega arith
 lower-lt false m e f = below (subst (λ (b : ℕ). b < 4294967296) (bits-are true m e) (toBits-lt binary32 (fin true m e) (neg-fits binary32 (fin false m e) f)))
   where
-    below : 2147483648 + lower m e < 4294967296 → lower m e < 2147483648
+    below : signPlace + lower m e < 4294967296 → lower m e < signPlace
     below h = omega arith
 
 -- the bits without the sign stay, and the sign's bit changes
@@ -58,7 +59,7 @@ record Opposite (x : Float) : Type 0 where
   same : plain (neg x) ≡ plain x
   other : signBit (neg x) + signBit x ≡ 1
 
-sign-turned : (s : Bool) (r : ℕ) → r < 2147483648 → ((cond (not s) 2147483648 0 + r) % 2147483648 ≡ (cond s 2147483648 0 + r) % 2147483648) × ((cond (not s) 2147483648 0 + r) / 2147483648 + (cond s 2147483648 0 + r) / 2147483648 ≡ 1)
+sign-turned : (s : Bool) (r : ℕ) → r < signPlace → ((cond (not s) signPlace 0 + r) % signPlace ≡ (cond s signPlace 0 + r) % signPlace) × ((cond (not s) signPlace 0 + r) / signPlace + (cond s signPlace 0 + r) / signPlace ≡ 1)
 sign-turned true r h = (omega arith, omega arith)
 sign-turned false r h = (omega arith, omega arith)
 
@@ -67,8 +68,8 @@ unfolding neg
 opposite-at s m e f =
     let t = sign-turned s (lower m e) (lower-lt s m e f) in
     record {
-      same = ap (λ (b : ℕ). b % 2147483648) (bits-are (not s) m e) ∙ t .0 ∙ ap (λ (b : ℕ). b % 2147483648) (sym (bits-are s m e));
-      other = ap (λ (b : ℕ). b / 2147483648 + signBit (fin s m e)) (bits-are (not s) m e) ∙ ap (λ (b : ℕ). (cond (not s) 2147483648 0 + lower m e) / 2147483648 + b / 2147483648) (bits-are s m e) ∙ t .1;
+      same = ap (λ (b : ℕ). b % signPlace) (bits-are (not s) m e) ∙ t .0 ∙ ap (λ (b : ℕ). b % signPlace) (sym (bits-are s m e));
+      other = ap (λ (b : ℕ). b / signPlace + signBit (fin s m e)) (bits-are (not s) m e) ∙ ap (λ (b : ℕ). (cond (not s) signPlace 0 + lower m e) / signPlace + b / signPlace) (bits-are s m e) ∙ t .1;
     }
 
 opposite : (x : Float) → T (fits binary32 x) → T (inReach x) → Opposite x
@@ -108,23 +109,23 @@ unfolding neg ofFields
 fields-neg zero t = odd-neg 24 t 0 149
 fields-neg (suc x) t = go (eqb (suc x) 255) (eqb t 0)
   where
-    go : (b z : Bool) → neg (cond b (cond z (inf false) nan) (odd 24 false (8388608 + t) x 149)) ≡ cond b (cond z (inf true) nan) (odd 24 true (8388608 + t) x 149)
+    go : (b z : Bool) → neg (cond b (cond z (inf false) nan) (odd 24 false (hidden + t) x 149)) ≡ cond b (cond z (inf true) nan) (odd 24 true (hidden + t) x 149)
     go true true = refl
     go true false = refl
-    go false z = odd-neg 24 (8388608 + t) x 149
+    go false z = odd-neg 24 (hidden + t) x 149
 
-pattern-neg : (p : ℕ) → p < 2147483648 → neg (ofBits binary32 p) ≡ ofBits binary32 (2147483648 + p)
-pattern-neg p h = ap neg (ofBits-plus p h) ∙ fields-neg (p / 8388608) (p % 8388608) ∙ sym (ofBits-minus p h)
+pattern-neg : (p : ℕ) → p < signPlace → neg (ofBits binary32 p) ≡ ofBits binary32 (signPlace + p)
+pattern-neg p h = ap neg (ofBits-plus p h) ∙ fields-neg (p / hidden) (p % hidden) ∙ sym (ofBits-minus p h)
 
 -- a and b are the two signs' bits
-signed-neg : (a b p : ℕ) → p < 2147483648 → a + b ≡ 1 → ofBits binary32 (a * 2147483648 + p) ≡ neg (ofBits binary32 (b * 2147483648 + p))
+signed-neg : (a b p : ℕ) → p < signPlace → a + b ≡ 1 → ofBits binary32 (a * signPlace + p) ≡ neg (ofBits binary32 (b * signPlace + p))
 signed-neg zero b p h e =
-    ap (ofBits binary32) (zero-add p) ∙ sym (neg-neg (ofBits binary32 p)) ∙ ap neg (pattern-neg p h) ∙ ap (λ (n : ℕ). neg (ofBits binary32 (n * 2147483648 + p))) one
+    ap (ofBits binary32) (zero-add p) ∙ sym (neg-neg (ofBits binary32 p)) ∙ ap neg (pattern-neg p h) ∙ ap (λ (n : ℕ). neg (ofBits binary32 (n * signPlace + p))) one
   where
     one : 1 ≡ b
     one = omega arith
 signed-neg (suc a) b p h e =
-    ap (λ (n : ℕ). ofBits binary32 (n * 2147483648 + p)) one ∙ sym (pattern-neg p h) ∙ ap (λ (n : ℕ). neg (ofBits binary32 n)) (sym (zero-add p)) ∙ ap (λ (n : ℕ). neg (ofBits binary32 (n * 2147483648 + p))) none
+    ap (λ (n : ℕ). ofBits binary32 (n * signPlace + p)) one ∙ sym (pattern-neg p h) ∙ ap (λ (n : ℕ). neg (ofBits binary32 n)) (sym (zero-add p)) ∙ ap (λ (n : ℕ). neg (ofBits binary32 (n * signPlace + p))) none
   where
     one : suc a ≡ 1
     one = omega arith
@@ -147,33 +148,33 @@ sine-turned s t f R e =
 
 pub sine-odd : (x : Float) → T (fits binary32 x) → sineOf (neg x) ≡ neg (sineOf x)
 unfolding neg
-sine-odd x f = go (inReach x) refl (decLe 964689920 (plain x))
+sine-odd x f = go (inReach x) refl (decLe tinyBits (plain x))
   where
-    go : (b : Bool) → inReach x ≡ b → Dec (964689920 ≤ plain x) → sineOf (neg x) ≡ neg (sineOf x)
+    go : (b : Bool) → inReach x ≡ b → Dec (tinyBits ≤ plain x) → sineOf (neg x) ≡ neg (sineOf x)
     go false h d = sine-far (neg x) (reach-opposite x false f h) ∙ sym (ap neg (sine-far x h))
     go true h (no g) =
         let o = opposite x f (subst T (sym h) tt) in
         let l = lt-of-not-le g in
-        sine-tiny (neg x) (reach-opposite x true f h) (subst (λ (a : ℕ). a < 964689920) (sym (o .same)) l) ∙ sym (ap neg (sine-tiny x h l))
+        sine-tiny (neg x) (reach-opposite x true f h) (subst (λ (a : ℕ). a < tinyBits) (sym (o .same)) l) ∙ sym (ap neg (sine-tiny x h l))
     go true h (yes l) =
         let o = opposite x f (subst T (sym h) tt) in
-        sine-main (neg x) (reach-opposite x true f h) (subst (λ (a : ℕ). 964689920 ≤ a) (sym (o .same)) l)
+        sine-main (neg x) (reach-opposite x true f h) (subst (λ (a : ℕ). tinyBits ≤ a) (sym (o .same)) l)
         ∙ ap (λ (a : ℕ). ofBits binary32 (sineAt (signBit (neg x) + flipOf (fixedOf a)) (restOf (fixedOf a)))) (o .same)
         ∙ sine-turned (signBit (neg x)) (signBit x) (flipOf (fixedOf (plain x))) (restOf (fixedOf (plain x))) (o .other)
         ∙ sym (ap neg (sine-main x h l))
 
 -- ---- the cosine is even
 pub cosine-even : (x : Float) → T (fits binary32 x) → cosineOf (neg x) ≡ cosineOf x
-cosine-even x f = go (inReach x) refl (decLe 964689920 (plain x))
+cosine-even x f = go (inReach x) refl (decLe tinyBits (plain x))
   where
-    go : (b : Bool) → inReach x ≡ b → Dec (964689920 ≤ plain x) → cosineOf (neg x) ≡ cosineOf x
+    go : (b : Bool) → inReach x ≡ b → Dec (tinyBits ≤ plain x) → cosineOf (neg x) ≡ cosineOf x
     go false h d = cosine-far (neg x) (reach-opposite x false f h) ∙ sym (cosine-far x h)
     go true h (no g) =
         let o = opposite x f (subst T (sym h) tt) in
         let l = lt-of-not-le g in
-        cosine-tiny (neg x) (reach-opposite x true f h) (subst (λ (a : ℕ). a < 964689920) (sym (o .same)) l) ∙ sym (cosine-tiny x h l)
+        cosine-tiny (neg x) (reach-opposite x true f h) (subst (λ (a : ℕ). a < tinyBits) (sym (o .same)) l) ∙ sym (cosine-tiny x h l)
     go true h (yes l) =
         let o = opposite x f (subst T (sym h) tt) in
-        cosine-main (neg x) (reach-opposite x true f h) (subst (λ (a : ℕ). 964689920 ≤ a) (sym (o .same)) l)
+        cosine-main (neg x) (reach-opposite x true f h) (subst (λ (a : ℕ). tinyBits ≤ a) (sym (o .same)) l)
         ∙ ap (λ (a : ℕ). ofBits binary32 (cosineAt (restOf (fixedOf a)))) (o .same)
         ∙ sym (cosine-main x h l)

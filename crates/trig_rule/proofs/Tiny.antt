@@ -10,18 +10,18 @@ use lib.IntN.{ℤ, negsuc}
 use lib.Ieee.{Float, nan, inf, fin, up, down, below, binary32, fits, ofBits, lt}
 use lib.Ieee.Bits.{is-true}
 use Rattle.trig_rule.specs.Rule.{inReach, Is}
-use Rattle.trig_rule.specs.Steps.{plain, sineOf, cosineOf}
+use Rattle.trig_rule.specs.Steps.{tinyBits, plain, sineOf, cosineOf}
 use Rattle.trig_rule.proofs.Reach.{Sized, sized, size-reach}
 use Rattle.trig_rule.proofs.Ruled.{sine-tiny, cosine-tiny}
 
 -- 2 ^ -12 and its opposite
 abbrev pub least : Float
-least = ofBits binary32 964689920
+least = ofBits binary32 tinyBits
 
 abbrev pub minusLeast : Float
 minusLeast = ofBits binary32 3112173568
 
-least-is : ofBits binary32 964689920 ≡ fin false 1 (negsuc 11)
+least-is : ofBits binary32 tinyBits ≡ fin false 1 (negsuc 11)
 unfolding ofBits
 least-is = refl
 
@@ -77,8 +77,8 @@ module _ (x : Float) (f : T (fits binary32 x)) (t : T (lt minusLeast x)) (u : T 
   in-reach : inReach x ≡ true
   in-reach = is-true (inReach x) (size-reach x (size .minus) (size .units) (size .value) (le-trans (le-of-lt under) (lit≤ tt)))
 
-  bits : plain x < 964689920
-  bits = lt-of-not-le (λ (k : 964689920 ≤ plain x). not-le-of-lt under (size .from-tiny k))
+  bits : plain x < tinyBits
+  bits = lt-of-not-le (λ (k : tinyBits ≤ plain x). not-le-of-lt under (size .from-tiny k))
 
   pub sine-of-tiny : sineOf x ≡ x
   sine-of-tiny = sine-tiny x in-reach bits

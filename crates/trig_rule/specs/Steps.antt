@@ -6,6 +6,7 @@ use mathlib.Core.Bool.{Bool, cond}
 use lib.Dec.{leb, ltb, eqb}
 use lib.Count.{leadingZeros}
 use lib.Ieee.{Float, nan, binary32, toBits, ofBits}
+use Rattle.floats.specs.Patterns.{hidden, signPlace}
 use Rattle.trig_rule.specs.Sums.{factorial}
 use Rattle.trig_rule.specs.Reduction.{turn}
 use Rattle.trig_rule.specs.Rule.{inReach}
@@ -17,7 +18,7 @@ half = 226375608064910088
 
 -- the size of a float of at least 2 ^ -33 whose bits without the sign are a
 abbrev pub fixedOf : ℕ → ℕ
-fixedOf a = (a % 8388608 + 8388608) * 2 ^ (a / 8388608 - 94)
+fixedOf a = (a % hidden + hidden) * 2 ^ (a / hidden - 94)
 
 -- the multiple of `turn` that is nearest to x; how far x is from it; and 1 where x is below it
 abbrev pub turnsOf : ℕ → ℕ
@@ -86,27 +87,31 @@ roundedOf n = n / 2 ^ 40 + n / 2 ^ 39 % 2
 
 -- the bits of w * 2 ^ (s - 86) to the nearest 24 digits: w is moved up until its highest digit is the 64th, and its 24 leading digits are kept, one more where the next digit is 1
 abbrev pub packOf : ℕ → ℕ → ℕ
-packOf w s = cond (eqb w 0) 0 ((103 + s - leadingZeros 64 w) * 8388608 + roundedOf (w * 2 ^ leadingZeros 64 w % 2 ^ 64))
+packOf w s = cond (eqb w 0) 0 ((103 + s - leadingZeros 64 w) * hidden + roundedOf (w * 2 ^ leadingZeros 64 w % 2 ^ 64))
 
 -- the bits of the sine at R, where `turned` counts what turns its sign over
 abbrev pub sineAt : ℕ → ℕ → ℕ
-sineAt turned R = (turned + overOf (sinePlus R) (sineMinus R)) % 2 * 2147483648 + packOf (R / 2 ^ dropOf R * gapOf (sinePlus R) (sineMinus R)) (dropOf R)
+sineAt turned R = (turned + overOf (sinePlus R) (sineMinus R)) % 2 * signPlace + packOf (R / 2 ^ dropOf R * gapOf (sinePlus R) (sineMinus R)) (dropOf R)
 
 -- the bits of the cosine at R
 abbrev pub cosineAt : ℕ → ℕ
-cosineAt R = overOf (cosinePlus R) (cosineMinus R) * 2147483648 + packOf (gapOf (cosinePlus R) (cosineMinus R)) 58
+cosineAt R = overOf (cosinePlus R) (cosineMinus R) * signPlace + packOf (gapOf (cosinePlus R) (cosineMinus R)) 58
 
 -- ---- every f32
 -- the bits without the sign, and the sign's bit
 abbrev pub plain : Float → ℕ
-plain x = toBits binary32 x % 2147483648
+plain x = toBits binary32 x % signPlace
 
 abbrev pub signBit : Float → ℕ
-signBit x = toBits binary32 x / 2147483648
+signBit x = toBits binary32 x / signPlace
+
+-- the bits of 2 ^ -12
+abbrev pub tinyBits : ℕ
+tinyBits = 964689920
 
 -- the size is below 2 ^ -12: the sine is then the angle, and the cosine 1
 abbrev pub tiny : Float → Bool
-tiny x = ltb (plain x) 964689920
+tiny x = ltb (plain x) tinyBits
 
 -- "Sine and cosine take angles of at most 64 radians in size, else NaN."
 unfoldable pub sineOf : Float → Float

@@ -7,6 +7,7 @@ use mathlib.Core.Path.{_≡_, sym, ap, _∙_}
 use mathlib.Core.Bool.{Bool, cond}
 use lib.Dec.{leb, ltb}
 use lib.Ieee.{Float, binary32, ofBits, div}
+use Rattle.floats.specs.Patterns.{signPlace}
 use Rattle.atan2_rule.specs.Steps.{topOf, partOf, guessOf, angleBits, slanted}
 use Rattle.atan2.proofs.Numbers.{no-nan-bits}
 use Rattle.atan2.proofs.slant.Statement.{statement}
@@ -14,19 +15,19 @@ use Rattle.atan2.proofs.slant.Tie as tie
 
 -- the definition over parts u and v that are given
 abbrev over : Float → Float → ℕ → ℕ → ℕ → ℕ → ℕ → ℕ → Float
-over y x a b s t u v = cond (leb (u * 8192 + t * 2 ^ 30) v) (div binary32 y x) (ofBits binary32 (s * 2147483648 + angleBits u v t (guessOf a b (ltb v u) t)))
+over y x a b s t u v = cond (leb (u * 8192 + t * 2 ^ 30) v) (div binary32 y x) (ofBits binary32 (s * signPlace + angleBits u v t (guessOf a b (ltb v u) t)))
 
 module _ (y x : Float) (a b s t top u v : ℕ) (et : top ≡ topOf a b) (eu : u ≡ partOf a top) (ev : v ≡ partOf b top) where
   given : over y x a b s t u v ≡ slanted y x a b s t
   given = ap (λ (n : ℕ). over y x a b s t n v) (eu ∙ ap (partOf a) et) ∙ ap (λ (n : ℕ). over y x a b s t (partOf a (topOf a b)) n) (ev ∙ ap (partOf b) et)
 
   near : u * 8192 + t * 1073741824 ≤ v → div binary32 y x ≡ slanted y x a b s t
-  near h = sym (ap (λ (c : Bool). cond c (div binary32 y x) (ofBits binary32 (s * 2147483648 + angleBits u v t (guessOf a b (ltb v u) t)))) (le-leb (u * 8192 + t * 1073741824) v h)) ∙ given
+  near h = sym (ap (λ (c : Bool). cond c (div binary32 y x) (ofBits binary32 (s * signPlace + angleBits u v t (guessOf a b (ltb v u) t)))) (le-leb (u * 8192 + t * 1073741824) v h)) ∙ given
 
-  far : (r : ℕ) → v < u * 8192 + t * 1073741824 → r ≡ angleBits u v t (guessOf a b (ltb v u) t) → ofBits binary32 (s * 2147483648 + r) ≡ slanted y x a b s t
+  far : (r : ℕ) → v < u * 8192 + t * 1073741824 → r ≡ angleBits u v t (guessOf a b (ltb v u) t) → ofBits binary32 (s * signPlace + r) ≡ slanted y x a b s t
   far r h e =
-      ap (λ (n : ℕ). ofBits binary32 (s * 2147483648 + n)) e
-      ∙ sym (ap (λ (c : Bool). cond c (div binary32 y x) (ofBits binary32 (s * 2147483648 + angleBits u v t (guessOf a b (ltb v u) t)))) (lt-leb (u * 8192 + t * 1073741824) v h)) ∙ given
+      ap (λ (n : ℕ). ofBits binary32 (s * signPlace + n)) e
+      ∙ sym (ap (λ (c : Bool). cond c (div binary32 y x) (ofBits binary32 (s * signPlace + angleBits u v t (guessOf a b (ltb v u) t)))) (lt-leb (u * 8192 + t * 1073741824) v h)) ∙ given
 
 returns : tie.Need-returns
 returns c =

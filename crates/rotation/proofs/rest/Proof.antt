@@ -7,6 +7,7 @@ use Prim.Native.Nat.{ℕ, _+_, _-_, _*_, _/_, _%_, _^_, _≤_, _<_}
 use lib.Dec.{le→leb, lit<}
 use lib.Pow.{pow-pos}
 use lib.Ieee.{inFloat}
+use Rattle.floats.specs.Patterns.{hidden}
 use Rattle.rotation.proofs.Patterns.{turn-shifted, unit-bits, low-is, high-is}
 use Rattle.rotation.proofs.rest.Statement.{statement}
 use Rattle.rotation.proofs.rest.Tie as tie
@@ -14,11 +15,11 @@ use Rattle.rotation.proofs.rest.Tie as tie
 rem-left : tie.Need-rem-left
 rem-left c =
     let start = c .before in
-    subst (λ (n : ℕ). 0 < n) (sym (turn-shifted (start .args .a) (start .pre .0) (c .if1 .taken))) (mul-pos (lit< tt) (pow-pos (153 - start .args .a / 8388608)))
+    subst (λ (n : ℕ). 0 < n) (sym (turn-shifted (start .args .a) (start .pre .0) (c .if1 .taken))) (mul-pos (lit< tt) (pow-pos (153 - start .args .a / hidden)))
 
 int-to-float-result : tie.Need-int-to-float-result
 unfolding inFloat
-int-to-float-result c = let start = c .before .before in le→leb _ (2 ^ 24) (le-trans (mod-le (start .args .a % 8388608 + 8388608) _) (omega arith))
+int-to-float-result c = let start = c .before .before in le→leb _ (2 ^ 24) (le-trans (mod-le (start .args .a % hidden + hidden) _) (omega arith))
 
 float-from-bits-result : tie.Need-float-from-bits-result
 float-from-bits-result c = let start = c .before .before in unit-bits (start .args .a) (start .pre .0) (c .before .if1 .taken)
