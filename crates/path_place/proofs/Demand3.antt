@@ -1,5 +1,5 @@
 -- Demand 3 of the letter, whole: `demand-3` proves `Demand3` of `specs/Demand.antt` for the lookup of the code, `placeOf`, on every stored path of f32 values that has a segment and is longer
--- than 2^-23. docs/ORDER.md tells why it holds. That the values are f32 is the one premise, `F32Stored`; every call closes it, since lent slices hold f32 values: `path_query::place` promises the
+-- than 2^-23. docs/ORDER.md tells why it holds. That the values are f32 is the one premise, `F32Stored`; every call closes it, since lent slices hold f32 values: `path_query::flight` promises the
 -- demand and asks nothing.
 use mathlib.Core.Path.{_≡_, refl, sym, ap, _∙_, subst}
 use Prim.Native.Nat.{ℕ, _-_, _<_}
