@@ -9,7 +9,8 @@
  *         and 2 to 1,000 stations of a plan; angles of 64 radians for sine and cosine. What lies beyond is refused,
  *         or a NaN where that is said. The rotation of an arc is any finite number of degrees.
  * Stack:  at most 64 KiB, which is kihavute_stations; of the others that take a text kihavute_read some 24 KB,
- *         and the rest, building among them, at most 2 KiB. docs/RUNS.md has the table, and tests/c/stack.c holds each entry to its limit.
+ *         and the rest, building among them, at most 2 KiB. docs/RUNS.md has the table, and tests/c/stack.c holds each of them to
+ *         its limit.
  * Units:  coordinates and lengths are in the unit of the path, times t are pure numbers, angles say theirs.
  * Sizes:  a coordinate is a float of 24 bits, so the larger it is, the further apart its neighbours are: 2^-10 (0.00098) from 8,192 to
  *         16,384, 2^-9 from there, 1/32 from 262,144, 1/2 from 4,194,304, and twice as much at each doubling. A northing of
@@ -347,14 +348,14 @@ uint32_t kihavute_strict(const uint8_t *text, size_t text_len, uint32_t edition,
  * answer[0] is the count of letters needed, answer[1] that of numbers, answer[2] that of offsets. A call that does not return 0
  * leaves all buffers as they were, so that a call with buffers of length 0 asks for the sizes.
  *
- * It costs some 24 KB of stack, whatever the text, since most texts are passed once, by way of buffers of its own: about 4.3 ns a
- * byte on the machine of docs/RUNS.md. For a task with less stack there is the next one. */
+ * It costs some 24 KB of stack, whatever the text, since most texts are passed once, by way of buffers of its own: some 4 ns a
+ * byte (docs/BENCH.md). For a task with less stack there is the next one. */
 uint32_t kihavute_read(const uint8_t *text, size_t text_len, uint8_t *letters, size_t letters_len,
                        float *numbers, size_t numbers_len, uint32_t *offsets, size_t offsets_len,
                        uint64_t *answer, size_t answer_len);
 
 /* The same in every place and number: of two calls that are lent the same, one of each, answers and buffers are equal. It costs at
- * most 2,048 bytes of stack, and twice the time, about 8.5 ns a byte: it has no buffers of its own and passes each text twice, to
+ * most 2,048 bytes of stack, and twice the time, some 8 ns a byte: it has no buffers of its own and passes each text twice, to
  * count and then to store. */
 uint32_t kihavute_read_lean(const uint8_t *text, size_t text_len, uint8_t *letters, size_t letters_len,
                             float *numbers, size_t numbers_len, uint32_t *offsets, size_t offsets_len,
@@ -373,7 +374,7 @@ uint32_t kihavute_check_commands(const uint8_t *letters, size_t letters_len, con
  *   fields   its numbers, 4, 6, 8, 11 or 11: start x y, end x y of a line; start, control, end of a quad; start, two
  *            controls, end of a cubic; start, end, centre, radii, rotation in degrees, start angle and angle swept in
  *            radians of an arc and of a fallback
- *   tables   for each quad, cubic and arc 33 numbers: 32 running lengths from 0 on, then their total
+ *   tables   for each quad, cubic and arc of kind 3, 33 numbers: 32 running lengths from 0 on, then their total
  *   lengths  the running length up to the end of each segment
  * Points and lengths are in path units. */
 
@@ -384,12 +385,7 @@ uint32_t kihavute_check(const uint8_t *kinds, size_t kinds_len, const float *fie
                         const float *tables, size_t tables_len, const float *lengths, size_t lengths_len,
                         uint64_t *answer, size_t answer_len);
 
-/* ---- Paths ----
- * A stored path has four buffers. kinds: a byte for each segment, 0 line, 1 quad, 2 cubic, 3 arc, 4 an arc that fell back to a
- * line. fields: for each segment its numbers, 4 (start, end), 6 (start, control, end), 8 (start, both controls, end), 11 and 11
- * (start, end, centre, radii, rotation in degrees, start angle and angle swept in radians), x before y. tables: for each quad,
- * cubic and arc of kind 3, 33 numbers: 32 running lengths along it and their total. lengths: for each segment the running length
- * of the path up to its end. */
+/* ---- Building ---- */
 
 /* Builds the path of a command list: letters (M L Q C A Z) and their 2, 2, 4, 6, 7 or 0 numbers. answer[0] to answer[3] get how
  * many places of kinds, fields, tables and lengths are written from their starts; the others stay. Refused, with nothing written,
@@ -413,8 +409,9 @@ uint32_t kihavute_build_text(const uint8_t *text, size_t text_len, uint8_t *kind
  * segment is stored after them, its table made from its numbers, and the running length added to. answer[0] to answer[3] get how
  * many places of kinds, fields, tables and lengths are in use then. Refused, with nothing written, in this order: 12 where the
  * first count segments are no stored path, 13 with count 65,536 (65,537, the segments that there would be), 10 with count for an
- * arc whose rotation is infinite or a NaN, 11 with count where the running length becomes so, 8 with the four counts needed. Start from count 0; each call checks the whole path that is there, so that a path of n segments costs n checks: for a
- * whole plan take kihavute_build. The start is given each time: it need not be where the path ended. */
+ * arc whose rotation is infinite or a NaN, 11 with count where the running length becomes so, 8 with the four counts needed. Start
+ * from count 0; each call checks the whole path that is there, so that a path of n segments costs n checks: for a whole plan take
+ * kihavute_build. The start is given each time: it need not be where the path ended. */
 
 /* Appends the line from (sx, sy) to (ex, ey). */
 uint32_t kihavute_line_to(uint8_t *kinds, size_t kinds_len, float *fields, size_t fields_len,
