@@ -487,7 +487,7 @@ uint32_t kihavute_segment_rotation(const uint8_t *kinds, size_t kinds_len, const
 
 /* ---- Queries of a stored path ----
  * Each call checks the whole path first, which reads every kind, table and length once, and refuses with 12 where the
- * check fails. That takes 0.2 to 0.4 ns for each element of the four arrays (x86-64), so the time of a single query grows
+ * check fails. That takes 0.2 to 0.3 ns for each number stored (docs/BENCH.md), so the time of a single query grows
  * with the path. Ask for one place now and then by the single queries; to file many packets of one flight, collect their
  * progresses and ask by kihavute_places or kihavute_flights, which check the path once for all of them. */
 
