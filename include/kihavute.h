@@ -355,7 +355,7 @@ uint32_t kihavute_read(const uint8_t *text, size_t text_len, uint8_t *letters, s
                        uint64_t *answer, size_t answer_len);
 
 /* The same in every place and number: of two calls that are lent the same, one of each, answers and buffers are equal. It costs at
- * most 2,048 bytes of stack, and twice the time, some 8 ns a byte: it has no buffers of its own and passes each text twice, to
+ * most 2,048 bytes of stack, and twice the time, 8 to 9 ns a byte: it has no buffers of its own and passes each text twice, to
  * count and then to store. */
 uint32_t kihavute_read_lean(const uint8_t *text, size_t text_len, uint8_t *letters, size_t letters_len,
                             float *numbers, size_t numbers_len, uint32_t *offsets, size_t offsets_len,
