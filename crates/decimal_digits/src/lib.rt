@@ -1,3 +1,3 @@
 // Runs of decimal digits as numbers: the leading digits of a long run, and an exponent of any length.
 pub mod inner;
-pub mod words;
+mod words;

@@ -61,14 +61,14 @@ fn eight(x: u64) -> u64
 }
 
 // The digits that eight bytes begin with.
-pub struct Run {
+pub(crate) struct Run {
     pub count: u64,
     pub value: u64,
 }
 
 // The digits that the eight bytes from a place on begin with. Where they are fewer, they are moved up,
 // so that zeros stand before them: by two shifts, as none by 64 is one.
-pub fn run_at(text: &[u8], at: usize) -> Run
+pub(crate) fn run_at(text: &[u8], at: usize) -> Run
     requires { ⌜ at + 8 ≤ length (now text) ⌝ }
     ensures { λ r. ⌜ Runs (now (text .entry)) at r ⌝ }
 {
@@ -89,7 +89,7 @@ pub fn run_at(text: &[u8], at: usize) -> Run
 }
 
 // 10^count.
-pub fn power(count: u64) -> u64
+pub(crate) fn power(count: u64) -> u64
     requires { ⌜ count ≤ 8 ⌝ }
     ensures { λ r. ⌜ r ≡ 10 ^ count ⌝ }
 {
@@ -107,7 +107,7 @@ pub fn power(count: u64) -> u64
 }
 
 // Whether the eight bytes from a place on are digits.
-pub fn all_digits(text: &[u8], at: usize) -> bool
+pub(crate) fn all_digits(text: &[u8], at: usize) -> bool
     requires { ⌜ at + 8 ≤ length (now text) ⌝ }
     ensures { λ r. ⌜ (r ≡ true → length (begun (eightOf (now (text .entry)) at)) ≡ 8) ⌝ }
 {
