@@ -1,11 +1,11 @@
--- What is built always passes the check: one segment more on a stored path, then a list of them. The path's total has to be a value of binary32, which holds of what
--- a slice of f32 has. Assumes nothing.
+-- What is built always passes the check: one segment more on a stored path, then a list of them, whose command numbers do not fall. The path's total has to be a value of binary32, which
+-- holds of what a slice of f32 has. Assumes nothing.
 use Prim.Native.Nat.{ℕ, zero, suc, _+_, _*_, _≤_, _<_}
 use mathlib.Core.Path.{_≡_, refl, sym, ap, _∙_, subst}
 use mathlib.Core.Bool.{Bool, true, false, not, _&&_}
 use mathlib.Core.List.{List, [], _∷_, _++_, append-assoc, append-nil}
 use native.Mathlib.Omega.{arith}
-use lib.Dec.{T}
+use lib.Dec.{T, leb, le→leb, leb→le}
 use lib.Ieee.{Float, nan, binary32, add, lt, le, fits}
 use lib.Ieee.Bits.{ofBits-fits}
 use lib.Ieee.Fits.{and-i, and-l, and-r, add-fits}
@@ -35,10 +35,10 @@ use Rattle.path_segment.specs.Segments.{kindOf, widthOf, tablesOf, hasTable, fi
 use Rattle.path_segment.proofs.Reading.{fields-width}
 use Rattle.path_stored.specs.Buffers.{Buffers}
 use Rattle.path_stored.specs.Layout.{kindsOf, fieldsOfAll, tableStored, tablesOfAll, runningOf, lengthsOfAll, nothing, extended, extendedBy, laidOut}
-use Rattle.path_stored.specs.Stored.{mostSegments, isStored, Stored}
+use Rattle.path_stored.specs.Stored.{mostSegments, neverFall, lastNumber, isStored, Stored}
 use Rattle.path_stored.specs.Stored as Stored
 use Rattle.path_stored.proofs.Testing.{soundAt}
-use Rattle.path_stored.proofs.Rule.{rule-stored}
+use Rattle.path_stored.proofs.Rule.{ordered-each, ordered-all, rule-stored}
 
 -- ---- one running length more
 
@@ -64,6 +64,20 @@ unfolding pathTotal before
 total-more xs y = go zeroF xs
   where
     go : (from : Float) (xs : List Float) → at (from ∷ (xs ++ y ∷ [])) (length (xs ++ y ∷ [])) ≡ y
+    go from [] = refl
+    go from (x ∷ xs) = go x xs
+
+-- ---- one command number more
+
+falls-more : (from : ℕ) (xs : List ℕ) (y : ℕ) → T (neverFall from xs) → getD (from ∷ xs) (length xs) 0 ≤ y → T (neverFall from (xs ++ y ∷ []))
+unfolding neverFall
+falls-more from [] y t h = and-i (leb from y) true (le→leb from y h) tt
+falls-more from (x ∷ xs) y t h = and-i (leb from x) (neverFall x (xs ++ y ∷ [])) (and-l (leb from x) (neverFall x xs) t) (falls-more x xs y (and-r (leb from x) (neverFall x xs) t) h)
+
+last-more : (xs : List ℕ) (y : ℕ) → lastNumber (xs ++ y ∷ []) ≡ y
+last-more xs y = go 0 xs
+  where
+    go : (from : ℕ) (xs : List ℕ) → getD (from ∷ (xs ++ y ∷ [])) (length (xs ++ y ∷ [])) 0 ≡ y
     go from [] = refl
     go from (x ∷ xs) = go x xs
 
@@ -198,8 +212,8 @@ module _ {b : Buffers} (stored : Stored b) (value : T (fits binary32 (pathTotal 
       go (yes a) = table-before (b .tables) (tableStored segment) n tableCount (stored .counted) a (stored .each n a)
       go (no a) = new-table (b .tables) tableCount (stored .counted) segment own-finite n (subst (λ m. n < m) (all-more tablesOf (b .kinds) (kindOf segment)) l) (omega arith)
 
-  pub stored-more : length (b .kinds) < mostSegments → Stored (extended b segment)
-  stored-more room = record {
+  pub stored-more : length (b .kinds) < mostSegments → {command : ℕ} → lastNumber (b .commands) ≤ command → Stored (extended b segment command)
+  stored-more room {command} above = record {
     few = rw one-more (omega arith);
     known = known-more (b .kinds) (kindOf segment) (stored .known) (kind-known segment);
     numbers =
@@ -214,6 +228,8 @@ module _ {b : Buffers} (stored : Stored b) (value : T (fits binary32 (pathTotal 
     each = each-more;
     one = one-more (b .lengths) (totalWith b segment) ∙ ap (λ n. n + 1) (stored .one) ∙ sym (one-more (b .kinds) (kindOf segment));
     rising = rising-more;
+    told = one-more (b .commands) command ∙ ap (λ n. n + 1) (stored .told) ∙ sym (one-more (b .kinds) (kindOf segment));
+    ordered = ordered-each 0 (b .commands ++ command ∷ []) (falls-more 0 (b .commands) command (ordered-all 0 (b .commands) (omega arith) (stored .ordered)) above);
   }
     where
       shares : (a b m n : ℕ) → a ≡ 33 * m → b ≡ 33 * n → a + b ≡ 33 * (m + n)
@@ -225,43 +241,55 @@ join : {A : Type 0} (xs ys zs : List A) → xs ++ ys ++ zs ≡ xs ++ (ys ++ zs)
 join xs ys zs = append-assoc xs ys zs
 
 -- one segment and then the others are all of them
-extended-all : (b : Buffers) (segment : PathSegment) (segments : List PathSegment) → pathTotal (b .lengths ++ totalWith b segment ∷ []) ≡ totalWith b segment
-    → extendedBy (extended b segment) segments ≡ extendedBy b (segment ∷ segments)
+extended-all : (b : Buffers) (segment : PathSegment) (segments : List PathSegment) (command : ℕ) (commands : List ℕ)
+    → pathTotal (b .lengths ++ totalWith b segment ∷ []) ≡ totalWith b segment
+    → extendedBy (extended b segment command) segments commands ≡ extendedBy b (segment ∷ segments) (command ∷ commands)
 unfolding kindsOf fieldsOfAll tablesOfAll runningOf
-extended-all b segment segments e =
+extended-all b segment segments command commands e =
     rw (
       e,
       join (b .kinds) (kindOf segment ∷ []) (kindsOf segments),
       join (b .fields) (fieldsOf segment) (fieldsOfAll segments),
       join (b .tables) (tableStored segment) (tablesOfAll segments),
       join (b .lengths) (totalWith b segment ∷ []) (runningOf (totalWith b segment) segments),
+      join (b .commands) (command ∷ []) commands,
     )
 
-pub stored-list : (segments : List PathSegment) (b : Buffers) → Stored b → T (fits binary32 (pathTotal (b .lengths))) → length (b .kinds) + length segments ≤ mostSegments
-    → T (allFinite (runningOf (pathTotal (b .lengths)) segments)) → Stored (extendedBy b segments)
-unfolding kindsOf fieldsOfAll tablesOfAll runningOf allFinite
-stored-list [] b stored value room fine = rw (append-nil (b .kinds), append-nil (b .fields), append-nil (b .tables), append-nil (b .lengths)) stored
-stored-list (segment ∷ segments) b stored value room fine =
+pub stored-list : (segments : List PathSegment) (commands : List ℕ) (b : Buffers) → Stored b → T (fits binary32 (pathTotal (b .lengths))) → length (b .kinds) + length segments ≤ mostSegments
+    → T (allFinite (runningOf (pathTotal (b .lengths)) segments)) → length commands ≡ length segments → T (neverFall (lastNumber (b .commands)) commands)
+    → Stored (extendedBy b segments commands)
+unfolding kindsOf fieldsOfAll tablesOfAll runningOf allFinite neverFall
+stored-list [] [] b stored value room fine one rise =
+    rw (append-nil (b .kinds), append-nil (b .fields), append-nil (b .tables), append-nil (b .lengths), append-nil (b .commands)) stored
+stored-list [] (command ∷ commands) b stored value room fine one rise = absurd (omega arith)
+stored-list (segment ∷ segments) [] b stored value room fine one rise = absurd (omega arith)
+stored-list (segment ∷ segments) (command ∷ commands) b stored value room fine one rise =
     let total = totalWith b segment in
-    let next = stored-more stored value segment (and-l (finite total) (allFinite (runningOf total segments)) fine) (omega arith) in
+    let last = lastNumber (b .commands) in
+    let above : last ≤ command = leb→le last command (and-l (leb last command) (neverFall command commands) rise) in
+    let next = stored-more stored value segment (and-l (finite total) (allFinite (runningOf total segments)) fine) (omega arith) above in
     let e : pathTotal (b .lengths ++ total ∷ []) ≡ total = total-more (b .lengths) total in
-    let rest = stored-list segments (extended b segment) next
+    let rest = stored-list segments commands (extended b segment command) next
     (subst (λ x. T (fits binary32 x)) (sym e) (add-fits binary32 (pathTotal (b .lengths)) (lengthFor segment)))
     (rw one-more (omega arith))
-    (subst (λ x. T (allFinite (runningOf x segments))) (sym e) (and-r (finite total) (allFinite (runningOf total segments)) fine)) in
-    subst Stored (extended-all b segment segments e) rest
+    (subst (λ x. T (allFinite (runningOf x segments))) (sym e) (and-r (finite total) (allFinite (runningOf total segments)) fine))
+    (omega arith)
+    (subst (λ n. T (neverFall n commands)) (sym (last-more (b .commands) command)) (and-r (leb last command) (neverFall command commands) rise)) in
+    subst Stored (extended-all b segment segments command commands e) rest
 
 -- ---- from nothing
 
 pub nothing-stored : Stored nothing
 unfolding lengthsAreSound allFinite climbs Stored.before
-nothing-stored = record { few = omega arith; known = λ i h. absurd (omega arith); numbers = refl; counted = refl; each = λ n h. absurd (omega arith); one = refl; rising = tt }
+nothing-stored = record { few = omega arith; known = λ i h. absurd (omega arith); numbers = refl; counted = refl; each = λ n h. absurd (omega arith); one = refl; rising = tt; told = refl; ordered = λ i h. absurd (omega arith) }
 
 zero-fits : T (fits binary32 (pathTotal []))
 unfolding pathTotal before zeroF
 zero-fits = ofBits-fits binary32 0
 
--- a list of segments with finite running lengths is laid out as a stored path
-pub laid-out : (segments : List PathSegment) → length segments ≤ mostSegments → T (allFinite (lengthsOfAll segments)) → T (isStored (laidOut segments))
+-- a list of segments with finite running lengths, and a command number for each that do not fall, is laid out as a stored path
+pub laid-out : (segments : List PathSegment) (commands : List ℕ) → length segments ≤ mostSegments → T (allFinite (lengthsOfAll segments)) → length commands ≡ length segments
+    → T (neverFall 0 commands) → T (isStored (laidOut segments commands))
 unfolding lengthsOfAll
-laid-out segments few fine = rule-stored (laidOut segments) (unfold pathTotal before in stored-list segments nothing nothing-stored zero-fits (omega arith) fine)
+laid-out segments commands few fine one rise =
+    rule-stored (laidOut segments commands) (unfold pathTotal before in stored-list segments commands nothing nothing-stored zero-fits (omega arith) fine one rise)

@@ -12,7 +12,7 @@ use lib.ListN.{length, getD}
 use Rattle.table.specs.Sound.{lengthsAreSound}
 use Rattle.path_segment.specs.Segments.{widthOf, tablesOf}
 use Rattle.path_stored.specs.Buffers.{Buffers}
-use Rattle.path_stored.specs.Stored.{mostSegments, before, areKnown, tablesAreSound, isStored, Stored}
+use Rattle.path_stored.specs.Stored.{mostSegments, before, areKnown, tablesAreSound, neverFall, isStored, Stored}
 use Rattle.path_stored.proofs.Testing.{soundAt}
 
 -- ---- kind by kind
@@ -42,25 +42,54 @@ unfolding tablesAreSound
 sound-all tables zero f = tt
 sound-all tables (suc n) f = and-i (tablesAreSound tables n) (soundAt tables n) (sound-all tables n (λ i h. f i (omega arith))) (f n (omega arith))
 
+-- ---- command number by command number
+abbrev Ordered : List ℕ → Type 0
+Ordered commands = (i : ℕ) → suc i < length commands → getD commands i 0 ≤ getD commands (suc i) 0
+
+pub ordered-each : (from : ℕ) (commands : List ℕ) → T (neverFall from commands) → Ordered commands
+unfolding neverFall
+ordered-each from [] t i h = absurd (omega arith)
+ordered-each from (own ∷ []) t i h = absurd (omega arith)
+ordered-each from (own ∷ (next ∷ rest)) t zero h = leb→le own next (and-l (leb own next) (neverFall next rest) (and-r (leb from own) (neverFall own (next ∷ rest)) t))
+ordered-each from (own ∷ (next ∷ rest)) t (suc i) h = ordered-each own (next ∷ rest) (and-r (leb from own) (neverFall own (next ∷ rest)) t) i (omega arith)
+
+pub ordered-all : (from : ℕ) (commands : List ℕ) → from ≤ getD commands 0 from → Ordered commands → T (neverFall from commands)
+unfolding neverFall
+ordered-all from [] h f = tt
+ordered-all from (own ∷ []) h f = and-i (leb from own) true (le→leb from own h) tt
+ordered-all from (own ∷ (next ∷ rest)) h f = and-i (leb from own) (neverFall own (next ∷ rest)) (le→leb from own h) (ordered-all own (next ∷ rest) (f 0 (omega arith)) (λ i g. f (suc i) (omega arith)))
+
 -- ---- the whole
 equal : (m n : ℕ) → m ≡ n → T (eqb m n)
 equal m n e = subst (λ k. T (eqb m k)) e (eqb-refl m)
 
-module _ (a b c d e f g : Bool) where
-  seven : T (a && b && c && d && e && f && g) → T a × T b × T c × T d × T e × T f × T g
-  seven t =
-      let t₆ = and-l (a && b && c && d && e && f) g t in
+module _ (a b c d e f g h i : Bool) where
+  nine : T (a && b && c && d && e && f && g && h && i) → T a × T b × T c × T d × T e × T f × T g × T h × T i
+  nine t =
+      let t₈ = and-l (a && b && c && d && e && f && g && h) i t in
+      let t₇ = and-l (a && b && c && d && e && f && g) h t₈ in
+      let t₆ = and-l (a && b && c && d && e && f) g t₇ in
       let t₅ = and-l (a && b && c && d && e) f t₆ in
       let t₄ = and-l (a && b && c && d) e t₅ in
       let t₃ = and-l (a && b && c) d t₄ in
-      let t₂ = and-l (a && b) c t₃ in
-      (and-l a b t₂, and-r a b t₂, and-r (a && b) c t₃, and-r (a && b && c) d t₄, and-r (a && b && c && d) e t₅, and-r (a && b && c && d && e) f t₆, and-r (a && b && c && d && e && f) g t)
+      let t₂ = and-l (a && b) c t₃ in (
+        and-l a b t₂,
+        and-r a b t₂,
+        and-r (a && b) c t₃,
+        and-r (a && b && c) d t₄,
+        and-r (a && b && c && d) e t₅,
+        and-r (a && b && c && d && e) f t₆,
+        and-r (a && b && c && d && e && f) g t₇,
+        and-r (a && b && c && d && e && f && g) h t₈,
+        and-r (a && b && c && d && e && f && g && h) i t,
+      )
 
-  all-seven : T a → T b → T c → T d → T e → T f → T g → T (a && b && c && d && e && f && g)
-  all-seven ta tb tc td te tf tg =
-      and-i (a && b && c && d && e && f) g
-      (and-i (a && b && c && d && e) f (and-i (a && b && c && d) e (and-i (a && b && c) d (and-i (a && b) c (and-i a b ta tb) tc) td) te) tf)
-      tg
+  all-nine : T a → T b → T c → T d → T e → T f → T g → T h → T i → T (a && b && c && d && e && f && g && h && i)
+  all-nine ta tb tc td te tf tg th ti =
+      let t₃ = and-i (a && b) c (and-i a b ta tb) tc in
+      let t₅ = and-i (a && b && c && d) e (and-i (a && b && c) d t₃ td) te in
+      let t₇ = and-i (a && b && c && d && e && f) g (and-i (a && b && c && d && e) f t₅ tf) tg in
+      and-i (a && b && c && d && e && f && g && h) i (and-i (a && b && c && d && e && f && g) h t₇ th) ti
 
 module _ (b : Buffers) where
   abbrev count : ℕ
@@ -69,9 +98,10 @@ module _ (b : Buffers) where
   pub stored-rule : T (isStored b) → Stored b
   unfolding isStored
   stored-rule t =
-      let s = seven (leb count mostSegments) (areKnown (b .kinds))
+      let s = nine (leb count mostSegments) (areKnown (b .kinds))
       (eqb (length (b .fields)) (before widthOf (b .kinds) count)) (eqb (length (b .tables)) (33 * before tablesOf (b .kinds) count))
-      (tablesAreSound (b .tables) (before tablesOf (b .kinds) count)) (eqb (length (b .lengths)) count) (lengthsAreSound (b .lengths)) t in
+      (tablesAreSound (b .tables) (before tablesOf (b .kinds) count)) (eqb (length (b .lengths)) count) (lengthsAreSound (b .lengths))
+      (eqb (length (b .commands)) count) (neverFall 0 (b .commands)) t in
       record {
         few = leb→le count mostSegments (s .0);
         known = known-each (b .kinds) (s .1);
@@ -80,14 +110,17 @@ module _ (b : Buffers) where
         each = sound-each (b .tables) (before tablesOf (b .kinds) count) (s .4);
         one = eqb→eq (length (b .lengths)) count (s .5);
         rising = s .6;
+        told = eqb→eq (length (b .commands)) count (s .7);
+        ordered = ordered-each 0 (b .commands) (s .8);
       }
 
   pub rule-stored : Stored b → T (isStored b)
   unfolding isStored
   rule-stored s =
-      all-seven (leb count mostSegments) (areKnown (b .kinds))
+      all-nine (leb count mostSegments) (areKnown (b .kinds))
       (eqb (length (b .fields)) (before widthOf (b .kinds) count)) (eqb (length (b .tables)) (33 * before tablesOf (b .kinds) count))
       (tablesAreSound (b .tables) (before tablesOf (b .kinds) count)) (eqb (length (b .lengths)) count) (lengthsAreSound (b .lengths))
+      (eqb (length (b .commands)) count) (neverFall 0 (b .commands))
       (le→leb count mostSegments (s .few))
       (known-all (b .kinds) (s .known))
       (equal (length (b .fields)) (before widthOf (b .kinds) count) (s .numbers))
@@ -95,3 +128,13 @@ module _ (b : Buffers) where
       (sound-all (b .tables) (before tablesOf (b .kinds) count) (s .each))
       (equal (length (b .lengths)) count (s .one))
       (s .rising)
+      (equal (length (b .commands)) count (s .told))
+      (ordered-all 0 (b .commands) (omega arith) (s .ordered))
+
+  -- a path that breaks the rule fails the test
+  pub fails : (Stored b → ⊥) → false ≡ isStored b
+  fails none = refuted (isStored b) (λ t. none (stored-rule t))
+    where
+      refuted : (x : Bool) → (T x → ⊥) → false ≡ x
+      refuted true h = absurd (h tt)
+      refuted false h = refl

@@ -1,18 +1,18 @@
--- The tests of a stored path, kind by kind and table by table, as loops make them. Assumes nothing.
+-- The tests of a stored path, kind by kind, table by table and command number by command number, as loops make them. Assumes nothing.
 use Prim.Native.Nat.{ℕ, zero, suc, _+_, _-_, _*_, _≤_, _<_}
 use mathlib.Core.Path.{_≡_, refl, sym, ap, _∙_}
-use mathlib.Core.Bool.{Bool, true, false, _&&_}
+use mathlib.Core.Bool.{Bool, true, false, _&&_, and-assoc}
 use mathlib.Core.List.{List, [], _∷_}
 use native.Mathlib.Numerals.{add-one}
 use native.Mathlib.Omega.{arith}
 use borrow.Author.Tests.{lt-ltb, le-ltb, eq-eqb, ne-eqb}
-use lib.Dec.{T, ltb, eqb}
+use lib.Dec.{T, leb, ltb, eqb}
 use lib.Ieee.{Float, nan}
-use lib.ListN.{length, getD, take, drop}
+use lib.ListN.{length, getD, take, drop, drop-of-length-le}
 use lib.Seq.{drop-cons, drop-length}
 use Rattle.table.specs.Sound.{tableIsSound}
 use Rattle.path_segment.specs.Segments.{tableAt}
-use Rattle.path_stored.specs.Stored.{areKnown, tablesAreSound}
+use Rattle.path_stored.specs.Stored.{areKnown, tablesAreSound, neverFall}
 
 -- ---- numbers that are found equal or not
 pub differs : (a b c : ℕ) → (a ≡ b → ⊥) → b ≡ c → eqb a c ≡ false
@@ -20,6 +20,13 @@ differs a b c d e = ne-eqb a c (λ z. d (z ∙ sym e))
 
 pub agrees : (a b c : ℕ) → a ≡ b → b ≡ c → eqb a c ≡ true
 agrees a b c d e = eq-eqb a c (d ∙ e)
+
+-- ---- tests one after the other
+pub all-six : {a b c d e f : Bool} → a ≡ true → b ≡ true → c ≡ true → d ≡ true → e ≡ true → f ≡ true → (a && b && c && d && e && f) ≡ true
+all-six a b c d e f = rw (a, b, c, d, e, f)
+
+pub ninth : {six g h i r : Bool} → six ≡ true → g ≡ true → h ≡ true → r ≡ i → r ≡ (six && g && h && i)
+ninth s g h e = rw (s, g, h) e
 
 -- ---- kinds
 module _ (kinds : List ℕ) (i : ℕ) (inside : i < length kinds) where
@@ -62,3 +69,19 @@ sound-stop tables m n h e f = sym (unsound-on tables (suc m) n h (unfold tablesA
 -- the part of a table's entries
 pub entries-part : (tables : List Float) (n : ℕ) → take (33 * n + 32 - 33 * n) (drop (33 * n) tables) ≡ tableAt tables (33 * n) .entries
 entries-part tables n = let z : 33 * n + 32 - 33 * n ≡ 32 = omega arith in rw z
+
+-- ---- command numbers
+module _ (commands : List ℕ) (rise : Bool) (previous k : ℕ) where
+  -- one more test
+  pub falls-next : k < length commands → (rise && neverFall previous (drop k commands)) ≡ ((rise && leb previous (getD commands k 0)) && neverFall (getD commands k 0) (drop (k + 1) commands))
+  unfolding neverFall
+  falls-next inside = rw (add-one, drop-cons commands k 0 inside, and-assoc rise)
+
+  -- no number is left
+  pub falls-end : length commands ≤ k → rise ≡ (rise && neverFall previous (drop k commands))
+  unfolding neverFall
+  falls-end past = rw (drop-of-length-le commands past) (by rise)
+    where
+      by : (b : Bool) → b ≡ (b && true)
+      by true = refl
+      by false = refl

@@ -1,5 +1,5 @@
--- A list of segments in the four buffers of a stored path (document 01, "Lengths, tables and lookup"): the kinds, the numbers, the tables and the running lengths, in path units.
--- Definitions only.
+-- A list of segments in the five buffers of a stored path (document 01, "Lengths, tables and lookup"; document 02, L5): the kinds, the numbers, the tables and the running lengths, in path
+-- units, and the numbers of the commands that made them, which are told beside the segments. Definitions only.
 use Prim.Native.Nat.{ℕ}
 use mathlib.Core.Bool.{cond}
 use mathlib.Core.List.{List, [], _∷_, _++_}
@@ -39,17 +39,18 @@ unfolding runningOf
 lengthsOfAll segments = runningOf zeroF segments
 
 -- the buffers of a list, of none, and a path with one segment more or a list of them
-abbrev pub laidOut : List PathSegment → Buffers
-laidOut segments = buffers (kindsOf segments) (fieldsOfAll segments) (tablesOfAll segments) (lengthsOfAll segments)
+abbrev pub laidOut : List PathSegment → List ℕ → Buffers
+laidOut segments commands = buffers (kindsOf segments) (fieldsOfAll segments) (tablesOfAll segments) (lengthsOfAll segments) commands
 
 abbrev pub nothing : Buffers
-nothing = buffers [] [] [] []
+nothing = buffers [] [] [] [] []
 
-abbrev pub extended : Buffers → PathSegment → Buffers
-extended b segment =
+abbrev pub extended : Buffers → PathSegment → ℕ → Buffers
+extended b segment command =
     buffers (b .kinds ++ kindOf segment ∷ []) (b .fields ++ fieldsOf segment) (b .tables ++ tableStored segment)
-    (b .lengths ++ add binary32 (pathTotal (b .lengths)) (lengthFor segment) ∷ [])
+    (b .lengths ++ add binary32 (pathTotal (b .lengths)) (lengthFor segment) ∷ []) (b .commands ++ command ∷ [])
 
-abbrev pub extendedBy : Buffers → List PathSegment → Buffers
-extendedBy b segments =
+abbrev pub extendedBy : Buffers → List PathSegment → List ℕ → Buffers
+extendedBy b segments commands =
     buffers (b .kinds ++ kindsOf segments) (b .fields ++ fieldsOfAll segments) (b .tables ++ tablesOfAll segments) (b .lengths ++ runningOf (pathTotal (b .lengths)) segments)
+    (b .commands ++ commands)

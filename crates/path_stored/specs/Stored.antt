@@ -1,4 +1,4 @@
--- "Stored path check" (document 01, "Lengths, tables and lookup"): the four buffers of a path. Segments and tables count from 0; -0 equals 0. Definitions only.
+-- "Stored path check" (document 01, "Lengths, tables and lookup"; document 02, L5): the five buffers of a path. Segments, tables and commands count from 0; -0 equals 0. Definitions only.
 use Prim.Native.Nat.{ℕ, zero, suc, _+_, _*_, _≤_, _<_}
 use mathlib.Core.Path.{_≡_}
 use mathlib.Core.Bool.{Bool, true, false, _&&_, cond}
@@ -34,9 +34,18 @@ unfolding tableIsSound
 tablesAreSound tables zero = true
 tablesAreSound tables (suc n) = tablesAreSound tables n && tableIsSound (tableAt tables (33 * n) .entries) (tableAt tables (33 * n) .total)
 
+-- "BadPath also when command numbers are not one per segment, or fall": none is below the one before it, where `from` stands before the first; equal numbers pass
+unfoldable pub neverFall : ℕ → List ℕ → Bool
+neverFall from [] = true
+neverFall from (own ∷ commands) = leb from own && neverFall own commands
+
+-- the number before those that follow: the last one, and 0 where there is none
+abbrev pub lastNumber : List ℕ → ℕ
+lastNumber commands = getD (0 ∷ commands) (length commands) 0
+
 -- the rule as a test
 unfoldable pub isStored : Buffers → Bool
-unfolding areKnown before tablesAreSound
+unfolding areKnown before tablesAreSound neverFall
 isStored b =
     let count = length (b .kinds) in
     leb count mostSegments
@@ -46,9 +55,11 @@ isStored b =
     && tablesAreSound (b .tables) (before tablesOf (b .kinds) count)
     && eqb (length (b .lengths)) count
     && lengthsAreSound (b .lengths)
+    && eqb (length (b .commands)) count
+    && neverFall 0 (b .commands)
 
 -- the same, to be read: "at most 65,536 segments of known kinds with exactly their numbers and tables; one running length each, finite, not below 0, never falling; each table
--- starts at 0, is finite, never falls, and its total is its last entry"
+-- starts at 0, is finite, never falls, and its total is its last entry"; command numbers "one per segment", which do not fall
 pub record Stored (b : Buffers) : Type 0 where
   pub few : length (b .kinds) ≤ mostSegments
   pub known : (i : ℕ) → i < length (b .kinds) → getD (b .kinds) i 0 < 5
@@ -57,6 +68,8 @@ pub record Stored (b : Buffers) : Type 0 where
   pub each : (n : ℕ) → n < before tablesOf (b .kinds) (length (b .kinds)) → T (tableIsSound (tableAt (b .tables) (33 * n) .entries) (tableAt (b .tables) (33 * n) .total))
   pub one : length (b .lengths) ≡ length (b .kinds)
   pub rising : T (lengthsAreSound (b .lengths))
+  pub told : length (b .commands) ≡ length (b .kinds)
+  pub ordered : (i : ℕ) → suc i < length (b .commands) → getD (b .commands) i 0 ≤ getD (b .commands) (suc i) 0
 
 -- ---- what is read of a segment
 

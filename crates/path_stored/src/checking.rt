@@ -7,7 +7,7 @@ ghost use mathlib.Core.Path.{_≡_};
 ghost use Prim.Native.Nat.{_≤_, _*_};
 ghost use lib.ListN.{length};
 ghost use Rattle.path_stored.specs.Buffers.{before};
-ghost use Rattle.path_stored.specs.Stored.{mostSegments, areKnown, tablesAreSound, isStored};
+ghost use Rattle.path_stored.specs.Stored.{mostSegments, areKnown, tablesAreSound, neverFall, isStored};
 
 // Whether all kinds are known.
 fn are_known(kinds: &[u8]) -> bool
@@ -43,10 +43,33 @@ fn tables_are_sound(tables: &[f32], n: usize) -> bool
     true
 }
 
-// Whether four buffers hold a stored path: at most 65,536 segments of known kinds with exactly their numbers and tables, one running
-// length each, and lengths and tables that a lookup takes.
-pub fn check_path(kinds: &[u8], fields: &[f32], tables: &[f32], lengths: &[f32]) -> bool
-    ensures { λ r. ⌜ r ≡ isStored (before kinds fields tables lengths) ⌝ }
+// Whether no command number is below the one before it. The loop goes on past one that is: without a way out in its middle it is
+// compiled to tests of several numbers at a time.
+fn never_fall(commands: &[u32]) -> bool
+    ensures { λ r. ⌜ r ≡ neverFall 0 (now (commands .entry)) ⌝ }
+{
+    let mut rise = true;
+    let mut previous = 0u32;
+    let mut k = 0usize;
+    while k < commands.len() {
+        let own = commands[k];
+        rise = rise & (previous <= own);
+        previous = own;
+        k += 1;
+    }
+    rise
+}
+
+// Whether five buffers hold a stored path: at most 65,536 segments of known kinds with exactly their numbers and tables, one running
+// length each, lengths and tables that a lookup takes, and one command number each, none below the one before it. Equal ones pass.
+pub fn check_path(
+    kinds: &[u8],
+    fields: &[f32],
+    tables: &[f32],
+    lengths: &[f32],
+    commands: &[u32],
+) -> bool
+    ensures { λ r. ⌜ r ≡ isStored (before kinds fields tables lengths commands) ⌝ }
 {
     let count = kinds.len();
     if 65536 < count {
@@ -68,5 +91,11 @@ pub fn check_path(kinds: &[u8], fields: &[f32], tables: &[f32], lengths: &[f32])
     if lengths.len() != count {
         return false;
     }
-    lengths_are_sound(lengths)
+    if !lengths_are_sound(lengths) {
+        return false;
+    }
+    if commands.len() != count {
+        return false;
+    }
+    never_fall(commands)
 }

@@ -1,5 +1,5 @@
-// The stored path: four buffers that hold the kinds, the numbers, the tables and the running lengths of its segments, and their
-// check. What stands here asks nothing and refuses; `inner` has the same for a caller that knows the path to be stored.
+// The stored path: five buffers that hold the kinds, the numbers, the tables, the running lengths and the command numbers of its
+// segments, and their check. What stands here asks nothing and refuses; `inner` has the same for a caller that knows the path to be stored.
 mod checking;
 pub mod inner;
 mod leaving;

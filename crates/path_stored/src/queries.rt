@@ -42,20 +42,32 @@ pub struct Part {
 }
 
 // How many segments there are.
-pub fn len(kinds: &[u8], fields: &[f32], tables: &[f32], lengths: &[f32]) -> Counted
-    ensures { λ r. ⌜ r ≡ countedOf (before kinds fields tables lengths) ⌝ }
+pub fn len(
+    kinds: &[u8],
+    fields: &[f32],
+    tables: &[f32],
+    lengths: &[f32],
+    commands: &[u32],
+) -> Counted
+    ensures { λ r. ⌜ r ≡ countedOf (before kinds fields tables lengths commands) ⌝ }
 {
-    if check_path(kinds, fields, tables, lengths) {
+    if check_path(kinds, fields, tables, lengths, commands) {
         return Counted::Segments(kinds.len());
     }
     Counted::Refused(Refusal::BadPath)
 }
 
 // Whether there are none.
-pub fn is_empty(kinds: &[u8], fields: &[f32], tables: &[f32], lengths: &[f32]) -> Emptiness
-    ensures { λ r. ⌜ r ≡ emptinessOf (before kinds fields tables lengths) ⌝ }
+pub fn is_empty(
+    kinds: &[u8],
+    fields: &[f32],
+    tables: &[f32],
+    lengths: &[f32],
+    commands: &[u32],
+) -> Emptiness
+    ensures { λ r. ⌜ r ≡ emptinessOf (before kinds fields tables lengths commands) ⌝ }
 {
-    if check_path(kinds, fields, tables, lengths) {
+    if check_path(kinds, fields, tables, lengths, commands) {
         if kinds.len() == 0 {
             return Emptiness::Empty;
         }
@@ -65,10 +77,16 @@ pub fn is_empty(kinds: &[u8], fields: &[f32], tables: &[f32], lengths: &[f32]) -
 }
 
 // The path's length: its last running length, or 0 without a segment.
-pub fn arc_length(kinds: &[u8], fields: &[f32], tables: &[f32], lengths: &[f32]) -> Measured
-    ensures { λ r. ⌜ r ≡ measuredOf (before kinds fields tables lengths) ⌝ }
+pub fn arc_length(
+    kinds: &[u8],
+    fields: &[f32],
+    tables: &[f32],
+    lengths: &[f32],
+    commands: &[u32],
+) -> Measured
+    ensures { λ r. ⌜ r ≡ measuredOf (before kinds fields tables lengths commands) ⌝ }
 {
-    if check_path(kinds, fields, tables, lengths) {
+    if check_path(kinds, fields, tables, lengths, commands) {
         return Measured::Length(inner::total(lengths));
     }
     Measured::Refused(Refusal::BadPath)
@@ -83,10 +101,17 @@ fn nothing(found: Found) -> Part
 }
 
 // Segment i with its table.
-pub fn segment(kinds: &[u8], fields: &[f32], tables: &[f32], lengths: &[f32], i: usize) -> Part
-    ensures { λ r. ⌜ r ≡ partOf (before kinds fields tables lengths) i ⌝ }
+pub fn segment(
+    kinds: &[u8],
+    fields: &[f32],
+    tables: &[f32],
+    lengths: &[f32],
+    commands: &[u32],
+    i: usize,
+) -> Part
+    ensures { λ r. ⌜ r ≡ partOf (before kinds fields tables lengths commands) i ⌝ }
 {
-    if check_path(kinds, fields, tables, lengths) {
+    if check_path(kinds, fields, tables, lengths, commands) {
         if i < kinds.len() {
             let found = Found::Segment(leaving(inner::segment(kinds, fields, i)));
             let table = inner::segment_table(kinds, tables, i);

@@ -1,15 +1,16 @@
 -- `path_stored::check_path` meets its contract: each way out is a test of `isStored` that fails after those before it passed. Assumes nothing.
-use Rattle.path_stored.proofs.Testing.{agrees, differs}
+use Rattle.path_stored.proofs.Testing.{agrees, differs, all-six, ninth}
 use Rattle.path_stored.proofs.Counting.{tables-at-most}
+use Rattle.path_stored.proofs.Rule.{fails}
 use Rattle.path_stored.specs.Stored.{before, mostSegments, areKnown, tablesAreSound, isStored}
 use Rattle.path_segment.specs.Segments.{widthOf, tablesOf}
 use lib.ListN.{length}
 use borrow.Author.Tests.{le-leb, lt-leb, eq-eqb, ne-eqb, not-true, not-false}
 use native.Mathlib.Omega.{arith}
-use mathlib.Core.Path.{_≡_, sym, ap, _∙_}
-use mathlib.Core.Bool.{true}
+use mathlib.Core.Path.{_≡_, sym, ap, subst, _∙_}
+use mathlib.Core.Bool.{true, _&&_}
 use mathlib.Core.List.{List}
-use lib.Dec.{leb, eqb}
+use lib.Dec.{T, leb, eqb}
 use Prim.Native.Nat.{ℕ, _*_}
 use borrow.Author.Needs.{needs}
 use Rattle.path_stored.proofs.checking.check_path.Statement.{statement}
@@ -18,7 +19,7 @@ use Rattle.path_stored.proofs.checking.check_path.Tie as tie
 -- ---- the points: after each test that passed, and what it showed
 
 abbrev start : tie.Else1 → tie.Start
-start p = p .before .before .before .before .before
+start p = p .before .before .before .before .before .before
 
 abbrev kinds : tie.Else1 → List ℕ
 kinds p = start p .args .kinds .now
@@ -88,15 +89,38 @@ returns-6 c =
     let sound = judged (c .before .before) ∙ not-false _ (c .before .if5 .left) in
     simp (few (one (two (three p))), known (two (three p)), widths (three p), tabled p, sound, ne-eqb _ _ (c .if6 .taken))
 
+-- the first six tests passed
+abbrev six : tie.Else6 → tie.Else4
+six p = p .before .before .before
+
+sound : (p : tie.Else6) → let s = one (two (three (six p))) in let k = kinds s in tablesAreSound (start s .args .tables .now) (before tablesOf k (length k)) ≡ true
+sound p = judged (p .before .before) ∙ not-false _ (p .before .if5 .left)
+
+six-pass : (p : tie.Else6) → let s = one (two (three (six p))) in let k = kinds s in let a = start s .args in
+    (leb (length k) mostSegments
+    && areKnown k
+    && eqb (length (a .fields .now)) (before widthOf k (length k))
+    && eqb (length (a .tables .now)) (33 * before tablesOf k (length k))
+    && tablesAreSound (a .tables .now) (before tablesOf k (length k))
+    && eqb (length (a .lengths .now)) (length k))
+    ≡ true
+six-pass p = let t = three (six p) in all-six (few (one (two t))) (known (two t)) (widths t) (tabled (six p)) (sound p) (eq-eqb _ _ (p .if6 .left))
+
 returns-7 : tie.Need-returns-7
+returns-7 c = fails _ (λ s. subst T (sym (c .before .lengths-are-sound .ensures) ∙ not-true _ (c .if7 .taken)) (s .rising))
+
+returns-8 : tie.Need-returns-8
+returns-8 c = fails _ (λ s. c .if8 .taken (s .told))
+
+returns-9 : tie.Need-returns-9
 unfolding isStored
-returns-7 c =
-    let p = c .before .before .before .before in
-    let sound = judged (c .before .before .before) ∙ not-false _ (c .before .before .if5 .left) in
-    simp (few (one (two (three p))), known (two (three p)), widths (three p), tabled p, sound, eq-eqb _ _ (c .before .if6 .left)) (c .lengths-are-sound .ensures)
+returns-9 c =
+    let l = c .before .before .before in
+    ninth (six-pass (l .before)) (sym (l .lengths-are-sound .ensures) ∙ not-false _ (c .before .before .if7 .left)) (eq-eqb _ _ (c .before .if8 .left)) (c .never-fall .ensures)
 
 pub check-path-spec : {M : Type 1} → statement M
 check-path-spec =
     tie.close
     (tie.spec returns (λ c κs. search needs) returns-2 (λ c κs. search needs) returns-3 (λ c κs. search needs) mul-if4
-    returns-4 tables-are-sound-requires returns-5 returns-6 (λ c κs. search needs) returns-7)
+    returns-4 tables-are-sound-requires returns-5 returns-6 (λ c κs. search needs) returns-7 returns-8
+    (λ c κs. search needs) returns-9)
