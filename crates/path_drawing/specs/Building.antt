@@ -1,5 +1,5 @@
--- The segments of a list of commands (source document 002, `from_commands`; document 01, "The answers" and "Lengths, tables and lookup"). Segments
--- count from 0, lengths are `f32` values in path units. Definitions only.
+-- The segments of a list of commands (source document 002, `from_commands`; document 01, "The answers" and "Lengths, tables and lookup"), and which command made each (document 02, L5).
+-- Segments and commands count from 0, lengths are `f32` values in path units. Definitions only.
 use Prim.Native.Nat.{ℕ, suc}
 use mathlib.Core.Bool.{cond}
 use mathlib.Core.List.{List, [], _∷_}
@@ -44,3 +44,26 @@ buildFrom (command ∷ commands) k before pen = follow k before (drawOf pen comm
 unfoldable pub buildOf : List PathCommand → Built
 unfolding buildFrom
 buildOf commands = buildFrom commands 0 zeroF freshOf
+
+-- ---- "each segment the number of its command": a command that draws none is counted too
+
+-- the number of a command, where it draws a segment
+abbrev pub namedBy : ℕ → Drawn → List ℕ
+namedBy n (Moved next) = []
+namedBy n (Segment segment next) = n ∷ []
+namedBy n OutOfRange = []
+
+-- what follows from the command numbered n on, where `rest` goes on from the pen after it
+abbrev pub named : ℕ → Drawn → (Pen → List ℕ) → List ℕ
+named n (Moved next) rest = rest next
+named n (Segment segment next) rest = n ∷ rest next
+named n OutOfRange rest = []
+
+-- the numbers of the commands that draw, by the recursion of `buildFrom`
+unfoldable pub drawersFrom : List PathCommand → ℕ → Pen → List ℕ
+drawersFrom [] n pen = []
+drawersFrom (command ∷ commands) n pen = named n (drawOf pen command) (drawersFrom commands (suc n))
+
+unfoldable pub drawersOf : List PathCommand → List ℕ
+unfolding drawersFrom
+drawersOf commands = drawersFrom commands 0 freshOf
