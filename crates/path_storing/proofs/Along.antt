@@ -16,11 +16,11 @@ use Rattle.path_segment.specs.Segments.{kindOf, fieldsOf}
 use Rattle.path_segment.specs.declared.segments.PathSegment.{PathSegment}
 use Rattle.path_stored.specs.Layout.{kindsOf, fieldsOfAll, tableStored, tablesOfAll}
 use Rattle.path_drawing.specs.Drawing.{drawOf}
-use Rattle.path_drawing.specs.Building.{Built, path, refusal, lengthAfter, buildFrom, buildOf}
+use Rattle.path_drawing.specs.Building.{Built, path, refusal, lengthAfter, buildFrom, buildOf, namedBy, drawersOf}
 use Rattle.path_drawing.specs.declared.pens.Pen.{Pen}
 use Rattle.path_drawing.specs.declared.strokes.Drawn.{Drawn}
 use Rattle.path_drawing.specs.declared.strokes.Drawn.the-variants.{Moved, Segment, OutOfRange}
-use Rattle.path_drawing.proofs.Onward.{onto, Drew, drew-none, drew-all, drew-moved, drew-segment, drew-infinite, drew-turned}
+use Rattle.path_drawing.proofs.Onward.{onto, Drew, drew-none, drew-all, drew-named, drew-moved, drew-segment, drew-infinite, drew-turned}
 use Rattle.path_storing.specs.Sites.{startOf, afterOf, movedOf, nextOf, judgedOf, advanceOf, drawnBy, Few}
 use Rattle.path_storing.specs.declared.sites.Site.{Site}
 use Rattle.path_storing.specs.declared.sites.Advanced.{Advanced}
@@ -72,6 +72,10 @@ module _ (commands : List PathCommand) (done : List PathSegment) (site : Site) (
   module _ (command : PathCommand) where
     more-commands : length (commands ++ (command ∷ [])) ≡ length commands + 1
     more-commands = length-append commands (command ∷ [])
+
+    -- the numbers of those that drew, with the next
+    pub at-named : drawersOf (commands ++ (command ∷ [])) ≡ drawersOf commands ++ namedBy (length commands) (drawOf (site .pen) command)
+    at-named = drew-named commands done (site .segments) (site .length) (site .pen) (k .drew) command
 
     -- a command that draws nothing
     moves : (next : Pen) → drawOf (site .pen) command ≡ Moved next → At (commands ++ (command ∷ [])) (done ++ []) (movedOf site next)

@@ -15,11 +15,11 @@ use Rattle.path_stored.proofs.Buffers.{buffers-are}
 use Rattle.path_stored.specs.Layout.{kindsOf, fieldsOfAll, tablesOfAll, runningOf, lengthsOfAll}
 use Rattle.path_drawing.specs.Drawing.{drawOf}
 use Rattle.path_drawing.specs.declared.strokes.Drawn.{Drawn}
-use Rattle.path_drawing.specs.Building.{path, buildOf}
+use Rattle.path_drawing.specs.Building.{path, buildOf, namedBy, drawersOf, drawersFrom}
 use Rattle.path_storing.specs.Sites.{startOf, nextOf, drawnBy, pathWritten, laidAt, Holds, Room, Laid}
 use Rattle.path_storing.specs.declared.sites.Site.{Site}
 use Rattle.path_storing.proofs.Layouts.{kinds-append, fields-append, tables-append, lengths-append, lengths-count, running-count, endOf}
-use Rattle.path_storing.proofs.Along.{At, at-none, at-within, at-stored}
+use Rattle.path_storing.proofs.Along.{At, at-none, at-within, at-named, at-stored}
 
 -- room for a list is room for what it begins with
 holds-first : (list rest : List PathSegment) {b : Buffers} → Holds (list ++ rest) b → Holds list b
@@ -29,16 +29,17 @@ holds-first list rest h =
       fieldsFit = omega (arith, h .fieldsFit, ap length (fields-append list rest) ∙ length-append (fieldsOfAll list) (fieldsOfAll rest));
       tablesFit = omega (arith, h .tablesFit, ap length (tables-append list rest) ∙ length-append (tablesOfAll list) (tablesOfAll rest));
       lengthsFit = omega (arith, h .lengthsFit, ap length (lengths-append list rest) ∙ length-append (lengthsOfAll list) (runningOf (endOf zeroF list) rest));
+      commandsFit = omega (arith, h .commandsFit, ap length (kinds-append list rest) ∙ length-append (kindsOf list) (kindsOf rest));
     }
 
--- the segments of the commands passed are written
+-- the segments of the commands passed are written, and which drew them
 pub record Filling (commands : List PathCommand) (site : Site) (b₀ b : Buffers) : Type 0 where
   pub done : List PathSegment
   pub known : At commands done site
-  pub now : b ≡ pathWritten done b₀
+  pub now : b ≡ pathWritten done (drawersOf commands) b₀
 
 pub filling-none : (b : Buffers) → Filling [] startOf b b
-unfolding kindsOf fieldsOfAll tablesOfAll runningOf lengthsOfAll
+unfolding kindsOf fieldsOfAll tablesOfAll runningOf lengthsOfAll drawersOf drawersFrom
 filling-none b = record { done = []; known = at-none; now = refl }
 
 -- a run of stores just past what is written
@@ -68,6 +69,11 @@ module _ {commands : List PathCommand} {site : Site} {b₀ b : Buffers} (k : Fil
     pub same-lengths : length (b .lengths) ≡ length (b₀ .lengths)
     same-lengths = ap (λ (x : Buffers). length (x .lengths)) (k .now) ∙ length-written (lengthsOfAll (k .done)) (b₀ .lengths) (first .lengthsFit)
 
+    pub same-commands : length (b .commands) ≡ length (b₀ .commands)
+    same-commands =
+        ap (λ (x : Buffers). length (x .commands)) (k .now)
+        ∙ length-written (drawersOf commands) (b₀ .commands) (omega (arith, first .commandsFit, k .known .drew .count, k .known .kinds))
+
   module _ (command : PathCommand) (rest : List PathCommand) (builds : buildOf ((commands ++ (command ∷ [])) ++ rest) ≡ path list) where
     abbrev drawn : Drawn
     drawn = drawOf (site .pen) command
@@ -96,10 +102,11 @@ module _ {commands : List PathCommand} {site : Site} {b₀ b : Buffers} (k : Fil
           fieldsFit = omega (arith, held .fieldsFit, fields-all, k .known .fields, same-fields (command ∷ rest) here);
           tablesFit = omega (arith, held .tablesFit, tables-all, k .known .tables, same-tables (command ∷ rest) here);
           lengthsFit = omega (arith, held .lengthsFit, lengths-count (k .done ++ d), kinds-all, k .known .kinds, same-lengths (command ∷ rest) here);
+          commandsFit = omega (arith, held .commandsFit, kinds-all, k .known .kinds, same-commands (command ∷ rest) here);
         }
 
     -- and is then written
-    laid-on : laidAt site (drawnBy drawn) b ≡ pathWritten (k .done ++ drawnBy drawn) b₀
+    laid-on : laidAt site (drawnBy drawn) (namedBy (length commands) drawn) b ≡ pathWritten (k .done ++ drawnBy drawn) (drawersOf (commands ++ (command ∷ []))) b₀
     laid-on =
         let d = drawnBy drawn in
         let running = lengths-append (k .done) d ∙ ap (λ x. lengthsOfAll (k .done) ++ runningOf x d) (sym (k .known .ends)) in
@@ -107,8 +114,10 @@ module _ {commands : List PathCommand} {site : Site} {b₀ b : Buffers} (k : Fil
         (writes (fieldsOfAll (k .done)) (fieldsOfAll d) (b₀ .fields) (ap (λ (x : Buffers). x .fields) (k .now)) (k .known .fields) (fields-append (k .done) d) (held .fieldsFit))
         (writes (tablesOfAll (k .done)) (tablesOfAll d) (b₀ .tables) (ap (λ (x : Buffers). x .tables) (k .now)) (k .known .tables) (tables-append (k .done) d) (held .tablesFit))
         (writes (lengthsOfAll (k .done)) (runningOf (site .length) d) (b₀ .lengths) (ap (λ (x : Buffers). x .lengths) (k .now)) (k .known .kinds ∙ sym (lengths-count (k .done))) running (held .lengthsFit))
+        (writes (drawersOf commands) (namedBy (length commands) drawn) (b₀ .commands) (ap (λ (x : Buffers). x .commands) (k .now)) (sym (k .known .drew .count)) (at-named commands (k .done) site (k .known) command)
+        (omega (arith, held .commandsFit, stored .drew .count, stored .kinds)))
 
-    pub filling-more : {next : Site} {b′ : Buffers} → Laid site drawn b next b′ → Filling (commands ++ (command ∷ [])) next b₀ b′
+    pub filling-more : {next : Site} {b′ : Buffers} → Laid site (length commands) drawn b next b′ → Filling (commands ++ (command ∷ [])) next b₀ b′
     filling-more laid =
         record {
           done = k .done ++ drawnBy drawn;

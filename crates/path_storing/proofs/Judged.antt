@@ -23,7 +23,7 @@ use Rattle.path_stored.specs.Buffers.{Buffers, buffers}
 use Rattle.path_stored.proofs.Buffers.{buffers-are}
 use Rattle.path_stored.specs.Layout.{kindsOf, fieldsOfAll, tableStored, tablesOfAll, runningOf}
 use Rattle.path_drawing.specs.Drawing.{drawnOf, drawOf}
-use Rattle.path_drawing.specs.Building.{lengthAfter}
+use Rattle.path_drawing.specs.Building.{lengthAfter, namedBy}
 use Rattle.path_drawing.specs.declared.pens.Pen.{Pen}
 use Rattle.path_drawing.specs.declared.strokes.Drawn.{Drawn}
 use Rattle.path_drawing.specs.declared.strokes.Drawn.the-variants.{Moved, Segment, OutOfRange}
@@ -82,21 +82,26 @@ module _ {site : Site} {segment : PathSegment} {pen : Pen} {b : Buffers} (room :
   unfolding kindsOf
   length-fits = omega (arith, room .lengthsFit)
 
+  pub command-fits : site .segments < length (b .commands)
+  unfolding kindsOf
+  command-fits = omega (arith, room .commandsFit)
+
 pub segment-laid :
-    {site : Site} {segment : PathSegment} {pen : Pen} {b : Buffers} {r : Site} {own : ℕ} {fields′ tables′ : List Float} {l : Float}
+    {site : Site} {n : ℕ} {segment : PathSegment} {pen : Pen} {b : Buffers} {r : Site} {own : ℕ} {fields′ tables′ : List Float} {l : Float}
     → own ≡ kindOf segment
     → fields′ ≡ sets (b .fields) (site .fields) (fieldsOf segment)
     → tables′ ≡ sets (b .tables) (site .tables) (tableStored segment)
     → l ≡ lengthAfter (site .length) segment
     → r ≡ afterOf site segment pen
-    → Laid site (Segment segment pen) b r (buffers (set (b .kinds) (site .segments) own) fields′ tables′ (set (b .lengths) (site .segments) l))
+    → Laid site n (Segment segment pen) b r
+    (buffers (set (b .kinds) (site .segments) own) fields′ tables′ (set (b .lengths) (site .segments) l) (set (b .commands) (site .segments) n))
 unfolding kindsOf runningOf nextOf
-segment-laid {site} {segment} {pen} {b} e f g h s =
+segment-laid {site} {n} {segment} {pen} {b} e f g h s =
     record {
       siteAfter = s;
       after =
           buffers-are (ap (set (b .kinds) (site .segments)) e) (f ∙ ap (sets (b .fields) (site .fields)) (sym (fields-one segment)))
-          (g ∙ ap (sets (b .tables) (site .tables)) (sym (tables-one segment))) (ap (set (b .lengths) (site .segments)) h);
+          (g ∙ ap (sets (b .tables) (site .tables)) (sym (tables-one segment))) (ap (set (b .lengths) (site .segments)) h) refl;
     }
 
 -- ---- a line, whose numbers are known
@@ -109,14 +114,14 @@ unfolding hasTable tablesOf
 no-table line = table-none (Line line) refl
 
 pub line-laid :
-    {site : Site} {line : LineSegment} {pen : Pen} {b : Buffers} {fields′ : List Float} {l : Float} {next : Pen}
+    {site : Site} {n : ℕ} {line : LineSegment} {pen : Pen} {b : Buffers} {fields′ : List Float} {l : Float} {next : Pen}
     → fields′ ≡ sets (b .fields) (site .fields) (fieldsOf (Line line))
     → l ≡ add binary32 (site .length) (lineLengthOf line)
     → next ≡ pen
-    → Laid site (Segment (Line line) pen) b (record { pen = next; length = l; segments = site .segments + 1; fields = site .fields + 4; tables = site .tables })
-    (buffers (set (b .kinds) (site .segments) 0) fields′ (b .tables) (set (b .lengths) (site .segments) l))
+    → Laid site n (Segment (Line line) pen) b (record { pen = next; length = l; segments = site .segments + 1; fields = site .fields + 4; tables = site .tables })
+    (buffers (set (b .kinds) (site .segments) 0) fields′ (b .tables) (set (b .lengths) (site .segments) l) (set (b .commands) (site .segments) n))
 unfolding lengthFor afterOf
-line-laid {site} {line} {pen} {b} f h p = segment-laid refl f (ap (sets (b .tables) (site .tables)) (sym (no-table line))) h (rw (p, h, no-table line, add-zero))
+line-laid {site} {n} {line} {pen} {b} f h p = segment-laid refl f (ap (sets (b .tables) (site .tables)) (sym (no-table line))) h (rw (p, h, no-table line, add-zero))
 
 pub line-drawn : (pen : Pen) (command : PathCommand) (end : Point) → command ≡ LineTo end → pen .placed ≡ true → drawOf pen command ≡ Segment (Line (lineOf (pen .current) end)) (drawnOf pen end)
 unfolding drawOf
@@ -127,11 +132,11 @@ unfolding drawOf
 line-undrawn pen next command end e p n = rw (e, p, n)
 
 -- nothing is stored
-pub moved-laid : {site : Site} {b : Buffers} {pen : Pen} {drawn : Drawn} {r : Site} → drawn ≡ Moved pen → r ≡ movedOf site pen → Laid site drawn b r b
+pub moved-laid : {site : Site} {n : ℕ} {b : Buffers} {pen : Pen} {drawn : Drawn} {r : Site} → drawn ≡ Moved pen → r ≡ movedOf site pen → Laid site n drawn b r b
 unfolding kindsOf fieldsOfAll tablesOfAll runningOf nextOf
 moved-laid e f = rw e (record { siteAfter = f; after = refl })
 
-pub turned-laid : {site : Site} {b : Buffers} {drawn : Drawn} → drawn ≡ OutOfRange → Laid site drawn b site b
+pub turned-laid : {site : Site} {n : ℕ} {b : Buffers} {drawn : Drawn} → drawn ≡ OutOfRange → Laid site n drawn b site b
 unfolding kindsOf fieldsOfAll tablesOfAll runningOf nextOf
 turned-laid e = rw e (record { siteAfter = refl; after = refl })
 
@@ -139,5 +144,5 @@ turned-laid e = rw e (record { siteAfter = refl; after = refl })
 pub room-at : {site : Site} {drawn drawn′ : Drawn} {b : Buffers} → drawn ≡ drawn′ → Room site drawn b → Room site drawn′ b
 room-at {site} {drawn} {drawn′} {b} e room = subst (λ x. Room site x b) e room
 
-pub laid-at : {site : Site} {drawn drawn′ : Drawn} {b : Buffers} {r : Site} {b′ : Buffers} → drawn ≡ drawn′ → Laid site drawn′ b r b′ → Laid site drawn b r b′
-laid-at {site} {drawn} {drawn′} {b} {r} {b′} e laid = subst (λ x. Laid site x b r b′) (sym e) laid
+pub laid-at : {site : Site} {n : ℕ} {drawn drawn′ : Drawn} {b : Buffers} {r : Site} {b′ : Buffers} → drawn ≡ drawn′ → Laid site n drawn′ b r b′ → Laid site n drawn b r b′
+laid-at {site} {n} {drawn} {drawn′} {b} {r} {b′} e laid = subst (λ x. Laid site n x b r b′) (sym e) laid

@@ -17,7 +17,7 @@ use Rattle.answers.specs.Report.{written}
 use Rattle.path_stored.specs.Buffers.{Buffers, buffers}
 use Rattle.path_stored.specs.Layout.{kindsOf, fieldsOfAll, tableStored, tablesOfAll, runningOf, lengthsOfAll}
 use Rattle.path_drawing.specs.Drawing.{freshOf, drawOf}
-use Rattle.path_drawing.specs.Building.{lengthAfter}
+use Rattle.path_drawing.specs.Building.{lengthAfter, namedBy}
 use Rattle.path_drawing.specs.declared.pens.Pen.{Pen}
 use Rattle.path_drawing.specs.declared.strokes.Drawn.{Drawn}
 use Rattle.path_drawing.specs.declared.strokes.Drawn.the-variants.{Moved, Segment, OutOfRange}
@@ -81,22 +81,25 @@ pub record TableLaid (at : ℕ) (segment : PathSegment) (tables : List Float) (r
 
 -- ---- in the buffers
 
--- a list of segments in place of what stood at each buffer's start
-abbrev pub pathWritten : List PathSegment → Buffers → Buffers
-pathWritten list b = buffers (written (kindsOf list) (b .kinds)) (written (fieldsOfAll list) (b .fields)) (written (tablesOfAll list) (b .tables)) (written (lengthsOfAll list) (b .lengths))
+-- a list of segments and the numbers of their commands in place of what stood at each buffer's start
+abbrev pub pathWritten : List PathSegment → List ℕ → Buffers → Buffers
+pathWritten list drawers b =
+    buffers (written (kindsOf list) (b .kinds)) (written (fieldsOfAll list) (b .fields)) (written (tablesOfAll list) (b .tables)) (written (lengthsOfAll list) (b .lengths))
+    (written drawers (b .commands))
 
 -- and in place of what stood at a site
-abbrev pub laidAt : Site → List PathSegment → Buffers → Buffers
-laidAt site list b =
+abbrev pub laidAt : Site → List PathSegment → List ℕ → Buffers → Buffers
+laidAt site list drawers b =
     buffers (sets (b .kinds) (site .segments) (kindsOf list)) (sets (b .fields) (site .fields) (fieldsOfAll list)) (sets (b .tables) (site .tables) (tablesOfAll list))
-    (sets (b .lengths) (site .segments) (runningOf (site .length) list))
+    (sets (b .lengths) (site .segments) (runningOf (site .length) list)) (sets (b .commands) (site .segments) drawers)
 
--- buffers have room for segments
+-- buffers have room for segments, each of which has one command number
 pub record Holds (list : List PathSegment) (b : Buffers) : Type 0 where
   pub kindsFit : length (kindsOf list) ≤ length (b .kinds)
   pub fieldsFit : length (fieldsOfAll list) ≤ length (b .fields)
   pub tablesFit : length (tablesOfAll list) ≤ length (b .tables)
   pub lengthsFit : length (lengthsOfAll list) ≤ length (b .lengths)
+  pub commandsFit : length (kindsOf list) ≤ length (b .commands)
 
 -- the same for what a command draws at a site
 pub record Room (site : Site) (drawn : Drawn) (b : Buffers) : Type 0 where
@@ -104,8 +107,9 @@ pub record Room (site : Site) (drawn : Drawn) (b : Buffers) : Type 0 where
   pub fieldsFit : site .fields + length (fieldsOfAll (drawnBy drawn)) ≤ length (b .fields)
   pub tablesFit : site .tables + length (tablesOfAll (drawnBy drawn)) ≤ length (b .tables)
   pub lengthsFit : site .segments + length (kindsOf (drawnBy drawn)) ≤ length (b .lengths)
+  pub commandsFit : site .segments + length (kindsOf (drawnBy drawn)) ≤ length (b .commands)
 
--- what a command draws at a site is stored, no other place is touched, and the next site is told
-pub record Laid (site : Site) (drawn : Drawn) (b : Buffers) (r : Site) (b′ : Buffers) : Type 0 where
+-- what the command numbered n draws at a site is stored, no other place is touched, and the next site is told
+pub record Laid (site : Site) (n : ℕ) (drawn : Drawn) (b : Buffers) (r : Site) (b′ : Buffers) : Type 0 where
   pub siteAfter : r ≡ nextOf site drawn
-  pub after : b′ ≡ laidAt site (drawnBy drawn) b
+  pub after : b′ ≡ laidAt site (drawnBy drawn) (namedBy n drawn) b

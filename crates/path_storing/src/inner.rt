@@ -105,38 +105,43 @@ fn lay_table(tables: &mut [f32], at: usize, segment: PathSegment) -> f32
     segment_length(segment)
 }
 
-// Stores a segment at a site, after which the pen is `pen`.
+// Stores a segment of the command with this number at a site, after which the pen is `pen`.
 fn lay_segment(
     site: Site,
+    number: u32,
     segment: PathSegment,
     pen: Pen,
     kinds: &mut [u8],
     fields: &mut [f32],
     tables: &mut [f32],
     lengths: &mut [f32],
+    commands: &mut [u32],
 ) -> Site
-    requires { ⌜ Few site × Room site (Segment segment pen) (lent kinds fields tables lengths) ⌝ }
-    ensures { λ r. ⌜ Laid site (Segment segment pen) (before kinds fields tables lengths) r (after kinds fields tables lengths) ⌝ }
+    requires { ⌜ Few site × Room site (Segment segment pen) (lent kinds fields tables lengths commands) ⌝ }
+    ensures { λ r. ⌜ Laid site number (Segment segment pen) (before kinds fields tables lengths commands) r (after kinds fields tables lengths commands) ⌝ }
 {
     let place = site.segments;
     kinds[place] = kind(segment);
     put_segment(fields, site.fields, segment);
     let length = tidy(site.length + lay_table(tables, site.tables, segment));
     lengths[place] = length;
+    commands[place] = number;
     after(site, segment, length, pen)
 }
 
 // Stores the line from the current point to an end: what `lay_segment` does, with a line known.
 fn lay_line(
     site: Site,
+    number: u32,
     end: Point,
     kinds: &mut [u8],
     fields: &mut [f32],
     tables: &mut [f32],
     lengths: &mut [f32],
+    commands: &mut [u32],
 ) -> Site
-    requires { ⌜ Few site × Room site (Segment (Line (lineOf (site .pen .current) end)) (drawnOf (site .pen) end)) (lent kinds fields tables lengths) ⌝ }
-    ensures { λ r. ⌜ Laid site (Segment (Line (lineOf (site .pen .current) end)) (drawnOf (site .pen) end)) (before kinds fields tables lengths) r (after kinds fields tables lengths) ⌝ }
+    requires { ⌜ Few site × Room site (Segment (Line (lineOf (site .pen .current) end)) (drawnOf (site .pen) end)) (lent kinds fields tables lengths commands) ⌝ }
+    ensures { λ r. ⌜ Laid site number (Segment (Line (lineOf (site .pen .current) end)) (drawnOf (site .pen) end)) (before kinds fields tables lengths commands) r (after kinds fields tables lengths commands) ⌝ }
 {
     let pen = site.pen;
     let start = pen.current;
@@ -147,6 +152,7 @@ fn lay_line(
     put_two(fields, at + 2, end.x, end.y);
     let length = tidy(site.length + line_length(LineSegment { start, end }));
     lengths[place] = length;
+    commands[place] = number;
     Site {
         pen: drawn(pen, end),
         length,
@@ -159,43 +165,67 @@ fn lay_line(
 // Stores what any command draws at a site. A rotation out of range draws nothing here: `advance` refuses it.
 fn lay_any(
     site: Site,
+    number: u32,
     command: PathCommand,
     kinds: &mut [u8],
     fields: &mut [f32],
     tables: &mut [f32],
     lengths: &mut [f32],
+    commands: &mut [u32],
 ) -> Site
-    requires { ⌜ Few site × Room site (drawOf (site .pen) command) (lent kinds fields tables lengths) ⌝ }
-    ensures { λ r. ⌜ Laid site (drawOf (site .pen) command) (before kinds fields tables lengths) r (after kinds fields tables lengths) ⌝ }
+    requires { ⌜ Few site × Room site (drawOf (site .pen) command) (lent kinds fields tables lengths commands) ⌝ }
+    ensures { λ r. ⌜ Laid site number (drawOf (site .pen) command) (before kinds fields tables lengths commands) r (after kinds fields tables lengths commands) ⌝ }
 {
     let pen = site.pen;
     match draw(pen, command) {
         Drawn::Moved(next) => moved(site, next),
         Drawn::Segment { segment, next } => {
-            lay_segment(site, segment, next, kinds, fields, tables, lengths)
+            lay_segment(
+                site,
+                number,
+                segment,
+                next,
+                kinds,
+                fields,
+                tables,
+                lengths,
+                commands,
+            )
         }
         Drawn::OutOfRange => site,
     }
 }
 
-// Stores what a command draws at a site, and gives the next site. A line goes its own way, which copies no segment.
+// Stores what a command draws at a site, where `number` is the command's, from 0, and gives the next site. A line goes its own way,
+// which copies no segment.
 pub fn lay(
     site: Site,
+    number: u32,
     command: PathCommand,
     kinds: &mut [u8],
     fields: &mut [f32],
     tables: &mut [f32],
     lengths: &mut [f32],
+    commands: &mut [u32],
 ) -> Site
-    requires { ⌜ Few site × Room site (drawOf (site .pen) command) (lent kinds fields tables lengths) ⌝ }
-    ensures { λ r. ⌜ Laid site (drawOf (site .pen) command) (before kinds fields tables lengths) r (after kinds fields tables lengths) ⌝ }
+    requires { ⌜ Few site × Room site (drawOf (site .pen) command) (lent kinds fields tables lengths commands) ⌝ }
+    ensures { λ r. ⌜ Laid site number (drawOf (site .pen) command) (before kinds fields tables lengths commands) r (after kinds fields tables lengths commands) ⌝ }
 {
     if let PathCommand::LineTo(end) = command {
         let pen = site.pen;
         if pen.placed {
-            return lay_line(site, end, kinds, fields, tables, lengths);
+            return lay_line(site, number, end, kinds, fields, tables, lengths, commands);
         }
         return moved(site, drawn(pen, end));
     }
-    lay_any(site, command, kinds, fields, tables, lengths)
+    lay_any(
+        site,
+        number,
+        command,
+        kinds,
+        fields,
+        tables,
+        lengths,
+        commands,
+    )
 }

@@ -7,9 +7,9 @@ use Rattle.path_storing.proofs.inner.lay_any.Tie as tie
 
 lay-segment-requires : tie.Need-lay-segment-requires
 lay-segment-requires c κs =
-    let segment = c .before .before .before .before .before in
+    let segment = c .before .before .before .before .before .before in
     let d = segment .before .before in
-    let pre = d .before .before .before .before .before .before .pre in
+    let pre = d .before .before .before .before .before .before .before .pre in
     (pre .0, room-at (sym (d .draw .ensures) ∙ segment .segment .given .1) (pre .1))
 
 returns : tie.Need-returns
@@ -17,8 +17,8 @@ returns c = moved-laid (sym (c .before .before .before .before .draw .ensures) �
 
 returns-2 : tie.Need-returns-2
 returns-2 c =
-    let laid = c .before .before .before .before .before .before .before .before in
-    let segment = laid .before .before .before .before .before .before in
+    let laid = c .before .before .before .before .before .before .before .before .before .before in
+    let segment = laid .before .before .before .before .before .before .before in
     laid-at (sym (segment .before .before .draw .ensures) ∙ segment .segment .given .1) (laid .lay-segment .ensures)
 
 returns-3 : tie.Need-returns-3
@@ -29,4 +29,4 @@ lay-any-spec =
     tie.close
     (tie.spec (λ c κs. search needs) (λ c. search needs) (λ c κs. search needs) (λ c. search needs)
     lay-segment-requires (λ c. search needs) returns (λ c. search needs) (λ c. search needs) (λ c. search needs)
-    (λ c. search needs) returns-2 returns-3)
+    (λ c. search needs) (λ c. search needs) returns-2 returns-3)
