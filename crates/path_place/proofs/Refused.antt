@@ -37,7 +37,7 @@ afterHalf = bits 0x3f00_0001
 
 -- a path of one quad that is 2 long, with this table: the half's target is 1, along the path and in the table
 abbrev pub quadOf : List Float → Buffers
-quadOf table = buffers (1 ∷ []) (replicate 6 zeroF) table (two ∷ [])
+quadOf table = buffers (1 ∷ []) (replicate 6 zeroF) table (two ∷ []) (1 ∷ [])
 
 abbrev pub tableFrom : List Float → List Float
 tableFrom entries = entries ++ (two ∷ [])
@@ -48,7 +48,7 @@ standing k rest = tableFrom (replicate k zeroF ++ (oneF ∷ replicate rest two))
 
 -- a path of two lines, each 1 long: the half's target is 1, the end of the first
 abbrev pub lines : Buffers
-lines = buffers (0 ∷ 0 ∷ []) (replicate 8 zeroF) [] (oneF ∷ two ∷ [])
+lines = buffers (0 ∷ 0 ∷ []) (replicate 8 zeroF) [] (oneF ∷ two ∷ []) (1 ∷ 2 ∷ [])
 
 -- ---- lookups that differ in the curve's table: the segment and the local progress are 01's, the raw parameter is what `way` makes of the entries, the total and the local progress
 
@@ -111,7 +111,7 @@ abbrev pub far : Float
 far = bits 0x7f00_0000
 
 abbrev pub steepQuad : Buffers
-steepQuad = buffers (1 ∷ []) (replicate 6 zeroF) (replicate 17 zeroF ++ (oneF ∷ replicate 15 far)) (far ∷ [])
+steepQuad = buffers (1 ∷ []) (replicate 6 zeroF) (replicate 17 zeroF ++ (oneF ∷ replicate 15 far)) (far ∷ []) (1 ∷ [])
 
 pub fused-number-refused : Refused (byJoin (fusedNumberJoin 31)) steepQuad
 unfolding computing

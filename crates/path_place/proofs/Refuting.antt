@@ -21,7 +21,7 @@ use Rattle.table_order.proofs.Swept.{enclosed-once}
 use Rattle.table_order.proofs.Fused.{fusedOf}
 use Rattle.table_order.proofs.Above.{firstAbove}
 use Rattle.path_segment.specs.Segments.{widthOf, tablesOf, hasTable}
-use Rattle.path_stored.specs.Stored.{areKnown, tablesAreSound, isStored}
+use Rattle.path_stored.specs.Stored.{areKnown, tablesAreSound, neverFall, isStored}
 use Rattle.path_stored.specs.Stored as Stored
 use Rattle.path_stored.proofs.Rule.{stored-rule}
 use Rattle.path_stored.proofs.Values.{F32s}
@@ -60,7 +60,7 @@ unfolding fits sum round ofBits ofInt le lt eq ne mul sub div add neg fusedOf ze
 numbers = Unit {0}
 
 unfoldable pub check : Type 0
-unfolding allFit isStored areKnown tablesAreSound tablePlace hasTable tablesOf widthOf Stored.before tableIsSound startsAtZero lengthsAreSound allFinite climbs
+unfolding allFit isStored areKnown tablesAreSound neverFall tablePlace hasTable tablesOf widthOf Stored.before tableIsSound startsAtZero lengthsAreSound allFinite climbs
 check = Unit {0}
 
 unfoldable pub lookups : Type 0
