@@ -16,7 +16,7 @@ use Rattle.path_segment.specs.declared.segments.PathSegment.{PathSegment}
 use Rattle.path_stored.specs.Layout.{kindsOf, fieldsOfAll, tablesOfAll}
 use Rattle.path_stored.specs.Buffers.{Buffers}
 use Rattle.path_drawing.specs.Drawing.{drawOf}
-use Rattle.path_drawing.specs.Building.{Built, path, refusal, buildOf}
+use Rattle.path_drawing.specs.Building.{Built, path, refusal, buildOf, drawersOf}
 use Rattle.path_storing.specs.Sites.{startOf, advanceOf, drawnBy, Few, Holds, Room, Laid}
 use Rattle.path_storing.specs.Tallies.{tallyOf, Scant, talliedOf}
 use Rattle.path_storing.specs.declared.sites.Site.{Site}
@@ -24,10 +24,10 @@ use Rattle.path_storing.specs.declared.sites.Advanced.the-variants.{To, Refused
 use Rattle.path_storing.specs.declared.tallies.Tally.{Tally}
 use Rattle.path_storing.specs.declared.tallies.Tallied.the-variants as Tallied
 use Rattle.path_storing.proofs.Along.{At, at-none, at-few, at-all, at-next, at-refused}
-use Rattle.path_storing.proofs.Filling.{Filling, filling-none, filling-more, roomed, same-kinds, same-fields, same-tables, same-lengths}
+use Rattle.path_storing.proofs.Filling.{Filling, filling-none, filling-more, roomed, same-kinds, same-fields, same-tables, same-lengths, same-commands}
 use Rattle.path_storing.proofs.Foreseen.{Calm, calm-start, foreseen}
 use Rattle.path_build.specs.Answers.{measureOf, Holding, Filled}
-use Rattle.path_build.specs.Paths.{builtBy}
+use Rattle.path_build.specs.Paths.{builtBy, drawersBy}
 use Rattle.path_build.specs.declared.sizes.Size.{Size}
 use Rattle.path_build.specs.declared.sizes.Size.the-variants as Size
 use Rattle.path_build.proofs.Lists.{Formed, formed, Passed, passed-none, passed-end, passed-bad, passed-fits, passed-next}
@@ -150,8 +150,10 @@ holdable (path list) h = record { list = list; is = refl; holds = h }
 holdable (refusal reason) h = absurd h
 
 -- what is stored is what is built
-pub filled-is : {built : Built} {commands : List PathCommand} {site : Site} {b₀ b : Buffers} (k : Filling commands site b₀ b) → built ≡ buildOf commands → Filled built b₀ b
-filled-is {built} {commands} {site} {b₀} {b} k e = subst (λ (x : Built). Filled x b₀ b) (sym (e ∙ at-all commands (k .done) site (k .known))) (k .now)
+pub filled-is : {built : Built} {drawers : List ℕ} {commands : List PathCommand} {site : Site} {b₀ b : Buffers} (k : Filling commands site b₀ b) → built ≡ buildOf commands → drawers ≡ drawersOf commands
+    → Filled built drawers b₀ b
+filled-is {built} {drawers} {commands} {site} {b₀} {b} k e d =
+    subst (λ (x : Built). Filled x drawers b₀ b) (sym (e ∙ at-all commands (k .done) site (k .known))) (rw d (k .now))
 
 pub record Storing (letters : List ℕ) (numbers : List Float) (site : Site) (place at : ℕ) (b₀ b : Buffers) : Type 0 where
   pub commands : List PathCommand
@@ -189,12 +191,19 @@ module _
     pub stored-lengths : length (b .lengths) ≡ length (b₀ .lengths)
     stored-lengths = same-lengths (k .filling) (h .holds) (k .rest) whole
 
-    pub stored-all : length letters ≤ place → Filled (builtBy (listed 0 letters numbers)) b₀ b
+    pub stored-commands : length (b .commands) ≡ length (b₀ .commands)
+    stored-commands = same-commands (k .filling) (h .holds) (k .rest) whole
+
+    pub stored-all : length letters ≤ place → Filled (builtBy (listed 0 letters numbers)) (drawersBy (listed 0 letters numbers)) b₀ b
     stored-all past =
         let r = passed-end letters numbers place at (k .commands) (k .rest) (k .passed) past in
-        filled-is (k .filling) (ap builtBy (k .passed .whole ∙ ap (λ x. wellFormed (k .commands ++ x)) r ∙ ap wellFormed (append-nil (k .commands))))
+        let all = k .passed .whole ∙ ap (λ x. wellFormed (k .commands ++ x)) r ∙ ap wellFormed (append-nil (k .commands)) in
+        filled-is (k .filling) (ap builtBy all) (ap drawersBy all)
 
     module _ (here : place < length letters) where
+      pub storing-number : place < 65536
+      storing-number = omega (arith, formed letters numbers checked .few)
+
       pub storing-bad : commandOf (getD letters place 0) (drop at numbers) ≡ Bad → ⊥
       storing-bad = passed-bad letters numbers place at (k .commands) (k .rest) (k .passed) here
 
@@ -210,13 +219,14 @@ module _
               roomed (k .filling) (h .holds) command (n .0) (sym (ap builtBy (n .1 .whole)) ∙ h .is),
             )
 
-        pub storing-more : (width : ℕ) {next : Site} {b′ : Buffers} → width ≡ length (argumentsOf command) → Laid site (drawOf (site .pen) command) b next b′
+        pub storing-more : (width : ℕ) {next : Site} {b′ : Buffers} → width ≡ length (argumentsOf command) → Laid site place (drawOf (site .pen) command) b next b′
             → Storing letters numbers next (place + 1) (at + width) b₀ b′
-        storing-more width w laid =
+        storing-more width {next} {b′} w laid =
             let n = passed-next letters numbers place at (k .commands) (k .rest) (k .passed) here command e width w in
             record {
               commands = k .commands ++ (command ∷ []);
               rest = n .0;
               passed = n .1;
-              filling = filling-more (k .filling) (h .holds) command (n .0) (sym (ap builtBy (n .1 .whole)) ∙ h .is) laid;
+              filling = filling-more (k .filling) (h .holds) command (n .0) (sym (ap builtBy (n .1 .whole)) ∙ h .is)
+                  (subst (λ m. Laid site m (drawOf (site .pen) command) b next b′) (sym (k .passed .count)) laid);
             }

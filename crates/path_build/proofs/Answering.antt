@@ -8,7 +8,7 @@ use borrow.Author.Tests.{ltb-false}
 use lib.Dec.{ltb}
 use lib.ListN.{length}
 use Rattle.answers.specs.Answers.{refused, accepted}
-use Rattle.answers.specs.declared.refusals.Values.the-variants.{Four}
+use Rattle.answers.specs.declared.refusals.Values.the-variants.{Five}
 use Rattle.answers.specs.declared.refusals.Refusal.{Refusal}
 use Rattle.answers.specs.declared.refusals.Refusal.the-variants.{NoRoom}
 use Rattle.path_segment.specs.declared.segments.PathSegment.{PathSegment}
@@ -30,9 +30,9 @@ unfolding measureOf
 measured-refused reason (path list) e = let z : _≡_ {A = ℕ} 0 1 = cc in absurd (omega arith)
 measured-refused reason (refusal other) e = let f : other ≡ reason = cc in ap refusal f
 
--- the counts that a first pass gives; kinds and lengths are one a segment
+-- the counts that a first pass gives; kinds, lengths and commands are one a segment
 abbrev pub neededOf : ℕ → ℕ → ℕ → Counts
-neededOf s f t = record { kinds = s; fields = f; tables = t; lengths = s }
+neededOf s f t = record { kinds = s; fields = f; tables = t; lengths = s; commands = s }
 
 record Listed (s f t : ℕ) (built : Built) : Type 0 where
   list : List PathSegment
@@ -51,43 +51,45 @@ measured-list s f t (refusal reason) e = let z : _≡_ {A = ℕ} 0 1 = cc in abs
 
 -- ---- no buffer is short
 
-none-short : (a b c d : Bool) → ((a || b) || c) || d ≡ false → (a ≡ false) × (b ≡ false) × (c ≡ false) × (d ≡ false)
-none-short true b c d e = absurd (false≢true (sym e))
-none-short false true c d e = absurd (false≢true (sym e))
-none-short false false true d e = absurd (false≢true (sym e))
-none-short false false false true e = absurd (false≢true (sym e))
-none-short false false false false e = (refl, refl, refl, refl)
+none-short : (a b c d e : Bool) → (((a || b) || c) || d) || e ≡ false → (a ≡ false) × (b ≡ false) × (c ≡ false) × (d ≡ false) × (e ≡ false)
+none-short true b c d e h = absurd (false≢true (sym h))
+none-short false true c d e h = absurd (false≢true (sym h))
+none-short false false true d e h = absurd (false≢true (sym h))
+none-short false false false true e h = absurd (false≢true (sym h))
+none-short false false false false true h = absurd (false≢true (sym h))
+none-short false false false false false h = (refl, refl, refl, refl, refl)
 
 -- ---- the ways out
 
-pub refuses : {b : Buffers} (reason other : Refusal) {whole : Built} → whole ≡ refusal other → refused reason ≡ refused other → Answers whole b (Building.Refused reason) b
+pub refuses : {drawers : List ℕ} {b : Buffers} (reason other : Refusal) {whole : Built} → whole ≡ refusal other → refused reason ≡ refused other
+    → Answers whole drawers b (Building.Refused reason) b
 unfolding kindsOf fieldsOfAll tablesOfAll runningOf lengthsOfAll
-refuses {b} reason other e f = subst (λ (w : Built). Answers w b (Building.Refused reason) b) (sym e) (record { answer = f; after = refl })
+refuses {drawers} {b} reason other e f = subst (λ (w : Built). Answers w drawers b (Building.Refused reason) b) (sym e) (record { answer = f; after = refl })
 
 -- another name of what is built
-pub answers-at : {b : Buffers} {whole other : Built} {r : Building} {b′ : Buffers} → whole ≡ other → Answers other b r b′ → Answers whole b r b′
-answers-at {b} {whole} {other} {r} {b′} e a = subst (λ (w : Built). Answers w b r b′) (sym e) a
+pub answers-at : {drawers : List ℕ} {b : Buffers} {whole other : Built} {r : Building} {b′ : Buffers} → whole ≡ other → Answers other drawers b r b′ → Answers whole drawers b r b′
+answers-at {drawers} {b} {whole} {other} {r} {b′} e a = subst (λ (w : Built). Answers w drawers b r b′) (sym e) a
 
 module _ (b : Buffers) (built : Built) where
-  pub unbuilt : (reason : Refusal) → Size.Refused reason ≡ measureOf built → Answers (roomed (lentOf b) built) b (Building.Refused reason) b
+  pub unbuilt : {drawers : List ℕ} (reason : Refusal) → Size.Refused reason ≡ measureOf built → Answers (roomed (lentOf b) built) drawers b (Building.Refused reason) b
   unbuilt reason m = refuses reason reason (ap (roomed (lentOf b)) (measured-refused reason built m)) refl
 
   module _ {s f t : ℕ} (m : Size.Counted s f t ≡ measureOf built) where
     l : Listed s f t built
     l = measured-list s f t built m
 
-    roomed-is : (short : Bool) → isShort (neededOf s f t) (lentOf b) ≡ short → roomed (lentOf b) built ≡ cond short (refusal (NoRoom (Four s f t s))) (path (l .list))
+    roomed-is : (short : Bool) → isShort (neededOf s f t) (lentOf b) ≡ short → roomed (lentOf b) built ≡ cond short (refusal (NoRoom (Five s f t s s))) (path (l .list))
     roomed-is short e =
         ap (roomed (lentOf b)) (l .is)
-        ∙ ap (λ (c : Counts). cond (isShort c (lentOf b)) (refusal (NoRoom (Four (c .kinds) (c .fields) (c .tables) (c .lengths)))) (path (l .list))) (l .counts)
-        ∙ ap (λ (x : Bool). cond x (refusal (NoRoom (Four s f t s))) (path (l .list))) e
+        ∙ ap (λ (c : Counts). cond (isShort c (lentOf b)) (refusal (NoRoom (Five (c .kinds) (c .fields) (c .tables) (c .lengths) (c .commands)))) (path (l .list))) (l .counts)
+        ∙ ap (λ (x : Bool). cond x (refusal (NoRoom (Five s f t s s))) (path (l .list))) e
 
-    pub too-short : isShort (neededOf s f t) (lentOf b) ≡ true → Answers (roomed (lentOf b) built) b (Building.Refused (NoRoom (Four s f t s))) b
-    too-short e = refuses (NoRoom (Four s f t s)) (NoRoom (Four s f t s)) (roomed-is true e) refl
+    pub too-short : {drawers : List ℕ} → isShort (neededOf s f t) (lentOf b) ≡ true → Answers (roomed (lentOf b) built) drawers b (Building.Refused (NoRoom (Five s f t s s))) b
+    too-short e = refuses (NoRoom (Five s f t s s)) (NoRoom (Five s f t s s)) (roomed-is true e) refl
 
     pub has-room : isShort (neededOf s f t) (lentOf b) ≡ false → Holding built b
     has-room e =
-        let n = none-short (ltb (length (b .kinds)) s) (ltb (length (b .fields)) f) (ltb (length (b .tables)) t) (ltb (length (b .lengths)) s) e in
+        let n = none-short (ltb (length (b .kinds)) s) (ltb (length (b .fields)) f) (ltb (length (b .tables)) t) (ltb (length (b .lengths)) s) (ltb (length (b .commands)) s) e in
         let c = l .counts in
         subst (λ (x : Built). Holding x b) (sym (l .is))
         (record {
@@ -95,9 +97,10 @@ module _ (b : Buffers) (built : Built) where
           fieldsFit = omega (arith, ltb-false (length (b .fields)) f (n .1), ap (λ (x : Counts). x .fields) c);
           tablesFit = omega (arith, ltb-false (length (b .tables)) t (n .2), ap (λ (x : Counts). x .tables) c);
           lengthsFit = omega (arith, ltb-false (length (b .lengths)) s (n .3), ap (λ (x : Counts). x .lengths) c);
+          commandsFit = omega (arith, ltb-false (length (b .commands)) s (n .4), ap (λ (x : Counts). x .commands) c);
         })
 
-    pub built-whole : {b′ : Buffers} → isShort (neededOf s f t) (lentOf b) ≡ false → Filled built b b′ → Answers (roomed (lentOf b) built) b (Building.Built s f t) b′
-    built-whole {b′} e filled =
+    pub built-whole : {drawers : List ℕ} {b′ : Buffers} → isShort (neededOf s f t) (lentOf b) ≡ false → Filled built drawers b b′ → Answers (roomed (lentOf b) built) drawers b (Building.Built s f t) b′
+    built-whole {drawers} {b′} e filled =
         answers-at (roomed-is false e)
-        (record { answer = ap (λ (x : Counts). accepted (values x)) (sym (l .counts)); after = subst (λ (x : Built). Filled x b b′) (l .is) filled })
+        (record { answer = ap (λ (x : Counts). accepted (values x)) (sym (l .counts)); after = subst (λ (x : Built). Filled x drawers b b′) (l .is) filled })

@@ -3,5 +3,6 @@ pub mod Lists
 pub mod Along
 pub mod Answering
 pub mod Entering
+pub mod Numbering
 pub mod Sound
 pub mod Unique

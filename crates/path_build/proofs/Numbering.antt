@@ -28,12 +28,13 @@ use Rattle.path_drawing.specs.declared.strokes.Drawn.the-variants.{Moved, Segme
 rise-from : (commands : List PathCommand) (n : ℕ) (pen : Pen) (from : ℕ) → from ≤ n → T (neverFall from (drawersFrom commands n pen))
 unfolding neverFall drawersFrom
 rise-from [] n pen from h = tt
-rise-from (command ∷ commands) n pen from h = by-drawn (drawOf pen command)
+rise-from (command ∷ commands) n pen from h = by-drawn (rise-from commands (suc n)) (drawOf pen command)
   where
-    by-drawn : (drawn : Drawn) → T (neverFall from (named n drawn (drawersFrom commands (suc n))))
-    by-drawn (Moved next) = rise-from commands (suc n) next from (omega arith)
-    by-drawn (Segment segment next) = and-i (leb from n) (neverFall n (drawersFrom commands (suc n) next)) (le→leb from n h) (rise-from commands (suc n) next n (omega arith))
-    by-drawn OutOfRange = tt
+    by-drawn : ((pen : Pen) (from : ℕ) → from ≤ suc n → T (neverFall from (drawersFrom commands (suc n) pen))) → (drawn : Drawn)
+        → T (neverFall from (named n drawn (drawersFrom commands (suc n))))
+    by-drawn smaller (Moved next) = smaller next from (omega arith)
+    by-drawn smaller (Segment segment next) = and-i (leb from n) (neverFall n (drawersFrom commands (suc n) next)) (le→leb from n h) (smaller next n (omega arith))
+    by-drawn smaller OutOfRange = tt
 
 pub drawers-rise : (commands : List PathCommand) → T (neverFall 0 (drawersOf commands))
 unfolding drawersOf
@@ -69,14 +70,17 @@ count-from : (commands : List PathCommand) (n k : ℕ) (before : Float) (pen : P
     → length (drawersFrom commands n pen) ≡ length list
 unfolding buildFrom drawersFrom
 count-from [] n k before pen list e = let f : list ≡ [] = cc in rw f
-count-from (command ∷ commands) n k before pen list e = by-drawn (drawOf pen command) e
+count-from (command ∷ commands) n k before pen list e = by-drawn (count-from commands (suc n)) (drawOf pen command) e
   where
-    by-drawn : (drawn : Drawn) → follow k before drawn (buildFrom commands) ≡ path list → length (named n drawn (drawersFrom commands (suc n))) ≡ length list
-    by-drawn (Moved next) f = count-from commands (suc n) k before next list f
-    by-drawn (Segment segment next) f =
+    Smaller : Type 0
+    Smaller = (k : ℕ) (before : Float) (pen : Pen) (list : List PathSegment) → buildFrom commands k before pen ≡ path list → length (drawersFrom commands (suc n) pen) ≡ length list
+
+    by-drawn : Smaller → (drawn : Drawn) → follow k before drawn (buildFrom commands) ≡ path list → length (named n drawn (drawersFrom commands (suc n))) ≡ length list
+    by-drawn smaller (Moved next) f = smaller k before next list f
+    by-drawn smaller (Segment segment next) f =
         let b = begun commands k before segment next list f in
-        ap suc (count-from commands (suc n) (suc k) (lengthAfter before segment) next (b .rest) (b .builds)) ∙ sym (ap length (b .is))
-    by-drawn OutOfRange f = let z : _≡_ {A = ℕ} 0 1 = cc in absurd (omega arith)
+        ap suc (smaller (suc k) (lengthAfter before segment) next (b .rest) (b .builds)) ∙ sym (ap length (b .is))
+    by-drawn smaller OutOfRange f = let z : _≡_ {A = ℕ} 0 1 = cc in absurd (omega arith)
 
 pub drawers-count : (commands : List PathCommand) (list : List PathSegment) → buildOf commands ≡ path list → length (drawersOf commands) ≡ length list
 unfolding buildOf drawersOf
@@ -96,27 +100,34 @@ made-from : (commands : List PathCommand) (n k : ℕ) (before : Float) (pen : Pe
     → Made commands n k before pen list i
 unfolding buildFrom drawersFrom
 made-from [] n k before pen list i e h = let f : list ≡ [] = cc in absurd (omega (arith, ap length f))
-made-from (command ∷ commands) n k before pen list i e h = by-drawn (drawOf pen command) refl e
+made-from (command ∷ commands) n k before pen list i e h = by-drawn (made-from commands (suc n)) (drawOf pen command) refl e
   where
-    by-drawn : (drawn : Drawn) → drawOf pen command ≡ drawn → follow k before drawn (buildFrom commands) ≡ path list → Made (command ∷ commands) n k before pen list i
-    by-drawn (Moved next) d f =
-        let m = made-from commands (suc n) k before next list i f h in
+    Smaller : Type 0
+    Smaller = (k : ℕ) (before : Float) (pen : Pen) (list : List PathSegment) (i : ℕ) → buildFrom commands k before pen ≡ path list → i < length list → Made commands (suc n) k before pen list i
+
+    by-index :
+        Smaller → (segment : PathSegment) (next : Pen) → drawOf pen command ≡ Segment segment next → finite (lengthAfter before segment) ≡ true
+        → (rest : List PathSegment) → buildFrom commands (suc k) (lengthAfter before segment) next ≡ path rest → (i : ℕ) → i < suc (length rest)
+        → Made (command ∷ commands) n k before pen (segment ∷ rest) i
+    by-index smaller segment next d f rest b zero g = record { at = 0; is = rw d (omega arith); inside = omega arith; lacks = refl; has = rw (d, f) }
+    by-index smaller segment next d f rest b (suc j) g =
+        let m = smaller (suc k) (lengthAfter before segment) next rest j b (omega arith) in
+        record {
+          at = suc (m .at);
+          is = rw d (m .is ∙ omega arith);
+          inside = omega (arith, m .inside);
+          lacks = rw (d, f, m .lacks);
+          has = rw (d, f, m .has);
+        }
+
+    by-drawn : Smaller → (drawn : Drawn) → drawOf pen command ≡ drawn → follow k before drawn (buildFrom commands) ≡ path list → Made (command ∷ commands) n k before pen list i
+    by-drawn smaller (Moved next) d f =
+        let m = smaller k before next list i f h in
         record { at = suc (m .at); is = rw d (m .is ∙ omega arith); inside = omega (arith, m .inside); lacks = rw d (m .lacks); has = rw d (m .has) }
-    by-drawn (Segment segment next) d f = by-index i (begun commands k before segment next list f) h
-      where
-        by-index : (i : ℕ) → Begun commands k before segment next list → i < length list → Made (command ∷ commands) n k before pen list i
-        by-index zero b g =
-            record { at = 0; is = rw d (omega arith); inside = omega arith; lacks = refl; has = rw (d, b .fine, b .is) }
-        by-index (suc j) b g =
-            let m = made-from commands (suc n) (suc k) (lengthAfter before segment) next (b .rest) j (b .builds) (omega (arith, ap length (b .is))) in
-            record {
-              at = suc (m .at);
-              is = rw d (m .is ∙ omega arith);
-              inside = omega (arith, m .inside);
-              lacks = rw (d, b .fine, b .is, m .lacks);
-              has = rw (d, b .fine, b .is, m .has);
-            }
-    by-drawn OutOfRange d f = let z : _≡_ {A = ℕ} 0 1 = cc in absurd (omega arith)
+    by-drawn smaller (Segment segment next) d f =
+        let b = begun commands k before segment next list f in
+        subst (λ l. Made (command ∷ commands) n k before pen l i) (sym (b .is)) (by-index smaller segment next d (b .fine) (b .rest) (b .builds) i (omega (arith, ap length (b .is))))
+    by-drawn smaller OutOfRange d f = let z : _≡_ {A = ℕ} 0 1 = cc in absurd (omega arith)
 
 module _ (commands : List PathCommand) (list : List PathSegment) (builds : buildOf commands ≡ path list) (i : ℕ) (inside : i < length list) where
   abbrev number : ℕ
@@ -126,7 +137,7 @@ module _ (commands : List PathCommand) (list : List PathSegment) (builds : build
   pub record MadeBy : Type 0 where
     pub among : number < length commands
     pub lacks : buildOf (take number commands) ≡ path (take i list)
-    pub has : buildOf (take (number + 1) commands) ≡ path (take (i + 1) list)
+    pub has : buildOf (take (suc number) commands) ≡ path (take (suc i) list)
 
   pub made-by : MadeBy
   unfolding buildOf drawersOf
@@ -136,7 +147,7 @@ module _ (commands : List PathCommand) (list : List PathSegment) (builds : build
       record {
         among = omega (arith, m .inside);
         lacks = subst (λ n. buildFrom (take n commands) 0 zeroF freshOf ≡ path (take i list)) e (m .lacks);
-        has = subst (λ n. buildFrom (take (n + 1) commands) 0 zeroF freshOf ≡ path (take (i + 1) list)) e (m .has);
+        has = subst (λ n. buildFrom (take (suc n) commands) 0 zeroF freshOf ≡ path (take (suc i) list)) e (m .has);
       }
 
 -- `M0 0L3 4M1 1L2 2`: a move is counted and draws nothing; segments numbered one after the other would be 0 and 1

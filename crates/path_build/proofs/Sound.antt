@@ -9,7 +9,7 @@ use lib.Dec.{T, ltb}
 use lib.Ieee.{Float}
 use lib.Ieee.Scale.{finite}
 use lib.ListN.{length, drop}
-use Rattle.answers.specs.declared.refusals.Values.the-variants.{Four}
+use Rattle.answers.specs.declared.refusals.Values.the-variants.{Five}
 use Rattle.answers.specs.declared.refusals.Refusal.the-variants.{NotFinite, NoRoom, Range}
 use Rattle.floats.specs.Floats.{zeroF}
 use Rattle.table.specs.Sound.{allFinite}
@@ -23,13 +23,14 @@ use Rattle.path_stored.specs.Layout.{runningOf, lengthsOfAll, laidOut}
 use Rattle.path_stored.specs.Stored.{isStored}
 use Rattle.path_stored.proofs.Extending.{laid-out}
 use Rattle.path_drawing.specs.Drawing.{freshOf, drawOf}
-use Rattle.path_drawing.specs.Building.{Built, path, refusal, prepend, lengthAfter, follow, buildFrom, buildOf}
+use Rattle.path_drawing.specs.Building.{Built, path, refusal, prepend, lengthAfter, follow, buildFrom, buildOf, drawersOf}
 use Rattle.path_drawing.specs.declared.pens.Pen.{Pen}
 use Rattle.path_drawing.specs.declared.strokes.Drawn.{Drawn}
 use Rattle.path_drawing.specs.declared.strokes.Drawn.the-variants.{Moved, Segment, OutOfRange}
 use Rattle.path_build.specs.Answers.{isShort, countsOf, roomed}
-use Rattle.path_build.specs.Paths.{builtBy, buildPathOf}
+use Rattle.path_build.specs.Paths.{builtBy, drawersBy, buildPathOf}
 use Rattle.path_build.specs.declared.sizes.Counts.{Counts}
+use Rattle.path_build.proofs.Numbering.{drawers-count, drawers-rise}
 
 -- ---- no more segments than commands, each with a finite running length
 
@@ -69,11 +70,11 @@ sound-from (command ∷ commands) k before pen list e = by-drawn (sound-from com
 -- what commands build is a stored path
 pub built-stored :
     (commands : List PathCommand) (list : List PathSegment) → length commands ≤ 65536 → buildOf commands ≡ path list
-    → T (isStored (laidOut list))
+    → T (isStored (laidOut list (drawersOf commands)))
 unfolding Sound buildOf lengthsOfAll
 built-stored commands list few e =
     let s = sound-from commands 0 zeroF freshOf list e in
-    laid-out list (omega (arith, s .0)) (s .1)
+    laid-out list (drawersOf commands) (omega (arith, s .0)) (s .1) (drawers-count commands list e) (drawers-rise commands)
 
 -- ---- a list has as many commands as letters
 
@@ -106,7 +107,7 @@ roomed-path lent (refusal reason) list e = let z : _≡_ {A = ℕ} 0 1 = cc in a
 roomed-path lent (path own) list e = by-room (isShort (countsOf own) lent) e
   where
     by-room :
-        (b : Bool) → cond b (refusal (NoRoom (Four (countsOf own .kinds) (countsOf own .fields) (countsOf own .tables) (countsOf own .lengths)))) (path own) ≡ path list
+        (b : Bool) → cond b (refusal (NoRoom (Five (countsOf own .kinds) (countsOf own .fields) (countsOf own .tables) (countsOf own .lengths) (countsOf own .commands)))) (path own) ≡ path list
         → path own ≡ path list
     by-room true f = let z : _≡_ {A = ℕ} 0 1 = cc in absurd (omega arith)
     by-room false f = f
@@ -114,16 +115,16 @@ roomed-path lent (path own) list e = by-room (isShort (countsOf own) lent) e
 -- "what it builds always passes check_path"
 pub build-path-stored :
     (letters : List ℕ) (numbers : List Float) (lent : Counts) (list : List PathSegment) → buildPathOf letters numbers lent ≡ path list
-    → T (isStored (laidOut list))
+    → T (isStored (laidOut list (drawersBy (listed 0 letters numbers))))
 unfolding buildPathOf
 build-path-stored letters numbers lent list = by-count (ltb 65536 (length letters)) refl
   where
-    by-listing : length letters ≤ 65536 → (l : Listing) → listed 0 letters numbers ≡ l → builtBy l ≡ path list → T (isStored (laidOut list))
+    by-listing : length letters ≤ 65536 → (l : Listing) → listed 0 letters numbers ≡ l → builtBy l ≡ path list → T (isStored (laidOut list (drawersBy l)))
     by-listing few (wellFormed commands) f g = built-stored commands list (omega (arith, listed-count letters 0 numbers commands f)) g
     by-listing few (malformed k) f g = let z : _≡_ {A = ℕ} 0 1 = cc in absurd (omega arith)
 
     by-count :
         (b : Bool) → ltb 65536 (length letters) ≡ b → cond b (refusal (Range (length letters))) (roomed lent (builtBy (listed 0 letters numbers))) ≡ path list
-        → T (isStored (laidOut list))
+        → T (isStored (laidOut list (drawersBy (listed 0 letters numbers))))
     by-count true f g = let z : _≡_ {A = ℕ} 0 1 = cc in absurd (omega arith)
     by-count false f g = by-listing (ltb-false 65536 (length letters) f) (listed 0 letters numbers) refl (roomed-path lent (builtBy (listed 0 letters numbers)) list g)

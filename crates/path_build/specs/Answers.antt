@@ -1,4 +1,4 @@
--- What is answered and written where a path is built (document 01, "The answers"). Counts are of places: kinds, fields, tables, lengths. Definitions
+-- What is answered and written where a path is built (document 01, "The answers"; document 02, L5). Counts are of places: kinds, fields, tables, lengths, commands. Definitions
 -- only.
 use Prim.Native.Nat.{ℕ}
 use mathlib.Core.Path.{_≡_}
@@ -8,7 +8,7 @@ use lib.Dec.{ltb}
 use lib.Ieee.{Float}
 use lib.ListN.{length}
 use Rattle.answers.specs.Answers.{Answer, refused, accepted}
-use Rattle.answers.specs.declared.refusals.Values.the-variants.{Four}
+use Rattle.answers.specs.declared.refusals.Values.the-variants.{Five}
 use Rattle.answers.specs.declared.refusals.Refusal.the-variants.{NoRoom}
 use Rattle.path_segment.specs.declared.segments.PathSegment.{PathSegment}
 use Rattle.path_stored.specs.Buffers.{Buffers}
@@ -23,26 +23,37 @@ use Rattle.path_build.specs.declared.sizes.Size.{Size}
 use Rattle.path_build.specs.declared.sizes.Size.the-variants as Size
 use Rattle.path_build.specs.declared.sizes.Counts.{Counts}
 
--- the number and the values of each case: kinds and lengths are one a segment
+-- the number and the values of each case: kinds, lengths and commands are one a segment
 abbrev pub answerOf : Building → Answer
-answerOf (Building.Built segments fields tables) = accepted (segments ∷ fields ∷ tables ∷ segments ∷ [])
+answerOf (Building.Built segments fields tables) = accepted (segments ∷ fields ∷ tables ∷ segments ∷ segments ∷ [])
 answerOf (Building.Refused reason) = refused reason
 
 -- "a lent output is too short"
 abbrev pub isShort : Counts → Counts → Bool
-isShort needed lent = ((ltb (lent .kinds) (needed .kinds) || ltb (lent .fields) (needed .fields)) || ltb (lent .tables) (needed .tables)) || ltb (lent .lengths) (needed .lengths)
+isShort needed lent =
+    (((ltb (lent .kinds) (needed .kinds) || ltb (lent .fields) (needed .fields)) || ltb (lent .tables) (needed .tables)) || ltb (lent .lengths) (needed .lengths))
+    || ltb (lent .commands) (needed .commands)
 
--- the counts of the defined list
+-- the counts of the defined list; a segment has one command number
 abbrev pub countsOf : List PathSegment → Counts
-countsOf list = record { kinds = length (kindsOf list); fields = length (fieldsOfAll list); tables = length (tablesOfAll list); lengths = length (lengthsOfAll list) }
+countsOf list =
+    record {
+      kinds = length (kindsOf list);
+      fields = length (fieldsOfAll list);
+      tables = length (tablesOfAll list);
+      lengths = length (lengthsOfAll list);
+      commands = length (kindsOf list);
+    }
 
 abbrev pub values : Counts → List ℕ
-values counts = counts .kinds ∷ counts .fields ∷ counts .tables ∷ counts .lengths ∷ []
+values counts = counts .kinds ∷ counts .fields ∷ counts .tables ∷ counts .lengths ∷ counts .commands ∷ []
 
 -- 8: "all else is right and a lent output is too short", with "the count needed of each output, in the call's order"
 abbrev pub roomed : Counts → Built → Built
 roomed lent (path list) =
-    cond (isShort (countsOf list) lent) (refusal (NoRoom (Four (countsOf list .kinds) (countsOf list .fields) (countsOf list .tables) (countsOf list .lengths)))) (path list)
+    cond (isShort (countsOf list) lent)
+    (refusal (NoRoom (Five (countsOf list .kinds) (countsOf list .fields) (countsOf list .tables) (countsOf list .lengths) (countsOf list .commands))))
+    (path list)
 roomed lent (refusal reason) = refusal reason
 
 -- an accepted call answers with the counts of the defined list
@@ -55,10 +66,14 @@ abbrev pub segmentsWritten : Built → List PathSegment
 segmentsWritten (path list) = list
 segmentsWritten (refusal reason) = []
 
--- what is built is answered and written
-pub record Answers (built : Built) (b : Buffers) (r : Building) (b′ : Buffers) : Type 0 where
+abbrev pub numbersWritten : Built → List ℕ → List ℕ
+numbersWritten (path list) drawers = drawers
+numbersWritten (refusal reason) drawers = []
+
+-- what is built is answered and written, with the numbers of the commands that draw
+pub record Answers (built : Built) (drawers : List ℕ) (b : Buffers) (r : Building) (b′ : Buffers) : Type 0 where
   pub answer : answerOf r ≡ answered built
-  pub after : b′ ≡ pathWritten (segmentsWritten built) b
+  pub after : b′ ≡ pathWritten (segmentsWritten built) (numbersWritten built drawers) b
 
 -- ---- what the passes ask and leave
 
@@ -77,7 +92,7 @@ abbrev pub Holding : Built → Buffers → Type 0
 Holding (path list) b = Holds list b
 Holding (refusal reason) b = ⊥
 
--- it builds, and its segments are stored from the start of each buffer
-abbrev pub Filled : Built → Buffers → Buffers → Type 0
-Filled (path list) b b′ = b′ ≡ pathWritten list b
-Filled (refusal reason) b b′ = ⊥
+-- it builds, and its segments and the numbers of their commands are stored from the start of each buffer
+abbrev pub Filled : Built → List ℕ → Buffers → Buffers → Type 0
+Filled (path list) drawers b b′ = b′ ≡ pathWritten list drawers b
+Filled (refusal reason) drawers b b′ = ⊥

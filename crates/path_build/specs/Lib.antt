@@ -1,3 +1,3 @@
--- What building a path answers, and what it leaves in the four buffers. Definitions only.
+-- What building a path answers, and what it leaves in the five buffers. Definitions only.
 pub mod Answers
 pub mod Paths

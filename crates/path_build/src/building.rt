@@ -6,8 +6,8 @@ use crate::sizes::Building;
 use commands::Checked;
 use commands::check_commands;
 
-// Builds the stored path of a command list: a kind and a running length for each segment, its numbers and its table, each from its
-// buffer's start. A refusal writes nothing, and what stands past the counted places is left as it was.
+// Builds the stored path of a command list: a kind, a running length and the number of its command for each segment, its numbers and
+// its table, each from its buffer's start. A refusal writes nothing, and what stands past the counted places is left as it was.
 pub fn build_path(
     letters: &[u8],
     numbers: &[f32],
@@ -15,15 +15,16 @@ pub fn build_path(
     fields: &mut [f32],
     tables: &mut [f32],
     lengths: &mut [f32],
+    commands: &mut [u32],
 ) -> Building
-    ensures { λ r. ⌜ BuildPath (now (letters .entry)) (now (numbers .entry)) (before kinds fields tables lengths) r (after kinds fields tables lengths) ⌝ }
+    ensures { λ r. ⌜ BuildPath (now (letters .entry)) (now (numbers .entry)) (before kinds fields tables lengths commands) r (after kinds fields tables lengths commands) ⌝ }
 {
     match check_commands(letters, numbers) {
         Checked::Refused(refusal) => {
             return Building::Refused(refusal);
         }
         Checked::WellFormed => {
-            return build_listed(letters, numbers, kinds, fields, tables, lengths);
+            return build_listed(letters, numbers, kinds, fields, tables, lengths, commands);
         }
     }
 }

@@ -22,9 +22,10 @@ pub fn build_listed(
     fields: &mut [f32],
     tables: &mut [f32],
     lengths: &mut [f32],
+    commands: &mut [u32],
 ) -> Building
     requires { ⌜ checkCommandsOf (now letters) (now numbers) ≡ accepted [] ⌝ }
-    ensures { λ r. ⌜ BuildPath (now (letters .entry)) (now (numbers .entry)) (before kinds fields tables lengths) r (after kinds fields tables lengths) ⌝ }
+    ensures { λ r. ⌜ BuildPath (now (letters .entry)) (now (numbers .entry)) (before kinds fields tables lengths commands) r (after kinds fields tables lengths commands) ⌝ }
 {
     match measure(letters, numbers) {
         Size::Refused(refusal) => {
@@ -40,22 +41,25 @@ pub fn build_listed(
                 fields: own,
                 tables: more,
                 lengths: segments,
+                commands: segments,
             };
             let lent = Counts {
                 kinds: kinds.len(),
                 fields: fields.len(),
                 tables: tables.len(),
                 lengths: lengths.len(),
+                commands: commands.len(),
             };
             if is_short(needed, lent) {
-                return Building::Refused(Refusal::NoRoom(Values::Four(
+                return Building::Refused(Refusal::NoRoom(Values::Five(
                     segments,
                     own,
                     more,
                     segments,
+                    segments,
                 )));
             }
-            fill(letters, numbers, kinds, fields, tables, lengths);
+            fill(letters, numbers, kinds, fields, tables, lengths, commands);
             return Building::Built {
                 segments,
                 fields: own,

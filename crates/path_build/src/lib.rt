@@ -1,5 +1,5 @@
-// From a command list to a stored path: kinds, fields, tables and running lengths in four lent buffers. `build_path` asks nothing and
-// refuses; `inner` has the same for a list that is known to be well formed.
+// From a command list to a stored path: kinds, fields, tables, running lengths and command numbers in five lent buffers. `build_path`
+// asks nothing and refuses; `inner` has the same for a list that is known to be well formed.
 mod building;
 pub mod inner;
 mod passes;

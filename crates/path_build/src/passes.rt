@@ -6,7 +6,7 @@ ghost use Rattle.commands.specs.Listed.{listed};
 ghost use Rattle.commands.specs.Checked.{checkCommandsOf};
 ghost use Rattle.path_stored.specs.Buffers.{after, before, lent};
 ghost use Rattle.path_build.specs.Answers.{measureOf, Foretells, Holding, Filled};
-ghost use Rattle.path_build.specs.Paths.{builtBy};
+ghost use Rattle.path_build.specs.Paths.{builtBy, drawersBy};
 use crate::sizes::Size;
 use answers::Refusal;
 use commands::inner::Decoded;
@@ -110,7 +110,7 @@ pub(crate) fn measure(letters: &[u8], numbers: &[f32]) -> Size
     }
 }
 
-// Stores the path of a well-formed list that builds, from the start of each buffer.
+// Stores the path of a well-formed list that builds, from the start of each buffer. A command's number is its place in the list.
 pub(crate) fn fill(
     letters: &[u8],
     numbers: &[f32],
@@ -118,9 +118,10 @@ pub(crate) fn fill(
     fields: &mut [f32],
     tables: &mut [f32],
     lengths: &mut [f32],
+    commands: &mut [u32],
 )
-    requires { ⌜ (checkCommandsOf (now letters) (now numbers) ≡ accepted []) × Holding (builtBy (listed 0 (now letters) (now numbers))) (lent kinds fields tables lengths) ⌝ }
-    ensures { λ _. ⌜ Filled (builtBy (listed 0 (now (letters .entry)) (now (numbers .entry)))) (before kinds fields tables lengths) (after kinds fields tables lengths) ⌝ }
+    requires { ⌜ (checkCommandsOf (now letters) (now numbers) ≡ accepted []) × Holding (builtBy (listed 0 (now letters) (now numbers))) (lent kinds fields tables lengths commands) ⌝ }
+    ensures { λ _. ⌜ Filled (builtBy (listed 0 (now (letters .entry)) (now (numbers .entry)))) (drawersBy (listed 0 (now (letters .entry)) (now (numbers .entry)))) (before kinds fields tables lengths commands) (after kinds fields tables lengths commands) ⌝ }
 {
     let count = letters.len();
     let mut site = start();
@@ -132,7 +133,17 @@ pub(crate) fn fill(
                 return;
             }
             Decoded::Command(command) => {
-                site = lay(site, command, kinds, fields, tables, lengths);
+                let number = place as u32;
+                site = lay(
+                    site,
+                    number,
+                    command,
+                    kinds,
+                    fields,
+                    tables,
+                    lengths,
+                    commands,
+                );
                 at += width(command);
                 place += 1;
             }

@@ -4,7 +4,8 @@ ghost use Rattle.path_build.specs.Answers.{isShort};
 use answers::Refusal;
 
 pub enum Building {
-    // The path is stored: this many segments, each with a kind and a running length, and this many numbers of theirs and of their tables.
+    // The path is stored: this many segments, each with a kind, a running length and a command number, and this many numbers of theirs and
+    // of their tables.
     Built {
         segments: usize,
         fields: usize,
@@ -13,7 +14,7 @@ pub enum Building {
     Refused(Refusal),
 }
 
-// The places that a path needs in each buffer; kinds and running lengths are one a segment.
+// The places that a path needs in each buffer; kinds, running lengths and command numbers are one a segment.
 pub enum Size {
     Counted {
         segments: usize,
@@ -23,12 +24,13 @@ pub enum Size {
     Refused(Refusal),
 }
 
-// Four counts of places, of kinds, fields, tables and lengths.
+// Five counts of places, of kinds, fields, tables, lengths and commands.
 pub struct Counts {
     pub kinds: usize,
     pub fields: usize,
     pub tables: usize,
     pub lengths: usize,
+    pub commands: usize,
 }
 
 // Whether some buffer has fewer places than are needed.
@@ -39,4 +41,5 @@ pub fn is_short(needed: Counts, lent: Counts) -> bool
         | (lent.fields < needed.fields)
         | (lent.tables < needed.tables)
         | (lent.lengths < needed.lengths)
+        | (lent.commands < needed.commands)
 }

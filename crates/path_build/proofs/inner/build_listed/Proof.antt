@@ -9,7 +9,7 @@ use Rattle.path_build.proofs.inner.build_listed.Tie as tie
 
 -- ---- the points
 abbrev start : tie.After-measure → tie.Start
-start p = p .before .before .before .before .before .before .before
+start p = p .before .before .before .before .before .before .before .before
 
 abbrev measured : tie.After-segments → tie.After-measure
 measured p = p .before .before
@@ -32,16 +32,16 @@ returns-2 c =
 
 fill-requires : tie.Need-fill-requires
 fill-requires c κs =
-    let test = c .before .before .before .before in
+    let test = c .before .before .before .before .before in
     let n = counted (test .before) in
     let m = measured n in
     let a = start m .args in
-    (start m .pre, has-room (lent (a .kinds) (a .fields) (a .tables) (a .lengths)) _ (sym (n .segments .given .1) ∙ m .measure .ensures) (sym (test .before .is-short .ensures) ∙ test .if1 .left))
+    (start m .pre, has-room (lent (a .kinds) (a .fields) (a .tables) (a .lengths) (a .commands)) _ (sym (n .segments .given .1) ∙ m .measure .ensures) (sym (test .before .is-short .ensures) ∙ test .if1 .left))
 
 returns-3 : tie.Need-returns-3
 returns-3 c =
-    let filled = c .before .before .before .before .before .before .before .before in
-    let test = filled .before .before .before .before .before in
+    let filled = c .before .before .before .before .before .before .before .before .before .before in
+    let test = filled .before .before .before .before .before .before in
     let n = counted (test .before) in
     let m = measured n in
     answers-at (entered _ _ _ (start m .pre))
@@ -51,4 +51,5 @@ pub build-listed-spec : {M : Type 1} → statement M
 build-listed-spec =
     tie.close
     (tie.spec (λ c κs. search needs) (λ c. search needs) returns (λ c. search needs) (λ c κs. search needs) returns-2
-    fill-requires (λ c. search needs) (λ c. search needs) (λ c. search needs) (λ c. search needs) returns-3)
+    fill-requires (λ c. search needs) (λ c. search needs) (λ c. search needs) (λ c. search needs)
+    (λ c. search needs) returns-3)
