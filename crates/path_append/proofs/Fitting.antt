@@ -1,11 +1,11 @@
--- The four tests of the buffers: the first that fails makes the refusal with the needs, and where none fails there is room. Assumes nothing.
+-- The five tests of the buffers: the first that fails makes the refusal with the needs, and where none fails there is room. Assumes nothing.
 use Prim.Native.Nat.{ℕ, _+_, _*_, _≤_, _<_}
 use mathlib.Core.Path.{_≡_, refl, sym, ap, _∙_, subst}
 use mathlib.Core.Bool.{Bool, true, false, _&&_, cond}
 use borrow.Author.Tests.{lt-ltb, le-ltb, le-leb, lt-leb}
 use lib.Dec.{ltb, leb}
 use lib.ListN.{length}
-use Rattle.answers.specs.declared.refusals.Values.the-variants.{Four}
+use Rattle.answers.specs.declared.refusals.Values.the-variants.{Five}
 use Rattle.answers.specs.declared.refusals.Refusal.the-variants.{NoRoom}
 use Rattle.path_segment.specs.declared.segments.PathSegment.{PathSegment}
 use Rattle.path_segment.specs.Segments.{kindOf, widthOf, tablesOf}
@@ -36,12 +36,12 @@ module _ (b : Buffers) (count : ℕ) (segment : PathSegment) where
   by-room room e = ap (λ x. cond x (Appended.Added (needsOf (b .kinds) count segment)) (Appended.Refused (NoRoom (needsOf (b .kinds) count segment)))) (sym e)
 
 module _ {b : Buffers} {count : ℕ} {segment : PathSegment} {n m : ℕ} (is : Counted b count segment n m) where
-  needs-are : Four (count + 1) n m (count + 1) ≡ needsOf (b .kinds) count segment
+  needs-are : Five (count + 1) n m (count + 1) (count + 1) ≡ needsOf (b .kinds) count segment
   unfolding needsOf
   needs-are = rw (is .numbersAre, is .tablesAre)
 
   abbrev Short : Type 0
-  Short = Appended.Refused (NoRoom (Four (count + 1) n m (count + 1))) ≡ fittingOf b count segment
+  Short = Appended.Refused (NoRoom (Five (count + 1) n m (count + 1) (count + 1))) ≡ fittingOf b count segment
 
   short : hasRoom b count segment ≡ false → Short
   short e = ap (λ x. Appended.Refused (NoRoom x)) needs-are ∙ by-room b count segment false e
@@ -69,6 +69,15 @@ module _ {b : Buffers} {count : ℕ} {segment : PathSegment} {n m : ℕ} (is : C
         pub no-length : length (b .lengths) ≤ count → Short
         no-length h = short (unfold hasRoom in simp (lt-ltb count (length (b .kinds)) kind, numbered, tabled, le-ltb count (length (b .lengths)) h))
 
-        pub roomy : count < length (b .lengths) → Appended.Added (Four (count + 1) n m (count + 1)) ≡ fittingOf b count segment
-        roomy h =
-            ap Appended.Added needs-are ∙ by-room b count segment true (unfold hasRoom in simp (lt-ltb count (length (b .kinds)) kind, numbered, tabled, lt-ltb count (length (b .lengths)) h))
+        module _ (long : count < length (b .lengths)) where
+          pub no-command : length (b .commands) ≤ count → Short
+          no-command h =
+              short (unfold hasRoom in
+              simp (lt-ltb count (length (b .kinds)) kind, numbered, tabled, lt-ltb count (length (b .lengths)) long, le-ltb count (length (b .commands)) h))
+
+          pub roomy : count < length (b .commands) → Appended.Added (Five (count + 1) n m (count + 1) (count + 1)) ≡ fittingOf b count segment
+          roomy h =
+              ap Appended.Added needs-are
+              ∙ by-room b count segment true
+              (unfold hasRoom in
+              simp (lt-ltb count (length (b .kinds)) kind, numbered, tabled, lt-ltb count (length (b .lengths)) long, lt-ltb count (length (b .commands)) h))

@@ -1,5 +1,5 @@
 -- The path in use, counted over a part of the kinds or over all of them, and the ways in which it is none. Assumes nothing.
-use Prim.Native.Nat.{ℕ, zero, suc, _+_, _*_, _≤_, _<_}
+use Prim.Native.Nat.{ℕ, zero, suc, _+_, _-_, _*_, _≤_, _<_}
 use mathlib.Core.Path.{_≡_, refl, sym, ap, _∙_}
 use mathlib.Core.Bool.{Bool, true, false, _&&_}
 use mathlib.Core.List.{List, [], _∷_}
@@ -7,7 +7,7 @@ use native.Mathlib.Omega.{arith}
 use borrow.Author.Tests.{le-leb, lt-leb}
 use lib.Dec.{T, leb, leb→le}
 use lib.Ieee.Fits.{and-l, and-r}
-use lib.ListN.{length, take, length-take}
+use lib.ListN.{length, getD, take, length-take}
 use lib.Seq.{length-take-le}
 use Rattle.path_segment.specs.Segments.{widthOf, tablesOf}
 use Rattle.path_segment.proofs.Widths.{width-most}
@@ -15,7 +15,7 @@ use Rattle.path_stored.specs.Buffers.{Buffers, buffers}
 use Rattle.path_stored.specs.Stored.{before, mostSegments, isStored, Stored}
 use Rattle.path_stored.proofs.Counting.{before-most, tables-at-most}
 use Rattle.path_stored.proofs.Rule.{stored-rule}
-use Rattle.path_append.specs.Appending.{numbersUsed, tablesUsed, firstOf, inUse}
+use Rattle.path_append.specs.Appending.{numbersUsed, tablesUsed, firstOf, inUse, numberBefore, mayFollow}
 
 -- what the first segments have is the same in their own part
 pub before-take : (f : ℕ → ℕ) (kinds : List ℕ) (n : ℕ) → before f (take n kinds) n ≡ before f kinds n
@@ -31,6 +31,14 @@ numbers-bound kinds count = before-most widthOf 11 width-most kinds count
 
 pub tables-bound : (kinds : List ℕ) (count : ℕ) → tablesUsed kinds count ≤ 33 * count
 tables-bound kinds count = omega (arith, tables-at-most kinds count)
+
+-- ---- the number before a new one
+pub number-first : (commands : List ℕ) (count : ℕ) → count ≡ 0 → 0 ≡ numberBefore commands count
+number-first commands count e = rw e
+
+pub number-after : (commands : List ℕ) (count : ℕ) → (count ≡ 0 → ⊥) → getD commands (count - 1) 0 ≡ numberBefore commands count
+number-after commands zero h = absurd (h refl)
+number-after commands (suc n) h = ap (λ i. getD commands i 0) (let e : suc n - 1 ≡ n = omega arith in e)
 
 -- ---- no path is in use
 refuted : (b : Bool) → (T b → ⊥) → b ≡ false
@@ -58,6 +66,9 @@ module _ (b : Buffers) (count : ℕ) where
   pub few-lengths : count ≤ length (b .kinds) → length (b .lengths) < count → false ≡ inUse b count
   few-lengths h g = not-used h (λ s. let e = size h in let f = s .one in omega (arith, length-take count (b .lengths)))
 
+  pub few-commands : count ≤ length (b .kinds) → length (b .commands) < count → false ≡ inUse b count
+  few-commands h g = not-used h (λ s. let e = size h in let f = s .told in omega (arith, length-take count (b .commands)))
+
   pub few-numbers : count ≤ length (b .kinds) → length (b .fields) < numbersUsed (b .kinds) count → false ≡ inUse b count
   few-numbers h g = not-used h (λ s. let e = s .numbers ∙ all-of widthOf h in omega (arith, length-take (numbersUsed (b .kinds) count) (b .fields)))
 
@@ -66,7 +77,7 @@ module _ (b : Buffers) (count : ℕ) where
 
   -- else the check decides
   pub checked : (t : Bool) (n m : ℕ) → n ≡ numbersUsed (b .kinds) count → m ≡ tablesUsed (b .kinds) count → count ≤ length (b .kinds)
-      → t ≡ isStored (buffers (take count (b .kinds)) (take n (b .fields)) (take m (b .tables)) (take count (b .lengths))) → t ≡ inUse b count
+      → t ≡ isStored (buffers (take count (b .kinds)) (take n (b .fields)) (take m (b .tables)) (take count (b .lengths)) (take count (b .commands))) → t ≡ inUse b count
   unfolding inUse
   checked t n m en em h e = simp (le-leb count (length (b .kinds)) h, sym en, sym em) e
 
@@ -75,6 +86,7 @@ module _ (b : Buffers) (count : ℕ) where
     pub few : count ≤ mostSegments
     pub withKinds : count ≤ length (b .kinds)
     pub withLengths : count ≤ length (b .lengths)
+    pub withCommands : count ≤ length (b .commands)
 
   pub used-whole : T (inUse b count) → Whole
   unfolding inUse
@@ -85,4 +97,24 @@ module _ (b : Buffers) (count : ℕ) where
       let e = size h in
       let f = s .few in
       let o = s .one in
-      record { few = omega arith; withKinds = h; withLengths = omega (arith, length-take count (b .lengths)) }
+      let t = s .told in
+      record {
+        few = omega arith;
+        withKinds = h;
+        withLengths = omega (arith, length-take count (b .lengths));
+        withCommands = omega (arith, length-take count (b .commands));
+      }
+
+  module _ (command : ℕ) where
+    follow-parts : T (mayFollow b count command) → T (inUse b count) × T (leb (numberBefore (b .commands) count) command)
+    unfolding mayFollow
+    follow-parts t = (and-l (inUse b count) (leb (numberBefore (b .commands) count) command) t, and-r (inUse b count) (leb (numberBefore (b .commands) count) command) t)
+
+    pub follow-used : T (mayFollow b count command) → T (inUse b count)
+    follow-used t = follow-parts t .0
+
+    pub follow-above : T (mayFollow b count command) → numberBefore (b .commands) count ≤ command
+    follow-above t = leb→le (numberBefore (b .commands) count) command (follow-parts t .1)
+
+    pub follow-whole : T (mayFollow b count command) → Whole
+    follow-whole t = used-whole (follow-used t)

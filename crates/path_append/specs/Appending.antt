@@ -1,16 +1,17 @@
--- One segment more on a stored path with room after it (source document 002, `push_segment`, `line_to`, `quad_to`, `cubic_to`, `arc_to`; document 01, "The answers"). The path is the
--- first `count` segments of the kinds, with their numbers, tables and running lengths at the start of each buffer. Definitions only.
+-- One segment more on a stored path with room after it (source document 002, `push_segment`, `line_to`, `quad_to`, `cubic_to`, `arc_to`; document 01, "The answers"; document 02, L5). The path
+-- is the first `count` segments of the kinds, with their numbers, tables, running lengths and command numbers at the start of each buffer; `command` is the new segment's command number, which
+-- the caller names. Definitions only.
 use Prim.Native.Nat.{ℕ, _+_, _*_, _≤_, _<_}
 use mathlib.Core.Path.{_≡_}
 use mathlib.Core.Bool.{Bool, true, false, _&&_, cond}
 use mathlib.Core.List.{List, [], _∷_}
 use lib.Dec.{leb, ltb}
-use lib.ListN.{length, take, set}
+use lib.ListN.{length, getD, take, set}
 use lib.Seq.{sets}
 use lib.Ieee.{Float, binary32, add}
 use lib.Ieee.Scale.{finite}
 use Rattle.answers.specs.declared.refusals.Values.{Values}
-use Rattle.answers.specs.declared.refusals.Values.the-variants.{Four}
+use Rattle.answers.specs.declared.refusals.Values.the-variants.{Five}
 use Rattle.answers.specs.declared.refusals.Refusal.the-variants.{NoRoom, RotationRange, NotFinite, BadPath, Range}
 use Rattle.answers.specs.Answers.{Answer, accepted, refused, listed}
 use Rattle.table.specs.Spots as Spots
@@ -39,10 +40,20 @@ tablesUsed kinds count = 33 * before tablesOf kinds count
 abbrev pub firstOf : Buffers → ℕ → Buffers
 firstOf b count =
     buffers (take count (b .kinds)) (take (numbersUsed (b .kinds) count) (b .fields)) (take (tablesUsed (b .kinds) count) (b .tables)) (take count (b .lengths))
+    (take count (b .commands))
 
 -- so many kinds are there, and what they say is a stored path
 unfoldable pub inUse : Buffers → ℕ → Bool
 inUse b count = leb count (length (b .kinds)) && isStored (firstOf b count)
+
+-- the command number before the new one: the last in use, and 0 before the first
+abbrev pub numberBefore : List ℕ → ℕ → ℕ
+numberBefore commands count = getD (0 ∷ commands) count 0
+
+-- the new number is not below it: the path with the segment would fail the check
+unfoldable pub mayFollow : Buffers → ℕ → ℕ → Bool
+unfolding inUse
+mayFollow b count command = inUse b count && leb (numberBefore (b .commands) count) command
 
 -- ---- what is judged
 
@@ -61,7 +72,7 @@ grownOf lengths count segment = add binary32 (Spots.before lengths count) (lengt
 -- "the count needed of each output, in the call's order": what is in use and what the segment adds
 unfoldable pub needsOf : List ℕ → ℕ → PathSegment → Values
 needsOf kinds count segment =
-    Four (count + 1) (numbersUsed kinds count + widthOf (kindOf segment)) (tablesUsed kinds count + 33 * tablesOf (kindOf segment)) (count + 1)
+    Five (count + 1) (numbersUsed kinds count + widthOf (kindOf segment)) (tablesUsed kinds count + 33 * tablesOf (kindOf segment)) (count + 1) (count + 1)
 
 -- no lent output is too short
 unfoldable pub hasRoom : Buffers → ℕ → PathSegment → Bool
@@ -70,6 +81,7 @@ hasRoom b count segment =
     && leb (numbersUsed (b .kinds) count + widthOf (kindOf segment)) (length (b .fields))
     && leb (tablesUsed (b .kinds) count + 33 * tablesOf (kindOf segment)) (length (b .tables))
     && ltb count (length (b .lengths))
+    && ltb count (length (b .commands))
 
 -- 8, where all else is right
 unfoldable pub fittingOf : Buffers → ℕ → PathSegment → Appended
@@ -77,10 +89,10 @@ unfolding needsOf hasRoom
 fittingOf b count segment = cond (hasRoom b count segment) (Appended.Added (needsOf (b .kinds) count segment)) (Appended.Refused (NoRoom (needsOf (b .kinds) count segment)))
 
 -- 12, 13 with the count of segments that there would be, 10, 11 with the new segment's number, 8
-unfoldable pub appendedOf : Buffers → ℕ → PathSegment → Appended
-unfolding inUse grownOf fittingOf
-appendedOf b count segment =
-    cond (inUse b count)
+unfoldable pub appendedOf : Buffers → ℕ → ℕ → PathSegment → Appended
+unfolding mayFollow grownOf fittingOf
+appendedOf b count command segment =
+    cond (mayFollow b count command)
     (cond (ltb count mostSegments)
     (cond (mayTurn segment)
     (cond (finite (grownOf (b .lengths) count segment)) (fittingOf b count segment) (Appended.Refused (NotFinite count)))
@@ -100,18 +112,19 @@ isAdded (Appended.Refused refusal) = false
 -- ---- what is written
 
 -- the segment's own places and no others
-abbrev pub storedAt : Buffers → ℕ → PathSegment → Buffers
-storedAt b count segment =
+abbrev pub storedAt : Buffers → ℕ → ℕ → PathSegment → Buffers
+storedAt b count command segment =
     buffers (set (b .kinds) count (kindOf segment)) (sets (b .fields) (numbersUsed (b .kinds) count) (fieldsOf segment))
     (sets (b .tables) (tablesUsed (b .kinds) count) (tableStored segment)) (set (b .lengths) count (grownOf (b .lengths) count segment))
+    (set (b .commands) count command)
 
 -- "A refusal writes to no output."
-abbrev pub afterwards : Appended → Buffers → ℕ → PathSegment → Buffers
-afterwards appended b count segment = cond (isAdded appended) (storedAt b count segment) b
+abbrev pub afterwards : Appended → Buffers → ℕ → ℕ → PathSegment → Buffers
+afterwards appended b count command segment = cond (isAdded appended) (storedAt b count command segment) b
 
-pub record Append (b : Buffers) (count : ℕ) (segment : PathSegment) (r : Appended) (b′ : Buffers) : Type 0 where
-  pub answer : r ≡ appendedOf b count segment
-  pub after : b′ ≡ afterwards r b count segment
+pub record Append (b : Buffers) (count command : ℕ) (segment : PathSegment) (r : Appended) (b′ : Buffers) : Type 0 where
+  pub answer : r ≡ appendedOf b count command segment
+  pub after : b′ ≡ afterwards r b count command segment
 
 -- what storing asks: room for the segment after those in use
 pub record Room (b : Buffers) (count : ℕ) (segment : PathSegment) : Type 0 where
@@ -120,6 +133,7 @@ pub record Room (b : Buffers) (count : ℕ) (segment : PathSegment) : Type 0 whe
   pub forNumbers : numbersUsed (b .kinds) count + widthOf (kindOf segment) ≤ length (b .fields)
   pub forTable : tablesUsed (b .kinds) count + 33 * tablesOf (kindOf segment) ≤ length (b .tables)
   pub forLength : count < length (b .lengths)
+  pub forCommand : count < length (b .commands)
 
 -- a table is stored, where the segment has one, and the segment's length is told
 pub record TableStored (at : ℕ) (segment : PathSegment) (tables : List Float) (r : Float) (tables′ : List Float) : Type 0 where

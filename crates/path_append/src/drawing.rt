@@ -1,4 +1,5 @@
-// The segments by their points. Each is appended after the first `count` segments, with the refusals of `push_segment`.
+// The segments by their points. Each is appended after the first `count` segments, as one that the command with this number made, with
+// the refusals of `push_segment`.
 use crate::pushing::Appended;
 use crate::pushing::push_segment;
 use arc::LineSegment;
@@ -19,14 +20,25 @@ pub fn line_to(
     numbers: &mut [f32],
     tables: &mut [f32],
     lengths: &mut [f32],
+    commands: &mut [u32],
     count: usize,
+    command: u32,
     start: Point,
     end: Point,
 ) -> Appended
-    ensures { λ r. ⌜ Append (before kinds numbers tables lengths) count (PathSegment.Line (lineOf start end)) r (after kinds numbers tables lengths) ⌝ }
+    ensures { λ r. ⌜ Append (before kinds numbers tables lengths commands) count command (PathSegment.Line (lineOf start end)) r (after kinds numbers tables lengths commands) ⌝ }
 {
     let segment = PathSegment::Line(LineSegment { start, end });
-    push_segment(kinds, numbers, tables, lengths, count, segment)
+    push_segment(
+        kinds,
+        numbers,
+        tables,
+        lengths,
+        commands,
+        count,
+        command,
+        segment,
+    )
 }
 
 // Appends the quad from start to end, drawn towards control.
@@ -35,19 +47,30 @@ pub fn quad_to(
     numbers: &mut [f32],
     tables: &mut [f32],
     lengths: &mut [f32],
+    commands: &mut [u32],
     count: usize,
+    command: u32,
     start: Point,
     control: Point,
     end: Point,
 ) -> Appended
-    ensures { λ r. ⌜ Append (before kinds numbers tables lengths) count (PathSegment.Quad start control end) r (after kinds numbers tables lengths) ⌝ }
+    ensures { λ r. ⌜ Append (before kinds numbers tables lengths commands) count command (PathSegment.Quad start control end) r (after kinds numbers tables lengths commands) ⌝ }
 {
     let segment = PathSegment::Quad {
         start,
         control,
         end,
     };
-    push_segment(kinds, numbers, tables, lengths, count, segment)
+    push_segment(
+        kinds,
+        numbers,
+        tables,
+        lengths,
+        commands,
+        count,
+        command,
+        segment,
+    )
 }
 
 // Appends the cubic from start to end, drawn towards control1 and then control2.
@@ -56,13 +79,15 @@ pub fn cubic_to(
     numbers: &mut [f32],
     tables: &mut [f32],
     lengths: &mut [f32],
+    commands: &mut [u32],
     count: usize,
+    command: u32,
     start: Point,
     control1: Point,
     control2: Point,
     end: Point,
 ) -> Appended
-    ensures { λ r. ⌜ Append (before kinds numbers tables lengths) count (PathSegment.Cubic start control1 control2 end) r (after kinds numbers tables lengths) ⌝ }
+    ensures { λ r. ⌜ Append (before kinds numbers tables lengths commands) count command (PathSegment.Cubic start control1 control2 end) r (after kinds numbers tables lengths commands) ⌝ }
 {
     let segment = PathSegment::Cubic {
         start,
@@ -70,7 +95,16 @@ pub fn cubic_to(
         control2,
         end,
     };
-    push_segment(kinds, numbers, tables, lengths, count, segment)
+    push_segment(
+        kinds,
+        numbers,
+        tables,
+        lengths,
+        commands,
+        count,
+        command,
+        segment,
+    )
 }
 
 // The arc of a chord, or its line fallback.
@@ -89,10 +123,21 @@ pub fn arc_to(
     numbers: &mut [f32],
     tables: &mut [f32],
     lengths: &mut [f32],
+    commands: &mut [u32],
     count: usize,
+    command: u32,
     chord: Chord,
 ) -> Appended
-    ensures { λ r. ⌜ Append (before kinds numbers tables lengths) count (arcSegment chord) r (after kinds numbers tables lengths) ⌝ }
+    ensures { λ r. ⌜ Append (before kinds numbers tables lengths commands) count command (arcSegment chord) r (after kinds numbers tables lengths commands) ⌝ }
 {
-    push_segment(kinds, numbers, tables, lengths, count, arc_segment(chord))
+    push_segment(
+        kinds,
+        numbers,
+        tables,
+        lengths,
+        commands,
+        count,
+        command,
+        arc_segment(chord),
+    )
 }

@@ -1,5 +1,6 @@
-// Appending to a stored path (poly.rs, `push_segment`, `line_to`, `quad_to`, `cubic_to`, `arc_to`): the caller lends four buffers and
-// says how many segments of them are the path. A segment is stored after them, and the path passes the check as before.
+// Appending to a stored path (poly.rs, `push_segment`, `line_to`, `quad_to`, `cubic_to`, `arc_to`): the caller lends five buffers,
+// says how many segments of them are the path, and names the number of the command that made the new one. The segment is stored after
+// them, and the path passes the check as before.
 mod drawing;
 mod pushing;
 mod storing;

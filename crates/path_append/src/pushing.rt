@@ -1,6 +1,6 @@
 // Appending one segment.
 use crate::storing::store;
-use crate::used::is_in_use;
+use crate::used::may_follow;
 use crate::used::numbers_used;
 use crate::used::tables_used;
 use answers::Refusal;
@@ -22,7 +22,7 @@ ghost use Rattle.path_append.specs.Appending.{mayTurn, fittingOf, append
 
 // What appending answers.
 pub enum Appended {
-    // How many places of each buffer are in use now: kinds, numbers, tables, lengths.
+    // How many places of each buffer are in use now: kinds, numbers, tables, lengths, commands.
     Added(Values),
     // `BadPath`, `Range`, `RotationRange`, `NotFinite` or `NoRoom`.
     Refused(Refusal),
@@ -66,17 +66,18 @@ fn fitting(
     numbers: &[f32],
     tables: &[f32],
     lengths: &[f32],
+    commands: &[u32],
     count: usize,
     segment: PathSegment,
 ) -> Appended
     requires { ⌜ count < mostSegments ⌝ }
     requires { ⌜ count ≤ length (now kinds) ⌝ }
-    ensures { λ r. ⌜ r ≡ fittingOf (before kinds numbers tables lengths) count segment ⌝ }
+    ensures { λ r. ⌜ r ≡ fittingOf (before kinds numbers tables lengths commands) count segment ⌝ }
 {
     let own = kind(segment);
     let n = numbers_used(kinds, count) + width(own);
     let m = tables_used(kinds, count) + table_width(own);
-    let needs = Values::Four(count + 1, n, m, count + 1);
+    let needs = Values::Five(count + 1, n, m, count + 1, count + 1);
     if kinds.len() <= count {
         return Appended::Refused(Refusal::NoRoom(needs));
     }
@@ -89,6 +90,9 @@ fn fitting(
     if lengths.len() <= count {
         return Appended::Refused(Refusal::NoRoom(needs));
     }
+    if commands.len() <= count {
+        return Appended::Refused(Refusal::NoRoom(needs));
+    }
     Appended::Added(needs)
 }
 
@@ -98,18 +102,20 @@ fn judge(
     numbers: &[f32],
     tables: &[f32],
     lengths: &[f32],
+    commands: &[u32],
     count: usize,
+    command: u32,
     segment: PathSegment,
 ) -> Appended
-    ensures { λ r. ⌜ r ≡ appendedOf (before kinds numbers tables lengths) count segment ⌝ }
+    ensures { λ r. ⌜ r ≡ appendedOf (before kinds numbers tables lengths commands) count command segment ⌝ }
 {
-    if is_in_use(kinds, numbers, tables, lengths, count) {
+    if may_follow(kinds, numbers, tables, lengths, commands, count, command) {
         if 65536 <= count {
             return Appended::Refused(Refusal::Range(count + 1));
         }
         if may_turn(segment) {
             if is_finite(length_before(lengths, count) + segment_length(segment)) {
-                return fitting(kinds, numbers, tables, lengths, count, segment);
+                return fitting(kinds, numbers, tables, lengths, commands, count, segment);
             }
             return Appended::Refused(Refusal::NotFinite(count));
         }
@@ -118,21 +124,41 @@ fn judge(
     Appended::Refused(Refusal::BadPath)
 }
 
-// Appends a segment to the path that the first `count` segments are. The tables are made anew from its numbers. Refused are, in this
-// order: what is no stored path, a count above 65,536, a rotation that is infinite or a NaN, a running length that is, too short a buffer.
+// Appends a segment to the path that the first `count` segments are, as one that the command numbered `command` made. The tables are made
+// anew from its numbers. Refused are, in this order: what is no stored path, a command number below the last, a count above 65,536, a rotation that is infinite or a NaN, a running length that is, too short a buffer.
 pub fn push_segment(
     kinds: &mut [u8],
     numbers: &mut [f32],
     tables: &mut [f32],
     lengths: &mut [f32],
+    commands: &mut [u32],
     count: usize,
+    command: u32,
     segment: PathSegment,
 ) -> Appended
-    ensures { λ r. ⌜ Append (before kinds numbers tables lengths) count segment r (after kinds numbers tables lengths) ⌝ }
+    ensures { λ r. ⌜ Append (before kinds numbers tables lengths commands) count command segment r (after kinds numbers tables lengths commands) ⌝ }
 {
-    let answer = judge(kinds, numbers, tables, lengths, count, segment);
+    let answer = judge(
+        kinds,
+        numbers,
+        tables,
+        lengths,
+        commands,
+        count,
+        command,
+        segment,
+    );
     match answer {
-        Appended::Added(_) => store(kinds, numbers, tables, lengths, count, segment),
+        Appended::Added(_) => store(
+            kinds,
+            numbers,
+            tables,
+            lengths,
+            commands,
+            count,
+            command,
+            segment,
+        ),
         Appended::Refused(_) => {}
     }
     answer

@@ -36,11 +36,13 @@ pub(crate) fn store(
     numbers: &mut [f32],
     tables: &mut [f32],
     lengths: &mut [f32],
+    commands: &mut [u32],
     count: usize,
+    command: u32,
     segment: PathSegment,
 )
-    requires { ⌜ Room (lent kinds numbers tables lengths) count segment ⌝ }
-    ensures { λ _. ⌜ after kinds numbers tables lengths ≡ storedAt (before kinds numbers tables lengths) count segment ⌝ }
+    requires { ⌜ Room (lent kinds numbers tables lengths commands) count segment ⌝ }
+    ensures { λ _. ⌜ after kinds numbers tables lengths commands ≡ storedAt (before kinds numbers tables lengths commands) count command segment ⌝ }
 {
     let n = numbers_used(kinds, count);
     let m = tables_used(kinds, count);
@@ -49,4 +51,5 @@ pub(crate) fn store(
     put_segment(numbers, n, segment);
     kinds[count] = kind(segment);
     lengths[count] = tidy(before + own);
+    commands[count] = command;
 }

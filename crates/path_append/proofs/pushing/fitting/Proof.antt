@@ -1,5 +1,5 @@
 -- `path_append::fitting` meets its contract: each way out is a case of `fittingOf`. Assumes nothing.
-use Rattle.path_append.proofs.Fitting.{Counted, counted, no-kind, no-numbers, no-table, no-length, roomy}
+use Rattle.path_append.proofs.Fitting.{Counted, counted, no-kind, no-numbers, no-table, no-length, no-command, roomy}
 use Rattle.path_append.proofs.InUse.{numbers-bound, tables-bound}
 use Rattle.path_stored.specs.Buffers.{lent}
 use Rattle.path_segment.proofs.Widths.{width-most, tables-most}
@@ -11,11 +11,11 @@ use Rattle.path_append.proofs.pushing.fitting.Tie as tie
 
 -- ---- the points, and what is counted there
 abbrev start : tie.After-width → tie.Start
-start p = p .before .before .before .before .before .before .before
+start p = p .before .before .before .before .before .before .before .before
 
 counting : (p : tie.After-table-width)
     → let w = p .before .before in let a = start w .args in
-    Counted (lent (a .kinds) (a .numbers) (a .tables) (a .lengths)) (a .count) (a .segment) (w .before .numbers-used .result + w .width .result) (p .before .tables-used .result + p .table-width .result)
+    Counted (lent (a .kinds) (a .numbers) (a .tables) (a .lengths) (a .commands)) (a .count) (a .segment) (w .before .numbers-used .result + w .width .result) (p .before .tables-used .result + p .table-width .result)
 counting p = let w = p .before .before in counted _ _ _ (w .before .numbers-used .ensures) (w .width .ensures) (p .before .tables-used .ensures) (p .table-width .ensures) (w .before .before .kind .ensures)
 
 -- ---- the answers
@@ -46,12 +46,17 @@ returns-4 c =
 
 returns-5 : tie.Need-returns-5
 returns-5 c =
-    let two = c .before .before in
-    roomy (counting (two .before .before)) (two .before .if1 .left) (two .if2 .left) (c .before .if3 .left) (c .if4 .left)
+    let two = c .before .before .before in
+    no-command (counting (two .before .before)) (two .before .if1 .left) (two .if2 .left) (c .before .before .if3 .left) (c .before .if4 .left) (c .if5 .taken)
+
+returns-6 : tie.Need-returns-6
+returns-6 c =
+    let two = c .before .before .before in
+    roomy (counting (two .before .before)) (two .before .if1 .left) (two .if2 .left) (c .before .before .if3 .left) (c .before .if4 .left) (c .if5 .left)
 
 pub fitting-spec : {M : Type 1} → statement M
 fitting-spec =
     tie.close
     (tie.spec (λ c κs. search needs) (λ c κs. search needs) (λ c κs. search needs) add-n (λ c κs. search needs)
-    (λ c κs. search needs) add-m (λ c. search needs) (λ c. search needs) returns returns-2 returns-3 returns-4
-    returns-5)
+    (λ c κs. search needs) add-m (λ c. search needs) (λ c. search needs) (λ c. search needs) returns returns-2 returns-3 returns-4
+    returns-5 returns-6)

@@ -13,23 +13,23 @@ abbrev judged : tie.After-enum-told → tie.After-judge
 judged p = p .before .before
 
 abbrev told : tie.After-store → tie.After-enum-told
-told p = p .before .before .before .before .before
+told p = p .before .before .before .before .before .before
 
 -- what is left of the buffers, by the answer
 abbrev left : tie.After-judge → Appended → Buffers
 left p answer =
-    let a = p .before .before .before .before .before .before .before .before .before .args in
-    afterwards answer (lent (a .kinds) (a .numbers) (a .tables) (a .lengths)) (a .count) (a .segment)
+    let a = p .before .before .before .before .before .before .before .before .before .before .before .args in
+    afterwards answer (lent (a .kinds) (a .numbers) (a .tables) (a .lengths) (a .commands)) (a .count) (a .command) (a .segment)
 
 -- ---- the answers
 store-requires : tie.Need-store-requires
 store-requires c κs =
-    let t = c .before .before .before .before in
-    passed-room _ _ _ (added-passed _ _ _ (ap isAdded (sym (judged t .judge .ensures)) ∙ ap isAdded (t .enum-told .given .1)))
+    let t = c .before .before .before .before .before in
+    passed-room _ _ _ _ (added-passed _ _ _ _ (ap isAdded (sym (judged t .judge .ensures)) ∙ ap isAdded (t .enum-told .given .1)))
 
 returns : tie.Need-returns
 returns c =
-    let s = c .before .before .before .before .before .before .before .before in
+    let s = c .before .before .before .before .before .before .before .before .before .before in
     let t = told s in
     record { answer = judged t .judge .ensures; after = s .store .ensures ∙ ap (left (judged t)) (sym (t .enum-told .given .1)) }
 
@@ -40,5 +40,5 @@ pub push-segment-spec : {M : Type 1} → statement M
 push-segment-spec =
     tie.close
     (tie.spec (λ c κs. search needs) (λ c. search needs) store-requires (λ c. search needs) (λ c. search needs)
-    (λ c. search needs) (λ c. search needs) (λ c. search needs) returns (λ c. search needs) (λ c. search needs)
-    (λ c. search needs) (λ c. search needs) returns-2)
+    (λ c. search needs) (λ c. search needs) (λ c. search needs) (λ c. search needs) returns (λ c. search needs)
+    (λ c. search needs) (λ c. search needs) (λ c. search needs) (λ c. search needs) returns-2)

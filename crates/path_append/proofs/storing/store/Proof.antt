@@ -7,7 +7,7 @@ use Rattle.path_segment.specs.Segments.{fieldsOf}
 use lib.Seq.{sets}
 use lib.ListN.{set, length-set}
 use native.Mathlib.Omega.{arith}
-use mathlib.Core.Path.{ap, _∙_}
+use mathlib.Core.Path.{refl, ap, _∙_}
 use borrow.Author.Needs.{needs}
 use Rattle.path_append.proofs.storing.store.Statement.{statement}
 use Rattle.path_append.proofs.storing.store.Tie as tie
@@ -17,7 +17,7 @@ abbrev counted : tie.After-store-table → tie.After-numbers-used
 counted p = p .before .before .before .before
 
 abbrev start : tie.After-numbers-used → tie.Start
-start p = p .before .before .before .before .before .before
+start p = p .before .before .before .before .before .before .before
 
 -- ---- the answers
 put-segment-requires : tie.Need-put-segment-requires
@@ -37,11 +37,12 @@ returns c =
     let tables = table .store-table .ensures .tablesAre ∙ ap (λ x. sets (a .tables .now) x (tableStored (a .segment))) (table .before .before .tables-used .ensures) in
     let own = c .tidy .ensures ∙ grown-is (a .lengths .now) (a .count) (a .segment) _ _ (length-before .length-before .ensures) (table .store-table .ensures .told) in
     let lengths = ap (set (a .lengths .now) (a .count)) own in
-    buffers-are kinds fields tables lengths
+    buffers-are kinds fields tables lengths refl
 
 pub store-spec : {M : Type 1} → statement M
 store-spec =
     tie.close
     (tie.spec (λ c κs. search needs) (λ c κs. search needs) (λ c κs. search needs) (λ c κs. search needs)
     put-segment-requires (λ c κs. search needs) (λ c. search needs) (λ c κs. search needs) (λ c. search needs)
-    (λ c. search needs) (λ c. search needs) (λ c. search needs) (λ c. search needs) (λ c. search needs) returns)
+    (λ c. search needs) (λ c. search needs) (λ c. search needs) (λ c. search needs) (λ c. search needs)
+    (λ c. search needs) (λ c. search needs) (λ c. search needs) returns)
