@@ -9,6 +9,7 @@ use lib.ListN.{length}
 use Rattle.answers.specs.declared.refusals.Refusal.{Refusal}
 use Rattle.answers.specs.declared.refusals.Refusal.the-variants.{TooLong}
 use Rattle.commands.specs.Stored.{lettersOf, numbersOf}
+use Rattle.commands.specs.Listed.{listed}
 use Rattle.commands.specs.declared.command.PathCommand.{PathCommand}
 use Rattle.commands.proofs.ReadBack.{read-back, stored-passes}
 use Rattle.svg.specs.Texts.{Outcome, commands, refusal as unread, commandsOf}
@@ -16,14 +17,14 @@ use Rattle.svg.proofs.Texts.{commands-few}
 use Rattle.path_stored.specs.Buffers.{Buffers}
 use Rattle.path_drawing.specs.Building.{refusal, buildOf}
 use Rattle.path_build.specs.Answers.{roomed, measureOf}
-use Rattle.path_build.specs.Paths.{builtBy, lentOf, buildPathOf}
+use Rattle.path_build.specs.Paths.{builtBy, drawersBy, lentOf, buildPathOf}
 use Rattle.path_build.specs.declared.sizes.Building.the-variants as Building
 use Rattle.path_build.specs.declared.sizes.Counts.{Counts}
 use Rattle.path_build.specs.declared.sizes.Size.the-variants as Size
 use Rattle.path_build.proofs.Along.{refused-is}
 use Rattle.path_build.proofs.Answering.{refuses}
 use Rattle.path_build.proofs.Entering.{entered}
-use Rattle.path_text.specs.Builds.{builtFrom, buildTextOf, BuildFromText}
+use Rattle.path_text.specs.Builds.{builtFrom, drawersIn, buildTextOf, BuildFromText}
 
 -- ---- reading before building
 
@@ -61,3 +62,6 @@ module _ (text : List ℕ) where
       ∙ sym
       (entered (lettersOf list) (numbersOf list) lent (stored-passes list (omega (arith, commands-few text list e)))
       ∙ ap (λ x. roomed lent (builtBy x)) (read-back 0 list))
+
+  pub numbered-after-each-other : (list : List PathCommand) → commandsOf text ≡ commands list → drawersIn (commandsOf text) ≡ drawersBy (listed 0 (lettersOf list) (numbersOf list))
+  numbered-after-each-other list e = ap drawersIn e ∙ sym (ap drawersBy (read-back 0 list))

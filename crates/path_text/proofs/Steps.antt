@@ -24,12 +24,12 @@ use Rattle.path_storing.specs.declared.sites.Advanced.the-variants.{To, Refused
 use Rattle.path_storing.specs.declared.tallies.Tally.{Tally}
 use Rattle.path_storing.specs.declared.tallies.Tallied.the-variants as Tallied
 use Rattle.path_storing.proofs.Along.{At, at-none, at-few, at-all, at-next, at-refused}
-use Rattle.path_storing.proofs.Filling.{Filling, filling-none, filling-more, roomed, same-kinds, same-fields, same-tables, same-lengths}
+use Rattle.path_storing.proofs.Filling.{Filling, filling-none, filling-more, roomed, same-kinds, same-fields, same-tables, same-lengths, same-commands}
 use Rattle.path_storing.proofs.Foreseen.{Calm, calm-start, foreseen}
 use Rattle.path_build.specs.Answers.{measureOf, Holding, Filled}
 use Rattle.path_build.specs.declared.sizes.Size.the-variants as Size
 use Rattle.path_build.proofs.Along.{counts-are, counted-at, scant-at, Holdable, holdable, filled-is}
-use Rattle.path_text.specs.Builds.{builtFrom}
+use Rattle.path_text.specs.Builds.{builtFrom, drawersIn}
 
 -- the rest of a text whose first commands are known
 rest-of : (done list : List PathCommand) (outcome : Outcome) → ontoCommands done outcome ≡ commands list → (rest : List PathCommand) × (list ≡ done ++ rest)
@@ -113,16 +113,17 @@ built-commands : (outcome : Outcome) (list : List PathSegment) → builtFrom out
 built-commands (commands all) list e = (all, refl, e)
 built-commands (unread reason) list e = let z : _≡_ {A = ℕ} 0 1 = cc in absurd (omega arith)
 
-pub record Storing (text : List ℕ) (reader : Reader) (site : Site) (b₀ b : Buffers) : Type 0 where
+pub record Storing (text : List ℕ) (reader : Reader) (site : Site) (number : ℕ) (b₀ b : Buffers) : Type 0 where
   pub passed : List PathCommand
   pub known : Known text reader passed
   pub few : length passed ≤ reader .at
+  pub count : length passed ≡ number
   pub filling : Filling passed site b₀ b
 
-pub storing-none : (text : List ℕ) (b : Buffers) → Storing text freshOf startOf b b
-storing-none text b = record { passed = []; known = known-none text; few = omega arith; filling = filling-none b }
+pub storing-none : (text : List ℕ) (b : Buffers) → Storing text freshOf startOf 0 b b
+storing-none text b = record { passed = []; known = known-none text; few = omega arith; count = refl; filling = filling-none b }
 
-module _ {text : List ℕ} {reader : Reader} {site : Site} {b₀ b : Buffers} (k : Storing text reader site b₀ b) (holding : Holding (builtFrom (commandsOf text)) b₀) where
+module _ {text : List ℕ} {reader : Reader} {site : Site} {number : ℕ} {b₀ b : Buffers} (k : Storing text reader site number b₀ b) (holding : Holding (builtFrom (commandsOf text)) b₀) where
   h : Holdable (builtFrom (commandsOf text)) b₀
   h = holdable (builtFrom (commandsOf text)) holding
 
@@ -150,14 +151,17 @@ module _ {text : List ℕ} {reader : Reader} {site : Site} {b₀ b : Buffers} (k
   pub stored-lengths : length (b .lengths) ≡ length (b₀ .lengths)
   stored-lengths = same-lengths (k .filling) (h .holds) (here .0) (here .1)
 
+  pub stored-commands : length (b .commands) ≡ length (b₀ .commands)
+  stored-commands = same-commands (k .filling) (h .holds) (here .0) (here .1)
+
   -- a text that builds is read to its end
   pub storing-unread : (reason : Refusal) → readStepOf text reader ≡ StepRefused reason → ⊥
   storing-unread reason e =
       let f = sym (known-refused text reader (k .passed) (k .known) reason e) ∙ all .1 in
       let z : _≡_ {A = ℕ} 0 1 = cc in omega arith
 
-  pub stored-all : readStepOf text reader ≡ Done → Filled (builtFrom (commandsOf text)) b₀ b
-  stored-all e = filled-is (k .filling) (ap builtFrom (known-all text reader (k .passed) (k .known) e))
+  pub stored-all : readStepOf text reader ≡ Done → Filled (builtFrom (commandsOf text)) (drawersIn (commandsOf text)) b₀ b
+  stored-all e = let all-known = known-all text reader (k .passed) (k .known) e in filled-is (k .filling) (ap builtFrom all-known) (ap drawersIn all-known)
 
   module _ (command : PathCommand) (next : Reader) (e : readStepOf text reader ≡ Command command next) where
     ahead : (rest : List PathCommand) × (buildOf ((k .passed ++ (command ∷ [])) ++ rest) ≡ path (h .list))
@@ -170,11 +174,15 @@ module _ {text : List ℕ} {reader : Reader} {site : Site} {b₀ b : Buffers} (k
       roomed (k .filling) (h .holds) command (ahead .0) (ahead .1),
     )
 
-    pub storing-more : {further : Site} {b′ : Buffers} → Laid site (drawOf (site .pen) command) b further b′ → Storing text next further b₀ b′
-    storing-more laid =
+    pub storing-number : length text ≤ 65536 → number < 65536
+    storing-number short = omega (arith, step-ahead text reader next command e, k .few, k .count)
+
+    pub storing-more : {further : Site} {b′ : Buffers} → Laid site number (drawOf (site .pen) command) b further b′ → Storing text next further (number + 1) b₀ b′
+    storing-more {further} {b′} laid =
         record {
           passed = k .passed ++ (command ∷ []);
           known = known-more text reader (k .passed) (k .known) command next e;
           few = omega (arith, length-append (k .passed) (command ∷ []), step-ahead text reader next command e, k .few);
-          filling = filling-more (k .filling) (h .holds) command (ahead .0) (ahead .1) laid;
+          count = length-append (k .passed) (command ∷ []) ∙ ap (λ n. n + 1) (k .count);
+          filling = filling-more (k .filling) (h .holds) command (ahead .0) (ahead .1) (subst (λ n. Laid site n (drawOf (site .pen) command) b further b′) (sym (k .count)) laid);
         }

@@ -1,4 +1,4 @@
--- The equations of `BuildFromText` settle what building from a text answers and all four buffers. Assumes nothing.
+-- The equations of `BuildFromText` settle what building from a text answers and all five buffers. Assumes nothing.
 use Prim.Native.Nat.{ℕ}
 use mathlib.Core.Path.{_≡_}
 use mathlib.Core.List.{List}

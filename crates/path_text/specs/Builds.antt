@@ -1,9 +1,9 @@
--- What a text builds (source document 002, `try_from_svg`; document 01, "The answers"): reading it and building its commands after each other.
--- Definitions only.
+-- What a text builds (source document 002, `try_from_svg`; document 01, "The answers"; document 02, L5): reading it and building its commands after each other. A command's number is its place
+-- in the list that reading gives. Definitions only.
 use Prim.Native.Nat.{ℕ}
 use mathlib.Core.Path.{_≡_}
 use mathlib.Core.Bool.{cond}
-use mathlib.Core.List.{List}
+use mathlib.Core.List.{List, []}
 use lib.Dec.{ltb}
 use lib.Ieee.{Float}
 use lib.ListN.{length}
@@ -11,7 +11,7 @@ use Rattle.answers.specs.declared.refusals.Refusal.the-variants.{TooLong}
 use Rattle.commands.specs.declared.command.PathCommand.{PathCommand}
 use Rattle.svg.specs.Texts.{Outcome, commands, refusal as unread, commandsOf}
 use Rattle.path_stored.specs.Buffers.{Buffers}
-use Rattle.path_drawing.specs.Building.{Built, refusal, buildOf}
+use Rattle.path_drawing.specs.Building.{Built, refusal, buildOf, drawersOf}
 use Rattle.path_build.specs.Answers.{roomed, Answers, measureOf}
 use Rattle.path_build.specs.Paths.{lentOf}
 use Rattle.path_build.specs.declared.sizes.Building.{Building}
@@ -25,13 +25,18 @@ abbrev pub builtFrom : Outcome → Built
 builtFrom (commands list) = buildOf list
 builtFrom (unread reason) = refusal reason
 
+-- the numbers of the commands that draw
+abbrev pub drawersIn : Outcome → List ℕ
+drawersIn (commands list) = drawersOf list
+drawersIn (unread reason) = []
+
 -- 1, 2 to 7 in the whole text, 10 and 11 segment by segment, then 8
 unfoldable pub buildTextOf : List ℕ → Counts → Built
 buildTextOf text lent = cond (ltb 65536 (length text)) (refusal (TooLong (length text))) (roomed lent (builtFrom (commandsOf text)))
 
 -- the entry's one record of equations
 abbrev pub BuildFromText : List ℕ → Buffers → Building → Buffers → Type 0
-BuildFromText text b r b′ = Answers (buildTextOf text (lentOf b)) b r b′
+BuildFromText text b r b′ = Answers (buildTextOf text (lentOf b)) (drawersIn (commandsOf text)) b r b′
 
 -- what a first pass that stops at the first refusal of either kind finds; one of building may have one of reading after it
 abbrev pub Finds : List ℕ → Found → Type 0

@@ -43,16 +43,18 @@ fn size_of(text: &[u8]) -> Size
     }
 }
 
-// Builds the stored path of a text: a kind and a running length for each segment, its numbers and its table, each from its buffer's
-// start. A refusal writes nothing, and what stands past the counted places is left as it was.
+// Builds the stored path of a text: a kind, a running length and the number of its command, in the list that reading gives, for each
+// segment, its numbers and its table, each from its buffer's start. A refusal writes nothing, and what stands past the counted places is
+// left as it was.
 pub fn build_from_text(
     text: &[u8],
     kinds: &mut [u8],
     fields: &mut [f32],
     tables: &mut [f32],
     lengths: &mut [f32],
+    commands: &mut [u32],
 ) -> Building
-    ensures { λ r. ⌜ BuildFromText (now (text .entry)) (before kinds fields tables lengths) r (after kinds fields tables lengths) ⌝ }
+    ensures { λ r. ⌜ BuildFromText (now (text .entry)) (before kinds fields tables lengths commands) r (after kinds fields tables lengths commands) ⌝ }
 {
     let size = text.len();
     if 65536 < size {
@@ -72,22 +74,25 @@ pub fn build_from_text(
                 fields: own,
                 tables: more,
                 lengths: segments,
+                commands: segments,
             };
             let lent = Counts {
                 kinds: kinds.len(),
                 fields: fields.len(),
                 tables: tables.len(),
                 lengths: lengths.len(),
+                commands: commands.len(),
             };
             if is_short(needed, lent) {
-                return Building::Refused(Refusal::NoRoom(Values::Four(
+                return Building::Refused(Refusal::NoRoom(Values::Five(
                     segments,
                     own,
                     more,
                     segments,
+                    segments,
                 )));
             }
-            fill(text, kinds, fields, tables, lengths);
+            fill(text, kinds, fields, tables, lengths, commands);
             return Building::Built {
                 segments,
                 fields: own,

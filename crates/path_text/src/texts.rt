@@ -5,7 +5,7 @@ ghost use lib.ListN.{length};
 ghost use Rattle.svg.specs.Texts.{commandsOf};
 ghost use Rattle.path_stored.specs.Buffers.{after, before, lent};
 ghost use Rattle.path_build.specs.Answers.{measureOf, Foretells, Holding, Filled};
-ghost use Rattle.path_text.specs.Builds.{builtFrom, Finds};
+ghost use Rattle.path_text.specs.Builds.{builtFrom, drawersIn, Finds};
 ghost use Rattle.path_text.specs.declared.texts.Found.the-variants.{Unbuilt};
 use answers::Refusal;
 use path_build::inner::Size;
@@ -23,7 +23,7 @@ use svg_step::read_step;
 
 // What the first pass finds.
 pub enum Found {
-    // The places needed: one kind and one running length a segment.
+    // The places needed: one kind, one running length and one command number a segment.
     Counted {
         segments: usize,
         fields: usize,
@@ -144,19 +144,21 @@ pub(crate) fn unbuilt(text: &[u8], refusal: Refusal) -> Size
     }
 }
 
-// Stores the path of a text that reads and builds, from the start of each buffer.
+// Stores the path of a text that reads and builds, from the start of each buffer, and numbers the commands as it reads them.
 pub(crate) fn fill(
     text: &[u8],
     kinds: &mut [u8],
     fields: &mut [f32],
     tables: &mut [f32],
     lengths: &mut [f32],
+    commands: &mut [u32],
 )
-    requires { ⌜ (length (now text) ≤ 65536) × Holding (builtFrom (commandsOf (now text))) (lent kinds fields tables lengths) ⌝ }
-    ensures { λ _. ⌜ Filled (builtFrom (commandsOf (now (text .entry)))) (before kinds fields tables lengths) (after kinds fields tables lengths) ⌝ }
+    requires { ⌜ (length (now text) ≤ 65536) × Holding (builtFrom (commandsOf (now text))) (lent kinds fields tables lengths commands) ⌝ }
+    ensures { λ _. ⌜ Filled (builtFrom (commandsOf (now (text .entry)))) (drawersIn (commandsOf (now (text .entry)))) (before kinds fields tables lengths commands) (after kinds fields tables lengths commands) ⌝ }
 {
     let mut reader = fresh();
     let mut site = start();
+    let mut number: u32 = 0;
     loop {
         match read_step(text, reader) {
             Step::Done => {
@@ -166,8 +168,18 @@ pub(crate) fn fill(
                 return;
             }
             Step::Command { command, next } => {
-                site = lay(site, command, kinds, fields, tables, lengths);
+                site = lay(
+                    site,
+                    number,
+                    command,
+                    kinds,
+                    fields,
+                    tables,
+                    lengths,
+                    commands,
+                );
                 reader = next;
+                number += 1;
             }
         }
     }

@@ -31,16 +31,16 @@ returns-3 c =
 
 fill-requires : tie.Need-fill-requires
 fill-requires c κs =
-    let test = c .before .before .before .before in
+    let test = c .before .before .before .before .before in
     let n = counted (test .before) in
     let m = sized n in
-    let a = m .before .before .before .before .before .before .before .args in
-    (m .before .if1 .left, has-room (lent (a .kinds) (a .fields) (a .tables) (a .lengths)) _ (sym (n .segments .given .1) ∙ m .size-of .ensures) (sym (test .before .is-short .ensures) ∙ test .if2 .left))
+    let a = m .before .before .before .before .before .before .before .before .args in
+    (m .before .if1 .left, has-room (lent (a .kinds) (a .fields) (a .tables) (a .lengths) (a .commands)) _ (sym (n .segments .given .1) ∙ m .size-of .ensures) (sym (test .before .is-short .ensures) ∙ test .if2 .left))
 
 returns-4 : tie.Need-returns-4
 returns-4 c =
-    let filled = c .before .before .before .before .before .before .before .before in
-    let test = filled .before .before .before .before .before in
+    let filled = c .before .before .before .before .before .before .before .before .before .before in
+    let test = filled .before .before .before .before .before .before in
     let n = counted (test .before) in
     let m = sized n in
     answers-at (short _ _ (m .before .if1 .left))
@@ -50,4 +50,5 @@ pub build-from-text-spec : {M : Type 1} → statement M
 build-from-text-spec =
     tie.close
     (tie.spec returns (λ c κs. search needs) (λ c. search needs) returns-2 (λ c. search needs) (λ c κs. search needs)
-    returns-3 fill-requires (λ c. search needs) (λ c. search needs) (λ c. search needs) (λ c. search needs) returns-4)
+    returns-3 fill-requires (λ c. search needs) (λ c. search needs) (λ c. search needs) (λ c. search needs)
+    (λ c. search needs) returns-4)
