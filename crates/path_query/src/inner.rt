@@ -57,10 +57,11 @@ fn flown(
     fields: &[f32],
     tables: &[f32],
     lengths: &[f32],
+    commands: &[u32],
     progress: Progress,
 ) -> Flight
-    requires { ⌜ Flyable (lent kinds fields tables lengths) ⌝ }
-    ensures { λ r. ⌜ r ≡ flownOf (before kinds fields tables lengths) (progress .value) ⌝ }
+    requires { ⌜ Flyable (lent kinds fields tables lengths commands) ⌝ }
+    ensures { λ r. ⌜ r ≡ flownOf (before kinds fields tables lengths commands) (progress .value) ⌝ }
 {
     let found = spot(lengths, progress);
     let along = found.progress;
@@ -88,13 +89,14 @@ pub fn flight(
     fields: &[f32],
     tables: &[f32],
     lengths: &[f32],
+    commands: &[u32],
     progress: Progress,
 ) -> Flight
-    requires { ⌜ Stored (lent kinds fields tables lengths) ⌝ }
-    ensures { λ r. ⌜ r ≡ flightOf (before kinds fields tables lengths) (progress .value) ⌝ }
+    requires { ⌜ Stored (lent kinds fields tables lengths commands) ⌝ }
+    ensures { λ r. ⌜ r ≡ flightOf (before kinds fields tables lengths commands) (progress .value) ⌝ }
 {
     if kinds.len() == 0 {
         return nowhere();
     }
-    flown(kinds, fields, tables, lengths, progress)
+    flown(kinds, fields, tables, lengths, commands, progress)
 }

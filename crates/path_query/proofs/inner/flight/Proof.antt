@@ -11,7 +11,7 @@ returns : tie.Need-returns
 returns c = c .nowhere .ensures ∙ flight-none _ _ (c .before .if1 .taken)
 
 flown-requires : tie.Need-flown-requires
-flown-requires c κs = a-flight (c .before .before .before .before .before .pre) (omega (arith, c .if1 .left))
+flown-requires c κs = a-flight (c .before .before .before .before .before .before .pre) (omega (arith, c .if1 .left))
 
 returns-2 : tie.Need-returns-2
 returns-2 c = c .flown .ensures ∙ flight-some _ _ (omega (arith, c .before .if1 .left))

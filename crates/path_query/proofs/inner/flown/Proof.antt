@@ -16,12 +16,12 @@ inside start {spot} e = rw e (spot-among (some-place (start .pre)) (start .args 
 
 forward-requires : tie.Need-forward-requires
 forward-requires c κs =
-    let start = c .before .before .before .before .before .before .before in
+    let start = c .before .before .before .before .before .before .before .before in
     onward-first (some-place (start .pre)) (c .first-cursor .ensures) (inside start (c .before .before .spot .ensures))
 
 flown-within-requires : tie.Need-flown-within-requires
 flown-within-requires c κs =
-    let start = c .before .before .before .before .before .before .before .before in
+    let start = c .before .before .before .before .before .before .before .before .before in
     seated (start .pre) (c .forward .ensures) (inside start (c .before .before .before .spot .ensures))
 
 returns : tie.Need-returns

@@ -16,7 +16,7 @@ returns c =
     let checked = c .before .before in
     let stored = sym (checked .check-path .ensures) ∙ c .before .if1 .taken in (
       flew-well _ _ _ stored (c .flight .ensures),
-      λ some. ordered _ stored some (checked .before .before .shared-slice-known3 .given) (checked .before .shared-slice-known4 .given),
+      λ some. ordered _ stored some (checked .before .before .before .shared-slice-known3 .given) (checked .before .before .shared-slice-known4 .given),
     )
 
 returns-2 : tie.Need-returns-2
