@@ -22,13 +22,13 @@ use Rattle.path_batch.proofs.batches.fill_flights.Statement.{statement}
 use Rattle.path_batch.proofs.batches.fill_flights.Tie as tie
 
 abbrev Inv-loop : tie.InvT-loop
-Inv-loop kinds fields tables lengths progresses segments₀ raws₀ out₀ at₀ k₀ segments raws out at k =
-    let b = buffers kinds fields tables lengths in
+Inv-loop kinds fields tables lengths commands progresses segments₀ raws₀ out₀ at₀ k₀ segments raws out at k =
+    let b = buffers kinds fields tables lengths commands in
     Looking kinds progresses at k × (segments ≡ written (segmentsFor b (take k progresses)) segments₀) × (raws ≡ written (rawsFor b (take k progresses)) raws₀)
     × (out ≡ written (numbersFor b (take k progresses)) out₀)
 
 abbrev μ-loop : tie.MeasureT-loop
-μ-loop kinds fields tables lengths progresses segments₀ raws₀ out₀ at₀ k₀ segments raws out at k = length progresses - k
+μ-loop kinds fields tables lengths commands progresses segments₀ raws₀ out₀ at₀ k₀ segments raws out at k = length progresses - k
 
 -- ---- the points, and what is known there
 
@@ -36,10 +36,10 @@ abbrev Loop : Type 0
 Loop = tie.At-loop Inv-loop μ-loop
 
 abbrev start : Loop → tie.Start Inv-loop μ-loop
-start l = l .before .before .before .before .before .before .before .before .before .before
+start l = l .before .before .before .before .before .before .before .before .before .before .before
 
 abbrev path : Loop → Buffers
-path l = let a = start l .args in lent (a .kinds) (a .fields) (a .tables) (a .lengths)
+path l = let a = start l .args in lent (a .kinds) (a .fields) (a .tables) (a .lengths) (a .commands)
 
 segments-size : (l : Loop) → length (l .loop .segments) ≡ length (start l .args .segments .now)
 segments-size l =
@@ -62,7 +62,7 @@ out-size l =
 
 loop-holds : tie.Need-loop-holds Inv-loop μ-loop
 unfolding each numbersFor
-loop-holds c = (looking-first (c .first-cursor .ensures) (c .before .before .before .before .before .before .before .before .before .pre .places .path .some), refl, refl, refl)
+loop-holds c = (looking-first (c .first-cursor .ensures) (c .before .before .before .before .before .before .before .before .before .before .pre .places .path .some), refl, refl, refl)
 
 spot-near-requires : tie.Need-spot-near-requires Inv-loop μ-loop
 spot-near-requires c κs = some-path (some-place (start (c .before .before) .pre .places .path))

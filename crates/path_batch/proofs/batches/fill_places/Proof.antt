@@ -20,12 +20,12 @@ use Rattle.path_batch.proofs.batches.fill_places.Statement.{statement}
 use Rattle.path_batch.proofs.batches.fill_places.Tie as tie
 
 abbrev Inv-loop : tie.InvT-loop
-Inv-loop kinds fields tables lengths progresses segments₀ raws₀ at₀ i₀ segments raws at i =
-    let b = buffers kinds fields tables lengths in
+Inv-loop kinds fields tables lengths commands progresses segments₀ raws₀ at₀ i₀ segments raws at i =
+    let b = buffers kinds fields tables lengths commands in
     Looking kinds progresses at i × (segments ≡ written (segmentsFor b (take i progresses)) segments₀) × (raws ≡ written (rawsFor b (take i progresses)) raws₀)
 
 abbrev μ-loop : tie.MeasureT-loop
-μ-loop kinds fields tables lengths progresses segments₀ raws₀ at₀ i₀ segments raws at i = length progresses - i
+μ-loop kinds fields tables lengths commands progresses segments₀ raws₀ at₀ i₀ segments raws at i = length progresses - i
 
 -- ---- the points, and what is known there
 
@@ -33,10 +33,10 @@ abbrev Loop : Type 0
 Loop = tie.At-loop Inv-loop μ-loop
 
 abbrev start : Loop → tie.Start Inv-loop μ-loop
-start l = l .before .before .before .before .before .before .before .before .before
+start l = l .before .before .before .before .before .before .before .before .before .before
 
 abbrev path : Loop → Buffers
-path l = let a = start l .args in lent (a .kinds) (a .fields) (a .tables) (a .lengths)
+path l = let a = start l .args in lent (a .kinds) (a .fields) (a .tables) (a .lengths) (a .commands)
 
 segments-size : (l : Loop) → length (l .loop .segments) ≡ length (start l .args .segments .now)
 segments-size l =
@@ -54,7 +54,7 @@ raws-size l =
 
 loop-holds : tie.Need-loop-holds Inv-loop μ-loop
 unfolding each
-loop-holds c = (looking-first (c .first-cursor .ensures) (c .before .before .before .before .before .before .before .before .pre .path .some), refl, refl)
+loop-holds c = (looking-first (c .first-cursor .ensures) (c .before .before .before .before .before .before .before .before .before .pre .path .some), refl, refl)
 
 spot-near-requires : tie.Need-spot-near-requires Inv-loop μ-loop
 spot-near-requires c κs = some-path (some-place (start (c .before .before) .pre .path))

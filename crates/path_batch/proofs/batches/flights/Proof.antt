@@ -65,8 +65,8 @@ returns-5 c =
     let filled = fill .fill-flights .ensures in (
       flights-filled _ _ _ _ _ stored _ _ _ (first .if2 .left) (room .before .if3 .left) (room .if4 .left) filled,
       λ some.
-          ordered-flights _ _ stored some (checked .before .before .before .before .before .before .shared-slice-known3 .given)
-          (checked .before .before .before .before .before .shared-slice-known4 .given) filled,
+          ordered-flights _ _ stored some (checked .before .before .before .before .before .before .before .shared-slice-known3 .given)
+          (checked .before .before .before .before .before .before .shared-slice-known4 .given) filled,
     )
 
 returns-6 : tie.Need-returns-6
