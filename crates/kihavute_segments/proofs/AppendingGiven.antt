@@ -47,22 +47,22 @@ module _ (kind : ℕ) (numbers : List Float) where
       let count = eqb→eq (length numbers) (widthOf kind) (and-r (ltb kind 5) (eqb (length numbers) (widthOf kind)) (passed e)) in
       (ltb→lt kind 5 (and-l (ltb kind 5) (eqb (length numbers) (widthOf kind)) (passed e)), omega arith)
 
-module _ (count : ℕ) (b : Buffers) (answer : List ℕ) where
+module _ (count command : ℕ) (b : Buffers) (answer : List ℕ) where
   -- an answer that is too short: nothing is appended
-  pub not-appended : (appended : Appended) (segment : PathSegment) → length answer < 8 → Appending appended segment count b answer 255 b answer
+  pub not-appended : (appended : Appended) (segment : PathSegment) → length answer < 8 → Appending appended segment count command b answer 255 b answer
   not-appended appended segment h = record { reported = given-short (answerOf appended) answer h; after = rw (lt-ltb (length answer) 8 h) }
 
-  push-is : (kind : ℕ) (numbers : List Float) → isSegment kind numbers ≡ true → appendedOf b count (segmentOf kind numbers) ≡ pushedOf kind numbers count b
+  push-is : (kind : ℕ) (numbers : List Float) → isSegment kind numbers ≡ true → appendedOf b count command (segmentOf kind numbers) ≡ pushedOf kind numbers count command b
   unfolding pushedOf
   push-is kind numbers e = rw e
 
   module _ {b′ : Buffers} {answer′ : List ℕ} {returned : ℕ} (h : 8 ≤ length answer) where
     -- else the entry's own promise, reported
-    pub appends-reported : (segment : PathSegment) (r : Appended) → Append b count segment r b′ → Given (answerOf r) answer returned answer′ → Appends segment count b answer returned b′ answer′
+    pub appends-reported : (segment : PathSegment) (r : Appended) → Append b count command segment r b′ → Given (answerOf r) answer returned answer′ → Appends segment count command b answer returned b′ answer′
     appends-reported segment r p g =
         record {
           reported = given-same _ _ (ap answerOf (p .answer)) g;
-          after = rw (le-ltb (length answer) 8 h) (p .after ∙ ap (λ (a : Appended). afterwards a b count segment) (p .answer));
+          after = rw (le-ltb (length answer) 8 h) (p .after ∙ ap (λ (a : Appended). afterwards a b count command segment) (p .answer));
         }
 
     module _ (kind : ℕ) (numbers : List Float) where
@@ -70,12 +70,12 @@ module _ (count : ℕ) (b : Buffers) (answer : List ℕ) where
           (segment : PathSegment) (r : Appended)
           → isSegment kind numbers ≡ true
           → segment ≡ segmentOf kind numbers
-          → Append b count segment r b′
+          → Append b count command segment r b′
           → Given (answerOf r) answer returned answer′
-          → Pushes kind numbers count b answer returned b′ answer′
+          → Pushes kind numbers count command b answer returned b′ answer′
       pushes-reported segment r e same p g =
-          subst (λ (a : Appended). Appending a (segmentOf kind numbers) count b answer returned b′ answer′) (push-is kind numbers e)
-          (appends-reported (segmentOf kind numbers) r (subst (λ (s : PathSegment). Append b count s r b′) same p) g)
+          subst (λ (a : Appended). Appending a (segmentOf kind numbers) count command b answer returned b′ answer′) (push-is kind numbers e)
+          (appends-reported (segmentOf kind numbers) r (subst (λ (s : PathSegment). Append b count command s r b′) same p) g)
 
   -- what is no segment
   pub push-refused :
@@ -83,15 +83,15 @@ module _ (count : ℕ) (b : Buffers) (answer : List ℕ) where
       → isSegment kind numbers ≡ false
       → 8 ≤ length answer
       → Given (refused BadPath) answer returned answer′
-      → Pushes kind numbers count b answer returned b answer′
+      → Pushes kind numbers count command b answer returned b answer′
   unfolding pushedOf
   push-refused kind numbers e h g = record { reported = given-same _ _ (rw e refl) g; after = rw (le-ltb (length answer) 8 h, e) refl }
 
   -- any two allowed results are equal
   pub appending-unique :
       (appended : Appended) (segment : PathSegment) (r s : ℕ) (b₁ b₂ : Buffers) (answer₁ answer₂ : List ℕ)
-      → Appending appended segment count b answer r b₁ answer₁
-      → Appending appended segment count b answer s b₂ answer₂
+      → Appending appended segment count command b answer r b₁ answer₁
+      → Appending appended segment count command b answer s b₂ answer₂
       → (r ≡ s) × (b₁ ≡ b₂) × (answer₁ ≡ answer₂)
   appending-unique appended segment r s b₁ b₂ answer₁ answer₂ p q =
       (p .reported .code ∙ sym (q .reported .code), p .after ∙ sym (q .after), p .reported .places ∙ sym (q .reported .places))

@@ -45,20 +45,20 @@ abbrev pub isSegment : ℕ → List Float → Bool
 isSegment kind numbers = ltb kind 5 && eqb (length numbers) (widthOf kind)
 
 -- 12 for what is no segment; else what appending it answers
-unfoldable pub pushedOf : ℕ → List Float → ℕ → Buffers → Appended
-pushedOf kind numbers count b = cond (isSegment kind numbers) (appendedOf b count (segmentOf kind numbers)) (Appended.Refused BadPath)
+unfoldable pub pushedOf : ℕ → List Float → ℕ → ℕ → Buffers → Appended
+pushedOf kind numbers count command b = cond (isSegment kind numbers) (appendedOf b count command (segmentOf kind numbers)) (Appended.Refused BadPath)
 
 -- ---- what is given and stored
 
 -- the answer is reported, and the segment stored where it is accepted; with an answer that is too short nothing is appended
-pub record Appending (appended : Appended) (segment : PathSegment) (count : ℕ) (b : Buffers) (answer : List ℕ) (returned : ℕ) (b′ : Buffers) (answer′ : List ℕ) : Type 0 where
+pub record Appending (appended : Appended) (segment : PathSegment) (count command : ℕ) (b : Buffers) (answer : List ℕ) (returned : ℕ) (b′ : Buffers) (answer′ : List ℕ) : Type 0 where
   pub reported : Given (answerOf appended) answer returned answer′
-  pub after : b′ ≡ cond (short answer) b (afterwards appended b count segment)
+  pub after : b′ ≡ cond (short answer) b (afterwards appended b count command segment)
 
 -- a segment, judged as `path_append/specs/Appending.antt` says
-abbrev pub Appends : PathSegment → ℕ → Buffers → List ℕ → ℕ → Buffers → List ℕ → Type 0
-Appends segment count b = Appending (appendedOf b count segment) segment count b
+abbrev pub Appends : PathSegment → ℕ → ℕ → Buffers → List ℕ → ℕ → Buffers → List ℕ → Type 0
+Appends segment count command b = Appending (appendedOf b count command segment) segment count command b
 
 -- a segment by its kind and its numbers
-abbrev pub Pushes : ℕ → List Float → ℕ → Buffers → List ℕ → ℕ → Buffers → List ℕ → Type 0
-Pushes kind numbers count b = Appending (pushedOf kind numbers count b) (segmentOf kind numbers) count b
+abbrev pub Pushes : ℕ → List Float → ℕ → ℕ → Buffers → List ℕ → ℕ → Buffers → List ℕ → Type 0
+Pushes kind numbers count command b = Appending (pushedOf kind numbers count command b) (segmentOf kind numbers) count command b

@@ -1,4 +1,5 @@
-// Segments appended to a stored path: its first `count` segments stand at the start of four lent buffers. A short answer is judged
+// Segments appended to a stored path: its first `count` segments stand at the start of five lent buffers, and
+// `command` is the number of the command that made the new one. A short answer is judged
 // first; then, and where the call is refused, no buffer is touched.
 ghost use mathlib.Core.Path.{_≡_};
 ghost use Rattle.c_answer.specs.Given.{Given};
@@ -42,20 +43,31 @@ pub extern "C" fn kihavute_push_segment(
     fields: &mut [f32],
     tables: &mut [f32],
     lengths: &mut [f32],
+    commands: &mut [u32],
     count: usize,
+    command: u32,
     kind: u8,
     numbers: &[f32],
     answer: &mut [u64],
 ) -> u32
-    ensures { λ r. ⌜ Pushes kind (now (numbers .entry)) count (before kinds fields tables lengths) (now (answer .entry))
-        r (after kinds fields tables lengths) (now (answer .exit)) ⌝ }
+    ensures { λ r. ⌜ Pushes kind (now (numbers .entry)) count command (before kinds fields tables lengths commands) (now (answer .entry))
+        r (after kinds fields tables lengths commands) (now (answer .exit)) ⌝ }
 {
     if answer.len() < 8 {
         return 255;
     }
     if is_segment(kind, numbers) {
         let segment = segment_at(kind, numbers, 0);
-        let appended = path_append::push_segment(kinds, fields, tables, lengths, count, segment);
+        let appended = path_append::push_segment(
+            kinds,
+            fields,
+            tables,
+            lengths,
+            commands,
+            count,
+            command,
+            segment,
+        );
         return give_appended(appended, answer);
     }
     c_answer::refuse(Refusal::BadPath, answer)
@@ -68,22 +80,34 @@ pub extern "C" fn kihavute_line_to(
     fields: &mut [f32],
     tables: &mut [f32],
     lengths: &mut [f32],
+    commands: &mut [u32],
     count: usize,
+    command: u32,
     sx: f32,
     sy: f32,
     ex: f32,
     ey: f32,
     answer: &mut [u64],
 ) -> u32
-    ensures { λ r. ⌜ Appends (Line (lineOf (pointOf sx sy) (pointOf ex ey))) count (before kinds fields tables lengths) (now (answer .entry))
-        r (after kinds fields tables lengths) (now (answer .exit)) ⌝ }
+    ensures { λ r. ⌜ Appends (Line (lineOf (pointOf sx sy) (pointOf ex ey))) count command (before kinds fields tables lengths commands) (now (answer .entry))
+        r (after kinds fields tables lengths commands) (now (answer .exit)) ⌝ }
 {
     if answer.len() < 8 {
         return 255;
     }
     let start = Point { x: sx, y: sy };
     let end = Point { x: ex, y: ey };
-    let appended = path_append::line_to(kinds, fields, tables, lengths, count, start, end);
+    let appended = path_append::line_to(
+        kinds,
+        fields,
+        tables,
+        lengths,
+        commands,
+        count,
+        command,
+        start,
+        end,
+    );
     give_appended(appended, answer)
 }
 
@@ -94,7 +118,9 @@ pub extern "C" fn kihavute_quad_to(
     fields: &mut [f32],
     tables: &mut [f32],
     lengths: &mut [f32],
+    commands: &mut [u32],
     count: usize,
+    command: u32,
     sx: f32,
     sy: f32,
     cx: f32,
@@ -103,8 +129,8 @@ pub extern "C" fn kihavute_quad_to(
     ey: f32,
     answer: &mut [u64],
 ) -> u32
-    ensures { λ r. ⌜ Appends (Quad (pointOf sx sy) (pointOf cx cy) (pointOf ex ey)) count (before kinds fields tables lengths) (now (answer .entry))
-        r (after kinds fields tables lengths) (now (answer .exit)) ⌝ }
+    ensures { λ r. ⌜ Appends (Quad (pointOf sx sy) (pointOf cx cy) (pointOf ex ey)) count command (before kinds fields tables lengths commands) (now (answer .entry))
+        r (after kinds fields tables lengths commands) (now (answer .exit)) ⌝ }
 {
     if answer.len() < 8 {
         return 255;
@@ -112,7 +138,18 @@ pub extern "C" fn kihavute_quad_to(
     let start = Point { x: sx, y: sy };
     let control = Point { x: cx, y: cy };
     let end = Point { x: ex, y: ey };
-    let appended = path_append::quad_to(kinds, fields, tables, lengths, count, start, control, end);
+    let appended = path_append::quad_to(
+        kinds,
+        fields,
+        tables,
+        lengths,
+        commands,
+        count,
+        command,
+        start,
+        control,
+        end,
+    );
     give_appended(appended, answer)
 }
 
@@ -123,7 +160,9 @@ pub extern "C" fn kihavute_cubic_to(
     fields: &mut [f32],
     tables: &mut [f32],
     lengths: &mut [f32],
+    commands: &mut [u32],
     count: usize,
+    command: u32,
     sx: f32,
     sy: f32,
     ax: f32,
@@ -134,8 +173,8 @@ pub extern "C" fn kihavute_cubic_to(
     ey: f32,
     answer: &mut [u64],
 ) -> u32
-    ensures { λ r. ⌜ Appends (Cubic (pointOf sx sy) (pointOf ax ay) (pointOf bx by) (pointOf ex ey)) count (before kinds fields tables lengths) (now (answer .entry))
-        r (after kinds fields tables lengths) (now (answer .exit)) ⌝ }
+    ensures { λ r. ⌜ Appends (Cubic (pointOf sx sy) (pointOf ax ay) (pointOf bx by) (pointOf ex ey)) count command (before kinds fields tables lengths commands) (now (answer .entry))
+        r (after kinds fields tables lengths commands) (now (answer .exit)) ⌝ }
 {
     if answer.len() < 8 {
         return 255;
@@ -144,7 +183,19 @@ pub extern "C" fn kihavute_cubic_to(
     let a = Point { x: ax, y: ay };
     let b = Point { x: bx, y: by };
     let end = Point { x: ex, y: ey };
-    let appended = path_append::cubic_to(kinds, fields, tables, lengths, count, start, a, b, end);
+    let appended = path_append::cubic_to(
+        kinds,
+        fields,
+        tables,
+        lengths,
+        commands,
+        count,
+        command,
+        start,
+        a,
+        b,
+        end,
+    );
     give_appended(appended, answer)
 }
 
@@ -156,7 +207,9 @@ pub extern "C" fn kihavute_arc_to(
     fields: &mut [f32],
     tables: &mut [f32],
     lengths: &mut [f32],
+    commands: &mut [u32],
     count: usize,
+    command: u32,
     sx: f32,
     sy: f32,
     rx: f32,
@@ -168,8 +221,8 @@ pub extern "C" fn kihavute_arc_to(
     ey: f32,
     answer: &mut [u64],
 ) -> u32
-    ensures { λ r. ⌜ Appends (arcSegment (chordOf sx sy rx ry rotation large sweep ex ey)) count (before kinds fields tables lengths) (now (answer .entry))
-        r (after kinds fields tables lengths) (now (answer .exit)) ⌝ }
+    ensures { λ r. ⌜ Appends (arcSegment (chordOf sx sy rx ry rotation large sweep ex ey)) count command (before kinds fields tables lengths commands) (now (answer .entry))
+        r (after kinds fields tables lengths commands) (now (answer .exit)) ⌝ }
 {
     if answer.len() < 8 {
         return 255;
@@ -182,6 +235,15 @@ pub extern "C" fn kihavute_arc_to(
         sweep: sweep != 0,
         end: Point { x: ex, y: ey },
     };
-    let appended = path_append::arc_to(kinds, fields, tables, lengths, count, chord);
+    let appended = path_append::arc_to(
+        kinds,
+        fields,
+        tables,
+        lengths,
+        commands,
+        count,
+        command,
+        chord,
+    );
     give_appended(appended, answer)
 }

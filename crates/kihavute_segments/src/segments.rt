@@ -32,12 +32,13 @@ pub extern "C" fn kihavute_len(
     fields: &[f32],
     tables: &[f32],
     lengths: &[f32],
+    commands: &[u32],
     answer: &mut [u64],
 ) -> u32
-    ensures { λ r. ⌜ Given (countedAnswer (countedOf (before kinds fields tables lengths)))
+    ensures { λ r. ⌜ Given (countedAnswer (countedOf (before kinds fields tables lengths commands)))
         (now (answer .entry)) r (now (answer .exit)) ⌝ }
 {
-    match path_stored::len(kinds, fields, tables, lengths) {
+    match path_stored::len(kinds, fields, tables, lengths, commands) {
         Counted::Segments(count) => c_answer::accept(Values::One(count), answer),
         Counted::Refused(refusal) => c_answer::refuse(refusal, answer),
     }
@@ -50,12 +51,13 @@ pub extern "C" fn kihavute_is_empty(
     fields: &[f32],
     tables: &[f32],
     lengths: &[f32],
+    commands: &[u32],
     answer: &mut [u64],
 ) -> u32
-    ensures { λ r. ⌜ Given (emptinessAnswer (emptinessOf (before kinds fields tables lengths)))
+    ensures { λ r. ⌜ Given (emptinessAnswer (emptinessOf (before kinds fields tables lengths commands)))
         (now (answer .entry)) r (now (answer .exit)) ⌝ }
 {
-    match path_stored::is_empty(kinds, fields, tables, lengths) {
+    match path_stored::is_empty(kinds, fields, tables, lengths, commands) {
         Emptiness::Empty => c_answer::accept(Values::One(1), answer),
         Emptiness::NotEmpty => c_answer::accept(Values::One(0), answer),
         Emptiness::Refused(refusal) => c_answer::refuse(refusal, answer),
@@ -69,12 +71,13 @@ pub extern "C" fn kihavute_path_length(
     fields: &[f32],
     tables: &[f32],
     lengths: &[f32],
+    commands: &[u32],
     answer: &mut [u64],
 ) -> u32
-    ensures { λ r. ⌜ Given (measuredAnswer (measuredOf (before kinds fields tables lengths)))
+    ensures { λ r. ⌜ Given (measuredAnswer (measuredOf (before kinds fields tables lengths commands)))
         (now (answer .entry)) r (now (answer .exit)) ⌝ }
 {
-    match path_stored::arc_length(kinds, fields, tables, lengths) {
+    match path_stored::arc_length(kinds, fields, tables, lengths, commands) {
         Measured::Length(total) => {
             let bits = floats::bits(total);
             c_answer::accept(Values::One(bits as usize), answer)
@@ -132,17 +135,18 @@ pub extern "C" fn kihavute_segment(
     fields: &[f32],
     tables: &[f32],
     lengths: &[f32],
+    commands: &[u32],
     i: usize,
     out: &mut [f32],
     answer: &mut [u64],
 ) -> u32
-    ensures { λ r. ⌜ SegmentGiven (partOf (before kinds fields tables lengths) i)
+    ensures { λ r. ⌜ SegmentGiven (partOf (before kinds fields tables lengths commands) i)
         (now (out .entry)) (now (answer .entry)) r (now (out .exit)) (now (answer .exit)) ⌝ }
 {
     if answer.len() < 8 {
         return 255;
     }
-    let part = path_stored::segment(kinds, fields, tables, lengths, i);
+    let part = path_stored::segment(kinds, fields, tables, lengths, commands, i);
     give_part(part, out, answer)
 }
 
@@ -153,14 +157,15 @@ pub extern "C" fn kihavute_segment_position(
     fields: &[f32],
     tables: &[f32],
     lengths: &[f32],
+    commands: &[u32],
     i: usize,
     along: f32,
     answer: &mut [u64],
 ) -> u32
-    ensures { λ r. ⌜ Given (positionGiven (partOf (before kinds fields tables lengths) i) along)
+    ensures { λ r. ⌜ Given (positionGiven (partOf (before kinds fields tables lengths commands) i) along)
         (now (answer .entry)) r (now (answer .exit)) ⌝ }
 {
-    let part = path_stored::segment(kinds, fields, tables, lengths, i);
+    let part = path_stored::segment(kinds, fields, tables, lengths, commands, i);
     let found = part.found;
     match found {
         Found::Segment(segment) => {
@@ -179,14 +184,15 @@ pub extern "C" fn kihavute_segment_tangent(
     fields: &[f32],
     tables: &[f32],
     lengths: &[f32],
+    commands: &[u32],
     i: usize,
     along: f32,
     answer: &mut [u64],
 ) -> u32
-    ensures { λ r. ⌜ Given (tangentGiven (partOf (before kinds fields tables lengths) i) along)
+    ensures { λ r. ⌜ Given (tangentGiven (partOf (before kinds fields tables lengths commands) i) along)
         (now (answer .entry)) r (now (answer .exit)) ⌝ }
 {
-    let part = path_stored::segment(kinds, fields, tables, lengths, i);
+    let part = path_stored::segment(kinds, fields, tables, lengths, commands, i);
     let found = part.found;
     match found {
         Found::Segment(segment) => {
@@ -205,14 +211,15 @@ pub extern "C" fn kihavute_segment_rotation(
     fields: &[f32],
     tables: &[f32],
     lengths: &[f32],
+    commands: &[u32],
     i: usize,
     along: f32,
     answer: &mut [u64],
 ) -> u32
-    ensures { λ r. ⌜ Given (rotationGiven (partOf (before kinds fields tables lengths) i) along)
+    ensures { λ r. ⌜ Given (rotationGiven (partOf (before kinds fields tables lengths commands) i) along)
         (now (answer .entry)) r (now (answer .exit)) ⌝ }
 {
-    let part = path_stored::segment(kinds, fields, tables, lengths, i);
+    let part = path_stored::segment(kinds, fields, tables, lengths, commands, i);
     let found = part.found;
     match found {
         Found::Segment(segment) => {

@@ -5,16 +5,16 @@ use Rattle.kihavute_segments.proofs.appending.kihavute_arc_to.Statement
 use Rattle.kihavute_segments.proofs.appending.kihavute_arc_to.Tie as tie
 
 returns : tie.Need-returns
-returns c = not-appended _ _ _ _ _ (c .if1 .taken)
+returns c = not-appended _ _ _ _ _ _ (c .if1 .taken)
 
 returns-2 : tie.Need-returns-2
 returns-2 c =
     let given = c .before .before in
-    let appended = given .before .before .before .before .before .before .before .before .before .before in
-    appends-reported _ _ _ (appended .before .before .before .before .before .if1 .left) _ _ (appended .arc-to .ensures) (given .give-appended .ensures)
+    let appended = given .before .before .before .before .before .before .before .before .before .before .before .before in
+    appends-reported _ _ _ _ (appended .before .before .before .before .before .before .if1 .left) _ _ (appended .arc-to .ensures) (given .give-appended .ensures)
 
 pub kihavute-arc-to-spec : {M : Type 1} → statement M
 kihavute-arc-to-spec =
     tie.close
     (tie.spec returns (λ c κs. search needs) (λ c κs. search needs) (λ c. search needs) (λ c. search needs)
-    (λ c. search needs) (λ c. search needs) (λ c. search needs) returns-2)
+    (λ c. search needs) (λ c. search needs) (λ c. search needs) (λ c. search needs) returns-2)

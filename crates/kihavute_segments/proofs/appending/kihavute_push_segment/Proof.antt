@@ -6,31 +6,31 @@ use Rattle.kihavute_segments.proofs.appending.kihavute_push_segment.Sta
 use Rattle.kihavute_segments.proofs.appending.kihavute_push_segment.Tie as tie
 
 returns : tie.Need-returns
-returns c = not-appended _ _ _ _ _ (c .if1 .taken)
+returns c = not-appended _ _ _ _ _ _ (c .if1 .taken)
 
 segment-at-requires : tie.Need-segment-at-requires
 segment-at-requires c κs =
-    let a = c .before .before .before .before .before .before .before .before .before .args in
+    let a = c .before .before .before .before .before .before .before .before .before .before .args in
     segment-known (a .kind) (a .numbers .now) (sym (c .before .is-segment .ensures) ∙ c .if2 .taken)
 
 returns-2 : tie.Need-returns-2
 returns-2 c =
     let given = c .before .before in
-    let appended = given .before .before .before .before .before .before .before .before .before .before in
-    let read = appended .before .before .before .before .before in
+    let appended = given .before .before .before .before .before .before .before .before .before .before .before .before in
+    let read = appended .before .before .before .before .before .before in
     let judged = read .before .before in
-    pushes-reported _ _ _ (judged .before .if1 .left) _ _ _ _ (sym (judged .is-segment .ensures) ∙ read .before .if2 .taken) (read .segment-at .ensures) (appended .push-segment .ensures)
+    pushes-reported _ _ _ _ (judged .before .if1 .left) _ _ _ _ (sym (judged .is-segment .ensures) ∙ read .before .if2 .taken) (read .segment-at .ensures) (appended .push-segment .ensures)
     (given .give-appended .ensures)
 
 returns-3 : tie.Need-returns-3
 returns-3 c =
     let given = c .before .before in
     let judged = given .before .before .before in
-    push-refused _ _ _ _ _ (sym (judged .is-segment .ensures) ∙ given .before .before .if2 .left) (judged .before .if1 .left) (given .refuse .ensures)
+    push-refused _ _ _ _ _ _ (sym (judged .is-segment .ensures) ∙ given .before .before .if2 .left) (judged .before .if1 .left) (given .refuse .ensures)
 
 pub kihavute-push-segment-spec : {M : Type 1} → statement M
 kihavute-push-segment-spec =
     tie.close
     (tie.spec returns (λ c κs. search needs) segment-at-requires (λ c κs. search needs) (λ c κs. search needs)
-    (λ c. search needs) (λ c. search needs) (λ c. search needs) (λ c. search needs) (λ c. search needs) returns-2
+    (λ c. search needs) (λ c. search needs) (λ c. search needs) (λ c. search needs) (λ c. search needs) (λ c. search needs) returns-2
     (λ c κs. search needs) (λ c. search needs) returns-3)

@@ -18,7 +18,7 @@ returns c =
     let told = asked .before .before in
     let read = told .before .before in
     let part = read .segment .result in
-    let along = read .before .before .before .before .before .before .args .along in
+    let along = read .before .before .before .before .before .before .before .args .along in
     given-same _ _
     (ap placeGiven (asked .tangent .ensures)
     ∙ found-given (λ (s : PathSegment). placeGiven (tangentOf s (part .table) along)) (part .found) _ (told .found .given .1)
@@ -31,7 +31,7 @@ returns-2 c =
     let told = given .before .before in
     let read = told .before .before in
     let part = read .segment .result in
-    let along = read .before .before .before .before .before .before .args .along in
+    let along = read .before .before .before .before .before .before .before .args .along in
     given-same _ _
     (found-none (λ (s : PathSegment). placeGiven (tangentOf s (part .table) along)) (part .found) (told .enum-told .given .1) ∙ ap (λ (p : Part). tangentGiven p along) (read .segment .ensures))
     (given .accept .ensures)
@@ -42,7 +42,7 @@ returns-3 c =
     let told = given .before .before .before in
     let read = told .before .before in
     let part = read .segment .result in
-    let along = read .before .before .before .before .before .before .args .along in
+    let along = read .before .before .before .before .before .before .before .args .along in
     given-same _ _
     (found-refused (λ (s : PathSegment). placeGiven (tangentOf s (part .table) along)) (part .found) _ (told .found2 .given .1) ∙ ap (λ (p : Part). tangentGiven p along) (read .segment .ensures))
     (given .refuse .ensures)
