@@ -125,7 +125,8 @@ fn judge(
 }
 
 // Appends a segment to the path that the first `count` segments are, as one that the command numbered `command` made. The tables are made
-// anew from its numbers. Refused are, in this order: what is no stored path, a command number below the last, a count above 65,536, a rotation that is infinite or a NaN, a running length that is, too short a buffer.
+// anew from its numbers. Refused are, in this order: what is no stored path, a command number below the last, a count above 65,536, a
+// rotation that is infinite or a NaN, a running length that is, too short a buffer.
 pub fn push_segment(
     kinds: &mut [u8],
     numbers: &mut [f32],

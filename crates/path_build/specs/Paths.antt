@@ -18,7 +18,7 @@ abbrev pub builtBy : Listing → Built
 builtBy (wellFormed commands) = buildOf commands
 builtBy (malformed k) = refusal (BadList k)
 
--- the numbers, in the list, of the commands that draw
+-- the numbers of its commands that draw
 abbrev pub drawersBy : Listing → List ℕ
 drawersBy (wellFormed commands) = drawersOf commands
 drawersBy (malformed k) = []
@@ -31,6 +31,10 @@ lentOf b = record { kinds = length (b .kinds); fields = length (b .fields); tabl
 unfoldable pub buildPathOf : List ℕ → List Float → Counts → Built
 buildPathOf letters numbers lent = cond (ltb 65536 (length letters)) (refusal (Range (length letters))) (roomed lent (builtBy (listed 0 letters numbers)))
 
+-- the numbers, in the list, of the commands that draw
+abbrev pub drawersPathOf : List ℕ → List Float → List ℕ
+drawersPathOf letters numbers = drawersBy (listed 0 letters numbers)
+
 -- the entry's one record of equations
 abbrev pub BuildPath : List ℕ → List Float → Buffers → Building → Buffers → Type 0
-BuildPath letters numbers b r b′ = Answers (buildPathOf letters numbers (lentOf b)) (drawersBy (listed 0 letters numbers)) b r b′
+BuildPath letters numbers b r b′ = Answers (buildPathOf letters numbers (lentOf b)) (drawersPathOf letters numbers) b r b′

@@ -6,7 +6,7 @@ ghost use Rattle.commands.specs.Listed.{listed};
 ghost use Rattle.commands.specs.Checked.{checkCommandsOf};
 ghost use Rattle.path_stored.specs.Buffers.{after, before, lent};
 ghost use Rattle.path_build.specs.Answers.{measureOf, Foretells, Holding, Filled};
-ghost use Rattle.path_build.specs.Paths.{builtBy, drawersBy};
+ghost use Rattle.path_build.specs.Paths.{builtBy, drawersPathOf};
 use crate::sizes::Size;
 use answers::Refusal;
 use commands::inner::Decoded;
@@ -121,7 +121,8 @@ pub(crate) fn fill(
     commands: &mut [u32],
 )
     requires { ⌜ (checkCommandsOf (now letters) (now numbers) ≡ accepted []) × Holding (builtBy (listed 0 (now letters) (now numbers))) (lent kinds fields tables lengths commands) ⌝ }
-    ensures { λ _. ⌜ Filled (builtBy (listed 0 (now (letters .entry)) (now (numbers .entry)))) (drawersBy (listed 0 (now (letters .entry)) (now (numbers .entry)))) (before kinds fields tables lengths commands) (after kinds fields tables lengths commands) ⌝ }
+    ensures { λ _. ⌜ Filled (builtBy (listed 0 (now (letters .entry)) (now (numbers .entry)))) (drawersPathOf (now (letters .entry)) (now (numbers .entry)))
+        (before kinds fields tables lengths commands) (after kinds fields tables lengths commands) ⌝ }
 {
     let count = letters.len();
     let mut site = start();

@@ -141,7 +141,8 @@ fn lay_line(
     commands: &mut [u32],
 ) -> Site
     requires { ⌜ Few site × Room site (Segment (Line (lineOf (site .pen .current) end)) (drawnOf (site .pen) end)) (lent kinds fields tables lengths commands) ⌝ }
-    ensures { λ r. ⌜ Laid site number (Segment (Line (lineOf (site .pen .current) end)) (drawnOf (site .pen) end)) (before kinds fields tables lengths commands) r (after kinds fields tables lengths commands) ⌝ }
+    ensures { λ r. ⌜ Laid site number (Segment (Line (lineOf (site .pen .current) end)) (drawnOf (site .pen) end))
+        (before kinds fields tables lengths commands) r (after kinds fields tables lengths commands) ⌝ }
 {
     let pen = site.pen;
     let start = pen.current;

@@ -34,9 +34,12 @@ drawersIn (unread reason) = []
 unfoldable pub buildTextOf : List ℕ → Counts → Built
 buildTextOf text lent = cond (ltb 65536 (length text)) (refusal (TooLong (length text))) (roomed lent (builtFrom (commandsOf text)))
 
+abbrev pub drawersTextOf : List ℕ → List ℕ
+drawersTextOf text = drawersIn (commandsOf text)
+
 -- the entry's one record of equations
 abbrev pub BuildFromText : List ℕ → Buffers → Building → Buffers → Type 0
-BuildFromText text b r b′ = Answers (buildTextOf text (lentOf b)) (drawersIn (commandsOf text)) b r b′
+BuildFromText text b r b′ = Answers (buildTextOf text (lentOf b)) (drawersTextOf text) b r b′
 
 -- what a first pass that stops at the first refusal of either kind finds; one of building may have one of reading after it
 abbrev pub Finds : List ℕ → Found → Type 0

@@ -6,7 +6,8 @@ use mathlib.Core.Path.{sym, ap, _∙_}
 use native.Mathlib.Omega.{arith}
 use lib.ListN.{length}
 use Rattle.path_stored.specs.Buffers.{buffers}
-use Rattle.path_build.proofs.Along.{Storing, storing-none, storing-inside, stored-kinds, stored-fields, stored-tables, stored-lengths, stored-commands, stored-all, storing-number, storing-bad, storing-fits, storing-room, storing-more}
+use Rattle.path_build.proofs.Along.{Storing, storing-none, storing-inside, stored-kinds, stored-fields, stored-tables, stored-lengths}
+use Rattle.path_build.proofs.Along.{stored-commands, stored-all, storing-number, storing-bad, storing-fits, storing-room, storing-more}
 use Rattle.path_build.proofs.passes.fill.Statement.{statement}
 use Rattle.path_build.proofs.passes.fill.Tie as tie
 
@@ -58,11 +59,15 @@ returns c =
     let l = looped d in
     absurd (storing-bad (l .loop .inv) (start l .pre .0) (start l .pre .1) (d .before .before .loop-test .taken) (sym (d .decode .ensures) ∙ c .enum-told .given .1))
 
+-- the count of commands and that of segments fit
 cast-number : tie.Need-cast-number Inv-loop μ-loop
 cast-number c =
-    let d = decoded (c .before) in
+    let t = c .before in
+    let d = decoded t in
     let l = looped d in
-    omega (arith, storing-number (l .loop .inv) (start l .pre .0) (start l .pre .1) (d .before .before .loop-test .taken))
+    let more = d .before .before .loop-test .taken in
+    let room = storing-room (l .loop .inv) (start l .pre .0) (start l .pre .1) more _ (sym (d .decode .ensures) ∙ t .command .given .1) in
+    omega (arith, storing-number (l .loop .inv) (start l .pre .0) (start l .pre .1) more, room .0 .segments)
 
 lay-requires : tie.Need-lay-requires Inv-loop μ-loop
 lay-requires c κs =
