@@ -15,23 +15,23 @@ use Rattle.c_answer.specs.Given.{Given}
 use Rattle.c_answer.proofs.Giving.{given-same}
 use Rattle.kihavute_paths.specs.Paths.{PathBuilt}
 
-pub building-given : (building : Building) (segments fields tables : ℕ) → Building.Built segments fields tables ≡ building → accepted (segments ∷ fields ∷ tables ∷ segments ∷ []) ≡ answerOf building
+pub building-given : (building : Building) (segments fields tables : ℕ) → Building.Built segments fields tables ≡ building → accepted (segments ∷ fields ∷ tables ∷ segments ∷ segments ∷ []) ≡ answerOf building
 building-given building segments fields tables is = ap answerOf is
 
 pub building-refused : (building : Building) (refusal : Refusal) → Building.Refused refusal ≡ building → refused refusal ≡ answerOf building
 building-refused building refusal is = ap answerOf is
 
-module _ (built : Built) (b : Buffers) (answer : List ℕ) where
+module _ (built : Built) (drawers : List ℕ) (b : Buffers) (answer : List ℕ) where
   -- an answer that is too short: nothing is built
-  pub not-built : length answer < 8 → PathBuilt built b answer 255 b answer
+  pub not-built : length answer < 8 → PathBuilt built drawers b answer 255 b answer
   not-built h = let s = lt-ltb (length answer) 8 h in record { reported = record { code = rw s; places = rw s }; after = rw s }
 
   -- else the entry's own promise, reported
-  pub built-reported : {b′ : Buffers} {answer′ : List ℕ} {returned : ℕ} (building : Building) → 8 ≤ length answer → Answers built b building b′
-      → Given (answerOf building) answer returned answer′ → PathBuilt built b answer returned b′ answer′
+  pub built-reported : {b′ : Buffers} {answer′ : List ℕ} {returned : ℕ} (building : Building) → 8 ≤ length answer → Answers built drawers b building b′
+      → Given (answerOf building) answer returned answer′ → PathBuilt built drawers b answer returned b′ answer′
   built-reported building h p g = record { reported = given-same _ _ (p .answer) g; after = rw (le-ltb (length answer) 8 h) (p .after) }
 
   -- any two allowed results are equal
-  pub path-built-unique : (r s : ℕ) (b₁ b₂ : Buffers) (answer₁ answer₂ : List ℕ) → PathBuilt built b answer r b₁ answer₁ → PathBuilt built b answer s b₂ answer₂
+  pub path-built-unique : (r s : ℕ) (b₁ b₂ : Buffers) (answer₁ answer₂ : List ℕ) → PathBuilt built drawers b answer r b₁ answer₁ → PathBuilt built drawers b answer s b₂ answer₂
       → (r ≡ s) × (b₁ ≡ b₂) × (answer₁ ≡ answer₂)
   path-built-unique r s b₁ b₂ answer₁ answer₂ p q = (p .reported .code ∙ sym (q .reported .code), p .after ∙ sym (q .after), p .reported .places ∙ sym (q .reported .places))

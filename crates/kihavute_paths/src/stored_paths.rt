@@ -5,7 +5,7 @@ ghost use Rattle.kihavute_paths.specs.StoredPaths.{checkGiven};
 use answers::Refusal;
 use answers::Values;
 
-// Whether four buffers hold a stored path: returns 0 and puts the count of its segments at the start of answer; returns 12 where they
+// Whether five buffers hold a stored path: returns 0 and puts the count of its segments at the start of answer; returns 12 where they
 // do not.
 #[no_mangle]
 pub extern "C" fn kihavute_check(
@@ -13,11 +13,12 @@ pub extern "C" fn kihavute_check(
     fields: &[f32],
     tables: &[f32],
     lengths: &[f32],
+    commands: &[u32],
     answer: &mut [u64],
 ) -> u32
-    ensures { λ r. ⌜ Given (checkGiven (before kinds fields tables lengths)) (now (answer .entry)) r (now (answer .exit)) ⌝ }
+    ensures { λ r. ⌜ Given (checkGiven (before kinds fields tables lengths commands)) (now (answer .entry)) r (now (answer .exit)) ⌝ }
 {
-    if path_stored::check_path(kinds, fields, tables, lengths) {
+    if path_stored::check_path(kinds, fields, tables, lengths, commands) {
         return c_answer::accept(Values::One(kinds.len()), answer);
     }
     c_answer::refuse(Refusal::BadPath, answer)
