@@ -61,7 +61,7 @@ put-all {word} {i} g h p = put-same p word (take-all i word h)
 
 pub word-room :
     (word : List ℕ) (i at place : ℕ) (before now : List ℕ)
-    → i < length word → Put (take i word) at before now place → at + length word ≤ 65536 → place < 65536
+    → i < length word → Put (take i word) at before now place → at + length word ≤ 69632 → place < 69632
 word-room word i at place before now h p fits =
     let l : length (take i word) ≡ i = length-take-le i word (omega arith) in
     omega (arith, p .past)

@@ -22,20 +22,20 @@ bitsFields (value ∷ values) = bitsField value ++ bitsFields values
 abbrev pub feed : List ℕ
 feed = 10 ∷ []
 
--- "Command: letter, numbers as bits."
+-- "Command: letter, numbers as bits", and the offset of the letter that made it (document 02, L5), in bytes of the path's text
 unfoldable pub argumentFields : PathCommand → List ℕ
 unfolding bitsFields
 argumentFields command = bitsFields (argumentsOf command)
 
-unfoldable pub commandLine : PathCommand → List ℕ
-unfolding argumentFields
-commandLine command = letterOf command ∷ argumentFields command ++ feed
+unfoldable pub commandLine : PathCommand → ℕ → List ℕ
+unfolding argumentFields numberField
+commandLine command offset = letterOf command ∷ argumentFields command ++ (numberField offset ++ feed)
 
 unfoldable pub pointFields : Point → List ℕ
 unfolding bitsFields
 pointFields point = bitsFields (point .x ∷ point .y ∷ [])
 
--- "Segment: line, quad, cubic, arc or fallback, and running length."
+-- "Segment: line, quad, cubic, arc or fallback, and running length", and the number of its command (document 02, L5), from 0
 abbrev pub names : List (List ℕ)
 names = (108 ∷ 105 ∷ 110 ∷ 101 ∷ []) ∷ (113 ∷ 117 ∷ 97 ∷ 100 ∷ []) ∷ (99 ∷ 117 ∷ 98 ∷ 105 ∷ 99 ∷ []) ∷ (97 ∷ 114 ∷ 99 ∷ []) ∷ []
 
@@ -45,9 +45,9 @@ lastName = 102 ∷ 97 ∷ 108 ∷ 108 ∷ 98 ∷ 97 ∷ 99 ∷ 107 ∷ []
 unfoldable pub kindName : ℕ → List ℕ
 kindName kind = getD names kind lastName
 
-unfoldable pub segmentLine : ℕ → Float → List ℕ
-unfolding kindName bitsField
-segmentLine kind running = kindName kind ++ (bitsField running ++ feed)
+unfoldable pub segmentLine : ℕ → Float → ℕ → List ℕ
+unfolding kindName bitsField numberField
+segmentLine kind running command = kindName kind ++ (bitsField running ++ (numberField command ++ feed))
 
 -- "Output, each section after its count": a word, a space, a count
 unfoldable pub headerLine : List ℕ → ℕ → List ℕ

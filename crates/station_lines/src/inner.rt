@@ -1,4 +1,4 @@
-// The functions ask that their bytes end within the 65,536 places of a listing; the tool's work is proved to meet that.
+// The functions ask that their bytes end within the 69,632 places of a listing; the tool's work is proved to meet that.
 pub use crate::lines::put_command;
 pub use crate::lines::put_header;
 pub use crate::lines::put_refusal;

@@ -9,6 +9,7 @@ ghost use Rattle.station_lines.specs.Put.{PutWithin};
 use crate::numbers::put_bits;
 use crate::numbers::put_byte;
 use crate::numbers::put_number;
+use crate::numbers::put_offset;
 use crate::numbers::put_small;
 use crate::numbers::put_word;
 use answers::Refusal;
@@ -18,7 +19,7 @@ use flight::Found;
 use math::Point;
 
 fn put_point(out: &mut [u8], at: usize, point: Point) -> usize
-    requires { ⌜ at + 18 ≤ 65536 ⌝ }
+    requires { ⌜ at + 18 ≤ 69632 ⌝ }
     ensures { λ r. ⌜ PutWithin 18 (pointFields point) at (now (out .entry)) (now (out .exit)) r ⌝ }
 {
     let place = put_bits(out, at, point.x);
@@ -26,7 +27,7 @@ fn put_point(out: &mut [u8], at: usize, point: Point) -> usize
 }
 
 fn put_flag(out: &mut [u8], at: usize, flag: bool) -> usize
-    requires { ⌜ at + 9 ≤ 65536 ⌝ }
+    requires { ⌜ at + 9 ≤ 69632 ⌝ }
     ensures { λ r. ⌜ PutWithin 9 (bitsField (flagOf flag)) at (now (out .entry)) (now (out .exit)) r ⌝ }
 {
     if flag {
@@ -36,7 +37,7 @@ fn put_flag(out: &mut [u8], at: usize, flag: bool) -> usize
 }
 
 fn put_quad(out: &mut [u8], at: usize, control: Point, end: Point) -> usize
-    requires { ⌜ at + 36 ≤ 65536 ⌝ }
+    requires { ⌜ at + 36 ≤ 69632 ⌝ }
     ensures { λ r. ⌜ PutWithin 36 (argumentFields (PathCommand.QuadTo control end)) at (now (out .entry)) (now (out .exit)) r ⌝ }
 {
     let place = put_point(out, at, control);
@@ -52,7 +53,7 @@ fn put_arc(
     sweep: bool,
     end: Point,
 ) -> usize
-    requires { ⌜ at + 63 ≤ 65536 ⌝ }
+    requires { ⌜ at + 63 ≤ 69632 ⌝ }
     ensures { λ r. ⌜ PutWithin 63 (argumentFields (PathCommand.ArcTo radii rotation «large_arc» sweep end)) at (now (out .entry)) (now (out .exit)) r ⌝ }
 {
     let past_radii = put_point(out, at, radii);
@@ -64,7 +65,7 @@ fn put_arc(
 
 // The numbers of a command.
 fn put_arguments(out: &mut [u8], at: usize, command: PathCommand) -> usize
-    requires { ⌜ at + 63 ≤ 65536 ⌝ }
+    requires { ⌜ at + 63 ≤ 69632 ⌝ }
     ensures { λ r. ⌜ PutWithin 63 (argumentFields command) at (now (out .entry)) (now (out .exit)) r ⌝ }
 {
     match command {
@@ -100,19 +101,20 @@ fn put_arguments(out: &mut [u8], at: usize, command: PathCommand) -> usize
     }
 }
 
-// A command: its letter and its numbers as bits.
-pub fn put_command(out: &mut [u8], at: usize, command: PathCommand) -> usize
-    requires { ⌜ at + 65 ≤ 65536 ⌝ }
-    ensures { λ r. ⌜ PutWithin 65 (commandLine command) at (now (out .entry)) (now (out .exit)) r ⌝ }
+// A command: its letter, its numbers as bits and the offset of the letter that made it.
+pub fn put_command(out: &mut [u8], at: usize, command: PathCommand, offset: usize) -> usize
+    requires { ⌜ (offset < 10000) × (at + 70 ≤ 69632) ⌝ }
+    ensures { λ r. ⌜ PutWithin 70 (commandLine command offset) at (now (out .entry)) (now (out .exit)) r ⌝ }
 {
     let past_letter = put_byte(out, at, commands::letter(command));
     let past_numbers = put_arguments(out, past_letter, command);
-    put_byte(out, past_numbers, b'\n')
+    let past_offset = put_offset(out, past_numbers, offset);
+    put_byte(out, past_offset, b'\n')
 }
 
 // The name of a segment's kind.
 fn put_kind(out: &mut [u8], at: usize, kind: u8) -> usize
-    requires { ⌜ at + 8 ≤ 65536 ⌝ }
+    requires { ⌜ at + 8 ≤ 69632 ⌝ }
     ensures { λ r. ⌜ PutWithin 8 (kindName kind) at (now (out .entry)) (now (out .exit)) r ⌝ }
 {
     if kind == 0 {
@@ -130,19 +132,21 @@ fn put_kind(out: &mut [u8], at: usize, kind: u8) -> usize
     put_word(out, at, b"fallback")
 }
 
-// A segment: the name of its kind and its running length.
-pub fn put_segment(out: &mut [u8], at: usize, kind: u8, running: f32) -> usize
-    requires { ⌜ at + 18 ≤ 65536 ⌝ }
-    ensures { λ r. ⌜ PutWithin 18 (segmentLine kind running) at (now (out .entry)) (now (out .exit)) r ⌝ }
+// A segment: the name of its kind, its running length and the number of its command.
+pub fn put_segment(out: &mut [u8], at: usize, kind: u8, running: f32, command: usize) -> usize
+    requires { ⌜ (command < 1000) × (at + 22 ≤ 69632) ⌝ }
+    ensures { λ r. ⌜ PutWithin 22 (segmentLine kind running command) at (now (out .entry)) (now (out .exit)) r ⌝ }
 {
     let past_kind = put_kind(out, at, kind);
     let past_length = put_bits(out, past_kind, running);
-    put_byte(out, past_length, b'\n')
+    let past_space = put_byte(out, past_length, b' ');
+    let past_command = put_small(out, past_space, command);
+    put_byte(out, past_command, b'\n')
 }
 
 // A section's word and its count.
 pub fn put_header(out: &mut [u8], at: usize, word: &[u8], count: usize) -> usize
-    requires { ⌜ at + (length (now word) + 22) ≤ 65536 ⌝ }
+    requires { ⌜ at + (length (now word) + 22) ≤ 69632 ⌝ }
     ensures { λ r. ⌜ PutWithin (length (now (word .entry)) + 22) (headerLine (now (word .entry)) count) at (now (out .entry)) (now (out .exit)) r ⌝ }
 {
     let past_word = put_word(out, at, word);
@@ -152,7 +156,7 @@ pub fn put_header(out: &mut [u8], at: usize, word: &[u8], count: usize) -> usize
 
 // The segment on which a station lies.
 fn put_found(out: &mut [u8], at: usize, found: Found) -> usize
-    requires { ⌜ FewSegments found × (at + 4 ≤ 65536) ⌝ }
+    requires { ⌜ FewSegments found × (at + 4 ≤ 69632) ⌝ }
     ensures { λ r. ⌜ PutWithin 4 (segmentField found) at (now (out .entry)) (now (out .exit)) r ⌝ }
 {
     let place = put_byte(out, at, b' ');
@@ -175,7 +179,7 @@ pub fn put_station(
     position: Point,
     tangent: Point,
 ) -> usize
-    requires { ⌜ (number < 1000) × FewSegments found × (at + 44 ≤ 65536) ⌝ }
+    requires { ⌜ (number < 1000) × FewSegments found × (at + 44 ≤ 69632) ⌝ }
     ensures { λ r. ⌜ PutWithin 44 (stationLine number found position tangent) at (now (out .entry)) (now (out .exit)) r ⌝ }
 {
     let past_number = put_small(out, at, number);
@@ -186,7 +190,7 @@ pub fn put_station(
 }
 
 fn put_values(out: &mut [u8], at: usize, values: Values) -> usize
-    requires { ⌜ at + 105 ≤ 65536 ⌝ }
+    requires { ⌜ at + 105 ≤ 69632 ⌝ }
     ensures { λ r. ⌜ PutWithin 105 (valueFields (listed values)) at (now (out .entry)) (now (out .exit)) r ⌝ }
 {
     match values {
@@ -223,7 +227,7 @@ fn put_values(out: &mut [u8], at: usize, values: Values) -> usize
 
 // What a refusal carries: a letter as itself, numbers to the base 10.
 fn put_carried(out: &mut [u8], at: usize, refusal: Refusal) -> usize
-    requires { ⌜ at + 105 ≤ 65536 ⌝ }
+    requires { ⌜ at + 105 ≤ 69632 ⌝ }
     ensures { λ r. ⌜ PutWithin 105 (carriedFields refusal) at (now (out .entry)) (now (out .exit)) r ⌝ }
 {
     if let Refusal::UnsupportedCommand(letter, place) = refusal {
@@ -236,7 +240,7 @@ fn put_carried(out: &mut [u8], at: usize, refusal: Refusal) -> usize
 
 // A refusal: its number and what it carries.
 pub fn put_refusal(out: &mut [u8], at: usize, refusal: Refusal) -> usize
-    requires { ⌜ at + 134 ≤ 65536 ⌝ }
+    requires { ⌜ at + 134 ≤ 69632 ⌝ }
     ensures { λ r. ⌜ PutWithin 134 (refusalLine refusal) at (now (out .entry)) (now (out .exit)) r ⌝ }
 {
     let past_word = put_word(out, at, b"refused");

@@ -1,5 +1,5 @@
 // Bytes, words and numbers at a place of a buffer. Each function returns the place past what it put. A byte past the buffer's end is not
-// stored but counted, so that a listing's length is found without room for it; no place is past 65,536.
+// stored but counted, so that a listing's length is found without room for it; no place is past 69,632.
 ghost use Prim.Native.Nat.{_+_, _≤_, _<_};
 ghost use mathlib.Core.Path.{_≡_};
 ghost use mathlib.Core.List.{[], _∷_};
@@ -8,7 +8,7 @@ ghost use Rattle.station_lines.specs.Numbers.{hexDigit, hexDigits, decim
 ghost use Rattle.station_lines.specs.Put.{Put, PutWithin};
 
 pub(crate) fn put_byte(out: &mut [u8], at: usize, byte: u8) -> usize
-    requires { ⌜ at < 65536 ⌝ }
+    requires { ⌜ at < 69632 ⌝ }
     ensures { λ r. ⌜ Put (byte ∷ []) at (now (out .entry)) (now (out .exit)) r ⌝ }
 {
     if out.len() <= at {
@@ -19,7 +19,7 @@ pub(crate) fn put_byte(out: &mut [u8], at: usize, byte: u8) -> usize
 }
 
 pub(crate) fn put_word(out: &mut [u8], at: usize, word: &[u8]) -> usize
-    requires { ⌜ at + length (now word) ≤ 65536 ⌝ }
+    requires { ⌜ at + length (now word) ≤ 69632 ⌝ }
     ensures { λ r. ⌜ Put (now (word .entry)) at (now (out .entry)) (now (out .exit)) r ⌝ }
 {
     let mut place = at;
@@ -44,7 +44,7 @@ fn hex_digit(value: u32) -> u8
 
 // The last `count` digits of a number to the base 16.
 fn put_hex(out: &mut [u8], at: usize, count: usize, value: u32) -> usize
-    requires { ⌜ at + count ≤ 65536 ⌝ }
+    requires { ⌜ at + count ≤ 69632 ⌝ }
     ensures { λ r. ⌜ Put (hexDigits count value) at (now (out .entry)) (now (out .exit)) r ⌝ }
 {
     if count == 0 {
@@ -56,7 +56,7 @@ fn put_hex(out: &mut [u8], at: usize, count: usize, value: u32) -> usize
 
 // A number to the base 10.
 fn put_decimal(out: &mut [u8], at: usize, value: usize) -> usize
-    requires { ⌜ at + length (decimalOf value) ≤ 65536 ⌝ }
+    requires { ⌜ at + length (decimalOf value) ≤ 69632 ⌝ }
     ensures { λ r. ⌜ Put (decimalOf value) at (now (out .entry)) (now (out .exit)) r ⌝ }
 {
     if value < 10 {
@@ -68,15 +68,24 @@ fn put_decimal(out: &mut [u8], at: usize, value: usize) -> usize
 
 // A number below 1,000 to the base 10.
 pub(crate) fn put_small(out: &mut [u8], at: usize, value: usize) -> usize
-    requires { ⌜ (value < 1000) × (at + 3 ≤ 65536) ⌝ }
+    requires { ⌜ (value < 1000) × (at + 3 ≤ 69632) ⌝ }
     ensures { λ r. ⌜ PutWithin 3 (decimalOf value) at (now (out .entry)) (now (out .exit)) r ⌝ }
 {
     put_decimal(out, at, value)
 }
 
+// A space and a number below 10,000 to the base 10: an offset in a plan's path is one.
+pub(crate) fn put_offset(out: &mut [u8], at: usize, value: usize) -> usize
+    requires { ⌜ (value < 10000) × (at + 5 ≤ 69632) ⌝ }
+    ensures { λ r. ⌜ PutWithin 5 (numberField value) at (now (out .entry)) (now (out .exit)) r ⌝ }
+{
+    let place = put_byte(out, at, b' ');
+    put_decimal(out, place, value)
+}
+
 // A space and a number to the base 10.
 pub(crate) fn put_number(out: &mut [u8], at: usize, value: usize) -> usize
-    requires { ⌜ at + 21 ≤ 65536 ⌝ }
+    requires { ⌜ at + 21 ≤ 69632 ⌝ }
     ensures { λ r. ⌜ PutWithin 21 (numberField value) at (now (out .entry)) (now (out .exit)) r ⌝ }
 {
     let place = put_byte(out, at, b' ');
@@ -85,7 +94,7 @@ pub(crate) fn put_number(out: &mut [u8], at: usize, value: usize) -> usize
 
 // A space and the bits of a number, in eight digits to the base 16.
 pub(crate) fn put_bits(out: &mut [u8], at: usize, value: f32) -> usize
-    requires { ⌜ at + 9 ≤ 65536 ⌝ }
+    requires { ⌜ at + 9 ≤ 69632 ⌝ }
     ensures { λ r. ⌜ PutWithin 9 (bitsField value) at (now (out .entry)) (now (out .exit)) r ⌝ }
 {
     let place = put_byte(out, at, b' ');

@@ -12,8 +12,13 @@ use Rattle.station_lines.proofs.lines.put_command.Tie as tie
 returns : tie.Need-returns
 unfolding commandLine
 returns c =
-    within-as 65 _
-    (within-then (one-byte (put-same (c .before .before .before .before .before .before .before .before .before .before .put-byte .ensures) _ (ap (λ (b : ℕ). b ∷ []) (c .before .before .before .before .before .before .before .before .before .before .before .letter .ensures)))) (within-then (c .before .before .before .before .before .before .put-arguments .ensures) (one-byte (c .before .before .put-byte2 .ensures))) .put)
+    let numbers = c .before .before .before .before .before .before .before .before .before .before in
+    let letter = numbers .before .before .before .before in
+    within-as 70 _
+    (within-then (one-byte (put-same (letter .put-byte .ensures) _ (ap (λ (b : ℕ). b ∷ []) (letter .before .letter .ensures))))
+    (within-then (numbers .put-arguments .ensures)
+    (within-then (c .before .before .before .before .before .before .put-offset .ensures) (one-byte (c .before .before .put-byte2 .ensures))))
+    .put)
     refl
     (omega arith)
 
@@ -21,4 +26,4 @@ pub put-command-spec : {M : Type 1} → statement M
 put-command-spec =
     tie.close
     (tie.spec (λ c κs. search needs) (λ c κs. search needs) (λ c κs. search needs) (λ c κs. search needs)
-    (λ c. search needs) returns)
+    (λ c κs. search needs) (λ c. search needs) returns)

@@ -70,7 +70,7 @@ put-decimal-put-decimal-requires : (t : ℕ) → put-decimal-lts.Need-put-decima
   put-decimal-below t,
   put-decimal.Post,
 ) (put-decimal-at t) put-decimal.Post
-put-decimal-put-decimal-requires t c κs = let h = high-room (c .before .before .before .args .value) (c .before .before .before .args .at) 65536 (c .before .if1 .left) (omega arith) (c .before .before .before .pre .1) in (omega (arith, c .before .before .before .pre .0), omega arith)
+put-decimal-put-decimal-requires t c κs = let h = high-room (c .before .before .before .args .value) (c .before .before .before .args .at) 69632 (c .before .if1 .left) (omega arith) (c .before .before .before .pre .1) in (omega (arith, c .before .before .before .pre .0), omega arith)
 
 put-decimal-add-put-byte-2 : (t : ℕ) → put-decimal-lts.Need-add-put-byte-2 (
   put-byte-reads.Asked,
@@ -94,7 +94,7 @@ put-decimal-put-byte-requires-2 : (t : ℕ) → put-decimal-lts.Need-put-byte-re
   put-decimal-below t,
   put-decimal.Post,
 ) (put-decimal-at t) put-decimal.Post
-put-decimal-put-byte-requires-2 t c κs = let h = high-room (c .before .before .before .before .before .before .before .args .value) (c .before .before .before .before .before .before .before .args .at) 65536 (c .before .before .before .before .before .if1 .left) (omega arith) (c .before .before .before .before .before .before .before .pre .1) in omega (arith, c .before .before .before .put-decimal .ensures .past)
+put-decimal-put-byte-requires-2 t c κs = let h = high-room (c .before .before .before .before .before .before .before .args .value) (c .before .before .before .before .before .before .before .args .at) 69632 (c .before .before .before .before .before .if1 .left) (omega arith) (c .before .before .before .before .before .before .before .pre .1) in omega (arith, c .before .before .before .put-decimal .ensures .past)
 
 put-decimal-same-length-2 : (t : ℕ) → put-decimal-lts.Need-same-length-2 (
   put-byte-reads.Asked,
