@@ -1,5 +1,5 @@
 -- The passes over a plan's path: what each knows between two commands, and what a step does to that. Assumes nothing.
-use Prim.Native.Nat.{ℕ, _+_, _*_, _≤_, _<_}
+use Prim.Native.Nat.{ℕ, suc, _+_, _*_, _≤_, _<_}
 use mathlib.Core.Path.{_≡_, refl, sym, ap, _∙_}
 use mathlib.Core.List.{List, [], _∷_, _++_, append-assoc, append-nil}
 use native.Mathlib.Omega.{arith}
@@ -8,11 +8,11 @@ use Rattle.answers.specs.declared.refusals.Refusal.{Refusal}
 use Rattle.commands.specs.Stored.{lettersOf, numbersOf}
 use Rattle.commands.specs.declared.command.PathCommand.{PathCommand}
 use Rattle.svg_step.specs.Steps.{freshOf, readStepOf}
-use Rattle.svg.specs.Texts.{Outcome, commands, refusal, readFrom, commandsOf}
+use Rattle.svg.specs.Texts.{Outcome, commands, refusal, readFrom, commandsOf, offsetsOf}
 use Rattle.svg_step.specs.declared.steps.Reader.{Reader}
 use Rattle.svg_step.specs.declared.steps.Step.{Step}
 use Rattle.svg_step.specs.declared.steps.Step.the-variants.{Command, Done, Refused}
-use Rattle.svg.proofs.PassLaws.{onto, Known, known-none, known-all, known-refused, known-more, Counting}
+use Rattle.svg.proofs.PassLaws.{onto, Known, known-none, known-all, known-offsets, known-refused, known-more, known-offset, Counting}
 use Rattle.text_reader.specs.Plans.{stepOf}
 use Rattle.station_lines.specs.Lines.{commandLine}
 use Rattle.station_lines.specs.Put.{Put, PutWithin}
@@ -40,21 +40,34 @@ module _ (text : List ℕ) (reader : Reader) (place at : ℕ) (k : Counting text
 
 -- ---- the lines
 
-lines-more : (done : List PathCommand) (command : PathCommand) → commandLines done ++ commandLine command ≡ commandLines (done ++ (command ∷ []))
+-- one command more, and its offset
+lines-more :
+    (done : List PathCommand) (marks : List ℕ) (command : PathCommand) (offset : ℕ) → length marks ≡ length done
+    → commandLines done marks ++ commandLine command offset ≡ commandLines (done ++ (command ∷ [])) (marks ++ (offset ∷ []))
 unfolding commandLines
-lines-more [] command = sym (append-nil (commandLine command))
-lines-more (x ∷ done) command = append-assoc (commandLine x) (commandLines done) (commandLine command) ∙ ap (λ (l : List ℕ). commandLine x ++ l) (lines-more done command)
+lines-more [] [] command offset e = sym (append-nil (commandLine command offset))
+lines-more [] (mark ∷ marks) command offset e = absurd (omega arith)
+lines-more (x ∷ done) [] command offset e = absurd (omega arith)
+lines-more (x ∷ done) (mark ∷ marks) command offset e =
+    append-assoc (commandLine x mark) (commandLines done marks) (commandLine command offset)
+    ∙ ap (λ (l : List ℕ). commandLine x mark ++ l) (lines-more done marks command offset (omega arith))
+
+pub letters-count : (list : List PathCommand) → length (lettersOf list) ≡ length list
+unfolding lettersOf
+letters-count [] = refl
+letters-count (command ∷ list) = ap suc (letters-count list)
 
 pub record Listing (text before out : List ℕ) (from : ℕ) (reader : Reader) (at : ℕ) : Type 0 where
   pub done : List PathCommand
   pub known : Known text reader done
-  pub put : Put (commandLines done) from before out at
-  pub within : at ≤ from + 65 * length done
+  pub put : Put (commandLines done (known .marks)) from before out at
+  pub within : at ≤ from + 70 * length done
   pub few : FewCommands (commandsOf text)
+  pub short : length text ≤ 4096
 
-pub listing-none : (text before : List ℕ) (from : ℕ) → FewCommands (commandsOf text) → Listing text before before from freshOf from
+pub listing-none : (text before : List ℕ) (from : ℕ) → FewCommands (commandsOf text) → length text ≤ 4096 → Listing text before before from freshOf from
 unfolding commandLines
-listing-none text before from few = record { done = []; known = known-none text; put = put-none from before; within = omega arith; few = few }
+listing-none text before from few short = record { done = []; known = known-none text; put = put-none from before; within = omega arith; few = few; short = short }
 
 -- the commands known are few, and so are those to come
 few-of : (done : List PathCommand) (whole rest : Outcome) → FewCommands whole → whole ≡ onto done rest → length done ≤ 256
@@ -71,27 +84,34 @@ module _ (text before out : List ℕ) (from : ℕ) (reader : Reader) (at : ℕ) 
   pub never-refused : (reason : Refusal) → readStepOf text reader ≡ Refused reason → ⊥
   never-refused reason e = rw (known-refused text reader (k .done) (k .known) reason e) at (k .few)
 
-  pub listed : readStepOf text reader ≡ Done → Listed (commandsOf text) from before out at
+  pub listed : readStepOf text reader ≡ Done → Listed (offsetsOf text) (commandsOf text) from before out at
   listed e =
       let w = few-of (k .done) (commandsOf text) (readFrom (k .known .steps) text reader) (k .few) (k .known .whole) in
-      let b : at ≤ from + 16640 = omega (arith, w, k .within) in
-      rw (known-all text reader (k .done) (k .known) e) (record { put = k .put; within = b })
+      let b : at ≤ from + 17920 = omega (arith, w, k .within) in
+      rw (known-all text reader (k .done) (k .known) e, known-offsets text reader (k .done) (k .known) e) (record { put = k .put; within = b })
 
   module _ (command : PathCommand) (next : Reader) (e : readStepOf text reader ≡ Command command next) where
     more : Known text next (k .done ++ (command ∷ []))
     more = known-more text reader (k .done) (k .known) command next e
 
-    pub line-room : from + 16640 ≤ 65536 → at + 65 ≤ 65536
+    -- its line has room, and its offset at most four digits
+    pub line-room : from + 17920 ≤ 69632 → (next .offset < 10000) × (at + 70 ≤ 69632)
     line-room h =
         let w = few-of (k .done ++ (command ∷ [])) (commandsOf text) (readFrom (more .steps) text next) (k .few) (more .whole) in
-        omega (arith, w, length-append (k .done) (command ∷ []), k .within)
+        let o = known-offset text reader (k .done) (k .known) command next e in
+        (omega (arith, k .short), omega (arith, w, length-append (k .done) (command ∷ []), k .within))
 
-    pub listing-more : (out′ : List ℕ) (at′ : ℕ) → PutWithin 65 (commandLine command) at out out′ at′ → Listing text before out′ from next at′
+    pub listing-more : (out′ : List ℕ) (at′ : ℕ) → PutWithin 70 (commandLine command (next .offset)) at out out′ at′ → Listing text before out′ from next at′
+    unfolding known-more more
     listing-more out′ at′ p =
+        let m : length (k .known .marks) ≡ length (k .done) = k .known .many ∙ letters-count (k .done) in
         record {
           done = k .done ++ (command ∷ []);
           known = more;
-          put = put-same (put-then (k .put) (p .put)) (commandLines (k .done ++ (command ∷ []))) (lines-more (k .done) command);
+          put =
+              put-same (put-then (k .put) (p .put)) (commandLines (k .done ++ (command ∷ [])) (k .known .marks ++ (next .offset ∷ [])))
+              (lines-more (k .done) (k .known .marks) command (next .offset) m);
           within = omega (arith, p .within, k .within, length-append (k .done) (command ∷ []));
           few = k .few;
+          short = k .short;
         }

@@ -1,4 +1,4 @@
--- What each pass over a plan's path answers and leaves (document 01, "The station tool"). Definitions only.
+-- What each pass over a plan's path answers and leaves (document 01, "The station tool"; document 02, L5). Definitions only.
 use Prim.Native.Nat.{ℕ, _≤_}
 use mathlib.Core.List.{List, [], _∷_, _++_}
 use lib.ListN.{length}
@@ -15,18 +15,19 @@ unfoldable pub sizeOf : Outcome → Size
 sizeOf (commands list) = Counted (length (lettersOf list)) (length (numbersOf list))
 sizeOf (refusal reason) = Refused reason
 
--- a line for each command
-unfoldable pub commandLines : List PathCommand → List ℕ
+-- a line for each command, with its offset; there are as many offsets as commands
+unfoldable pub commandLines : List PathCommand → List ℕ → List ℕ
 unfolding commandLine
-commandLines [] = []
-commandLines (command ∷ list) = commandLine command ++ commandLines list
+commandLines [] offsets = []
+commandLines (command ∷ list) [] = []
+commandLines (command ∷ list) (offset ∷ offsets) = commandLine command offset ++ commandLines list offsets
 
 -- the path reads, and has at most 256 commands
 abbrev pub FewCommands : Outcome → Type 0
 FewCommands (commands list) = length list ≤ 256
 FewCommands (refusal reason) = ⊥
 
--- the path reads, and its lines are put
-abbrev pub Listed : Outcome → ℕ → List ℕ → List ℕ → ℕ → Type 0
-Listed (commands list) from before after next = PutWithin 16640 (commandLines list) from before after next
-Listed (refusal reason) from before after next = ⊥
+-- the path reads, and the lines of its commands and their offsets are put
+abbrev pub Listed : List ℕ → Outcome → ℕ → List ℕ → List ℕ → ℕ → Type 0
+Listed offsets (commands list) from before after next = PutWithin 17920 (commandLines list offsets) from before after next
+Listed offsets (refusal reason) from before after next = ⊥

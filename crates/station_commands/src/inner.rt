@@ -3,7 +3,7 @@
 ghost use mathlib.Core.Path.{_≡_};
 ghost use Prim.Native.Nat.{_+_, _≤_};
 ghost use lib.ListN.{length, drop};
-ghost use Rattle.svg.specs.Texts.{commandsOf, Room, Filled};
+ghost use Rattle.svg.specs.Texts.{commandsOf, offsetsOf, Room, Filled};
 ghost use Rattle.station_lines.specs.Put.{PutWithin};
 ghost use Rattle.station_commands.specs.Passes.{sizeOf, FewCommands, Listed};
 use crate::sizes::Size;
@@ -68,10 +68,11 @@ pub fn fill(input: &[u8], start: usize, letters: &mut [u8], numbers: &mut [f32])
     }
 }
 
-// Puts a line for each command of a path that reads and has at most 256, from `from` on, and gives the place past them.
+// Puts a line for each command of a path that reads and has at most 256, from `from` on, and gives the place past them. The state past a command has
+// the offset of the letter that made it, counted from `start`.
 pub fn list(input: &[u8], start: usize, out: &mut [u8], from: usize) -> usize
-    requires { ⌜ FewCommands (commandsOf (drop start (now input))) × (from + 16640 ≤ 65536) ⌝ }
-    ensures { λ r. ⌜ Listed (commandsOf (drop start (now (input .entry)))) from (now (out .entry)) (now (out .exit)) r ⌝ }
+    requires { ⌜ FewCommands (commandsOf (drop start (now input))) × (length (drop start (now input)) ≤ 4096) × (from + 17920 ≤ 69632) ⌝ }
+    ensures { λ r. ⌜ Listed (offsetsOf (drop start (now (input .entry)))) (commandsOf (drop start (now (input .entry)))) from (now (out .entry)) (now (out .exit)) r ⌝ }
 {
     let mut reader = fresh();
     let mut at = from;
@@ -84,7 +85,7 @@ pub fn list(input: &[u8], start: usize, out: &mut [u8], from: usize) -> usize
                 return at;
             }
             Step::Command { command, next } => {
-                at = put_command(out, at, command);
+                at = put_command(out, at, command, next.offset);
                 reader = next;
             }
         }

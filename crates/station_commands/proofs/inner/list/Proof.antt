@@ -15,7 +15,7 @@ abbrev μ-loop : tie.MeasureT-loop
 μ-loop input start out₀ from reader₀ at₀ out reader at = length (drop start input) - reader .at
 
 loop-holds : tie.Need-loop-holds Inv-loop μ-loop
-loop-holds c = rw (c .fresh .ensures) (listing-none _ _ _ (c .before .before .before .pre .0))
+loop-holds c = rw (c .fresh .ensures) (listing-none _ _ _ (c .before .before .before .pre .0) (c .before .before .before .pre .1))
 
 same-length : tie.Need-same-length Inv-loop μ-loop
 same-length c = same-out _ _ (c .before .before .before .loop .out) _ (c .before .before .before .loop .reader) (c .before .before .before .loop .at) (c .before .before .before .loop .inv)
@@ -30,7 +30,7 @@ returns-2 : tie.Need-returns-2 Inv-loop μ-loop
 returns-2 c = absurd (never-refused _ _ (c .before .before .before .loop .out) _ (c .before .before .before .loop .reader) (c .before .before .before .loop .at) (c .before .before .before .loop .inv) _ (step-as _ _ _ _ _ (c .before .before .path-step .ensures) (c .enum-told2 .given .1)))
 
 put-command-requires : tie.Need-put-command-requires Inv-loop μ-loop
-put-command-requires c κs = line-room _ _ (c .before .before .before .before .before .loop .out) _ (c .before .before .before .before .before .loop .reader) (c .before .before .before .before .before .loop .at) (c .before .before .before .before .before .loop .inv) _ _ (step-as _ _ _ _ _ (c .before .before .before .before .path-step .ensures) (c .before .before .command .given .1)) (c .before .before .before .before .before .before .before .before .before .pre .1)
+put-command-requires c κs = line-room _ _ (c .before .before .before .before .before .loop .out) _ (c .before .before .before .before .before .loop .reader) (c .before .before .before .before .before .loop .at) (c .before .before .before .before .before .loop .inv) _ _ (step-as _ _ _ _ _ (c .before .before .before .before .path-step .ensures) (c .before .before .command .given .1)) (c .before .before .before .before .before .before .before .before .before .pre .2)
 
 loop-less : tie.Need-loop-less Inv-loop μ-loop
 loop-less c = omega (arith, step-ahead _ _ _ _ (step-as _ _ _ _ _ (c .before .before .before .before .before .before .before .path-step .ensures) (c .before .before .before .before .before .command .given .1)))
