@@ -63,7 +63,7 @@ module _ {b : Buffers} {n : ℕ} (r : Ready b n) where
       few false e =
           let some : 0 < length (b .kinds) = omega (arith, eqb-false (length (b .kinds)) 0 e) in
           let path : SoundPath (b .lengths) = record { some = omega (arith, r .stored .one); sound = r .stored .rising } in
-          omega (arith, spot-inside (b .lengths) path p, r .stored .one, r .few)
+          omega (arith, spot-inside (b .lengths) path p, r .stored .one, r .tellable .few)
 
 pub station-is : (b : Buffers) (n k : ℕ) (p : Float) (there : Flight) → p ≡ progressOf n k → there ≡ flightOf b p
     → stationLine k (there .segment) (there .position) (there .tangent) ≡ stationOf b n k

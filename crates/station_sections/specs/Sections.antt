@@ -1,5 +1,6 @@
--- The sections of a listing that a built path gives (document 01, "The station tool"). Segments and stations count from 0. Definitions only.
-use Prim.Native.Nat.{ℕ, zero, suc, _-_, _≤_}
+-- The sections of a listing that a built path gives (document 01, "The station tool"; document 02, L5). Segments and stations count from 0. Definitions only.
+use Prim.Native.Nat.{ℕ, zero, suc, _-_, _≤_, _<_}
+use mathlib.Core.Path.{_≡_}
 use mathlib.Core.List.{List, [], _++_}
 use lib.IntN.{pos}
 use lib.Ieee.{Float, nan, binary32, div, ofInt}
@@ -14,10 +15,10 @@ unfoldable pub linesTo : (ℕ → List ℕ) → ℕ → List ℕ
 linesTo line zero = []
 linesTo line (suc n) = linesTo line n ++ line n
 
--- "Segment: line, quad, cubic, arc or fallback, and running length."
-unfoldable pub segmentLines : List ℕ → List Float → List ℕ
+-- "Segment: line, quad, cubic, arc or fallback, and running length", and the number of its command (document 02, L5)
+unfoldable pub segmentLines : List ℕ → List Float → List ℕ → List ℕ
 unfolding linesTo
-segmentLines kinds lengths = linesTo (λ k. segmentLine (getD kinds k 0) (getD lengths k nan)) (length kinds)
+segmentLines kinds lengths commands = linesTo (λ k. segmentLine (getD kinds k 0) (getD lengths k nan) (getD commands k 0)) (length kinds)
 
 -- "progress is k/(n-1)": whole numbers, divided and rounded once
 unfoldable pub progressOf : ℕ → ℕ → Float
@@ -33,9 +34,16 @@ unfoldable pub stationLines : Buffers → ℕ → List ℕ
 unfolding linesTo stationOf
 stationLines b n = linesTo (λ k. stationOf b n k) n
 
--- a stored path of at most 256 segments, and 2 to 1,000 stations
+-- one running length and one command number a segment, of at most 256 segments; a number has at most three digits
+pub record Tellable (kinds : List ℕ) (lengths : List Float) (commands : List ℕ) : Type 0 where
+  pub one : length lengths ≡ length kinds
+  pub told : length commands ≡ length kinds
+  pub few : length kinds ≤ 256
+  pub small : (k : ℕ) → k < length kinds → getD commands k 0 < 1000
+
+-- a stored path that may be told, and 2 to 1,000 stations
 pub record Ready (b : Buffers) (count : ℕ) : Type 0 where
   pub stored : Stored b
-  pub few : length (b .kinds) ≤ 256
+  pub tellable : Tellable (b .kinds) (b .lengths) (b .commands)
   pub least : 2 ≤ count
   pub most : count ≤ 1000

@@ -4,21 +4,27 @@ ghost use Prim.Native.Nat.{_+_, _≤_, _<_};
 ghost use lib.ListN.{length};
 ghost use Rattle.path_stored.specs.Buffers.{before, lent};
 ghost use Rattle.station_lines.specs.Put.{PutWithin};
-ghost use Rattle.station_sections.specs.Sections.{Ready, progressOf, segmentLines, stationOf, stationLines};
+ghost use Rattle.station_sections.specs.Sections.{Ready, Tellable, progressOf, segmentLines, stationOf, stationLines};
 use path_query::inner::flight;
 use station_lines::inner::put_segment;
 use station_lines::inner::put_station;
 use table::Progress;
 
 // A line for each segment.
-pub fn put_segments(out: &mut [u8], from: usize, kinds: &[u8], lengths: &[f32]) -> usize
-    requires { ⌜ (length (now lengths) ≡ length (now kinds)) × (length (now kinds) ≤ 256) × (from + 4608 ≤ 65536) ⌝ }
-    ensures { λ r. ⌜ PutWithin 4608 (segmentLines (now (kinds .entry)) (now (lengths .entry))) from (now (out .entry)) (now (out .exit)) r ⌝ }
+pub fn put_segments(
+    out: &mut [u8],
+    from: usize,
+    kinds: &[u8],
+    lengths: &[f32],
+    commands: &[u32],
+) -> usize
+    requires { ⌜ Tellable (now kinds) (now lengths) (now commands) × (from + 5632 ≤ 69632) ⌝ }
+    ensures { λ r. ⌜ PutWithin 5632 (segmentLines (now (kinds .entry)) (now (lengths .entry)) (now (commands .entry))) from (now (out .entry)) (now (out .exit)) r ⌝ }
 {
     let mut at = from;
     let mut k = 0;
     while k < kinds.len() {
-        at = put_segment(out, at, kinds[k], lengths[k]);
+        at = put_segment(out, at, kinds[k], lengths[k], commands[k] as usize);
         k += 1;
     }
     at
@@ -45,12 +51,13 @@ fn put_one(
     fields: &[f32],
     tables: &[f32],
     lengths: &[f32],
+    commands: &[u32],
 ) -> usize
-    requires { ⌜ Ready (lent kinds fields tables lengths) count × (number < count) × (at + 44 ≤ 65536) ⌝ }
-    ensures { λ r. ⌜ PutWithin 44 (stationOf (before kinds fields tables lengths) count number) at (now (out .entry)) (now (out .exit)) r ⌝ }
+    requires { ⌜ Ready (lent kinds fields tables lengths commands) count × (number < count) × (at + 44 ≤ 69632) ⌝ }
+    ensures { λ r. ⌜ PutWithin 44 (stationOf (before kinds fields tables lengths commands) count number) at (now (out .entry)) (now (out .exit)) r ⌝ }
 {
     let along = progress(number, count);
-    let there = flight(kinds, fields, tables, lengths, along);
+    let there = flight(kinds, fields, tables, lengths, commands, along);
     let segment = there.segment;
     let position = there.position;
     let tangent = there.tangent;
@@ -66,14 +73,25 @@ pub fn put_stations(
     fields: &[f32],
     tables: &[f32],
     lengths: &[f32],
+    commands: &[u32],
 ) -> usize
-    requires { ⌜ Ready (lent kinds fields tables lengths) count × (from + 44000 ≤ 65536) ⌝ }
-    ensures { λ r. ⌜ PutWithin 44000 (stationLines (before kinds fields tables lengths) count) from (now (out .entry)) (now (out .exit)) r ⌝ }
+    requires { ⌜ Ready (lent kinds fields tables lengths commands) count × (from + 44000 ≤ 69632) ⌝ }
+    ensures { λ r. ⌜ PutWithin 44000 (stationLines (before kinds fields tables lengths commands) count) from (now (out .entry)) (now (out .exit)) r ⌝ }
 {
     let mut at = from;
     let mut number = 0;
     while number < count {
-        at = put_one(out, at, number, count, kinds, fields, tables, lengths);
+        at = put_one(
+            out,
+            at,
+            number,
+            count,
+            kinds,
+            fields,
+            tables,
+            lengths,
+            commands,
+        );
         number += 1;
     }
     at

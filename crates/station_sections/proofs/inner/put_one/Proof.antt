@@ -7,12 +7,12 @@ use Rattle.station_sections.proofs.inner.put_one.Statement.{statement}
 use Rattle.station_sections.proofs.inner.put_one.Tie as tie
 
 flight-requires : tie.Need-flight-requires
-flight-requires c κs = c .before .before .before .before .before .before .pre .0 .stored
+flight-requires c κs = c .before .before .before .before .before .before .before .pre .0 .stored
 
 put-station-requires : tie.Need-put-station-requires
 put-station-requires c κs =
     let flight = c .before .before .before in
-    let pre = flight .before .before .before .before .before .before .before .pre in
+    let pre = flight .before .before .before .before .before .before .before .before .pre in
     (omega (arith, pre .0 .most, pre .1), segment-few (pre .0) _ (flight .flight .ensures), omega arith)
 
 returns : tie.Need-returns

@@ -9,10 +9,10 @@ use Rattle.station_sections.proofs.inner.put_stations.Statement.{statem
 use Rattle.station_sections.proofs.inner.put_stations.Tie as tie
 
 abbrev Inv-loop : tie.InvT-loop
-Inv-loop out₀ from count kinds fields tables lengths at₀ number₀ out at number = (number ≤ count) × PutTo (λ k. stationOf (buffers kinds fields tables lengths) count k) 44 number from out₀ out at
+Inv-loop out₀ from count kinds fields tables lengths commands at₀ number₀ out at number = (number ≤ count) × PutTo (λ k. stationOf (buffers kinds fields tables lengths commands) count k) 44 number from out₀ out at
 
 abbrev μ-loop : tie.MeasureT-loop
-μ-loop out₀ from count kinds fields tables lengths at₀ number₀ out at number = count - number
+μ-loop out₀ from count kinds fields tables lengths commands at₀ number₀ out at number = count - number
 
 loop-holds : tie.Need-loop-holds Inv-loop μ-loop
 loop-holds c = (omega arith, to-none _ _ _ _)
@@ -20,7 +20,7 @@ loop-holds c = (omega arith, to-none _ _ _ _)
 put-one-requires : tie.Need-put-one-requires Inv-loop μ-loop
 put-one-requires c κs =
     let l = c .before .before in
-    let pre = l .before .before .before .before .before .before .pre in
+    let pre = l .before .before .before .before .before .before .before .pre in
     (pre .0, c .before .loop-test .taken, omega (arith, l .loop .inv .1 .within, pre .0 .most, pre .1))
 
 loop-again : tie.Need-loop-again Inv-loop μ-loop
@@ -33,7 +33,7 @@ returns : tie.Need-returns Inv-loop μ-loop
 unfolding stationLines
 returns c =
     let inv = c .before .loop .inv in
-    let start = c .before .before .before .before .before .before .before in
+    let start = c .before .before .before .before .before .before .before .before in
     to-all _ _ _ _ _ _ _ _ (inv .1) (start .args .count) (omega (arith, inv .0, c .loop-test .left)) (omega (arith, start .pre .0 .most, inv .0))
 
 pub put-stations-spec : {M : Type 1} → statement M
