@@ -30,6 +30,7 @@ use Rattle.path_build.specs.Paths.{buildPathOf}
 use Rattle.path_build.specs.declared.sizes.Counts.{Counts}
 use Rattle.path_storing.proofs.Counts.{fields-most, table-most}
 use Rattle.path_storing.proofs.Layouts.{lengths-count}
+use Rattle.station_commands.proofs.PlanLaws.{letters-count}
 
 few-arguments : (command : PathCommand) → length (argumentsOf command) ≤ 7
 few-arguments (MoveTo end) = omega arith
@@ -44,11 +45,6 @@ pub numbers-few : (list : List PathCommand) → length (numbersOf list) ≤ 7 * 
 unfolding numbersOf lettersOf
 numbers-few [] = omega arith
 numbers-few (command ∷ list) = omega (arith, numbers-few list, few-arguments command, length-append (argumentsOf command) (numbersOf list))
-
-pub letters-count : (list : List PathCommand) → length (lettersOf list) ≡ length list
-unfolding lettersOf
-letters-count [] = refl
-letters-count (command ∷ list) = ap suc (letters-count list)
 
 -- ---- a command draws at most one segment
 
@@ -99,7 +95,7 @@ tables-few (segment ∷ list) = omega (arith, tables-few list, table-most segmen
 -- ---- so the tool's buffers are long enough
 
 abbrev pub lent : Counts
-lent = record { kinds = 256; fields = 2816; tables = 8448; lengths = 256 }
+lent = record { kinds = 256; fields = 2816; tables = 8448; lengths = 256; commands = 256 }
 
 module _ (list : List PathCommand) (few : length (lettersOf list) ≤ 256) where
   never-short : (segments : List PathSegment) → buildOf list ≡ path segments → isShort (countsOf segments) lent ≡ false
@@ -140,8 +136,8 @@ pub record BuiltAs (segments fields tables : ℕ) (built : Built) : Type 0 where
   pub entries : tables ≡ length (tablesOfAll list)
   pub running : segments ≡ length (lengthsOfAll list)
 
-pub told-built : (segments fields tables : ℕ) (built : Built) → accepted (segments ∷ fields ∷ tables ∷ segments ∷ []) ≡ answered built → BuiltAs segments fields tables built
+pub told-built : (segments fields tables : ℕ) (built : Built) → accepted (segments ∷ fields ∷ tables ∷ segments ∷ segments ∷ []) ≡ answered built → BuiltAs segments fields tables built
 told-built segments fields tables (path list) e =
-    let v : segments ∷ fields ∷ tables ∷ segments ∷ [] ≡ values (countsOf list) = ap (λ (a : Answer). a .values) e in
+    let v : segments ∷ fields ∷ tables ∷ segments ∷ segments ∷ [] ≡ values (countsOf list) = ap (λ (a : Answer). a .values) e in
     record { list = list; is = refl; kinds = cc; numbers = cc; entries = cc; running = cc }
 told-built segments fields tables (refusal reason) e = absurd (refused-not-accepted reason _ (sym e))

@@ -1,37 +1,41 @@
 -- The tool's own buffers: a list stored in them, and the path built in them. Assumes nothing.
-use Prim.Native.Nat.{ℕ, _≤_}
-use mathlib.Core.Path.{_≡_, refl, sym, ap, _∙_}
+use Prim.Native.Nat.{ℕ, _≤_, _<_}
+use mathlib.Core.Path.{_≡_, refl, sym, ap, subst, _∙_}
 use mathlib.Core.List.{List, []}
 use native.Mathlib.Omega.{arith}
+use borrow.Author.Tests.{le-ltb}
 use lib.Ieee.{Float}
-use lib.ListN.{length, take, drop}
+use lib.ListN.{length, getD, take, drop}
 use lib.Seq.{take-append-seam}
 use Rattle.answers.specs.Answers.{accepted}
 use Rattle.answers.specs.Report.{written}
 use Rattle.answers.specs.declared.refusals.Refusal.{Refusal}
-use Rattle.commands.proofs.ReadBack.{stored-passes}
+use Rattle.commands.proofs.ReadBack.{read-back, stored-passes}
 use Rattle.commands.specs.Checked.{checkCommandsOf}
 use Rattle.commands.specs.Stored.{lettersOf, numbersOf}
 use Rattle.commands.specs.declared.command.PathCommand.{PathCommand}
-use Rattle.svg.specs.Texts.{Outcome, commands, refusal as unread, Room, Filled}
+use Rattle.svg.specs.Texts.{commands, commandsOf, offsetsOf, Room, Filled}
 use Rattle.path_segment.specs.declared.segments.PathSegment.{PathSegment}
 use Rattle.path_stored.specs.Buffers.{Buffers, buffers}
 use Rattle.path_stored.specs.Layout.{kindsOf, fieldsOfAll, tablesOfAll, lengthsOfAll, laidOut}
 use Rattle.path_stored.specs.Stored.{Stored}
+use Rattle.path_stored.proofs.Buffers.{buffers-are}
 use Rattle.path_stored.proofs.Rule.{stored-rule}
-use Rattle.path_drawing.specs.Building.{path, buildOf}
-use Rattle.path_build.specs.Answers.{answerOf, answered, segmentsWritten, Answers}
-use Rattle.path_build.specs.Paths.{lentOf, buildPathOf}
+use Rattle.path_drawing.specs.Building.{Built, path, buildOf, drawersOf}
+use Rattle.path_storing.specs.Sites.{pathWritten}
+use Rattle.path_build.specs.Answers.{answerOf, answered, segmentsWritten, numbersWritten, Answers}
+use Rattle.path_build.specs.Paths.{drawersBy, lentOf, buildPathOf, drawersPathOf}
 use Rattle.path_build.specs.declared.sizes.Building.{Building}
 use Rattle.path_build.specs.declared.sizes.Building.the-variants.{Built as Done, Refused}
-use Rattle.path_build.specs.declared.sizes.Counts.{Counts}
+use Rattle.path_build.proofs.Numbering.{drawers-count, made-by}
 use Rattle.path_build.proofs.Sound.{built-stored}
 use Rattle.station_lines.specs.Lines.{refusalLine}
 use Rattle.station_lines.specs.Put.{PutWithin}
 use Rattle.station_lines.proofs.Putting.{within-as}
+use Rattle.station_commands.proofs.PlanLaws.{letters-count}
 use Rattle.station_sections.specs.Sections.{Ready}
-use Rattle.station_listing.specs.Stations.{sectionsOf, builtOf, Sized, Numbered, Printed, Told}
-use Rattle.station_listing.proofs.Flying.{numbers-few, letters-count, segments-few, kinds-count, fields-few, tables-few, lent, built-as, told-refused, BuiltAs, told-built}
+use Rattle.station_listing.specs.Stations.{sectionsOf, builtOf, readOf, planOf, Sized, Numbered, Printed}
+use Rattle.station_listing.proofs.Flying.{numbers-few, segments-few, kinds-count, fields-few, tables-few, lent, built-as, told-refused, BuiltAs, told-built}
 
 -- the first places of a buffer are what is written there
 pub take-written : {A : Type 0} (xs before now : List A) (n : ℕ) → now ≡ written xs before → n ≡ length xs → take n now ≡ xs
@@ -40,141 +44,158 @@ take-written xs before now n e f =
 
 -- ---- the commands
 
-module _ (o : Outcome) (places held : ℕ) (k : Numbered o places held) where
-  pub places-few : places ≤ 256
-  places-few = by-outcome o k
-    where
-      by-outcome : (o : Outcome) → Numbered o places held → places ≤ 256
-      by-outcome (commands list) k = k .2
-      by-outcome (unread reason) k = absurd k
-
+module _ {text : List ℕ} {places held : ℕ} (k : Numbered text places held) where
   pub held-few : held ≤ 1792
-  held-few = by-outcome o k
-    where
-      by-outcome : (o : Outcome) → Numbered o places held → held ≤ 1792
-      by-outcome (commands list) k = omega (arith, numbers-few list, k .0, k .1, k .2)
-      by-outcome (unread reason) k = absurd k
+  held-few = omega (arith, numbers-few (k .list), k .letters, k .numbers, k .few)
 
-pub room : (o : Outcome) (places held : ℕ) → Numbered o places held → (letters numbers : ℕ) → 256 ≡ letters → 1792 ≡ numbers → Room o letters numbers
-room (commands list) places held k letters numbers g h = (omega (arith, k .0, k .2), omega (arith, numbers-few list, k .0, k .2))
-room (unread reason) places held k letters numbers g h = absurd k
+  pub room : (letters numbers : ℕ) → 256 ≡ letters → 1792 ≡ numbers → Room (commandsOf text) letters numbers
+  room letters numbers g h = rw (k .reads) (omega (arith, k .letters, k .few), omega (arith, numbers-few (k .list), k .letters, k .few))
 
-pub sized : (o : Outcome) (places held : ℕ) → Numbered o places held → Sized o places
-sized (commands list) places held k = (k .0 ∙ letters-count list, omega (arith, k .0, k .2, letters-count list))
-sized (unread reason) places held k = absurd k
+  list-few : length (k .list) ≤ 256
+  list-few = omega (arith, k .letters, k .few, letters-count (k .list))
+
+  pub sized : Sized text places
+  sized = record { short = k .short; list = k .list; reads = k .reads; count = k .letters ∙ letters-count (k .list); few = list-few }
 
 -- the list that two buffers hold
-pub record Lent (o : Outcome) (letters : List ℕ) (numbers : List Float) : Type 0 where
+pub record Lent (text letters : List ℕ) (numbers : List Float) : Type 0 where
+  pub short : length text ≤ 4096
   pub list : List PathCommand
-  pub is : o ≡ commands list
+  pub reads : commandsOf text ≡ commands list
   pub own : letters ≡ lettersOf list
   pub more : numbers ≡ numbersOf list
   pub few : length list ≤ 256
 
 pub lent-of :
-    (o : Outcome) (places held : ℕ) → Numbered o places held → (letters : List ℕ) (numbers : List Float) (letters′ : List ℕ) (numbers′ : List Float)
-    → Filled o letters numbers letters′ numbers′ → Lent o (take places letters′) (take held numbers′)
-lent-of (commands list) places held k letters numbers letters′ numbers′ f =
+    {text : List ℕ} {places held : ℕ} → Numbered text places held → (letters : List ℕ) (numbers : List Float) (letters′ : List ℕ) (numbers′ : List Float)
+    → Filled (commandsOf text) letters numbers letters′ numbers′ → Lent text (take places letters′) (take held numbers′)
+lent-of {text} {places} {held} k letters numbers letters′ numbers′ f =
+    let g : Filled (commands (k .list)) letters numbers letters′ numbers′ = rw (k .reads) at f in
     record {
-      list = list;
-      is = refl;
-      own = take-written (lettersOf list) letters letters′ places (f .0) (k .0);
-      more = take-written (numbersOf list) numbers numbers′ held (f .1) (k .1);
-      few = omega (arith, k .0, k .2, letters-count list);
+      short = k .short;
+      list = k .list;
+      reads = k .reads;
+      own = take-written (lettersOf (k .list)) letters letters′ places (g .0) (k .letters);
+      more = take-written (numbersOf (k .list)) numbers numbers′ held (g .1) (k .numbers);
+      few = list-few k;
     }
-lent-of (unread reason) places held k letters numbers letters′ numbers′ f = absurd k
 
 -- ---- the path
 
-lent-as :
-    (kinds : List ℕ) (fields tables lengths : List Float) → 256 ≡ length kinds → 2816 ≡ length fields → 8448 ≡ length tables → 256 ≡ length lengths
-    → lentOf (buffers kinds fields tables lengths) ≡ lent
-lent-as kinds fields tables lengths a b c d = rw (sym a, sym b, sym c, sym d) refl
+-- the tool's five buffers
+pub record Full (b : Buffers) : Type 0 where
+  pub kinds : 256 ≡ length (b .kinds)
+  pub fields : 2816 ≡ length (b .fields)
+  pub tables : 8448 ≡ length (b .tables)
+  pub lengths : 256 ≡ length (b .lengths)
+  pub commands : 256 ≡ length (b .commands)
 
--- the path that four buffers hold
-pub record Flight (commands : List PathCommand) (kinds : List ℕ) (fields tables lengths : List Float) : Type 0 where
+lent-as : {b : Buffers} → Full b → lentOf b ≡ lent
+lent-as h = rw (sym (h .kinds), sym (h .fields), sym (h .tables), sym (h .lengths), sym (h .commands)) refl
+
+-- the first places of each buffer
+abbrev pub first : ℕ → ℕ → ℕ → Buffers → Buffers
+first s f t b = buffers (take s (b .kinds)) (take f (b .fields)) (take t (b .tables)) (take s (b .lengths)) (take s (b .commands))
+
+-- the path that five buffers hold
+pub record Flight (commands : List PathCommand) (b : Buffers) : Type 0 where
   pub list : List PathSegment
   pub is : buildOf commands ≡ path list
-  pub own : kinds ≡ kindsOf list
-  pub numbers : fields ≡ fieldsOfAll list
-  pub entries : tables ≡ tablesOfAll list
-  pub running : lengths ≡ lengthsOfAll list
+  pub held : b ≡ laidOut list (drawersOf commands)
 
-module _ (o : Outcome) (letters : List ℕ) (numbers : List Float) (k : Lent o letters numbers) where
+module _ {text letters : List ℕ} {numbers : List Float} (k : Lent text letters numbers) where
   pub lent-passes : checkCommandsOf letters numbers ≡ accepted []
   lent-passes =
       ap (λ (l : List ℕ). checkCommandsOf l numbers) (k .own)
       ∙ ap (λ (n : List Float). checkCommandsOf (lettersOf (k .list)) n) (k .more)
       ∙ stored-passes (k .list) (omega (arith, k .few))
 
-  lent-built : (counts : Counts) → counts ≡ lent → buildPathOf letters numbers counts ≡ buildOf (k .list)
-  lent-built counts full =
-      ap (buildPathOf letters numbers) full
-      ∙ ap (λ (l : List ℕ). buildPathOf l numbers lent) (k .own)
-      ∙ ap (λ (n : List Float). buildPathOf (lettersOf (k .list)) n lent) (k .more)
-      ∙ built-as (k .list) (omega (arith, k .few, letters-count (k .list)))
+  -- what is built of the list is what the plan prints
+  told : (count : ℕ) → builtOf count (k .list) (offsetsOf text) (buildOf (k .list)) ≡ planOf count text
+  unfolding planOf readOf
+  told count = rw (le-ltb 4096 (length text) (k .short), k .reads, le-ltb 256 (length (lettersOf (k .list))) (omega (arith, k .few, letters-count (k .list)))) refl
 
   module _
-      (kinds : List ℕ) (fields tables lengths : List Float) (r : Building) (kinds′ : List ℕ) (fields′ tables′ lengths′ : List Float)
-      (a : Answers (buildPathOf letters numbers (lentOf (buffers kinds fields tables lengths))) (buffers kinds fields tables lengths) r (buffers kinds′ fields′ tables′ lengths′))
-      (all-kinds : 256 ≡ length kinds) (all-fields : 2816 ≡ length fields) (all-tables : 8448 ≡ length tables) (all-lengths : 256 ≡ length lengths) where
-    built-in : buildPathOf letters numbers (lentOf (buffers kinds fields tables lengths)) ≡ buildOf (k .list)
-    built-in = lent-built (lentOf (buffers kinds fields tables lengths)) (lent-as kinds fields tables lengths all-kinds all-fields all-tables all-lengths)
+      {b : Buffers} {r : Building} {b′ : Buffers} (a : Answers (buildPathOf letters numbers (lentOf b)) (drawersPathOf letters numbers) b r b′) (full : Full b) where
+    built-in : buildPathOf letters numbers (lentOf b) ≡ buildOf (k .list)
+    built-in =
+        ap (buildPathOf letters numbers) (lent-as full)
+        ∙ ap (λ (l : List ℕ). buildPathOf l numbers lent) (k .own)
+        ∙ ap (λ (n : List Float). buildPathOf (lettersOf (k .list)) n lent) (k .more)
+        ∙ built-as (k .list) (omega (arith, k .few, letters-count (k .list)))
+
+    drawers-in : drawersPathOf letters numbers ≡ drawersOf (k .list)
+    drawers-in =
+        ap (λ (l : List ℕ). drawersPathOf l numbers) (k .own)
+        ∙ ap (λ (n : List Float). drawersPathOf (lettersOf (k .list)) n) (k .more)
+        ∙ ap drawersBy (read-back 0 (k .list))
 
     answer-as : (s : Building) → r ≡ s → answerOf s ≡ answered (buildOf (k .list))
     answer-as s e = ap answerOf (sym e) ∙ a .answer ∙ ap answered built-in
 
     pub unbuilt :
-        (reason : Refusal) → r ≡ Refused reason → (count : ℕ) (before after : List ℕ) (n : ℕ) → PutWithin 134 (refusalLine reason) 0 before after n
-        → Told o count before after n
-    unbuilt reason e count before after n p =
-        let b = told-refused reason (buildOf (k .list)) (answer-as (Refused reason) e) in
-        let q : PutWithin 65536 (builtOf count (k .list) (buildOf (k .list))) 0 before after n =
-        within-as 65536 _ (p .put) (ap (builtOf count (k .list)) (sym b)) (omega (arith, p .within)) in
-        rw (k .is) q
+        {reason : Refusal} → r ≡ Refused reason → (count : ℕ) {before after : List ℕ} {n : ℕ} → PutWithin 134 (refusalLine reason) 0 before after n
+        → PutWithin 69632 (planOf count text) 0 before after n
+    unbuilt {reason} e count p =
+        let u = told-refused reason (buildOf (k .list)) (answer-as (Refused reason) e) in
+        within-as 69632 _ (p .put) (ap (builtOf count (k .list) (offsetsOf text)) (sym u) ∙ told count) (omega (arith, p .within))
 
-    module _ (s f t : ℕ) (e : r ≡ Done s f t) where
+    module _ {s f t : ℕ} (e : r ≡ Done s f t) where
       built-here : BuiltAs s f t (buildOf (k .list))
       built-here = told-built s f t (buildOf (k .list)) (answer-as (Done s f t) e)
 
-      wrote : segmentsWritten (buildPathOf letters numbers (lentOf (buffers kinds fields tables lengths))) ≡ built-here .list
-      wrote = ap segmentsWritten (built-in ∙ built-here .is)
+      -- the buffers have the path's segments and the numbers of its commands from their start
+      wrote : b′ ≡ pathWritten (built-here .list) (drawersOf (k .list)) b
+      wrote =
+          a .after
+          ∙ ap (λ (built : Built). pathWritten (segmentsWritten built) (numbersWritten built (drawersPathOf letters numbers)) b) (built-in ∙ built-here .is)
+          ∙ ap (λ (drawers : List ℕ). pathWritten (built-here .list) drawers b) drawers-in
 
-      pub flight : Flight (k .list) (take s kinds′) (take f fields′) (take t tables′) (take s lengths′)
+      pub flight : Flight (k .list) (first s f t b′)
       flight =
-          let b = built-here in
+          let h = built-here in
+          let d : s ≡ length (drawersOf (k .list)) = h .kinds ∙ kinds-count (h .list) ∙ sym (drawers-count (k .list) (h .list) (h .is)) in
           record {
-            list = b .list;
-            is = b .is;
-            own = take-written (kindsOf (b .list)) kinds kinds′ s (ap (λ (b : Buffers). b .kinds) (a .after) ∙ ap (λ (l : List PathSegment). written (kindsOf l) kinds) wrote) (b .kinds);
-            numbers = take-written (fieldsOfAll (b .list)) fields fields′ f (ap (λ (b : Buffers). b .fields) (a .after) ∙ ap (λ (l : List PathSegment). written (fieldsOfAll l) fields) wrote) (b .numbers);
-            entries = take-written (tablesOfAll (b .list)) tables tables′ t (ap (λ (b : Buffers). b .tables) (a .after) ∙ ap (λ (l : List PathSegment). written (tablesOfAll l) tables) wrote) (b .entries);
-            running = take-written (lengthsOfAll (b .list)) lengths lengths′ s (ap (λ (b : Buffers). b .lengths) (a .after) ∙ ap (λ (l : List PathSegment). written (lengthsOfAll l) lengths) wrote) (b .running);
+            list = h .list;
+            is = h .is;
+            held =
+                buffers-are (take-written (kindsOf (h .list)) (b .kinds) (b′ .kinds) s (ap (λ (x : Buffers). x .kinds) wrote) (h .kinds))
+                (take-written (fieldsOfAll (h .list)) (b .fields) (b′ .fields) f (ap (λ (x : Buffers). x .fields) wrote) (h .numbers))
+                (take-written (tablesOfAll (h .list)) (b .tables) (b′ .tables) t (ap (λ (x : Buffers). x .tables) wrote) (h .entries))
+                (take-written (lengthsOfAll (h .list)) (b .lengths) (b′ .lengths) s (ap (λ (x : Buffers). x .lengths) wrote) (h .running))
+                (take-written (drawersOf (k .list)) (b .commands) (b′ .commands) s (ap (λ (x : Buffers). x .commands) wrote) d);
           }
 
-      pub kinds-held : s ≤ 256
-      kinds-held = let b = built-here in omega (arith, b .kinds, kinds-count (b .list), segments-few (k .list) (b .list) (b .is), k .few)
+      -- so many places of each buffer are used
+      pub used : (s ≤ 256) × (f ≤ 2816) × (t ≤ 8448)
+      used =
+          let h = built-here in
+          let n = segments-few (k .list) (h .list) (h .is) in (
+            omega (arith, h .kinds, kinds-count (h .list), n, k .few),
+            omega (arith, h .numbers, fields-few (h .list), n, k .few),
+            omega (arith, h .entries, tables-few (h .list), n, k .few),
+          )
 
-      pub fields-held : f ≤ 2816
-      fields-held = let b = built-here in omega (arith, b .numbers, fields-few (b .list), segments-few (k .list) (b .list) (b .is), k .few)
+  module _ {b : Buffers} (here : Flight (k .list) b) where
+    -- a number has at most three digits: it is one of at most 256 commands
+    small : (i : ℕ) → i < length (kindsOf (here .list)) → getD (drawersOf (k .list)) i 0 < 1000
+    small i h =
+        let m : getD (drawersOf (k .list)) i 0 < length (k .list) = made-by (k .list) (here .list) (here .is) i (omega (arith, kinds-count (here .list))) .among in
+        omega (arith, k .few)
 
-      pub tables-held : t ≤ 8448
-      tables-held = let b = built-here in omega (arith, b .entries, tables-few (b .list), segments-few (k .list) (b .list) (b .is), k .few)
+    pub ready : {count : ℕ} → 2 ≤ count → count ≤ 1000 → Ready b count
+    ready {count} g h =
+        let s : Stored (laidOut (here .list) (drawersOf (k .list))) = stored-rule _ (built-stored (k .list) (here .list) (omega (arith, k .few)) (here .is)) in
+        let few : length (kindsOf (here .list)) ≤ 256 = omega (arith, kinds-count (here .list), segments-few (k .list) (here .list) (here .is), k .few) in
+        subst (λ (x : Buffers). Ready x count) (sym (here .held))
+        (record { stored = s; tellable = record { one = s .one; told = s .told; few = few; small = small }; least = g; most = h })
 
-  module _ (kinds : List ℕ) (fields tables lengths : List Float) (here : Flight (k .list) kinds fields tables lengths) (count : ℕ) where
-    pub ready : 2 ≤ count → count ≤ 1000 → Ready (buffers kinds fields tables lengths) count
-    ready g h =
-        let s : Stored (laidOut (here .list)) =
-        stored-rule _ (built-stored (k .list) (here .list) (omega (arith, k .few)) (here .is)) in
-        let few : length kinds ≤ 256 =
-        omega (arith, ap length (here .own), kinds-count (here .list), segments-few (k .list) (here .list) (here .is), k .few) in
-        record { stored = rw (here .own, here .numbers, here .entries, here .running) s; few = few; least = g; most = h }
-
-    sections-as : sectionsOf (k .list) kinds fields tables lengths count ≡ builtOf count (k .list) (buildOf (k .list))
-    sections-as = rw (here .is, here .own, here .numbers, here .entries, here .running) refl
-
-    pub listed : (before after : List ℕ) (n : ℕ) → Printed o kinds fields tables lengths count before after n → Told o count before after n
-    listed before after n p =
-        let q : Printed (commands (k .list)) kinds fields tables lengths count before after n = rw (k .is) at p in
-        let w : PutWithin 65536 (builtOf count (k .list) (buildOf (k .list))) 0 before after n = within-as 65536 _ (q .put) sections-as (q .within) in
-        rw (k .is) w
+    pub listed : {count : ℕ} {before after : List ℕ} {n : ℕ} → Printed text b count before after n → PutWithin 69632 (planOf count text) 0 before after n
+    listed {count} p =
+        let e : p .list ≡ k .list = cc in
+        within-as 69632 _ (p .put .put)
+        (ap (λ (l : List PathCommand). sectionsOf l (offsetsOf text) b count) e
+        ∙ ap (λ (x : Buffers). sectionsOf (k .list) (offsetsOf text) x count) (here .held)
+        ∙ ap (builtOf count (k .list) (offsetsOf text)) (sym (here .is))
+        ∙ told count)
+        (p .put .within)

@@ -9,7 +9,7 @@ use lib.ListN.{length, drop}
 use Rattle.answers.specs.declared.refusals.Refusal.{Refusal}
 use Rattle.commands.specs.Stored.{lettersOf}
 use Rattle.commands.specs.declared.command.PathCommand.{PathCommand}
-use Rattle.svg.specs.Texts.{Outcome, commands, refusal, commandsOf}
+use Rattle.svg.specs.Texts.{Outcome, commands, refusal, commandsOf, offsetsOf}
 use Rattle.path_drawing.specs.Building.{Built, path, refusal as unbuilt, buildOf}
 use Rattle.text_reader.specs.Plans.{firstLineOf}
 use Rattle.text_reader.specs.declared.line.FirstLine.{FirstLine}
@@ -31,19 +31,19 @@ some-refusal : (reason : Refusal) → 0 < length (refusalLine reason)
 unfolding refusalLine
 some-refusal reason = omega arith
 
-some-built : (count : ℕ) (list : List PathCommand) (built : Built) → 0 < length (builtOf count list built)
+some-built : (count : ℕ) (list : List PathCommand) (offsets : List ℕ) (built : Built) → 0 < length (builtOf count list offsets built)
 unfolding sectionsOf headerLine
-some-built count list (path segments) = omega arith
-some-built count list (unbuilt reason) = some-refusal reason
+some-built count list offsets (path segments) = omega arith
+some-built count list offsets (unbuilt reason) = some-refusal reason
 
-some-read : (count : ℕ) (o : Outcome) → 0 < length (readOf count o)
+some-read : (count : ℕ) (offsets : List ℕ) (o : Outcome) → 0 < length (readOf count offsets o)
 unfolding readOf
-some-read count (commands list) = either (ltb 256 (length (lettersOf list))) _ _ (some-refusal _) (some-built count list (buildOf list))
-some-read count (refusal reason) = some-refusal reason
+some-read count offsets (commands list) = either (ltb 256 (length (lettersOf list))) _ _ (some-refusal _) (some-built count list offsets (buildOf list))
+some-read count offsets (refusal reason) = some-refusal reason
 
 some-plan : (count : ℕ) (text : List ℕ) → 0 < length (planOf count text)
 unfolding planOf
-some-plan count text = either (ltb 4096 (length text)) _ _ (some-refusal _) (some-read count (commandsOf text))
+some-plan count text = either (ltb 4096 (length text)) _ _ (some-refusal _) (some-read count (offsetsOf text) (commandsOf text))
 
 some-judged : (input : List ℕ) (line : FirstLine) → 0 < length (judgedOf input line)
 some-judged input (Asked count next) = some-plan count (drop next input)

@@ -1,10 +1,10 @@
 // A path that reads: built and listed.
 ghost use Prim.Native.Nat.{_≤_};
 ghost use lib.ListN.{drop};
-ghost use Rattle.svg.specs.Texts.{commandsOf};
-ghost use Rattle.path_stored.specs.Buffers.{lent};
+ghost use Rattle.station_lines.specs.Put.{PutWithin};
+ghost use Rattle.path_stored.specs.Buffers.{before, lent};
 ghost use Rattle.station_sections.specs.Sections.{Ready};
-ghost use Rattle.station_listing.specs.Stations.{Sized, Numbered, Printed, Told};
+ghost use Rattle.station_listing.specs.Stations.{planOf, Sized, Numbered, Printed};
 use path_build::Building;
 use path_build::inner::build_listed;
 use station_commands::inner::fill;
@@ -25,16 +25,26 @@ fn print(
     fields: &[f32],
     tables: &[f32],
     lengths: &[f32],
+    commands: &[u32],
 ) -> usize
-    requires { ⌜ Sized (commandsOf (drop start (now input))) places × Ready (lent kinds fields tables lengths) count ⌝ }
-    ensures { λ r. ⌜ Printed (commandsOf (drop start (now (input .entry)))) (now (kinds .entry)) (now (fields .entry)) (now (tables .entry)) (now (lengths .entry)) count (now (out .entry)) (now (out .exit)) r ⌝ }
+    requires { ⌜ Sized (drop start (now input)) places × Ready (lent kinds fields tables lengths commands) count ⌝ }
+    ensures { λ r. ⌜ Printed (drop start (now (input .entry))) (before kinds fields tables lengths commands) count (now (out .entry)) (now (out .exit)) r ⌝ }
 {
     let past_commands = put_header(out, 0, b"commands", places);
     let past_lines = list(input, start, out, past_commands);
     let past_segments = put_header(out, past_lines, b"segments", kinds.len());
-    let past_kinds = put_segments(out, past_segments, kinds, lengths);
+    let past_kinds = put_segments(out, past_segments, kinds, lengths, commands);
     let past_stations = put_header(out, past_kinds, b"stations", count);
-    put_stations(out, past_stations, count, kinds, fields, tables, lengths)
+    put_stations(
+        out,
+        past_stations,
+        count,
+        kinds,
+        fields,
+        tables,
+        lengths,
+        commands,
+    )
 }
 
 // A path of so many commands and numbers, for which there is room: its listing, or why it is not built.
@@ -46,8 +56,8 @@ pub fn fly(
     places: usize,
     held: usize,
 ) -> usize
-    requires { ⌜ Numbered (commandsOf (drop start (now input))) places held × (2 ≤ count) × (count ≤ 1000) ⌝ }
-    ensures { λ r. ⌜ Told (commandsOf (drop start (now (input .entry)))) count (now (out .entry)) (now (out .exit)) r ⌝ }
+    requires { ⌜ Numbered (drop start (now input)) places held × (2 ≤ count) × (count ≤ 1000) ⌝ }
+    ensures { λ r. ⌜ PutWithin 69632 (planOf count (drop start (now (input .entry)))) 0 (now (out .entry)) (now (out .exit)) r ⌝ }
 {
     let mut letters = [0u8; 256];
     let mut numbers = [0.0f32; 1792];
@@ -56,6 +66,7 @@ pub fn fly(
     let mut fields = [0.0f32; 2816];
     let mut tables = [0.0f32; 8448];
     let mut lengths = [0.0f32; 256];
+    let mut commands = [0u32; 256];
     match build_listed(
         &letters[..places],
         &numbers[..held],
@@ -63,6 +74,7 @@ pub fn fly(
         &mut fields,
         &mut tables,
         &mut lengths,
+        &mut commands,
     ) {
         Building::Refused(refusal) => {
             return put_refusal(out, 0, refusal);
@@ -82,6 +94,7 @@ pub fn fly(
                 &fields[..own],
                 &tables[..more],
                 &lengths[..segments],
+                &commands[..segments],
             );
         }
     }

@@ -15,7 +15,7 @@ use text_reader::first_line;
 // The path that starts at `start`, with so many stations.
 fn answer(out: &mut [u8], input: &[u8], start: usize, count: usize) -> usize
     requires { ⌜ (start ≤ length (now input)) × (2 ≤ count) × (count ≤ 1000) ⌝ }
-    ensures { λ r. ⌜ PutWithin 65536 (planOf count (drop start (now (input .entry)))) 0 (now (out .entry)) (now (out .exit)) r ⌝ }
+    ensures { λ r. ⌜ PutWithin 69632 (planOf count (drop start (now (input .entry)))) 0 (now (out .entry)) (now (out .exit)) r ⌝ }
 {
     if 4096 < input.len() - start {
         return put_refusal(out, 0, Refusal::TooLong(4097));
@@ -26,7 +26,11 @@ fn answer(out: &mut [u8], input: &[u8], start: usize, count: usize) -> usize
         }
         Size::Counted { letters, numbers } => {
             if 256 < letters {
-                return put_refusal(out, 0, Refusal::NoRoom(Values::Two(letters, numbers)));
+                return put_refusal(
+                    out,
+                    0,
+                    Refusal::NoRoom(Values::Three(letters, numbers, letters)),
+                );
             }
             return fly(out, input, start, count, letters, numbers);
         }
@@ -35,7 +39,7 @@ fn answer(out: &mut [u8], input: &[u8], start: usize, count: usize) -> usize
 
 // Puts the listing of a plan into as many places as there are, and gives its length.
 pub fn tell(out: &mut [u8], input: &[u8]) -> usize
-    ensures { λ r. ⌜ PutWithin 65536 (stationsOf (now (input .entry))) 0 (now (out .entry)) (now (out .exit)) r ⌝ }
+    ensures { λ r. ⌜ PutWithin 69632 (stationsOf (now (input .entry))) 0 (now (out .entry)) (now (out .exit)) r ⌝ }
 {
     match first_line(input) {
         FirstLine::Refused(reason) => {

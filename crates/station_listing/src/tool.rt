@@ -4,7 +4,7 @@ ghost use lib.ListN.{length};
 ghost use Rattle.station_listing.specs.Stations.{Takes, Stations};
 use crate::plans::tell;
 
-// The length of a plan's listing, at most 65,536: no byte of it is kept.
+// The length of a plan's listing, at most 69,632: no byte of it is kept.
 fn needed(input: &[u8]) -> usize
     ensures { λ r. ⌜ Takes (now (input .entry)) r ⌝ }
 {
@@ -12,12 +12,12 @@ fn needed(input: &[u8]) -> usize
     tell(&mut nothing, input)
 }
 
-// Writes the listing of a plan from the output's start, and gives its length, at most 65,536. An output that is shorter than the listing is
+// Writes the listing of a plan from the output's start, and gives its length, at most 69,632. An output that is shorter than the listing is
 // left as it was.
 pub fn stations(input: &[u8], output: &mut [u8]) -> usize
     ensures { λ r. ⌜ Stations (now (input .entry)) (now (output .entry)) r (now (output .exit)) ⌝ }
 {
-    if 65536 <= output.len() {
+    if 69632 <= output.len() {
         return tell(output, input);
     }
     let places = needed(input);
