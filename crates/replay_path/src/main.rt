@@ -59,6 +59,7 @@ fn agrees(lines: &[u8], at: usize) -> bool
     let mut fields = [77.0f32; 88];
     let mut tables = [77.0f32; 264];
     let mut lengths = [77.0f32; 8];
+    let mut commands = [77u32; 8];
     let from = at + 2;
     let to = from + size;
     let building = path_text::build_from_text(
@@ -67,6 +68,7 @@ fn agrees(lines: &[u8], at: usize) -> bool
         &mut fields,
         &mut tables,
         &mut lengths,
+        &mut commands,
     );
     let answered = answers_as(building, &lengths, lines, at + 92);
     let of_kinds = same_bytes(&kinds, b'0', lines, at + 111);
@@ -122,8 +124,8 @@ fn whole_length(lengths: &[f32], segments: usize) -> u32 {
     }
 }
 
-// Whether the values at this place are those that a refusal carries, zeros after them. The fourth, of
-// the running lengths, is as many as the kinds.
+// Whether the values at this place are those that a refusal carries, zeros after them. The fourth and
+// the fifth, of the running lengths and of the command numbers, are as many as the kinds.
 fn carries(values: Values, lines: &[u8], at: usize) -> bool
     requires { ⌜ at + 9 ≤ length (now lines) ⌝ }
 {
@@ -132,8 +134,8 @@ fn carries(values: Values, lines: &[u8], at: usize) -> bool
         Values::One(a) => has(a, 0, 0, lines, at),
         Values::Two(a, b) => has(a, b, 0, lines, at),
         Values::Three(_, _, _) => false,
-        Values::Four(a, b, c, d) => has(a, b, c, lines, at) & (a == d),
-        Values::Five(_, _, _, _, _) => false,
+        Values::Four(_, _, _, _) => false,
+        Values::Five(a, b, c, d, e) => has(a, b, c, lines, at) & (a == d) & (a == e),
     }
 }
 

@@ -56,6 +56,7 @@ fn missed(text: &[u8], at: usize) -> u64
     let mut fields = [0.0f32; 88];
     let mut tables = [0.0f32; 264];
     let mut lengths = [0.0f32; 8];
+    let mut commands = [0u32; 8];
     let from = at + 2;
     let to = from + size;
     let building = path_text::build_from_text(
@@ -64,6 +65,7 @@ fn missed(text: &[u8], at: usize) -> u64
         &mut fields,
         &mut tables,
         &mut lengths,
+        &mut commands,
     );
     match building {
         Building::Built {
@@ -75,6 +77,7 @@ fn missed(text: &[u8], at: usize) -> u64
             &fields,
             &tables,
             &lengths,
+            &commands,
             segments,
             own,
             more,
@@ -91,6 +94,7 @@ fn missed_in(
     fields: &[f32],
     tables: &[f32],
     lengths: &[f32],
+    commands: &[u32],
     segments: usize,
     own: usize,
     more: usize,
@@ -112,11 +116,15 @@ fn missed_in(
     if lengths.len() < segments {
         return 6;
     }
+    if commands.len() < segments {
+        return 6;
+    }
     missed_on(
         &kinds[..segments],
         &fields[..own],
         &tables[..more],
         &lengths[..segments],
+        &commands[..segments],
         text,
         at,
     )
@@ -128,6 +136,7 @@ fn missed_on(
     fields: &[f32],
     tables: &[f32],
     lengths: &[f32],
+    commands: &[u32],
     text: &[u8],
     at: usize,
 ) -> u64
@@ -145,6 +154,7 @@ fn missed_on(
         fields,
         tables,
         lengths,
+        commands,
         &progresses,
         &mut columns,
         &mut others,
@@ -154,6 +164,7 @@ fn missed_on(
         fields,
         tables,
         lengths,
+        commands,
         &progresses,
         &mut segments,
         &mut raws,
@@ -165,6 +176,7 @@ fn missed_on(
             fields,
             tables,
             lengths,
+            commands,
             &columns,
             &others,
             &segments,
@@ -184,6 +196,7 @@ fn missed_lines(
     fields: &[f32],
     tables: &[f32],
     lengths: &[f32],
+    commands: &[u32],
     columns: &[u32; 6],
     others: &[f32; 6],
     segments: &[u32; 6],
@@ -198,7 +211,7 @@ fn missed_lines(
     let mut different = 0;
     for i in 0..LINES {
         let line = at + i * LINE;
-        let alone = agrees(kinds, fields, tables, lengths, text, line);
+        let alone = agrees(kinds, fields, tables, lengths, commands, text, line);
         let placed = has_place(columns[i], others[i], text, line);
         let among = agrees_with(segments[i], raws[i], numbers, 4 * i, text, line);
         different += missed_at(alone, placed & among);
@@ -241,6 +254,7 @@ fn agrees(
     fields: &[f32],
     tables: &[f32],
     lengths: &[f32],
+    commands: &[u32],
     text: &[u8],
     line: usize,
 ) -> bool
@@ -249,8 +263,8 @@ fn agrees(
     let progress = Progress {
         value: float(pattern(text, line)),
     };
-    let flown = path_query::flight(kinds, fields, tables, lengths, progress);
-    let heading = path_query::rotation_deg(kinds, fields, tables, lengths, progress);
+    let flown = path_query::flight(kinds, fields, tables, lengths, commands, progress);
+    let heading = path_query::rotation_deg(kinds, fields, tables, lengths, commands, progress);
     holds(flown, text, line) && turned(heading, 0, pattern(text, line + 56))
 }
 

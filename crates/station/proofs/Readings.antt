@@ -24,10 +24,10 @@ use Rattle.svg_group.specs.Groups.{readMoveOf, readLineOf, readHorizontalOf, re
 use Rattle.svg_group.specs.Letters.{isLetterOf, meaningOf}
 use Rattle.svg_group.specs.Numbers.{readNumberOf, flagAt, readFlagOf, readFlagsOf, movedOf, readPairOf}
 use Rattle.svg_step.specs.Steps.{isRelativeOf, needsPointOf, repeatedOf, afterOf, dueGroupOf, dueLetterOf, dueAgainOf, dueAtOf, nextDueOf, offsetAt, readStepOf}
-use Rattle.svg.specs.Texts.{readFrom, commandsOf}
+use Rattle.svg.specs.Texts.{readFrom, commandsOf, offsetsFrom, offsetsOf}
 use Rattle.arc.specs.Arcs.{isFallback, fallbackShape, noTable, fallenBack, fitted, outOfRange, madeArcOf, arcPositionOf, arcTangentOf, arcPlacedOf, arcHeadingOf, arcTurnedOf, arcLengthOf}
 use Rattle.arc.specs.Lines.{lineLengthOf, linePointOf, linePositionOf, lineTangentOf, lineRotationDegOf, madeLineOf}
-use Rattle.path_drawing.specs.Building.{buildFrom, buildOf}
+use Rattle.path_drawing.specs.Building.{buildFrom, buildOf, drawersFrom, drawersOf}
 use Rattle.path_drawing.specs.Drawing.{freshOf, arcOf, arcStrokeOf, drawOf}
 use Rattle.path_place.specs.Cursors.{cursorOf}
 use Rattle.path_place.specs.Places.{rawIn, rawFor, tablePlace, rawWithin, placeIn}
@@ -45,14 +45,14 @@ pub example-listed :
     stationsOf (51 ∷ 10 ∷ 77 ∷ 48 ∷ 32 ∷ 48 ∷ 76 ∷ 51 ∷ 32 ∷ 52 ∷ [])
     -- `commands 2`
     ≡ 99 ∷ 111 ∷ 109 ∷ 109 ∷ 97 ∷ 110 ∷ 100 ∷ 115 ∷ 32 ∷ 50 ∷ 10
-    -- `M 00000000 00000000`
-    ∷ 77 ∷ 32 ∷ 48 ∷ 48 ∷ 48 ∷ 48 ∷ 48 ∷ 48 ∷ 48 ∷ 48 ∷ 32 ∷ 48 ∷ 48 ∷ 48 ∷ 48 ∷ 48 ∷ 48 ∷ 48 ∷ 48 ∷ 10
-    -- `L 40400000 40800000`
-    ∷ 76 ∷ 32 ∷ 52 ∷ 48 ∷ 52 ∷ 48 ∷ 48 ∷ 48 ∷ 48 ∷ 48 ∷ 32 ∷ 52 ∷ 48 ∷ 56 ∷ 48 ∷ 48 ∷ 48 ∷ 48 ∷ 48 ∷ 10
+    -- `M 00000000 00000000 0`
+    ∷ 77 ∷ 32 ∷ 48 ∷ 48 ∷ 48 ∷ 48 ∷ 48 ∷ 48 ∷ 48 ∷ 48 ∷ 32 ∷ 48 ∷ 48 ∷ 48 ∷ 48 ∷ 48 ∷ 48 ∷ 48 ∷ 48 ∷ 32 ∷ 48 ∷ 10
+    -- `L 40400000 40800000 4`
+    ∷ 76 ∷ 32 ∷ 52 ∷ 48 ∷ 52 ∷ 48 ∷ 48 ∷ 48 ∷ 48 ∷ 48 ∷ 32 ∷ 52 ∷ 48 ∷ 56 ∷ 48 ∷ 48 ∷ 48 ∷ 48 ∷ 48 ∷ 32 ∷ 52 ∷ 10
     -- `segments 1`
     ∷ 115 ∷ 101 ∷ 103 ∷ 109 ∷ 101 ∷ 110 ∷ 116 ∷ 115 ∷ 32 ∷ 49 ∷ 10
-    -- `line 40A00000`
-    ∷ 108 ∷ 105 ∷ 110 ∷ 101 ∷ 32 ∷ 52 ∷ 48 ∷ 65 ∷ 48 ∷ 48 ∷ 48 ∷ 48 ∷ 48 ∷ 10
+    -- `line 40A00000 1`
+    ∷ 108 ∷ 105 ∷ 110 ∷ 101 ∷ 32 ∷ 52 ∷ 48 ∷ 65 ∷ 48 ∷ 48 ∷ 48 ∷ 48 ∷ 48 ∷ 32 ∷ 49 ∷ 10
     -- `stations 3`
     ∷ 115 ∷ 116 ∷ 97 ∷ 116 ∷ 105 ∷ 111 ∷ 110 ∷ 115 ∷ 32 ∷ 51 ∷ 10
     -- `0 0 00000000 00000000 3F19999A 3F4CCCCD`
@@ -62,5 +62,5 @@ pub example-listed :
     -- `2 0 40400000 40800000 3F19999A 3F4CCCCD`
     ∷ 50 ∷ 32 ∷ 48 ∷ 32 ∷ 52 ∷ 48 ∷ 52 ∷ 48 ∷ 48 ∷ 48 ∷ 48 ∷ 48 ∷ 32 ∷ 52 ∷ 48 ∷ 56 ∷ 48 ∷ 48 ∷ 48 ∷ 48 ∷ 48 ∷ 32 ∷ 51 ∷ 70 ∷ 49 ∷ 57 ∷ 57 ∷ 57 ∷ 57 ∷ 65 ∷ 32 ∷ 51 ∷ 70 ∷ 52 ∷ 67 ∷ 67 ∷ 67 ∷ 67 ∷ 68 ∷ 10
     ∷ []
-unfolding among wholeOf pointOf fractionOf markOf-of-scan-numbers exponentOf-of-scan-numbers endOf placesOf noDigit noExponentDigit scanNumberOf stands pastOne pastAll pastMarkOf leading scan digitsAmong val capped exponentOf-of-digits-exponent falls riseOf fallOf valueOf numberOf zeroF oneF epsilonF largestF minOf maxOf clampOf clamp01Of rootDigits rootOf squareSumOf narrowOf lengthOf-of-lengths lerpOf originF addOf subOf scaleOf lengthOf distanceOf normalizeOf lerpPointOf firstNotBelow targetOf shareOf markOf-of-table-lookup rawInPart rawAt rawOf before-of-table-spots pathTotal spotAt spotOf widthOf tablesOf hasTable segmentOf tableFor lengthFor kindsOf fieldsOfAll tableStored tablesOfAll runningOf lengthsOfAll before-of-stored-stored areKnown tablesAreSound isStored segmentIn tableIn lettersOf numbersOf readMoveOf readLineOf readHorizontalOf readVerticalOf readCubicOf readQuadOf readArcOf readGroupOf isLetterOf meaningOf readNumberOf flagAt readFlagOf readFlagsOf movedOf readPairOf isRelativeOf needsPointOf repeatedOf afterOf dueGroupOf dueLetterOf dueAgainOf dueAtOf nextDueOf offsetAt readStepOf readFrom commandsOf isFallback fallbackShape noTable fallenBack fitted outOfRange madeArcOf arcPositionOf arcTangentOf arcPlacedOf arcHeadingOf arcTurnedOf arcLengthOf lineLengthOf linePointOf linePositionOf lineTangentOf lineRotationDegOf madeLineOf buildFrom buildOf freshOf arcOf arcStrokeOf drawOf cursorOf rawIn rawFor tablePlace rawWithin placeIn sampleOf quadHeading cubicHeading headingOf flownWithin flownOf flightOf judged firstLineOf bitsFields argumentFields commandLine pointFields kindName segmentLine headerLine segmentField stationLine hexDigit hexDigits decimalFrom decimalOf bitsField numberField commandLines linesTo segmentLines progressOf stationOf stationLines sectionsOf readOf planOf stationsOf span climb size odd units round neg sum add sub mul div lt eq le ne ofInt ofFields ofBits toBits isNan fits whole
+unfolding among wholeOf pointOf fractionOf markOf-of-scan-numbers exponentOf-of-scan-numbers endOf placesOf noDigit noExponentDigit scanNumberOf stands pastOne pastAll pastMarkOf leading scan digitsAmong val capped exponentOf-of-digits-exponent falls riseOf fallOf valueOf numberOf zeroF oneF epsilonF largestF minOf maxOf clampOf clamp01Of rootDigits rootOf squareSumOf narrowOf lengthOf-of-lengths lerpOf originF addOf subOf scaleOf lengthOf distanceOf normalizeOf lerpPointOf firstNotBelow targetOf shareOf markOf-of-table-lookup rawInPart rawAt rawOf before-of-table-spots pathTotal spotAt spotOf widthOf tablesOf hasTable segmentOf tableFor lengthFor kindsOf fieldsOfAll tableStored tablesOfAll runningOf lengthsOfAll before-of-stored-stored areKnown tablesAreSound isStored segmentIn tableIn lettersOf numbersOf readMoveOf readLineOf readHorizontalOf readVerticalOf readCubicOf readQuadOf readArcOf readGroupOf isLetterOf meaningOf readNumberOf flagAt readFlagOf readFlagsOf movedOf readPairOf isRelativeOf needsPointOf repeatedOf afterOf dueGroupOf dueLetterOf dueAgainOf dueAtOf nextDueOf offsetAt readStepOf readFrom commandsOf offsetsFrom offsetsOf isFallback fallbackShape noTable fallenBack fitted outOfRange madeArcOf arcPositionOf arcTangentOf arcPlacedOf arcHeadingOf arcTurnedOf arcLengthOf lineLengthOf linePointOf linePositionOf lineTangentOf lineRotationDegOf madeLineOf buildFrom buildOf drawersFrom drawersOf freshOf arcOf arcStrokeOf drawOf cursorOf rawIn rawFor tablePlace rawWithin placeIn sampleOf quadHeading cubicHeading headingOf flownWithin flownOf flightOf judged firstLineOf bitsFields argumentFields commandLine pointFields kindName segmentLine headerLine segmentField stationLine hexDigit hexDigits decimalFrom decimalOf bitsField numberField commandLines linesTo segmentLines progressOf stationOf stationLines sectionsOf readOf planOf stationsOf span climb size odd units round neg sum add sub mul div lt eq le ne ofInt ofFields ofBits toBits isNan fits whole
 example-listed = refl

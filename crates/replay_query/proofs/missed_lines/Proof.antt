@@ -6,10 +6,10 @@ use Rattle.replay_query.proofs.missed_lines.Statement.{statement}
 use Rattle.replay_query.proofs.missed_lines.Tie as tie
 
 abbrev Inv-loop : tie.InvT-loop
-Inv-loop kinds fields tables lengths columns others segments raws numbers text at different₀ i₀ different i = (different ≤ i) × (i ≤ 6)
+Inv-loop kinds fields tables lengths commands columns others segments raws numbers text at different₀ i₀ different i = (different ≤ i) × (i ≤ 6)
 
 abbrev μ-loop : tie.MeasureT-loop
-μ-loop kinds fields tables lengths columns others segments raws numbers text at different₀ i₀ different i = 6 - i
+μ-loop kinds fields tables lengths commands columns others segments raws numbers text at different₀ i₀ different i = 6 - i
 
 pub missed-lines-spec : {M : Type 1} → statement M
 missed-lines-spec =

@@ -6,7 +6,7 @@ use Rattle.replay_query.proofs.missed_on.Tie as tie
 missed-lines-requires : tie.Need-missed-lines-requires
 missed-lines-requires c κs =
     let midway = c .before .before .before .before .before .before .before .before .before .before .before .before .before .before in
-    midway .before .before .before .before .before .before .before .before .before .before .before .before .before .before .before .pre
+    midway .before .before .before .before .before .before .before .before .before .before .before .before .before .before .before .before .pre
 
 pub missed-on-spec : {M : Type 1} → statement M
 missed-on-spec =
