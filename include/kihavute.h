@@ -32,12 +32,14 @@
  *     static const char plan[] = "M0 0 H30 V40";
  *     uint8_t kinds[8];
  *     float fields[88], tables[264], lengths[8];                       // room for 8 segments of any kind
+ *     uint32_t commands[8];
  *     uint64_t answer[8];
  *     uint32_t refusal = kihavute_build_text((const uint8_t *)plan, sizeof plan - 1, kinds, 8, fields, 88, tables, 264,
- *                                            lengths, 8, answer, 8);
+ *                                            lengths, 8, commands, 8, answer, 8);
  *     if (refusal != KIHAVUTE_ACCEPTED) return (int)refusal;           // answer has what it carries
  *     size_t segments = answer[0], numbers = answer[1], entries = answer[2];
- *     refusal = kihavute_flight(kinds, segments, fields, numbers, tables, entries, lengths, segments, 0.5f, answer, 8);
+ *     refusal = kihavute_flight(kinds, segments, fields, numbers, tables, entries, lengths, segments, commands, segments, 0.5f,
+ *                               answer, 8);
  *     if (refusal != KIHAVUTE_ACCEPTED) return (int)refusal;
  *     float flight[4];                                                 // x, y, and the direction's x, y
  *     for (int i = 0; i < 4; i++) flight[i] = kihavute_float((uint32_t)answer[i]);
@@ -369,121 +371,128 @@ uint32_t kihavute_check_commands(const uint8_t *letters, size_t letters_len, con
                                  uint64_t *answer, size_t answer_len);
 
 /* ---- Stored paths ----
- * A path is stored in four arrays, segment after segment in drawing order; docs/STORED.md has the layout place by place.
+ * A path is stored in five arrays, segment after segment in drawing order; docs/STORED.md has the layout place by place.
  *   kinds    a byte for each segment: 0 line, 1 quad, 2 cubic, 3 arc, 4 arc that fell back to a line
  *   fields   its numbers, 4, 6, 8, 11 or 11: start x y, end x y of a line; start, control, end of a quad; start, two
  *            controls, end of a cubic; start, end, centre, radii, rotation in degrees, start angle and angle swept in
  *            radians of an arc and of a fallback
  *   tables   for each quad, cubic and arc of kind 3, 33 numbers: 32 running lengths from 0 on, then their total
  *   lengths  the running length up to the end of each segment
+ *   commands the number of the command that made each segment, counted from 0: with the offsets that kihavute_read stores it
+ *            leads to the letter in the text
  * Points and lengths are in path units. */
 
-/* Whether four arrays hold a stored path: at most 65,536 segments of known kinds with exactly their numbers and tables;
- * running lengths and tables that are finite, not below 0 and never fall; each table starts at 0 and its total is its
- * last entry. answer[0] gets the count of segments. Refused with 12, which carries nothing. Coordinates are not judged. */
+/* Whether five arrays hold a stored path: at most 65,536 segments of known kinds with exactly their numbers and tables; running
+ * lengths and tables that are finite, not below 0 and never fall; each table starts at 0 and its total is its last entry; one
+ * command number for each segment, none below the one before it. answer[0] gets the count of segments. Refused with 12, which
+ * carries nothing. Coordinates are not judged. */
 uint32_t kihavute_check(const uint8_t *kinds, size_t kinds_len, const float *fields, size_t fields_len,
                         const float *tables, size_t tables_len, const float *lengths, size_t lengths_len,
-                        uint64_t *answer, size_t answer_len);
+                        const uint32_t *commands, size_t commands_len, uint64_t *answer, size_t answer_len);
 
 /* ---- Building ---- */
 
-/* Builds the path of a command list: letters (M L Q C A Z) and their 2, 2, 4, 6, 7 or 0 numbers. answer[0] to answer[3] get how
- * many places of kinds, fields, tables and lengths are written from their starts; the others stay. Refused, with nothing written,
- * in this order: 13 above 65,536 commands (their count); 9 at the first bad command; 10 at a segment that is an arc whose rotation
- * is infinite or a NaN and 11 at one where the running length becomes so, segment by segment; 8 with the four counts needed. An
- * arc's rotation is stored as it is given, full turns too. */
+/* Builds the path of a command list: letters (M L Q C A Z) and their 2, 2, 4, 6, 7 or 0 numbers. answer[0] to answer[4] get how
+ * many places of kinds, fields, tables, lengths and commands are written from their starts; the others stay. Refused, with
+ * nothing written, in this order: 13 above 65,536 commands (their count); 9 at the first bad command; 10 at a segment that is
+ * an arc whose rotation is infinite or a NaN and 11 at one where the running length becomes so, segment by segment; 8 with the
+ * five counts needed. An arc's rotation is stored as it is given, full turns too. */
 uint32_t kihavute_build(const uint8_t *letters, size_t letters_len, const float *numbers, size_t numbers_len,
-                        uint8_t *kinds, size_t kinds_len, float *fields, size_t fields_len,
-                        float *tables, size_t tables_len, float *lengths, size_t lengths_len,
+                        uint8_t *kinds, size_t kinds_len, float *fields, size_t fields_len, float *tables, size_t tables_len,
+                        float *lengths, size_t lengths_len, uint32_t *commands, size_t commands_len,
                         uint64_t *answer, size_t answer_len);
 
 /* The same for a text of path data, with no command list between. Refused with 1 above 65,536 bytes (the count), with 2 to 7
- * where it does not read to its end (4 is an exponent without digit, at its e, and nothing else), then as above with 10, 11
- * and 8. */
+ * where it does not read to its end (4 is an exponent without digit, at its e, and nothing else), then as above with 10, 11 and
+ * 8. The commands are numbered as kihavute_read gives them. */
 uint32_t kihavute_build_text(const uint8_t *text, size_t text_len, uint8_t *kinds, size_t kinds_len,
                              float *fields, size_t fields_len, float *tables, size_t tables_len,
-                             float *lengths, size_t lengths_len, uint64_t *answer, size_t answer_len);
+                             float *lengths, size_t lengths_len, uint32_t *commands, size_t commands_len,
+                             uint64_t *answer, size_t answer_len);
 
 /* ---- Segments, one by one ----
- * Appending: count segments are the path, at the start of four buffers with room after them; docs/STORED.md has the layout. One
- * segment is stored after them, its table made from its numbers, and the running length added to. answer[0] to answer[3] get how
- * many places of kinds, fields, tables and lengths are in use then. Refused, with nothing written, in this order: 12 where the
- * first count segments are no stored path, 13 with count 65,536 (65,537, the segments that there would be), 10 with count for an
- * arc whose rotation is infinite or a NaN, 11 with count where the running length becomes so, 8 with the four counts needed. Start
- * from count 0; each call checks the whole path that is there, so that a path of n segments costs n checks: for a whole plan take
+ * Appending: count segments are the path, at the start of five buffers with room after them; docs/STORED.md has the layout. One
+ * segment is stored after them, its table made from its numbers, and the running length added to. answer[0] to answer[4] get
+ * how many places of kinds, fields, tables, lengths and commands are in use then. command is the number that the segment gets.
+ * Refused, with nothing written, in this order: 12 where the first count segments are no stored path, or command is below the
+ * number of the last of them, 13 with count 65,536 (65,537, the segments that there would be), 10 with count for an arc whose
+ * rotation is infinite or a NaN, 11 with count where the running length becomes so, 8 with the five counts needed. Start from
+ * count 0; each call checks the whole path that is there, so that a path of n segments costs n checks: for a whole plan take
  * kihavute_build. The start is given each time: it need not be where the path ended. */
 
 /* Appends the line from (sx, sy) to (ex, ey). */
-uint32_t kihavute_line_to(uint8_t *kinds, size_t kinds_len, float *fields, size_t fields_len,
-                          float *tables, size_t tables_len, float *lengths, size_t lengths_len, size_t count,
-                          float sx, float sy, float ex, float ey,
-                          uint64_t *answer, size_t answer_len);
+uint32_t kihavute_line_to(uint8_t *kinds, size_t kinds_len, float *fields, size_t fields_len, float *tables, size_t tables_len,
+                          float *lengths, size_t lengths_len, uint32_t *commands, size_t commands_len, size_t count,
+                          uint32_t command, float sx, float sy, float ex, float ey, uint64_t *answer, size_t answer_len);
 
 /* Appends the quad from (sx, sy) to (ex, ey) with the control (cx, cy). */
-uint32_t kihavute_quad_to(uint8_t *kinds, size_t kinds_len, float *fields, size_t fields_len,
-                          float *tables, size_t tables_len, float *lengths, size_t lengths_len, size_t count,
-                          float sx, float sy, float cx, float cy, float ex, float ey,
+uint32_t kihavute_quad_to(uint8_t *kinds, size_t kinds_len, float *fields, size_t fields_len, float *tables, size_t tables_len,
+                          float *lengths, size_t lengths_len, uint32_t *commands, size_t commands_len, size_t count,
+                          uint32_t command, float sx, float sy, float cx, float cy, float ex, float ey,
                           uint64_t *answer, size_t answer_len);
 
 /* Appends the cubic from (sx, sy) to (ex, ey) with the controls (ax, ay) and (bx, by). */
 uint32_t kihavute_cubic_to(uint8_t *kinds, size_t kinds_len, float *fields, size_t fields_len,
-                           float *tables, size_t tables_len, float *lengths, size_t lengths_len, size_t count,
-                           float sx, float sy, float ax, float ay, float bx, float by, float ex, float ey,
-                           uint64_t *answer, size_t answer_len);
+                           float *tables, size_t tables_len, float *lengths, size_t lengths_len,
+                           uint32_t *commands, size_t commands_len, size_t count, uint32_t command, float sx, float sy,
+                           float ax, float ay, float bx, float by, float ex, float ey, uint64_t *answer, size_t answer_len);
 
 /* Appends the arc from (sx, sy) to (ex, ey): two radii, the rotation in degrees, and two flags, of which 0 is no and any other
  * number yes. Where the ends are within 2^-23, or a radius is that small, it is the line fallback, kind 4. */
-uint32_t kihavute_arc_to(uint8_t *kinds, size_t kinds_len, float *fields, size_t fields_len,
-                         float *tables, size_t tables_len, float *lengths, size_t lengths_len, size_t count,
-                         float sx, float sy, float rx, float ry, float rotation, uint32_t large, uint32_t sweep,
-                         float ex, float ey,
-                         uint64_t *answer, size_t answer_len);
+uint32_t kihavute_arc_to(uint8_t *kinds, size_t kinds_len, float *fields, size_t fields_len, float *tables, size_t tables_len,
+                         float *lengths, size_t lengths_len, uint32_t *commands, size_t commands_len, size_t count,
+                         uint32_t command, float sx, float sy, float rx, float ry, float rotation, uint32_t large,
+                         uint32_t sweep, float ex, float ey, uint64_t *answer, size_t answer_len);
 
 /* Appends the segment of a kind and of its 4, 6, 8, 11 or 11 numbers, as both are stored. Refused with 12 also where the kind is
  * above 4 or has another count of numbers. The numbers of an arc are taken as they are. */
 uint32_t kihavute_push_segment(uint8_t *kinds, size_t kinds_len, float *fields, size_t fields_len,
-                               float *tables, size_t tables_len, float *lengths, size_t lengths_len, size_t count, uint8_t kind,
-                               const float *numbers, size_t numbers_len,
-                               uint64_t *answer, size_t answer_len);
+                               float *tables, size_t tables_len, float *lengths, size_t lengths_len,
+                               uint32_t *commands, size_t commands_len, size_t count, uint32_t command, uint8_t kind,
+                               const float *numbers, size_t numbers_len, uint64_t *answer, size_t answer_len);
 
-/* How many segments a stored path has: answer[0]. Refused with 12, as each of the calls below, where the four arrays are none. */
+/* How many segments a stored path has: answer[0]. Refused with 12, as each of the calls below, where the five are none. */
 uint32_t kihavute_len(const uint8_t *kinds, size_t kinds_len, const float *fields, size_t fields_len,
                       const float *tables, size_t tables_len, const float *lengths, size_t lengths_len,
-                      uint64_t *answer, size_t answer_len);
+                      const uint32_t *commands, size_t commands_len, uint64_t *answer, size_t answer_len);
 
 /* Whether it has none: answer[0] is 1 for a yes and 0 for a no. */
 uint32_t kihavute_is_empty(const uint8_t *kinds, size_t kinds_len, const float *fields, size_t fields_len,
                            const float *tables, size_t tables_len, const float *lengths, size_t lengths_len,
-                           uint64_t *answer, size_t answer_len);
+                           const uint32_t *commands, size_t commands_len, uint64_t *answer, size_t answer_len);
 
 /* How long it is, in path units: answer[0] gets the bits of the last running length, 0 without a segment. */
 uint32_t kihavute_path_length(const uint8_t *kinds, size_t kinds_len, const float *fields, size_t fields_len,
                               const float *tables, size_t tables_len, const float *lengths, size_t lengths_len,
-                              uint64_t *answer, size_t answer_len);
+                              const uint32_t *commands, size_t commands_len, uint64_t *answer, size_t answer_len);
 
 /* Segment i, counted from 0: answer[0] gets its kind, answer[1] how many numbers stand from the start of out: its own 4, 6, 8, 11
  * or 11, then the 33 of its table for the kinds 1, 2 and 3; 44 places hold any segment. Where i is the count of segments or above,
  * the call is accepted and writes nothing. Refused with 12, then with 8 and the count needed. */
 uint32_t kihavute_segment(const uint8_t *kinds, size_t kinds_len, const float *fields, size_t fields_len,
-                          const float *tables, size_t tables_len, const float *lengths, size_t lengths_len, size_t i,
-                          float *out, size_t out_len, uint64_t *answer, size_t answer_len);
+                          const float *tables, size_t tables_len, const float *lengths, size_t lengths_len,
+                          const uint32_t *commands, size_t commands_len, size_t i, float *out, size_t out_len,
+                          uint64_t *answer, size_t answer_len);
 
 /* Where segment i is at a progress along itself, in path units: answer[0] and answer[1] get the bits of x and of y. The progress is
  * clamped to 0 and 1, and a NaN is 0. A line has a middle however short it is, where a path of at most 2^-23 is at its end. Where i
  * is the count of segments or above, the call is accepted and writes nothing; so with the two below. */
 uint32_t kihavute_segment_position(const uint8_t *kinds, size_t kinds_len, const float *fields, size_t fields_len,
-                                   const float *tables, size_t tables_len, const float *lengths, size_t lengths_len, size_t i,
-                                   float along, uint64_t *answer, size_t answer_len);
+                                   const float *tables, size_t tables_len, const float *lengths, size_t lengths_len,
+                                   const uint32_t *commands, size_t commands_len, size_t i, float along,
+                                   uint64_t *answer, size_t answer_len);
 
 /* Where it heads there, with the length 1, or (0, 0) where nothing tells: the bits of x and of y. */
 uint32_t kihavute_segment_tangent(const uint8_t *kinds, size_t kinds_len, const float *fields, size_t fields_len,
-                                  const float *tables, size_t tables_len, const float *lengths, size_t lengths_len, size_t i,
-                                  float along, uint64_t *answer, size_t answer_len);
+                                  const float *tables, size_t tables_len, const float *lengths, size_t lengths_len,
+                                  const uint32_t *commands, size_t commands_len, size_t i, float along,
+                                  uint64_t *answer, size_t answer_len);
 
 /* That direction in degrees from the x axis towards the y axis: answer[0] gets the bits. */
 uint32_t kihavute_segment_rotation(const uint8_t *kinds, size_t kinds_len, const float *fields, size_t fields_len,
-                                   const float *tables, size_t tables_len, const float *lengths, size_t lengths_len, size_t i,
-                                   float along, uint64_t *answer, size_t answer_len);
+                                   const float *tables, size_t tables_len, const float *lengths, size_t lengths_len,
+                                   const uint32_t *commands, size_t commands_len, size_t i, float along,
+                                   uint64_t *answer, size_t answer_len);
 
 /* ---- Queries of a stored path ----
  * Each call checks the whole path first, which reads every kind, table and length once, and refuses with 12 where the
@@ -495,41 +504,44 @@ uint32_t kihavute_segment_rotation(const uint8_t *kinds, size_t kinds_len, const
  * those of the direction, which has the length 1, or is (0, 0) where nothing tells; [4] the segment, counted from 0, and [5] the
  * bits of the raw parameter at which both were taken. A path without segments (kinds_len is 0) gives KIHAVUTE_NO_SEGMENT for the
  * segment and 0 for the rest. As progress rises the pair of segment and raw parameter never steps back (proved: docs/ORDER.md). */
-uint32_t kihavute_flight(const uint8_t *kinds, size_t kinds_len, const float *fields, size_t fields_len, const float *tables,
-                         size_t tables_len, const float *lengths, size_t lengths_len, float progress, uint64_t *answer,
-                         size_t answer_len);
+uint32_t kihavute_flight(const uint8_t *kinds, size_t kinds_len, const float *fields, size_t fields_len,
+                         const float *tables, size_t tables_len, const float *lengths, size_t lengths_len,
+                         const uint32_t *commands, size_t commands_len, float progress, uint64_t *answer, size_t answer_len);
 
 /* That direction in degrees from the x axis towards the y axis: answer[0] gets the bits. */
 uint32_t kihavute_rotation(const uint8_t *kinds, size_t kinds_len, const float *fields, size_t fields_len,
-                           const float *tables, size_t tables_len, const float *lengths, size_t lengths_len, float progress,
-                           uint64_t *answer, size_t answer_len);
+                           const float *tables, size_t tables_len, const float *lengths, size_t lengths_len,
+                           const uint32_t *commands, size_t commands_len, float progress, uint64_t *answer, size_t answer_len);
 
 /* The segment at each of many progresses, and its raw parameter, in the order of the progresses: segments and raws get one place
  * for each, from their starts, as kihavute_flight gives them: on a path without segments KIHAVUTE_NO_SEGMENT and 0. answer[0]
  * gets the count of progresses. Refused, with nothing written, with 12, then with 8 and the two counts needed. Progresses in
  * rising order pass over the path once; in another order each one walks from the segment before. */
-uint32_t kihavute_places(const uint8_t *kinds, size_t kinds_len, const float *fields, size_t fields_len, const float *tables,
-                         size_t tables_len, const float *lengths, size_t lengths_len, const float *progresses,
-                         size_t progresses_len, uint32_t *segments, size_t segments_len, float *raws, size_t raws_len,
+uint32_t kihavute_places(const uint8_t *kinds, size_t kinds_len, const float *fields, size_t fields_len,
+                         const float *tables, size_t tables_len, const float *lengths, size_t lengths_len,
+                         const uint32_t *commands, size_t commands_len, const float *progresses, size_t progresses_len,
+                         uint32_t *segments, size_t segments_len, float *raws, size_t raws_len,
                          uint64_t *answer, size_t answer_len);
 
 /* All of what is flown at each of many progresses: segments and raws as kihavute_places fills them, and four numbers for each in
  * out, x, y, the direction's x and y, from its start, as kihavute_flight gives them. answer[0] gets the count of progresses.
  * Refused, with nothing written, with 12, then with 8 and the three counts needed. */
-uint32_t kihavute_flights(const uint8_t *kinds, size_t kinds_len, const float *fields, size_t fields_len, const float *tables,
-                          size_t tables_len, const float *lengths, size_t lengths_len, const float *progresses,
-                          size_t progresses_len, uint32_t *segments, size_t segments_len, float *raws, size_t raws_len,
-                          float *out, size_t out_len, uint64_t *answer, size_t answer_len);
+uint32_t kihavute_flights(const uint8_t *kinds, size_t kinds_len, const float *fields, size_t fields_len,
+                          const float *tables, size_t tables_len, const float *lengths, size_t lengths_len,
+                          const uint32_t *commands, size_t commands_len, const float *progresses, size_t progresses_len,
+                          uint32_t *segments, size_t segments_len, float *raws, size_t raws_len, float *out, size_t out_len,
+                          uint64_t *answer, size_t answer_len);
 
 /* ---- The station tool ----
  * A plan is the number of stations, 2 to 1,000, in 1 to 9 digits, a LF, and path data of at most 4,096 bytes and 256 commands.
- * Its listing is text, each line with a LF: the commands, the segments with their running lengths and the stations with their
- * segment, place and direction, station k of n at the progress k / (n - 1), each section after its count, floats as the eight
- * hexadecimal digits of their bits; or, for a plan that is refused, one line: `refused`, the number and what it carries. */
+ * Its listing is text, each line with a LF: the commands, each with the offset of its letter in the path data, the segments
+ * with their running lengths and the numbers of their commands, and the stations with their segment, place and direction,
+ * station k of n at the progress k / (n - 1), each section after its count, floats as the eight hexadecimal digits of their
+ * bits; or, for a plan that is refused, one line: `refused`, the number and what it carries. */
 
 /* Writes the listing of a plan from the start of output: answer[0] gets how many bytes it has, and what stands past them stays.
  * A plan that is refused is accepted here: its listing says so. Refused with 8, and answer[0] is how many bytes the listing
- * has, where output has fewer places; then nothing is written. Every listing fits in 65,536. It holds the buffers of a path on
+ * has, where output has fewer places; then nothing is written. Every listing fits in 69,632. It holds the buffers of a path on
  * its stack: call it from a thread with more than 64 KiB. */
 uint32_t kihavute_stations(const uint8_t *input, size_t input_len, uint8_t *output, size_t output_len,
                            uint64_t *answer, size_t answer_len);

@@ -7,14 +7,15 @@ answering! {
 }
 
 /// How many bytes every listing fits in.
-pub const LISTING: usize = 65_536;
+pub const LISTING: usize = 69_632;
 
-/// The listing of a plan as the station tool prints it: its commands, its segments and its stations, or the line of a refusal.
+/// The listing of a plan as the station tool prints it: its commands, each with the offset of its letter, its segments,
+/// each with the number of its command, and its stations, or the line of a refusal.
 /// A plan is the number of stations in 1 to 9 digits, a LF, and path data.
 ///
 /// ```
 /// let listing = kihavute::listing(b"3\nM0 0L3 4");
-/// assert!(listing.starts_with(b"commands 2\nM 00000000 00000000\nL 40400000 40800000\nsegments 1\nline 40A00000\n"));
+/// assert!(listing.starts_with(b"commands 2\nM 00000000 00000000 0\nL 40400000 40800000 4\nsegments 1\nline 40A00000 1\n"));
 /// assert_eq!(kihavute::listing(b"1\nM0 0L3 4"), b"refused 13 1\n");
 /// ```
 pub fn listing(plan: &[u8]) -> Vec<u8> {
