@@ -14,9 +14,9 @@ use Rattle.ellipse.specs.declared.ends.Arc.{Arc}
 use Rattle.arc.specs.Lines.{lineOf, lineLengthOf}
 use Rattle.path_segment.specs.Segments.{lengthFor}
 use Rattle.path_segment.specs.declared.segments.PathSegment.the-variants as Segment
-use Rattle.path_bounds.specs.Calm.{isNear, isCalm}
+use Rattle.path_bounds.specs.Calm.{isCalm}
 use Rattle.float_bounds.proofs.Within.{Within, within-le}
-use Rattle.path_bounds.proofs.Tested.{near-within, calm-near}
+use Rattle.path_bounds.proofs.Tested.{calm-near}
 use Rattle.path_bounds.proofs.Roots.{distance-within}
 use Rattle.path_bounds.proofs.Lengths.{quad-near, cubic-near, one-more, total-within}
 
@@ -46,10 +46,6 @@ cubic-short start control1 control2 end p q r s =
     sampled (totalOf (cubicSampleOf start control1 control2 end) 31)
     (total-within (cubicSampleOf start control1 control2 end) 31 46 (omega arith)
     (cubic-near start control1 control2 end (calm-near start p) (calm-near control1 q) (calm-near control2 r) (calm-near end s)) (omega arith))
-
--- an arc is judged by its own length
-pub near-short : (x : Float) → T (isNear x) → Within (2 ^ 69) x
-near-short x h = let l : 2 ^ 40 ≤ 2 ^ 69 = pow-mono {i = 40} {j = 69} (omega arith) in within-le x l (near-within x h)
 
 -- a line fallback's length is that of its line
 pub fallback-short : (shape : Arc) → T (isCalm (shape .start)) → T (isCalm (shape .end)) → Within (2 ^ 69) (lengthFor (Segment.Fallback shape))

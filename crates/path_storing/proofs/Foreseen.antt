@@ -25,8 +25,9 @@ use Rattle.path_segment.specs.declared.segments.PathSegment.the-variants.{Line,
 use Rattle.path_stored.specs.Layout.{tableStored}
 use Rattle.path_bounds.specs.Calm.{farF, backF, isNear, isCalm}
 use Rattle.float_bounds.proofs.Within.{Within}
+use Rattle.path_bounds.proofs.Arcs.{arc-short}
 use Rattle.path_bounds.proofs.Lengths.{zero-within}
-use Rattle.path_bounds.proofs.Segments.{line-short, quad-short, cubic-short, near-short, fallback-short, running-short}
+use Rattle.path_bounds.proofs.Segments.{line-short, quad-short, cubic-short, fallback-short, running-short}
 use Rattle.path_drawing.specs.Drawing.{freshOf, strokeOf, drawnOf, arcOf, arcStrokeOf, drawOf}
 use Rattle.path_drawing.specs.Building.{lengthAfter}
 use Rattle.path_drawing.specs.declared.pens.Pen.{Pen}
@@ -76,7 +77,7 @@ module _ (pen : Pen) (calm : CalmPen pen) where
   unfolding fallbackShape
   arc-fine false fallback turned chord next p s e = p
   arc-fine true true turned chord next p s e = (p, λ b. fallback-short (fallbackShape chord) s e)
-  arc-fine true false true chord next p s e = (p, λ b. near-short (lengthFor (Arc (fromEndsOf chord))) b)
+  arc-fine true false true chord next p s e = (p, λ b. arc-short (fromEndsOf chord) b)
   arc-fine true false false chord next p s e = tt
 
   close-fine : (placed : Bool) → Fine (cond placed (Segment (Line (lineOf (pen .current) (pen .start))) (drawnOf pen (pen .start))) (Moved pen))

@@ -1,15 +1,15 @@
--- What is counted of a path before anything is stored, with no length measured but an arc's. That such a count is what judging every length comes to is a law. Definitions only.
+-- What is counted of a path before anything is stored, with no length measured. That such a count is what judging every length comes to is a law. Definitions only.
 use Prim.Native.Nat.{ℕ, _+_, _*_, _≤_, _<_}
 use mathlib.Core.Bool.{Bool, true, _&&_, cond}
 use lib.ListN.{length}
 use Rattle.math.specs.declared.points.Point.{Point}
 use Rattle.commands.specs.declared.command.PathCommand.{PathCommand}
 use Rattle.commands.specs.declared.command.PathCommand.the-variants.{MoveTo, LineTo, QuadTo, CubicTo, ArcTo, ClosePath}
-use Rattle.path_segment.specs.Segments.{fieldsOf, lengthFor}
+use Rattle.path_segment.specs.Segments.{fieldsOf}
 use Rattle.path_segment.specs.declared.segments.PathSegment.{PathSegment}
 use Rattle.path_segment.specs.declared.segments.PathSegment.the-variants.{Line, Quad, Cubic, Arc, Fallback}
 use Rattle.path_stored.specs.Layout.{tableStored}
-use Rattle.path_bounds.specs.Calm.{isNear, isCalm}
+use Rattle.path_bounds.specs.Calm.{isCalm, isCalmArc}
 use Rattle.path_drawing.specs.Drawing.{drawnOf, drawOf}
 use Rattle.path_drawing.specs.declared.pens.Pen.{Pen}
 use Rattle.path_drawing.specs.declared.strokes.Drawn.{Drawn}
@@ -50,12 +50,12 @@ namesCalm (CubicTo control1 control2 end) = (isCalm control1 && isCalm control2)
 namesCalm (ArcTo radii rotation large sweep end) = isCalm end
 namesCalm ClosePath = true
 
--- of the segments between calm points only an arc may be long
+-- of the segments between calm points only an arc may be long: its centre, radii and angles tell
 abbrev pub isBounded : PathSegment → Bool
 isBounded (Line line) = true
 isBounded (Quad start control end) = true
 isBounded (Cubic start control1 control2 end) = true
-isBounded (Arc shape) = isNear (lengthFor (Arc shape))
+isBounded (Arc shape) = isCalmArc shape
 isBounded (Fallback shape) = true
 
 unfoldable pub countedOf : Tally → Drawn → Tallied

@@ -9,7 +9,7 @@ use crate::inner::table_width;
 use commands::PathCommand;
 use math::Point;
 use path_bounds::is_calm;
-use path_bounds::is_near;
+use path_bounds::is_calm_arc;
 use path_drawing::Drawn;
 use path_drawing::Pen;
 use path_drawing::draw;
@@ -18,7 +18,6 @@ use path_drawing::fresh;
 use path_drawing::moved;
 use path_segment::PathSegment;
 use path_segment::kind;
-use path_segment::segment_length;
 use path_segment::width;
 
 // A site without its running length.
@@ -33,7 +32,7 @@ pub struct Tally {
 // What a command comes to.
 pub enum Tallied {
     To(Tally),
-    // A point is far away, or an arc is long or refused: only measuring tells.
+    // A point is far away, or an arc is large or refused: only measuring tells.
     Unsure,
 }
 
@@ -101,7 +100,7 @@ fn stroked(so_far: Tally, calm: bool, end: Point, own: usize, more: usize) -> Ta
     Tallied::Unsure
 }
 
-// Whether a segment between calm points is not long: an arc is measured.
+// Whether a segment between calm points is not long: an arc is judged by its numbers.
 fn is_bounded(segment: PathSegment) -> bool
     ensures { λ r. ⌜ r ≡ isBounded segment ⌝ }
 {
@@ -118,7 +117,7 @@ fn is_bounded(segment: PathSegment) -> bool
             control2: _,
             end: _,
         } => true,
-        PathSegment::Arc(_) => is_near(segment_length(segment)),
+        PathSegment::Arc(shape) => is_calm_arc(shape),
         PathSegment::Fallback(_) => true,
     }
 }
