@@ -6,11 +6,10 @@ use Rattle.path_storing.proofs.tallies.is_bounded.Statement.{statement}
 use Rattle.path_storing.proofs.tallies.is_bounded.Tie as tie
 
 returns-4 : tie.Need-returns-4
-returns-4 c = c .is-calm-arc .ensures ∙ bounded-arc _ _ (c .before .enum-told4 .given .1)
+returns-4 c = c .is-calm-arc .ensures ∙ bounded-arc _ _ (c .before .before .segment .given .1)
 
 pub is-bounded-spec : {M : Type 1} → statement M
 is-bounded-spec =
     tie.close
     (tie.spec (λ c. search needs) (λ c. search needs) (λ c. search needs) (λ c. search needs) (λ c κs. search needs)
-    (λ c κs. search needs) (λ c. search needs) (λ c. search needs) (λ c. search needs) (λ c. search needs) returns-4
-    (λ c. search needs))
+    (λ c. search needs) (λ c. search needs) (λ c. search needs) (λ c. search needs) returns-4 (λ c. search needs))
