@@ -1,42 +1,28 @@
--- The passes over a plan's path: what each knows between two commands, and what a step does to that. Assumes nothing.
+-- The lines of a plan's commands: what is known between two commands, and what a step does to that. Assumes nothing.
 use Prim.Native.Nat.{ℕ, suc, _+_, _*_, _≤_, _<_}
 use mathlib.Core.Path.{_≡_, refl, sym, ap, _∙_}
 use mathlib.Core.List.{List, [], _∷_, _++_, append-assoc, append-nil}
 use native.Mathlib.Omega.{arith}
 use lib.ListN.{length, drop, length-append}
 use Rattle.answers.specs.declared.refusals.Refusal.{Refusal}
-use Rattle.commands.specs.Stored.{lettersOf, numbersOf}
+use Rattle.commands.specs.Stored.{lettersOf}
 use Rattle.commands.specs.declared.command.PathCommand.{PathCommand}
 use Rattle.svg_step.specs.Steps.{freshOf, readStepOf}
 use Rattle.svg.specs.Texts.{Outcome, commands, refusal, readFrom, commandsOf, offsetsOf}
 use Rattle.svg_step.specs.declared.steps.Reader.{Reader}
 use Rattle.svg_step.specs.declared.steps.Step.{Step}
 use Rattle.svg_step.specs.declared.steps.Step.the-variants.{Command, Done, Refused}
-use Rattle.svg.proofs.PassLaws.{onto, Known, known-none, known-all, known-offsets, known-refused, known-more, known-offset, Counting}
+use Rattle.svg.proofs.PassLaws.{onto, Known, known-none, known-all, known-offsets, known-refused, known-more, known-offset}
 use Rattle.text_reader.specs.Plans.{stepOf}
 use Rattle.station_lines.specs.Lines.{commandLine}
 use Rattle.station_lines.specs.Put.{Put, PutWithin}
 use Rattle.station_lines.proofs.Putting.{put-none, put-same, put-then, put-length}
-use Rattle.station_commands.specs.Passes.{sizeOf, commandLines, FewCommands, Listed}
-use Rattle.station_commands.specs.declared.sizes.Size.the-variants.{Counted, Refused as Unmeasured}
+use Rattle.station_commands.specs.Passes.{commandLines, FewCommands, Listed}
 
 -- a step of the plan is a step of its path's text
 pub step-as : (input : List ℕ) (start : ℕ) (state : Reader) (r s : Step) → r ≡ stepOf input start state → r ≡ s → readStepOf (drop start input) state ≡ s
 unfolding stepOf
 step-as input start state r s e f = sym e ∙ f
-
--- ---- the counts
-
-module _ (text : List ℕ) (reader : Reader) (place at : ℕ) (k : Counting text reader place at) where
-  pub counted : readStepOf text reader ≡ Done → Counted place at ≡ sizeOf (commandsOf text)
-  unfolding sizeOf
-  counted e =
-      rw (known-all text reader (k .done) (k .known) e)
-      (ap (λ (n : ℕ). Counted n at) (k .letters) ∙ ap (λ (n : ℕ). Counted (length (lettersOf (k .done))) n) (k .numbers))
-
-  pub uncounted : (reason : Refusal) → readStepOf text reader ≡ Refused reason → Unmeasured reason ≡ sizeOf (commandsOf text)
-  unfolding sizeOf
-  uncounted reason e = rw (known-refused text reader (k .done) (k .known) reason e)
 
 -- ---- the lines
 

@@ -1,19 +1,11 @@
--- What each pass over a plan's path answers and leaves (document 01, "The station tool"; document 02, L5). Definitions only.
+-- The lines of a plan's commands (document 01, "The station tool"; document 02, L5). Definitions only.
 use Prim.Native.Nat.{ℕ, _≤_}
 use mathlib.Core.List.{List, [], _∷_, _++_}
 use lib.ListN.{length}
-use Rattle.commands.specs.Stored.{lettersOf, numbersOf}
 use Rattle.commands.specs.declared.command.PathCommand.{PathCommand}
 use Rattle.svg.specs.Texts.{Outcome, commands, refusal}
 use Rattle.station_lines.specs.Lines.{commandLine}
 use Rattle.station_lines.specs.Put.{PutWithin}
-use Rattle.station_commands.specs.declared.sizes.Size.{Size}
-use Rattle.station_commands.specs.declared.sizes.Size.the-variants.{Counted, Refused}
-
--- the counts of the list
-unfoldable pub sizeOf : Outcome → Size
-sizeOf (commands list) = Counted (length (lettersOf list)) (length (numbersOf list))
-sizeOf (refusal reason) = Refused reason
 
 -- a line for each command, with its offset; there are as many offsets as commands
 unfoldable pub commandLines : List PathCommand → List ℕ → List ℕ

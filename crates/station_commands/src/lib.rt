@@ -1,5 +1,3 @@
-// The passes over the path of a plan: its commands are counted, stored and listed. The bytes come through the text reader alone.
+// The commands of a plan's path, line by line.
 pub mod inner;
-mod sizes;
-
-pub use sizes::Size;
+mod listing;

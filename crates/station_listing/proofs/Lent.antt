@@ -1,4 +1,4 @@
--- The tool's own buffers: a list stored in them, and the path built in them. Assumes nothing.
+-- The tool's own buffers: the path of a list that is lent, built in them. Assumes nothing.
 use Prim.Native.Nat.{ℕ, _≤_, _<_}
 use mathlib.Core.Path.{_≡_, refl, sym, ap, subst, _∙_}
 use mathlib.Core.List.{List, []}
@@ -14,7 +14,7 @@ use Rattle.commands.proofs.ReadBack.{read-back, stored-passes}
 use Rattle.commands.specs.Checked.{checkCommandsOf}
 use Rattle.commands.specs.Stored.{lettersOf, numbersOf}
 use Rattle.commands.specs.declared.command.PathCommand.{PathCommand}
-use Rattle.svg.specs.Texts.{commands, commandsOf, offsetsOf, Room, Filled}
+use Rattle.svg.specs.Texts.{offsetsOf}
 use Rattle.path_segment.specs.declared.segments.PathSegment.{PathSegment}
 use Rattle.path_stored.specs.Buffers.{Buffers, buffers}
 use Rattle.path_stored.specs.Layout.{kindsOf, fieldsOfAll, tablesOfAll, lengthsOfAll, laidOut}
@@ -34,8 +34,8 @@ use Rattle.station_lines.specs.Put.{PutWithin}
 use Rattle.station_lines.proofs.Putting.{within-as}
 use Rattle.station_commands.proofs.PlanLaws.{letters-count}
 use Rattle.station_sections.specs.Sections.{Ready}
-use Rattle.station_listing.specs.Stations.{sectionsOf, builtOf, readOf, planOf, Sized, Numbered, Printed}
-use Rattle.station_listing.proofs.Flying.{numbers-few, segments-few, kinds-count, fields-few, tables-few, lent, built-as, told-refused, BuiltAs, told-built}
+use Rattle.station_listing.specs.Stations.{sectionsOf, builtOf, readOf, planOf, Held, Sized, Printed}
+use Rattle.station_listing.proofs.Flying.{segments-few, kinds-count, fields-few, tables-few, lent, built-as, told-refused, BuiltAs, told-built}
 
 -- the first places of a buffer are what is written there
 pub take-written : {A : Type 0} (xs before now : List A) (n : ℕ) → now ≡ written xs before → n ≡ length xs → take n now ≡ xs
@@ -44,41 +44,8 @@ take-written xs before now n e f =
 
 -- ---- the commands
 
-module _ {text : List ℕ} {places held : ℕ} (k : Numbered text places held) where
-  pub held-few : held ≤ 1792
-  held-few = omega (arith, numbers-few (k .list), k .letters, k .numbers, k .few)
-
-  pub room : (letters numbers : ℕ) → 256 ≡ letters → 1792 ≡ numbers → Room (commandsOf text) letters numbers
-  room letters numbers g h = rw (k .reads) (omega (arith, k .letters, k .few), omega (arith, numbers-few (k .list), k .letters, k .few))
-
-  list-few : length (k .list) ≤ 256
-  list-few = omega (arith, k .letters, k .few, letters-count (k .list))
-
-  pub sized : Sized text places
-  sized = record { short = k .short; list = k .list; reads = k .reads; count = k .letters ∙ letters-count (k .list); few = list-few }
-
--- the list that two buffers hold
-pub record Lent (text letters : List ℕ) (numbers : List Float) : Type 0 where
-  pub short : length text ≤ 4096
-  pub list : List PathCommand
-  pub reads : commandsOf text ≡ commands list
-  pub own : letters ≡ lettersOf list
-  pub more : numbers ≡ numbersOf list
-  pub few : length list ≤ 256
-
-pub lent-of :
-    {text : List ℕ} {places held : ℕ} → Numbered text places held → (letters : List ℕ) (numbers : List Float) (letters′ : List ℕ) (numbers′ : List Float)
-    → Filled (commandsOf text) letters numbers letters′ numbers′ → Lent text (take places letters′) (take held numbers′)
-lent-of {text} {places} {held} k letters numbers letters′ numbers′ f =
-    let g : Filled (commands (k .list)) letters numbers letters′ numbers′ = rw (k .reads) at f in
-    record {
-      short = k .short;
-      list = k .list;
-      reads = k .reads;
-      own = take-written (lettersOf (k .list)) letters letters′ places (g .0) (k .letters);
-      more = take-written (numbersOf (k .list)) numbers numbers′ held (g .1) (k .numbers);
-      few = list-few k;
-    }
+pub sized : {text letters : List ℕ} {numbers : List Float} → Held text letters numbers → Sized text (length letters)
+sized k = record { short = k .short; list = k .list; reads = k .reads; count = ap length (k .own) ∙ letters-count (k .list); few = k .few }
 
 -- ---- the path
 
@@ -89,6 +56,11 @@ pub record Full (b : Buffers) : Type 0 where
   pub tables : 8448 ≡ length (b .tables)
   pub lengths : 256 ≡ length (b .lengths)
   pub commands : 256 ≡ length (b .commands)
+
+pub full :
+    {b : Buffers} → 256 ≡ length (b .kinds) → 2816 ≡ length (b .fields) → 8448 ≡ length (b .tables) → 256 ≡ length (b .lengths) → 256 ≡ length (b .commands)
+    → Full b
+full kinds fields tables lengths commands = record { kinds = kinds; fields = fields; tables = tables; lengths = lengths; commands = commands }
 
 lent-as : {b : Buffers} → Full b → lentOf b ≡ lent
 lent-as h = rw (sym (h .kinds), sym (h .fields), sym (h .tables), sym (h .lengths), sym (h .commands)) refl
@@ -103,7 +75,7 @@ pub record Flight (commands : List PathCommand) (b : Buffers) : Type 0 where
   pub is : buildOf commands ≡ path list
   pub held : b ≡ laidOut list (drawersOf commands)
 
-module _ {text letters : List ℕ} {numbers : List Float} (k : Lent text letters numbers) where
+module _ {text letters : List ℕ} {numbers : List Float} (k : Held text letters numbers) where
   pub lent-passes : checkCommandsOf letters numbers ≡ accepted []
   lent-passes =
       ap (λ (l : List ℕ). checkCommandsOf l numbers) (k .own)

@@ -1,18 +1,27 @@
 -- What each part of a plan prints is what the plan prints. Assumes nothing.
 use Prim.Native.Nat.{ℕ, _-_, _≤_, _<_}
-use mathlib.Core.Path.{_≡_, refl, sym, ap, _∙_}
-use mathlib.Core.List.{List, []}
+use mathlib.Core.Path.{_≡_, refl, sym, ap, subst, _∙_}
+use mathlib.Core.Bool.{Bool, true, false}
+use mathlib.Core.List.{List, [], _∷_}
 use native.Mathlib.Omega.{arith}
-use borrow.Author.Tests.{lt-ltb, le-ltb}
-use lib.ListN.{length, drop, length-drop}
+use borrow.Author.Tests.{lt-ltb, le-ltb, ltb-true, ltb-false}
+use lib.Dec.{ltb}
+use lib.ListN.{length, take, drop, length-drop}
+use lib.Seq.{take-all}
+use Rattle.answers.specs.Answers.{Answer, refused, accepted}
 use Rattle.answers.specs.Report.{written}
 use Rattle.answers.specs.declared.refusals.Refusal.{Refusal}
 use Rattle.answers.specs.declared.refusals.Refusal.the-variants.{TooLong, NoRoom}
 use Rattle.answers.specs.declared.refusals.Values.the-variants.{Three}
+use Rattle.answers.proofs.Settled.{refused-settled, refused-not-accepted}
 use Rattle.answers.proofs.Writing.{written-more}
 use Rattle.commands.specs.Stored.{lettersOf, numbersOf}
 use Rattle.commands.specs.declared.command.PathCommand.{PathCommand}
-use Rattle.svg.specs.Texts.{Outcome, commands, refusal, commandsOf, offsetsOf}
+use Rattle.svg.specs.Lists.{CommandList, writtenOver}
+use Rattle.svg.specs.Texts.{Outcome, commands, refusal, commandsOf, offsetsOf, listOf}
+use Rattle.svg.specs.Readings.{answerOf, readPathOf, readInto, answered, storedOf, ReadPath}
+use Rattle.svg.specs.declared.reading.Reading.{Reading}
+use Rattle.svg.specs.declared.reading.Reading.the-variants.{Read, Refused as Unread}
 use Rattle.svg.proofs.Offsets.{offsets-many}
 use Rattle.text_reader.specs.Plans.{firstLineOf}
 use Rattle.text_reader.specs.declared.line.FirstLine.{FirstLine}
@@ -20,10 +29,10 @@ use Rattle.text_reader.specs.declared.line.FirstLine.the-variants.{Stations as 
 use Rattle.station_lines.specs.Lines.{refusalLine}
 use Rattle.station_lines.specs.Put.{PutWithin}
 use Rattle.station_lines.proofs.Putting.{within-as}
-use Rattle.station_commands.specs.Passes.{sizeOf}
-use Rattle.station_commands.specs.declared.sizes.Size.{Size}
-use Rattle.station_commands.specs.declared.sizes.Size.the-variants.{Counted, Refused as Unmeasured}
-use Rattle.station_listing.specs.Stations.{readOf, planOf, judgedOf, stationsOf, Takes, Stations, Numbered}
+use Rattle.station_commands.proofs.PlanLaws.{letters-count}
+use Rattle.station_listing.specs.Stations.{readOf, planOf, judgedOf, stationsOf, Takes, Stations, Held}
+use Rattle.station_listing.proofs.Flying.{numbers-few}
+use Rattle.station_listing.proofs.Lent.{take-written}
 
 -- ---- the output
 
@@ -60,24 +69,87 @@ module _ (input before after : List ℕ) (r : ℕ) (line : FirstLine) (e : line 
   unfolding stationsOf
   line-asked count next f p = within-as 69632 _ (p .put) (ap (judgedOf input) (sym f ∙ e)) (omega (arith, p .within))
 
--- ---- what a path's text gives
+-- ---- what reading answers
 
-unread : (count : ℕ) (offsets : List ℕ) (o : Outcome) (reason : Refusal) → Unmeasured reason ≡ sizeOf o → refusalLine reason ≡ readOf count offsets o
-unfolding sizeOf readOf
-unread count offsets (commands list) reason e = let z : _≡_ {A = ℕ} 0 1 = cc in absurd (omega arith)
-unread count offsets (refusal other) reason e = let f : reason ≡ other = cc in ap refusalLine f
+-- the tool's own buffers of a command list
+pub record Spare (list : CommandList) : Type 0 where
+  pub letters : 256 ≡ length (list .letters)
+  pub numbers : 1792 ≡ length (list .numbers)
+  pub offsets : 256 ≡ length (list .offsets)
 
--- a list that is counted
-record Counts (o : Outcome) (letters numbers : ℕ) : Type 0 where
+pub spare : {list : CommandList} → 256 ≡ length (list .letters) → 1792 ≡ length (list .numbers) → 256 ≡ length (list .offsets) → Spare list
+spare letters numbers offsets = record { letters = letters; numbers = numbers; offsets = offsets }
+
+-- a list that reading gives, with so many letters and numbers
+record Reads (text : List ℕ) (letters numbers : ℕ) : Type 0 where
   list : List PathCommand
-  reads : o ≡ commands list
+  reads : commandsOf text ≡ commands list
+  read : readPathOf text 256 1792 256 ≡ commands list
+  few : length (lettersOf list) ≤ 256
   own : letters ≡ length (lettersOf list)
   more : numbers ≡ length (numbersOf list)
 
-counts : (o : Outcome) (letters numbers : ℕ) → Counted letters numbers ≡ sizeOf o → Counts o letters numbers
-unfolding sizeOf
-counts (commands list) letters numbers e = record { list = list; reads = refl; own = cc; more = cc }
-counts (refusal reason) letters numbers e = let z : _≡_ {A = ℕ} 0 1 = cc in absurd (omega arith)
+module _ (text : List ℕ) (short : length text ≤ 4096) where
+  unread : (reason : Refusal) → commandsOf text ≡ refusal reason → readPathOf text 256 1792 256 ≡ refusal reason
+  unfolding readPathOf
+  unread reason e = rw (le-ltb 65536 (length text) (omega (arith, short)), e) refl
+
+  -- more than 256 commands have no room
+  crowded :
+      (list : List PathCommand) → commandsOf text ≡ commands list → 256 < length (lettersOf list)
+      → readPathOf text 256 1792 256 ≡ refusal (NoRoom (Three (length (lettersOf list)) (length (numbersOf list)) (length (offsetsOf text))))
+  unfolding readPathOf
+  crowded list e h = rw (le-ltb 65536 (length text) (omega (arith, short)), e, lt-ltb 256 (length (lettersOf list)) h) refl
+
+  -- 256 have: there are at most 7 numbers to a letter, and as many offsets as letters
+  roomy : (list : List PathCommand) → commandsOf text ≡ commands list → length (lettersOf list) ≤ 256 → readPathOf text 256 1792 256 ≡ commands list
+  unfolding readPathOf
+  roomy list e h =
+      let n : length (numbersOf list) ≤ 1792 = omega (arith, numbers-few list) in
+      let o : length (offsetsOf text) ≤ 256 = omega (arith, offsets-many text list e) in
+      rw (
+        le-ltb 65536 (length text) (omega (arith, short)),
+        e,
+        le-ltb 256 (length (lettersOf list)) h,
+        le-ltb 1792 (length (numbersOf list)) n,
+        le-ltb 256 (length (offsetsOf text)) o,
+      )
+      refl
+
+  -- what reading refuses is what is printed
+  refused-as : (count : ℕ) (reason : Refusal) → refused reason ≡ answered text (readPathOf text 256 1792 256) → refusalLine reason ≡ readOf count (offsetsOf text) (commandsOf text)
+  unfolding readOf
+  refused-as count reason e = by (commandsOf text) refl
+    where
+      printed : (other : Refusal) → readPathOf text 256 1792 256 ≡ refusal other → refusalLine reason ≡ refusalLine other
+      printed other f = ap refusalLine (refused-settled reason other (e ∙ ap (answered text) f))
+
+      by-count : (list : List PathCommand) → commandsOf text ≡ commands list → (b : Bool) → ltb 256 (length (lettersOf list)) ≡ b
+          → refusalLine reason ≡ readOf count (offsetsOf text) (commands list)
+      by-count list f true g = rw g (printed _ (crowded list f (ltb-true 256 (length (lettersOf list)) g)))
+      by-count list f false g = absurd (refused-not-accepted reason _ (e ∙ ap (answered text) (roomy list f (ltb-false 256 (length (lettersOf list)) g))))
+
+      by : (o : Outcome) → commandsOf text ≡ o → refusalLine reason ≡ readOf count (offsetsOf text) o
+      by (refusal other) f = printed other (unread other f)
+      by (commands list) f = by-count list f (ltb 256 (length (lettersOf list))) refl
+
+  -- what it accepts is a list of at most 256 commands
+  accepted-as : (letters numbers : ℕ) → accepted (letters ∷ numbers ∷ letters ∷ []) ≡ answered text (readPathOf text 256 1792 256) → Reads text letters numbers
+  accepted-as letters numbers e = by (commandsOf text) refl
+    where
+      by-count : (list : List PathCommand) → commandsOf text ≡ commands list → (b : Bool) → ltb 256 (length (lettersOf list)) ≡ b → Reads text letters numbers
+      by-count list f true g =
+          absurd (refused-not-accepted (NoRoom (Three (length (lettersOf list)) (length (numbersOf list)) (length (offsetsOf text)))) (letters ∷ numbers ∷ letters ∷ [])
+          (sym (e ∙ ap (answered text) (crowded list f (ltb-true 256 (length (lettersOf list)) g)))))
+      by-count list f false g =
+          let h = ltb-false 256 (length (lettersOf list)) g in
+          let counts : letters ∷ (numbers ∷ (letters ∷ [])) ≡ length (lettersOf list) ∷ (length (numbersOf list) ∷ (length (offsetsOf text) ∷ [])) =
+          ap (λ (a : Answer). a .values) (e ∙ ap (answered text) (roomy list f h)) in
+          record { list = list; reads = f; read = roomy list f h; few = h; own = cc; more = cc }
+
+      by : (o : Outcome) → commandsOf text ≡ o → Reads text letters numbers
+      by (refusal other) f = absurd (refused-not-accepted other (letters ∷ numbers ∷ letters ∷ []) (sym (e ∙ ap (answered text) (unread other f))))
+      by (commands list) f = by-count list f (ltb 256 (length (lettersOf list))) refl
 
 -- ---- the text
 
@@ -88,43 +160,50 @@ module _ (input : List ℕ) (start : ℕ) where
   bytes-left : length text ≡ length input - start
   bytes-left = length-drop start input
 
-  pub short-text : length input - start ≤ 4096 → length text ≤ 65536
-  short-text h = omega (arith, bytes-left)
-
-  module _ (count : ℕ) where
-    long-plan : 4096 < length input - start → refusalLine (TooLong 4097) ≡ planOf count text
-    unfolding planOf
-    long-plan h = rw (lt-ltb 4096 (length text) (omega (arith, bytes-left))) refl
-
-    read-plan : length input - start ≤ 4096 → readOf count (offsetsOf text) (commandsOf text) ≡ planOf count text
-    unfolding planOf
-    read-plan h = rw (le-ltb 4096 (length text) (omega (arith, bytes-left))) refl
-
-    -- there are as many offsets as letters
-    too-many : (letters numbers : ℕ) (list : List PathCommand) → commandsOf text ≡ commands list → letters ≡ length (lettersOf list) → numbers ≡ length (numbersOf list)
-        → 256 < letters → refusalLine (NoRoom (Three letters numbers letters)) ≡ readOf count (offsetsOf text) (commandsOf text)
-    unfolding readOf
-    too-many letters numbers list reads own more h =
-        rw (reads, lt-ltb 256 (length (lettersOf list)) (omega arith), offsets-many text list reads, own, more) refl
-
   module _ (count : ℕ) {before after : List ℕ} {r : ℕ} where
     pub too-long : 4096 < length input - start → PutWithin 134 (refusalLine (TooLong 4097)) 0 before after r → PutWithin 69632 (planOf count text) 0 before after r
-    too-long h p = within-as 69632 _ (p .put) (long-plan count h) (omega (arith, p .within))
+    unfolding planOf
+    too-long h p = within-as 69632 _ (p .put) (rw (lt-ltb 4096 (length text) (omega (arith, bytes-left))) refl) (omega (arith, p .within))
 
-    module _ (h : length input - start ≤ 4096) {size : Size} (e : size ≡ sizeOf (commandsOf text)) where
-      pub not-read : {reason : Refusal} → size ≡ Unmeasured reason → PutWithin 134 (refusalLine reason) 0 before after r → PutWithin 69632 (planOf count text) 0 before after r
-      not-read {reason} f p = within-as 69632 _ (p .put) (unread count (offsetsOf text) _ reason (sym f ∙ e) ∙ read-plan count h) (omega (arith, p .within))
+  module _ (h : length input - start ≤ 4096) {stood left : CommandList} {reading : Reading} (lent : ReadPath (take (length input - start) text) stood reading left) (own : Spare stood) where
+    short-text : length text ≤ 4096
+    short-text = omega (arith, bytes-left)
 
-      pub no-room :
-          {letters numbers : ℕ} → size ≡ Counted letters numbers → 256 < letters → PutWithin 134 (refusalLine (NoRoom (Three letters numbers letters))) 0 before after r
-          → PutWithin 69632 (planOf count text) 0 before after r
-      no-room {letters} {numbers} f g p =
-          let c = counts (commandsOf text) letters numbers (sym f ∙ e) in
-          within-as 69632 _ (p .put) (too-many count letters numbers (c .list) (c .reads) (c .own) (c .more) g ∙ read-plan count h) (omega (arith, p .within))
+    -- all that follows the first line is read
+    said : ReadPath text stood reading left
+    said = subst (λ (t : List ℕ). ReadPath t stood reading left) (take-all (length input - start) text (omega (arith, bytes-left))) lent
 
-  pub numbered :
-      length input - start ≤ 4096 → {size : Size} → size ≡ sizeOf (commandsOf text) → {letters numbers : ℕ} → size ≡ Counted letters numbers → letters ≤ 256
-      → Numbered text letters numbers
-  numbered h e {letters} {numbers} f g =
-      let c = counts (commandsOf text) letters numbers (sym f ∙ e) in
-      record { short = omega (arith, bytes-left); list = c .list; reads = c .reads; letters = c .own; numbers = c .more; few = g }
+    into : readInto text stood ≡ readPathOf text 256 1792 256
+    into = rw (sym (own .letters), sym (own .numbers), sym (own .offsets)) refl
+
+    answer-as : (other : Reading) → reading ≡ other → answerOf other ≡ answered text (readPathOf text 256 1792 256)
+    answer-as other e = ap answerOf (sym e) ∙ said .answer ∙ ap (answered text) into
+
+    pub not-read : (count : ℕ) {before after : List ℕ} {r : ℕ} {reason : Refusal} → reading ≡ Unread reason → PutWithin 134 (refusalLine reason) 0 before after r
+        → PutWithin 69632 (planOf count text) 0 before after r
+    unfolding planOf
+    not-read count {reason = reason} e p =
+        within-as 69632 _ (p .put) (rw (le-ltb 4096 (length text) short-text) (refused-as text short-text count reason (answer-as (Unread reason) e))) (omega (arith, p .within))
+
+    module _ {letters numbers : ℕ} (e : reading ≡ Read letters numbers) where
+      known : Reads text letters numbers
+      known = accepted-as text short-text letters numbers (answer-as (Read letters numbers) e)
+
+      pub letters-most : letters ≤ 256
+      letters-most = omega (arith, known .own, known .few)
+
+      pub numbers-most : numbers ≤ 1792
+      numbers-most = omega (arith, known .more, numbers-few (known .list), known .few)
+
+      -- the list stands in the first places of the buffers
+      pub held : Held text (take letters (left .letters)) (take numbers (left .numbers))
+      held =
+          let wrote : left ≡ writtenOver (listOf text (known .list)) stood = said .memory ∙ ap (λ (o : Outcome). writtenOver (storedOf text o) stood) (into ∙ known .read) in
+          record {
+            short = short-text;
+            list = known .list;
+            reads = known .reads;
+            own = take-written (lettersOf (known .list)) (stood .letters) (left .letters) letters (ap (λ (l : CommandList). l .letters) wrote) (known .own);
+            more = take-written (numbersOf (known .list)) (stood .numbers) (left .numbers) numbers (ap (λ (l : CommandList). l .numbers) wrote) (known .more);
+            few = omega (arith, letters-count (known .list), known .few);
+          }

@@ -4,6 +4,7 @@ use mathlib.Core.Path.{_≡_}
 use mathlib.Core.Bool.{Bool, cond}
 use mathlib.Core.List.{List, [], _∷_, _++_}
 use lib.Dec.{ltb}
+use lib.Ieee.{Float}
 use lib.ListN.{length, drop}
 use Rattle.answers.specs.Report.{written}
 use Rattle.answers.specs.declared.refusals.Values.the-variants.{Three}
@@ -82,16 +83,16 @@ pub record Stations (input before : List ℕ) (r : ℕ) (after : List ℕ) : Typ
 
 -- ---- what the parts ask and leave
 
--- the text is short enough and reads, and its list has so many letters, at most 256, and so many numbers
-pub record Numbered (text : List ℕ) (places held : ℕ) : Type 0 where
+-- the text is short enough and reads, and these are the letters and numbers of its commands, at most 256
+pub record Held (text letters : List ℕ) (numbers : List Float) : Type 0 where
   pub short : length text ≤ 4096
   pub list : List PathCommand
   pub reads : commandsOf text ≡ commands list
-  pub letters : places ≡ length (lettersOf list)
-  pub numbers : held ≡ length (numbersOf list)
-  pub few : places ≤ 256
+  pub own : letters ≡ lettersOf list
+  pub more : numbers ≡ numbersOf list
+  pub few : length list ≤ 256
 
--- the same of so many commands
+-- the same of so many commands, wherever they stand
 pub record Sized (text : List ℕ) (places : ℕ) : Type 0 where
   pub short : length text ≤ 4096
   pub list : List PathCommand

@@ -4,10 +4,9 @@ ghost use lib.ListN.{drop};
 ghost use Rattle.station_lines.specs.Put.{PutWithin};
 ghost use Rattle.path_stored.specs.Buffers.{before, lent};
 ghost use Rattle.station_sections.specs.Sections.{Ready};
-ghost use Rattle.station_listing.specs.Stations.{planOf, Sized, Numbered, Printed};
+ghost use Rattle.station_listing.specs.Stations.{planOf, Held, Sized, Printed};
 use path_build::Building;
 use path_build::inner::build_listed;
-use station_commands::inner::fill;
 use station_commands::inner::list;
 use station_lines::inner::put_header;
 use station_lines::inner::put_refusal;
@@ -47,29 +46,26 @@ fn print(
     )
 }
 
-// A path of so many commands and numbers, for which there is room: its listing, or why it is not built.
+// The path whose commands these letters and numbers are: its listing, or why it is not built.
 pub fn fly(
     out: &mut [u8],
     input: &[u8],
     start: usize,
     count: usize,
-    places: usize,
-    held: usize,
+    letters: &[u8],
+    numbers: &[f32],
 ) -> usize
-    requires { ⌜ Numbered (drop start (now input)) places held × (2 ≤ count) × (count ≤ 1000) ⌝ }
+    requires { ⌜ Held (drop start (now input)) (now letters) (now numbers) × (2 ≤ count) × (count ≤ 1000) ⌝ }
     ensures { λ r. ⌜ PutWithin 69632 (planOf count (drop start (now (input .entry)))) 0 (now (out .entry)) (now (out .exit)) r ⌝ }
 {
-    let mut letters = [0u8; 256];
-    let mut numbers = [0.0f32; 1792];
-    fill(input, start, &mut letters, &mut numbers);
     let mut kinds = [0u8; 256];
     let mut fields = [0.0f32; 2816];
     let mut tables = [0.0f32; 8448];
     let mut lengths = [0.0f32; 256];
     let mut commands = [0u32; 256];
     match build_listed(
-        &letters[..places],
-        &numbers[..held],
+        letters,
+        numbers,
         &mut kinds,
         &mut fields,
         &mut tables,
@@ -88,7 +84,7 @@ pub fn fly(
                 out,
                 input,
                 start,
-                places,
+                letters.len(),
                 count,
                 &kinds[..segments],
                 &fields[..own],

@@ -5,14 +5,14 @@ ghost use Rattle.station_lines.specs.Put.{PutWithin};
 ghost use Rattle.station_listing.specs.Stations.{planOf, stationsOf};
 use crate::flights::fly;
 use answers::Refusal;
-use answers::Values;
-use station_commands::Size;
-use station_commands::inner::measure;
 use station_lines::inner::put_refusal;
+use svg::Reading;
+use svg::read_lean;
 use text_reader::FirstLine;
 use text_reader::first_line;
 
-// The path that starts at `start`, with so many stations.
+// The path that starts at `start`, with so many stations. 256 commands have at most 1,792 numbers, so that reading refuses more commands and
+// nothing else. The lean reader is taken for its stack: the buffers of the path stand beside it.
 fn answer(out: &mut [u8], input: &[u8], start: usize, count: usize) -> usize
     requires { ⌜ (start ≤ length (now input)) × (2 ≤ count) × (count ≤ 1000) ⌝ }
     ensures { λ r. ⌜ PutWithin 69632 (planOf count (drop start (now (input .entry)))) 0 (now (out .entry)) (now (out .exit)) r ⌝ }
@@ -20,19 +20,25 @@ fn answer(out: &mut [u8], input: &[u8], start: usize, count: usize) -> usize
     if 4096 < input.len() - start {
         return put_refusal(out, 0, Refusal::TooLong(4097));
     }
-    match measure(input, start) {
-        Size::Refused(refusal) => {
+    let mut letters = [0u8; 256];
+    let mut numbers = [0.0f32; 1792];
+    let mut offsets = [0u32; 256];
+    match read_lean(&input[start..], &mut letters, &mut numbers, &mut offsets) {
+        Reading::Refused(refusal) => {
             return put_refusal(out, 0, refusal);
         }
-        Size::Counted { letters, numbers } => {
-            if 256 < letters {
-                return put_refusal(
-                    out,
-                    0,
-                    Refusal::NoRoom(Values::Three(letters, numbers, letters)),
-                );
-            }
-            return fly(out, input, start, count, letters, numbers);
+        Reading::Read {
+            letters: places,
+            numbers: held,
+        } => {
+            return fly(
+                out,
+                input,
+                start,
+                count,
+                &letters[..places],
+                &numbers[..held],
+            );
         }
     }
 }

@@ -1,12 +1,12 @@
--- `station_commands::inner::list` meets its contract. The loop keeps that the commands up to its state are known and their lines are put; the measure is what is left of the text. Assumes nothing.
+-- `station_commands::listing::list` meets its contract. The loop keeps that the commands up to its state are known and their lines are put; the measure is what is left of the text. Assumes nothing.
 use borrow.Author.Needs.{needs}
 use Prim.Native.Nat.{_-_}
 use native.Mathlib.Omega.{arith}
 use lib.ListN.{length, drop}
 use Rattle.svg_step.proofs.Ahead.{step-ahead}
 use Rattle.station_commands.proofs.PlanLaws.{Listing, step-as, listing-none, same-out, never-refused, listed, line-room, listing-more}
-use Rattle.station_commands.proofs.inner.list.Statement.{statement}
-use Rattle.station_commands.proofs.inner.list.Tie as tie
+use Rattle.station_commands.proofs.listing.list.Statement.{statement}
+use Rattle.station_commands.proofs.listing.list.Tie as tie
 
 abbrev Inv-loop : tie.InvT-loop
 Inv-loop input start out₀ from reader₀ at₀ out reader at = Listing (drop start input) out₀ out from reader at
