@@ -33,7 +33,7 @@ macro_rules! answering {
     };
 }
 
-/// Calls a function that answers on the four buffers of a stored path, with what else it takes.
+/// Calls a function that answers on the five buffers of a stored path, with what else it takes.
 macro_rules! ask {
     ($path:expr, $query:ident($($argument:expr),*)) => {
         // SAFETY: the slices are whole, each output is borrowed alone, and the answer is the call's own
@@ -47,6 +47,8 @@ macro_rules! ask {
                 $path.tables.len(),
                 $path.lengths.as_ptr(),
                 $path.lengths.len(),
+                $path.commands.as_ptr(),
+                $path.commands.len(),
                 $($argument,)*
                 answer,
                 places,
@@ -94,16 +96,19 @@ unsafe extern "C" {
 answering! {
     fn kihavute_raw_parameter(entries: [f32], total: f32, progress: f32);
     fn kihavute_build(
-        letters: [u8], numbers: [f32], kinds: mut [u8], fields: mut [f32], tables: mut [f32], lengths: mut [f32]
+        letters: [u8], numbers: [f32], kinds: mut [u8], fields: mut [f32], tables: mut [f32], lengths: mut [f32],
+        commands: mut [u32]
     );
-    fn kihavute_build_text(text: [u8], kinds: mut [u8], fields: mut [f32], tables: mut [f32], lengths: mut [f32]);
+    fn kihavute_build_text(
+        text: [u8], kinds: mut [u8], fields: mut [f32], tables: mut [f32], lengths: mut [f32], commands: mut [u32]
+    );
     fn kihavute_spot(lengths: [f32], progress: f32);
     fn kihavute_resample(points: [f32], count: usize, out: mut [f32]);
     fn kihavute_morph(from: [f32], to: [f32], resolution: usize, out_from: mut [f32], out_to: mut [f32]);
     fn kihavute_morph_default(from: [f32], to: [f32], out_from: mut [f32], out_to: mut [f32]);
     fn kihavute_evaluate(from: [f32], to: [f32], t: f32, out: mut [f32]);
     fn kihavute_bounds(from: [f32], to: [f32], t: f32);
-    fn kihavute_check(kinds: [u8], fields: [f32], tables: [f32], lengths: [f32]);
+    fn kihavute_check(kinds: [u8], fields: [f32], tables: [f32], lengths: [f32], commands: [u32]);
     fn kihavute_quad(sx: f32, sy: f32, cx: f32, cy: f32, ex: f32, ey: f32, progress: f32);
     fn kihavute_cubic(sx: f32, sy: f32, ax: f32, ay: f32, bx: f32, by: f32, ex: f32, ey: f32, progress: f32);
     fn kihavute_quad_table(sx: f32, sy: f32, cx: f32, cy: f32, ex: f32, ey: f32, out: mut [f32]);
@@ -388,8 +393,8 @@ pub fn bounds(from: &[f32], to: &[f32], t: f32) -> Result<[Bits; 4], Refusal> {
     Ok([given[0] as Bits, given[1] as Bits, given[2] as Bits, given[3] as Bits])
 }
 
-/// Builds the stored path of a command list into four buffers. Gives how many places of each are written: kinds, fields,
-/// tables, lengths. A refusal writes nothing.
+/// Builds the stored path of a command list into five buffers. Gives how many places of each are written: kinds, fields,
+/// tables, lengths, commands. The last has for each segment the number of its command, counted from 0. A refusal writes nothing.
 #[inline]
 pub fn build(
     letters: &[u8],
@@ -398,7 +403,8 @@ pub fn build(
     fields: &mut [f32],
     tables: &mut [f32],
     lengths: &mut [f32],
-) -> Result<[usize; 4], Refusal> {
+    commands: &mut [u32],
+) -> Result<[usize; 5], Refusal> {
     // SAFETY: the slices are whole and apart from each other, and the answer is the call's own
     let given = judged(|answer, places| unsafe {
         kihavute_build(
@@ -414,14 +420,16 @@ pub fn build(
             tables.len(),
             lengths.as_mut_ptr(),
             lengths.len(),
+            commands.as_mut_ptr(),
+            commands.len(),
             answer,
             places,
         )
     })?;
-    Ok([0, 1, 2, 3].map(|k| given[k] as usize))
+    Ok([0, 1, 2, 3, 4].map(|k| given[k] as usize))
 }
 
-/// The same for a text of path data.
+/// The same for a text of path data. The commands are numbered as [`read`] gives them.
 #[inline]
 pub fn build_text(
     text: &[u8],
@@ -429,7 +437,8 @@ pub fn build_text(
     fields: &mut [f32],
     tables: &mut [f32],
     lengths: &mut [f32],
-) -> Result<[usize; 4], Refusal> {
+    commands: &mut [u32],
+) -> Result<[usize; 5], Refusal> {
     // SAFETY: the slices are whole and apart from each other, and the answer is the call's own
     let given = judged(|answer, places| unsafe {
         kihavute_build_text(
@@ -443,11 +452,13 @@ pub fn build_text(
             tables.len(),
             lengths.as_mut_ptr(),
             lengths.len(),
+            commands.as_mut_ptr(),
+            commands.len(),
             answer,
             places,
         )
     })?;
-    Ok([0, 1, 2, 3].map(|k| given[k] as usize))
+    Ok([0, 1, 2, 3, 4].map(|k| given[k] as usize))
 }
 
 /// What a lone segment answers at a progress along it: where it is and where it heads, with the length 1, or (0, 0) where
@@ -920,9 +931,15 @@ pub fn check_commands(letters: &[u8], numbers: &[f32]) -> Result<(), Refusal> {
     Ok(())
 }
 
-/// How many segments the path in these four buffers has; refused with 12 where they hold none.
+/// How many segments the path in these five buffers has; refused with 12 where they hold none.
 #[inline]
-pub fn check(kinds: &[u8], fields: &[f32], tables: &[f32], lengths: &[f32]) -> Result<usize, Refusal> {
+pub fn check(
+    kinds: &[u8],
+    fields: &[f32],
+    tables: &[f32],
+    lengths: &[f32],
+    commands: &[u32],
+) -> Result<usize, Refusal> {
     // SAFETY: the slices are whole, and the answer is the call's own
     let given = judged(|answer, places| unsafe {
         kihavute_check(
@@ -934,6 +951,8 @@ pub fn check(kinds: &[u8], fields: &[f32], tables: &[f32], lengths: &[f32]) -> R
             tables.len(),
             lengths.as_ptr(),
             lengths.len(),
+            commands.as_ptr(),
+            commands.len(),
             answer,
             places,
         )
@@ -1137,10 +1156,10 @@ mod tests {
     #[test]
     fn stored_paths() {
         let refused = Err(Refusal::answered(12, [0; 8]));
-        assert_eq!(check(&[], &[], &[], &[]), Ok(0));
-        assert_eq!(check(&[0], &[0.0, 0.0, 3.0, 4.0], &[], &[5.0]), Ok(1));
-        assert_eq!(check(&[5], &[], &[], &[5.0]), refused);
-        assert_eq!(check(&[0], &[0.0, 0.0, 3.0], &[], &[5.0]), refused);
+        assert_eq!(check(&[], &[], &[], &[], &[]), Ok(0));
+        assert_eq!(check(&[0], &[0.0, 0.0, 3.0, 4.0], &[], &[5.0], &[1]), Ok(1));
+        assert_eq!(check(&[5], &[], &[], &[5.0], &[1]), refused);
+        assert_eq!(check(&[0], &[0.0, 0.0, 3.0], &[], &[5.0], &[1]), refused);
     }
 
     #[test]

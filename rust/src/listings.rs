@@ -46,7 +46,7 @@ mod tests {
         let due = listing(plan);
         let mut out = vec![7; due.len()];
         let refusal = listing_into(plan, &mut out[1..]).expect_err("it is one byte short");
-        assert_eq!(refusal.reason(), Reason::NoRoom { needed: [due.len() as u64, 0, 0, 0] });
+        assert_eq!(refusal.reason(), Reason::NoRoom { needed: [due.len() as u64, 0, 0, 0, 0] });
         assert!(out.iter().all(|byte| *byte == 7));
         assert_eq!(listing_into(plan, &mut out), Ok(due.len()));
         assert_eq!(out, due);

@@ -4,14 +4,15 @@ use crate::Flight;
 use crate::refusals::{Reason, Refusal};
 
 answering! {
-    fn kihavute_flight(kinds: [u8], fields: [f32], tables: [f32], lengths: [f32], progress: f32);
-    fn kihavute_rotation(kinds: [u8], fields: [f32], tables: [f32], lengths: [f32], progress: f32);
+    fn kihavute_flight(kinds: [u8], fields: [f32], tables: [f32], lengths: [f32], commands: [u32], progress: f32);
+    fn kihavute_rotation(kinds: [u8], fields: [f32], tables: [f32], lengths: [f32], commands: [u32], progress: f32);
     fn kihavute_places(
-        kinds: [u8], fields: [f32], tables: [f32], lengths: [f32], progresses: [f32], segments: mut [u32], raws: mut [f32]
+        kinds: [u8], fields: [f32], tables: [f32], lengths: [f32], commands: [u32], progresses: [f32], segments: mut [u32],
+        raws: mut [f32]
     );
     fn kihavute_flights(
-        kinds: [u8], fields: [f32], tables: [f32], lengths: [f32], progresses: [f32], segments: mut [u32], raws: mut [f32],
-        out: mut [f32]
+        kinds: [u8], fields: [f32], tables: [f32], lengths: [f32], commands: [u32], progresses: [f32], segments: mut [u32],
+        raws: mut [f32], out: mut [f32]
     );
 }
 
@@ -49,7 +50,7 @@ impl RawParameter {
     }
 }
 
-/// A stored path with its four buffers; `docs/STORED.md` has their layout.
+/// A stored path with its five buffers; `docs/STORED.md` has their layout.
 ///
 /// ```
 /// use kihavute::{Path, Progress};
@@ -68,34 +69,38 @@ pub struct Path {
     pub(crate) fields: Vec<f32>,
     pub(crate) tables: Vec<f32>,
     pub(crate) lengths: Vec<f32>,
+    pub(crate) commands: Vec<u32>,
 }
 
 impl Path {
     /// The path of a text of path data. It is built twice: to learn the counts, and to store.
     pub fn from_text(text: &[u8]) -> Result<Self, Refusal> {
         Self::sized(|path| {
-            crate::build_text(text, &mut path.kinds, &mut path.fields, &mut path.tables, &mut path.lengths)
+            let Self { kinds, fields, tables, lengths, commands } = path;
+            crate::build_text(text, kinds, fields, tables, lengths, commands)
         })
     }
 
     /// The path of a command list: its letters, and the numbers of all of them.
     pub fn from_commands(letters: &[u8], numbers: &[f32]) -> Result<Self, Refusal> {
         Self::sized(|path| {
-            crate::build(letters, numbers, &mut path.kinds, &mut path.fields, &mut path.tables, &mut path.lengths)
+            let Self { kinds, fields, tables, lengths, commands } = path;
+            crate::build(letters, numbers, kinds, fields, tables, lengths, commands)
         })
     }
 
     // builds into no room; where that is all that is missing, into just the room that the refusal names
-    fn sized(mut build: impl FnMut(&mut Self) -> Result<[usize; 4], Refusal>) -> Result<Self, Refusal> {
+    fn sized(mut build: impl FnMut(&mut Self) -> Result<[usize; 5], Refusal>) -> Result<Self, Refusal> {
         let mut path = Self::default();
         let Err(refusal) = build(&mut path) else { return Ok(path) };
         let Reason::NoRoom { needed } = refusal.reason() else { return Err(refusal) };
-        let [kinds, fields, tables, lengths] = needed.map(|places| places as usize);
+        let [kinds, fields, tables, lengths, commands] = needed.map(|places| places as usize);
         path = Self {
             kinds: vec![0; kinds],
             fields: vec![0.0; fields],
             tables: vec![0.0; tables],
             lengths: vec![0.0; lengths],
+            commands: vec![0; commands],
         };
         build(&mut path)?;
         Ok(path)
@@ -119,6 +124,18 @@ impl Path {
     /// The running length at the end of each segment.
     pub fn lengths(&self) -> &[f32] {
         &self.lengths
+    }
+
+    /// The number of the command that made a segment; `None` past the last segment. Commands count from 0, in the list that the path
+    /// was built from, or, for a text, in the list that [`read`](crate::read) gives; those that draw nothing count too. A segment
+    /// that was appended has the number that it was given.
+    ///
+    /// ```
+    /// let path = kihavute::Path::from_text(b"M0 0L3 4M1 1L2 2").unwrap();
+    /// assert_eq!([0, 1, 2].map(|segment| path.command(segment)), [Some(1), Some(3), None]);
+    /// ```
+    pub fn command(&self, segment: usize) -> Option<usize> {
+        self.commands.get(segment).map(|&command| command as usize)
     }
 
     /// What is flown at a progress: where it is, in path units, where it heads, and the pair of segment and raw parameter at which
@@ -244,9 +261,9 @@ mod tests {
         let (mut segments, mut raws, mut out) = ([9; 2], [9.0; 3], [9.0; 11]);
         let three = [0.0, 0.5, 1.0].map(Progress);
         let refusal = path.places(&three, &mut segments, &mut raws).expect_err("a place too few");
-        assert_eq!(refusal.reason(), Reason::NoRoom { needed: [3, 3, 0, 0] });
+        assert_eq!(refusal.reason(), Reason::NoRoom { needed: [3, 3, 0, 0, 0] });
         let refusal = path.flights(&three, &mut [9; 3], &mut raws, &mut out).expect_err("a place too few");
-        assert_eq!(refusal.reason(), Reason::NoRoom { needed: [3, 3, 12, 0] });
+        assert_eq!(refusal.reason(), Reason::NoRoom { needed: [3, 3, 12, 0, 0] });
         assert_eq!((segments, raws, out), ([9; 2], [9.0; 3], [9.0; 11]));
         let empty = Path::default();
         assert_eq!(empty.flights(&three[1..2], &mut segments, &mut raws, &mut out), Ok(1));

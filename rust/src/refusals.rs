@@ -49,7 +49,7 @@ pub enum Reason {
     },
     /// The places needed of each output, in the call's order, zeros after the last.
     NoRoom {
-        needed: [u64; 4],
+        needed: [u64; 5],
     },
     BadList {
         command: u64,
@@ -89,7 +89,7 @@ impl Refusal {
 
     /// The refusal's name with its values.
     pub fn reason(&self) -> Reason {
-        let [first, second, third, fourth, ..] = self.carried;
+        let [first, second, third, fourth, fifth, ..] = self.carried;
         match self.number {
             1 => Reason::TooLong { length: first },
             2 => Reason::UnexpectedEnd { offset: first },
@@ -98,7 +98,7 @@ impl Refusal {
             5 => Reason::ExpectedFlag { offset: first },
             6 => Reason::UnsupportedCommand { letter: first as u8, offset: second },
             7 => Reason::MissingMoveTo { offset: first },
-            8 => Reason::NoRoom { needed: [first, second, third, fourth] },
+            8 => Reason::NoRoom { needed: [first, second, third, fourth, fifth] },
             9 => Reason::BadList { command: first },
             10 => Reason::RotationRange { segment: first },
             11 => Reason::NotFinite { place: first },

@@ -3,35 +3,44 @@
 use crate::{Bits, Chord, Path, Progress, Refusal};
 
 answering! {
-    fn kihavute_len(kinds: [u8], fields: [f32], tables: [f32], lengths: [f32]);
-    fn kihavute_is_empty(kinds: [u8], fields: [f32], tables: [f32], lengths: [f32]);
-    fn kihavute_path_length(kinds: [u8], fields: [f32], tables: [f32], lengths: [f32]);
-    fn kihavute_segment(kinds: [u8], fields: [f32], tables: [f32], lengths: [f32], i: usize, out: mut [f32]);
-    fn kihavute_segment_position(kinds: [u8], fields: [f32], tables: [f32], lengths: [f32], i: usize, along: f32);
-    fn kihavute_segment_tangent(kinds: [u8], fields: [f32], tables: [f32], lengths: [f32], i: usize, along: f32);
-    fn kihavute_segment_rotation(kinds: [u8], fields: [f32], tables: [f32], lengths: [f32], i: usize, along: f32);
+    fn kihavute_len(kinds: [u8], fields: [f32], tables: [f32], lengths: [f32], commands: [u32]);
+    fn kihavute_is_empty(kinds: [u8], fields: [f32], tables: [f32], lengths: [f32], commands: [u32]);
+    fn kihavute_path_length(kinds: [u8], fields: [f32], tables: [f32], lengths: [f32], commands: [u32]);
+    fn kihavute_segment(
+        kinds: [u8], fields: [f32], tables: [f32], lengths: [f32], commands: [u32], i: usize, out: mut [f32]
+    );
+    fn kihavute_segment_position(
+        kinds: [u8], fields: [f32], tables: [f32], lengths: [f32], commands: [u32], i: usize, along: f32
+    );
+    fn kihavute_segment_tangent(
+        kinds: [u8], fields: [f32], tables: [f32], lengths: [f32], commands: [u32], i: usize, along: f32
+    );
+    fn kihavute_segment_rotation(
+        kinds: [u8], fields: [f32], tables: [f32], lengths: [f32], commands: [u32], i: usize, along: f32
+    );
     fn kihavute_push_segment(
-        kinds: mut [u8], fields: mut [f32], tables: mut [f32], lengths: mut [f32], count: usize, kind: u8, numbers: [f32]
+        kinds: mut [u8], fields: mut [f32], tables: mut [f32], lengths: mut [f32], commands: mut [u32], count: usize,
+        command: u32, kind: u8, numbers: [f32]
     );
     fn kihavute_line_to(
-        kinds: mut [u8], fields: mut [f32], tables: mut [f32], lengths: mut [f32], count: usize,
-        sx: f32, sy: f32, ex: f32, ey: f32
+        kinds: mut [u8], fields: mut [f32], tables: mut [f32], lengths: mut [f32], commands: mut [u32], count: usize,
+        command: u32, sx: f32, sy: f32, ex: f32, ey: f32
     );
     fn kihavute_quad_to(
-        kinds: mut [u8], fields: mut [f32], tables: mut [f32], lengths: mut [f32], count: usize,
-        sx: f32, sy: f32, cx: f32, cy: f32, ex: f32, ey: f32
+        kinds: mut [u8], fields: mut [f32], tables: mut [f32], lengths: mut [f32], commands: mut [u32], count: usize,
+        command: u32, sx: f32, sy: f32, cx: f32, cy: f32, ex: f32, ey: f32
     );
     fn kihavute_cubic_to(
-        kinds: mut [u8], fields: mut [f32], tables: mut [f32], lengths: mut [f32], count: usize,
-        sx: f32, sy: f32, ax: f32, ay: f32, bx: f32, by: f32, ex: f32, ey: f32
+        kinds: mut [u8], fields: mut [f32], tables: mut [f32], lengths: mut [f32], commands: mut [u32], count: usize,
+        command: u32, sx: f32, sy: f32, ax: f32, ay: f32, bx: f32, by: f32, ex: f32, ey: f32
     );
     fn kihavute_arc_to(
-        kinds: mut [u8], fields: mut [f32], tables: mut [f32], lengths: mut [f32], count: usize,
-        sx: f32, sy: f32, rx: f32, ry: f32, rotation: f32, large: u32, sweep: u32, ex: f32, ey: f32
+        kinds: mut [u8], fields: mut [f32], tables: mut [f32], lengths: mut [f32], commands: mut [u32], count: usize,
+        command: u32, sx: f32, sy: f32, rx: f32, ry: f32, rotation: f32, large: u32, sweep: u32, ex: f32, ey: f32
     );
 }
 
-/// A stored path that is lent: its four arrays, as `docs/STORED.md` lays them out. Each call checks them whole.
+/// A stored path that is lent: its five arrays, as `docs/STORED.md` lays them out. Each call checks them whole.
 ///
 /// ```
 /// use kihavute::{Path, Progress};
@@ -48,6 +57,7 @@ pub struct Stored<'a> {
     pub fields: &'a [f32],
     pub tables: &'a [f32],
     pub lengths: &'a [f32],
+    pub commands: &'a [u32],
 }
 
 impl Stored<'_> {
@@ -103,18 +113,20 @@ impl Stored<'_> {
     }
 }
 
-/// Four buffers whose first `count` segments are a stored path, with room after them. An accepted call stores one segment more,
-/// counts it, and tells how many places of each buffer are in use; a refused one writes nothing.
+/// Five buffers whose first `count` segments are a stored path, with room after them. An accepted call stores one segment more,
+/// with the number of its command that it is given, counts it, and tells how many places of each buffer are in use; a refused one
+/// writes nothing. A number below that of the last segment is refused as a bad path.
 #[derive(Debug)]
 pub struct Growing<'a> {
     pub kinds: &'a mut [u8],
     pub fields: &'a mut [f32],
     pub tables: &'a mut [f32],
     pub lengths: &'a mut [f32],
+    pub commands: &'a mut [u32],
     pub count: usize,
 }
 
-// appends to the four buffers by one of these
+// appends to the five buffers by one of these
 macro_rules! append {
     ($room:expr, $call:ident($($argument:expr),*)) => {{
         // SAFETY: the slices are whole and apart from each other, and the answer is the call's own
@@ -128,6 +140,8 @@ macro_rules! append {
                 $room.tables.len(),
                 $room.lengths.as_mut_ptr(),
                 $room.lengths.len(),
+                $room.commands.as_mut_ptr(),
+                $room.commands.len(),
                 $room.count,
                 $($argument,)*
                 answer,
@@ -135,33 +149,41 @@ macro_rules! append {
             )
         })?;
         $room.count += 1;
-        Ok([0, 1, 2, 3].map(|k| given[k] as usize))
+        Ok([0, 1, 2, 3, 4].map(|k| given[k] as usize))
     }};
 }
 
 impl Growing<'_> {
     /// Appends the segment of a kind and of its numbers, as both are stored; its table is made anew.
-    pub fn push_segment(&mut self, kind: u8, numbers: &[f32]) -> Result<[usize; 4], Refusal> {
-        append!(self, kihavute_push_segment(kind, numbers.as_ptr(), numbers.len()))
+    pub fn push_segment(&mut self, command: u32, kind: u8, numbers: &[f32]) -> Result<[usize; 5], Refusal> {
+        append!(self, kihavute_push_segment(command, kind, numbers.as_ptr(), numbers.len()))
     }
 
     /// Appends a line.
-    pub fn line_to(&mut self, [[sx, sy], [ex, ey]]: [[f32; 2]; 2]) -> Result<[usize; 4], Refusal> {
-        append!(self, kihavute_line_to(sx, sy, ex, ey))
+    pub fn line_to(&mut self, command: u32, [[sx, sy], [ex, ey]]: [[f32; 2]; 2]) -> Result<[usize; 5], Refusal> {
+        append!(self, kihavute_line_to(command, sx, sy, ex, ey))
     }
 
     /// Appends a quad: its start, its control and its end.
-    pub fn quad_to(&mut self, [[sx, sy], [cx, cy], [ex, ey]]: [[f32; 2]; 3]) -> Result<[usize; 4], Refusal> {
-        append!(self, kihavute_quad_to(sx, sy, cx, cy, ex, ey))
+    pub fn quad_to(
+        &mut self,
+        command: u32,
+        [[sx, sy], [cx, cy], [ex, ey]]: [[f32; 2]; 3],
+    ) -> Result<[usize; 5], Refusal> {
+        append!(self, kihavute_quad_to(command, sx, sy, cx, cy, ex, ey))
     }
 
     /// Appends a cubic: its start, both controls and its end.
-    pub fn cubic_to(&mut self, [[sx, sy], [ax, ay], [bx, by], [ex, ey]]: [[f32; 2]; 4]) -> Result<[usize; 4], Refusal> {
-        append!(self, kihavute_cubic_to(sx, sy, ax, ay, bx, by, ex, ey))
+    pub fn cubic_to(
+        &mut self,
+        command: u32,
+        [[sx, sy], [ax, ay], [bx, by], [ex, ey]]: [[f32; 2]; 4],
+    ) -> Result<[usize; 5], Refusal> {
+        append!(self, kihavute_cubic_to(command, sx, sy, ax, ay, bx, by, ex, ey))
     }
 
     /// Appends an arc through both ends of a chord, or its line fallback.
-    pub fn arc_to(&mut self, chord: &Chord) -> Result<[usize; 4], Refusal> {
+    pub fn arc_to(&mut self, command: u32, chord: &Chord) -> Result<[usize; 5], Refusal> {
         let Chord {
             start: [sx, sy],
             radii: [rx, ry],
@@ -170,14 +192,15 @@ impl Growing<'_> {
             sweep,
             end: [ex, ey],
         } = *chord;
-        append!(self, kihavute_arc_to(sx, sy, rx, ry, rotation, large.into(), sweep.into(), ex, ey))
+        append!(self, kihavute_arc_to(command, sx, sy, rx, ry, rotation, large.into(), sweep.into(), ex, ey))
     }
 }
 
 impl Path {
-    /// Its four arrays, lent.
+    /// Its five arrays, lent.
     pub fn stored(&self) -> Stored<'_> {
-        Stored { kinds: &self.kinds, fields: &self.fields, tables: &self.tables, lengths: &self.lengths }
+        let Self { kinds, fields, tables, lengths, commands } = self;
+        Stored { kinds, fields, tables, lengths, commands }
     }
 
     /// One segment more. A refused one leaves the path as it was.
@@ -186,20 +209,21 @@ impl Path {
     /// use kihavute::Path;
     ///
     /// let mut path = Path::default();
-    /// path.append(|room| room.line_to([[0.0, 0.0], [3.0, 4.0]])).unwrap();
-    /// path.append(|room| room.quad_to([[3.0, 4.0], [6.0, 4.0], [6.0, 8.0]])).unwrap();
+    /// path.append(|room| room.line_to(1, [[0.0, 0.0], [3.0, 4.0]])).unwrap();
+    /// path.append(|room| room.quad_to(2, [[3.0, 4.0], [6.0, 4.0], [6.0, 8.0]])).unwrap();
     /// assert_eq!(path, Path::from_text(b"M0 0 L3 4 Q6 4 6 8").unwrap());
     /// ```
-    pub fn append(&mut self, one: impl FnOnce(&mut Growing) -> Result<[usize; 4], Refusal>) -> Result<(), Refusal> {
+    pub fn append(&mut self, one: impl FnOnce(&mut Growing) -> Result<[usize; 5], Refusal>) -> Result<(), Refusal> {
         let count = self.kinds.len();
-        let before = [count, self.fields.len(), self.tables.len(), count];
+        let before = [count, self.fields.len(), self.tables.len(), count, count];
         // room for a segment of any kind
-        self.resize([count + 1, before[1] + 11, before[2] + 33, count + 1]);
+        self.resize([count + 1, before[1] + 11, before[2] + 33, count + 1, count + 1]);
         let mut room = Growing {
             kinds: &mut self.kinds,
             fields: &mut self.fields,
             tables: &mut self.tables,
             lengths: &mut self.lengths,
+            commands: &mut self.commands,
             count,
         };
         let given = one(&mut room);
@@ -207,11 +231,12 @@ impl Path {
         given.map(|_| ())
     }
 
-    fn resize(&mut self, [kinds, fields, tables, lengths]: [usize; 4]) {
+    fn resize(&mut self, [kinds, fields, tables, lengths, commands]: [usize; 5]) {
         self.kinds.resize(kinds, 0);
         self.fields.resize(fields, 0.0);
         self.tables.resize(tables, 0.0);
         self.lengths.resize(lengths, 0.0);
+        self.commands.resize(commands, 0);
     }
 }
 
@@ -230,11 +255,11 @@ mod tests {
     fn a_path_is_the_path_of_its_segments() {
         let whole = Path::from_text(ALL).expect("it builds");
         let mut path = Path::default();
-        path.append(|room| room.line_to([[0.0, 0.0], [3.0, 4.0]])).expect("a line");
-        path.append(|room| room.quad_to([[3.0, 4.0], [6.0, 4.0], [6.0, 8.0]])).expect("a quad");
-        path.append(|room| room.cubic_to([[6.0, 8.0], [6.0, 12.0], [9.0, 12.0], [9.0, 8.0]])).expect("a cubic");
-        path.append(|room| room.arc_to(&arc(2.0, [9.0, 8.0], [13.0, 8.0]))).expect("an arc");
-        path.append(|room| room.arc_to(&arc(0.0, [13.0, 8.0], [14.0, 8.0]))).expect("a fallback");
+        path.append(|room| room.line_to(1, [[0.0, 0.0], [3.0, 4.0]])).expect("a line");
+        path.append(|room| room.quad_to(2, [[3.0, 4.0], [6.0, 4.0], [6.0, 8.0]])).expect("a quad");
+        path.append(|room| room.cubic_to(3, [[6.0, 8.0], [6.0, 12.0], [9.0, 12.0], [9.0, 8.0]])).expect("a cubic");
+        path.append(|room| room.arc_to(4, &arc(2.0, [9.0, 8.0], [13.0, 8.0]))).expect("an arc");
+        path.append(|room| room.arc_to(5, &arc(0.0, [13.0, 8.0], [14.0, 8.0]))).expect("a fallback");
         assert_eq!(path, whole);
 
         let mut again = Path::default();
@@ -244,7 +269,7 @@ mod tests {
             let own = [4, 6, 8, 11, 11][usize::from(kind)];
             assert_eq!(count, own + if (1..4).contains(&kind) { 33 } else { 0 });
             assert_eq!(numbers[count], 9.0);
-            again.append(|room| room.push_segment(kind, &numbers[..own])).expect("it was one");
+            again.append(|room| room.push_segment(i as u32 + 1, kind, &numbers[..own])).expect("it was one");
         }
         assert_eq!(again, whole);
         let stored = whole.stored();
@@ -267,7 +292,7 @@ mod tests {
         assert_eq!(stored.segment(5, &mut []), Ok(None));
         assert_eq!(
             stored.segment(1, &mut [0.0; 38]).expect_err("a place too few").reason(),
-            Reason::NoRoom { needed: [39, 0, 0, 0] }
+            Reason::NoRoom { needed: [39, 0, 0, 0, 0] }
         );
         let bad = Stored { lengths: &[], ..stored };
         assert_eq!(bad.len().expect_err("no lengths").reason(), Reason::BadPath);
@@ -279,18 +304,18 @@ mod tests {
         let whole = Path::from_text(ALL).expect("it builds");
         let mut path = whole.clone();
         let mut refused =
-            |one: fn(&mut Growing) -> Result<[usize; 4], Refusal>| path.append(one).expect_err("refused").reason();
-        assert_eq!(refused(|room| room.line_to([[0.0, 0.0], [3e38, 3e38]])), Reason::NotFinite { place: 5 });
-        assert_eq!(refused(|room| room.push_segment(5, &[])), Reason::BadPath);
-        assert_eq!(refused(|room| room.push_segment(0, &[0.0; 5])), Reason::BadPath);
+            |one: fn(&mut Growing) -> Result<[usize; 5], Refusal>| path.append(one).expect_err("refused").reason();
+        assert_eq!(refused(|room| room.line_to(5, [[0.0, 0.0], [3e38, 3e38]])), Reason::NotFinite { place: 5 });
+        assert_eq!(refused(|room| room.push_segment(5, 5, &[])), Reason::BadPath);
+        assert_eq!(refused(|room| room.push_segment(5, 0, &[0.0; 5])), Reason::BadPath);
         assert_eq!(
-            refused(|room| room.arc_to(&Chord { x_axis_rotation: f32::NAN, ..arc(2.0, [0.0, 0.0], [1.0, 0.0]) })),
+            refused(|room| room.arc_to(5, &Chord { x_axis_rotation: f32::NAN, ..arc(2.0, [0.0, 0.0], [1.0, 0.0]) })),
             Reason::RotationRange { segment: 5 }
         );
         assert_eq!(
             refused(|room| {
                 room.fields = &mut [];
-                room.line_to([[0.0, 0.0], [3.0, 4.0]])
+                room.line_to(5, [[0.0, 0.0], [3.0, 4.0]])
             }),
             Reason::BadPath
         );
