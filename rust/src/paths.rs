@@ -50,7 +50,8 @@ impl RawParameter {
     }
 }
 
-/// A stored path with its five buffers; `docs/STORED.md` has their layout.
+/// A stored path with its five buffers; `docs/STORED.md` has their layout. Two are equal where all five are, the numbers of the
+/// commands too.
 ///
 /// ```
 /// use kihavute::{Path, Progress};
@@ -233,6 +234,44 @@ mod tests {
         assert_eq!(empty.flight(Progress(0.5)), Ok(nowhere));
         let refusal = Path::from_commands(b"ML", &[0.0, 0.0, 3e38, 3e38]).expect_err("its length is not finite");
         assert_eq!(refusal.reason(), Reason::NotFinite { place: 0 });
+    }
+
+    #[test]
+    fn a_segment_knows_its_command() {
+        let commands = |path: &Path| (0..path.len()).map(|k| path.command(k)).collect::<Option<Vec<usize>>>();
+        let numbers = |text: &[u8]| commands(&Path::from_text(text).expect("it builds")).expect("each has a number");
+        assert_eq!(numbers(b"M0 0L3 4M1 1L2 2"), [1, 3]);
+        assert_eq!(numbers(b""), []);
+        // a pair after an M draws, a group that repeats its letter is a command of its own, and a Z draws the way back
+        assert_eq!(numbers(b"M0 0 3 4 6 8Z"), [1, 2, 3]);
+        assert_eq!(
+            numbers(b"M0 0M1 1Q3 4 6 8 6 4 9 9M2 2M3 3C1 2 3 4 5 6A2 2 0 0 1 13 8A0 1 0 0 1 14 8"),
+            [2, 3, 6, 7, 8]
+        );
+        let path = Path::from_commands(b"MLML", &[0.0, 0.0, 3.0, 4.0, 1.0, 1.0, 2.0, 2.0]).expect("it builds");
+        assert_eq!(commands(&path), Some(vec![1, 3]));
+        assert_eq!((path.command(2), path.command(usize::MAX), Path::default().command(0)), (None, None, None));
+    }
+
+    #[test]
+    fn a_query_looks_at_the_numbers_of_the_commands() {
+        let path = Path::from_text(b"M0 0L3 4M1 1L2 2").expect("it builds");
+        let with = |commands: &[u32]| Path { commands: commands.to_vec(), ..path.clone() };
+        let half = Progress(0.5);
+        for numbers in [&[3, 1][..], &[1], &[], &[1, 3, 3]] {
+            let bad = with(numbers);
+            let (mut segments, mut raws, mut out) = ([9], [9.0], [9.0; 4]);
+            assert_eq!(bad.flight(half).map_err(|refusal| refusal.reason()), Err(Reason::BadPath));
+            assert_eq!(bad.rotation_deg(half).map_err(|refusal| refusal.reason()), Err(Reason::BadPath));
+            let places = bad.places(&[half], &mut segments, &mut raws);
+            assert_eq!(places.map_err(|refusal| refusal.reason()), Err(Reason::BadPath));
+            let flights = bad.flights(&[half], &mut segments, &mut raws, &mut out);
+            assert_eq!(flights.map_err(|refusal| refusal.reason()), Err(Reason::BadPath));
+            assert_eq!((segments, raws, out), ([9], [9.0], [9.0; 4]));
+        }
+        for numbers in [[1, 1], [0, 0], [7, u32::MAX]] {
+            assert_eq!(with(&numbers).flight(half), path.flight(half));
+        }
     }
 
     #[test]

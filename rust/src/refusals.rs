@@ -184,6 +184,8 @@ mod tests {
         assert!(refusal(6, &[82, 4]).to_string().contains("command R at byte 4"));
         assert!(refusal(8, &[2, 4]).to_string().ends_with("2, 4"));
         assert!(refusal(8, &[0]).to_string().ends_with(": 0"));
+        assert!(refusal(8, &[2, 8, 0, 2, 2]).to_string().ends_with(": 2, 8, 0, 2, 2"));
+        assert_eq!(refusal(8, &[2, 8, 0, 2, 2]).reason(), Reason::NoRoom { needed: [2, 8, 0, 2, 2] });
     }
 
     #[test]

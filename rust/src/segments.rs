@@ -203,7 +203,8 @@ impl Path {
         Stored { kinds, fields, tables, lengths, commands }
     }
 
-    /// One segment more. A refused one leaves the path as it was.
+    /// One segment more, with the number of its command that the caller names. A refused one leaves the path as it was; so is one
+    /// with a number below that of the last segment.
     ///
     /// ```
     /// use kihavute::Path;
@@ -211,6 +212,7 @@ impl Path {
     /// let mut path = Path::default();
     /// path.append(|room| room.line_to(1, [[0.0, 0.0], [3.0, 4.0]])).unwrap();
     /// path.append(|room| room.quad_to(2, [[3.0, 4.0], [6.0, 4.0], [6.0, 8.0]])).unwrap();
+    /// assert_eq!((path.len(), path.command(1)), (2, Some(2)));
     /// assert_eq!(path, Path::from_text(b"M0 0 L3 4 Q6 4 6 8").unwrap());
     /// ```
     pub fn append(&mut self, one: impl FnOnce(&mut Growing) -> Result<[usize; 5], Refusal>) -> Result<(), Refusal> {
@@ -297,6 +299,22 @@ mod tests {
         let bad = Stored { lengths: &[], ..stored };
         assert_eq!(bad.len().expect_err("no lengths").reason(), Reason::BadPath);
         assert_eq!(bad.segment_position(0, half).expect_err("no lengths").reason(), Reason::BadPath);
+        for commands in [&[1, 2, 3, 5, 4][..], &[1, 2, 3, 4], &[1, 2, 3, 4, 5, 6]] {
+            let bad = Stored { commands, ..stored };
+            let mut out = [9.0; 44];
+            let refusals = [
+                bad.len().map(|_| ()),
+                bad.is_empty().map(|_| ()),
+                bad.arc_length().map(|_| ()),
+                bad.segment(0, &mut out).map(|_| ()),
+                bad.segment_position(0, half).map(|_| ()),
+                bad.segment_tangent(0, half).map(|_| ()),
+                bad.segment_rotation_deg(0, half).map(|_| ()),
+            ];
+            assert!(refusals.iter().all(|given| given.is_err_and(|refusal| refusal.reason() == Reason::BadPath)));
+            assert_eq!(out, [9.0; 44]);
+        }
+        assert_eq!(Stored { commands: &[7; 5], ..stored }.len(), Ok(5));
     }
 
     #[test]
@@ -319,6 +337,69 @@ mod tests {
             }),
             Reason::BadPath
         );
+        // its last segment is of command 5
+        assert_eq!(refused(|room| room.line_to(4, [[0.0, 0.0], [3.0, 4.0]])), Reason::BadPath);
+        assert_eq!(refused(|room| room.push_segment(0, 0, &[0.0; 4])), Reason::BadPath);
+        assert_eq!(
+            refused(|room| {
+                room.commands = &mut [];
+                room.line_to(5, [[0.0, 0.0], [3.0, 4.0]])
+            }),
+            Reason::BadPath
+        );
         assert_eq!(path, whole);
+    }
+
+    #[test]
+    fn a_segment_keeps_the_number_that_it_is_given() {
+        let mut path = Path::default();
+        for command in [3, 3, 7, u32::MAX, u32::MAX] {
+            path.append(|room| room.line_to(command, [[0.0, 0.0], [3.0, 4.0]])).expect("no number falls");
+        }
+        assert_eq!(path.stored().commands, [3, 3, 7, u32::MAX, u32::MAX]);
+        assert_eq!((path.command(2), path.command(5)), (Some(7), None));
+        let refusal = path.append(|room| room.line_to(u32::MAX - 1, [[0.0, 0.0], [3.0, 4.0]]));
+        assert_eq!(refusal.expect_err("a number falls").reason(), Reason::BadPath);
+        assert_eq!(path.len(), 5);
+    }
+
+    #[test]
+    fn appending_needs_five_counts() {
+        let (mut kinds, mut fields, mut tables, mut lengths) = ([9; 2], [9.0; 10], [9.0; 33], [9.0; 2]);
+        let (mut one, mut commands) = ([9], [1, 9]);
+        let mut room = Growing {
+            kinds: &mut kinds,
+            fields: &mut fields,
+            tables: &mut tables,
+            lengths: &mut lengths,
+            commands: &mut one,
+            count: 0,
+        };
+        assert_eq!(room.line_to(1, [[0.0, 0.0], [3.0, 4.0]]), Ok([1, 4, 0, 1, 1]));
+        let quad = [[3.0, 4.0], [6.0, 4.0], [6.0, 8.0]];
+        let refusal = room.quad_to(4, quad).expect_err("a place too few");
+        assert_eq!(refusal.reason(), Reason::NoRoom { needed: [2, 10, 33, 2, 2] });
+        assert_eq!((room.count, &room.kinds[1..], &room.fields[4..]), (1, &[9][..], &[9.0; 6][..]));
+        room.commands = &mut commands;
+        assert_eq!(room.quad_to(4, quad), Ok([2, 10, 33, 2, 2]));
+        assert_eq!((room.count, one, commands), (2, [1], [1, 4]));
+    }
+
+    #[test]
+    fn a_number_that_falls_is_refused_before_a_path_that_is_full() {
+        // a move and 65,535 lines are all that a list may have
+        let letters: Vec<u8> = std::iter::once(b'M').chain(std::iter::repeat_n(b'L', 65_535)).collect();
+        let numbers: Vec<f32> = (0..65_536u32).flat_map(|k| [(k % 2) as f32, 0.0]).collect();
+        let mut path = Path::from_commands(&letters, &numbers).expect("it builds");
+        assert_eq!((path.command(0), path.command(65_534)), (Some(1), Some(65_535)));
+        path.append(|room| room.line_to(65_535, [[1.0, 0.0], [0.0, 0.0]]))
+            .expect("the last one that there is room for");
+        let mut refused = |command| {
+            let given = path.append(|room| room.line_to(command, [[0.0, 0.0], [1.0, 0.0]]));
+            given.expect_err("it is full").reason()
+        };
+        assert_eq!(refused(65_534), Reason::BadPath);
+        assert_eq!(refused(65_535), Reason::Range { found: 65_537 });
+        assert_eq!(path.len(), 65_536);
     }
 }
