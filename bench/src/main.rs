@@ -529,11 +529,12 @@ fn build() {
             numbers.extend(end);
         }
         let (mut kinds, mut fields) = (vec![0; COUNT], vec![0.0; 11 * COUNT]);
-        let (mut tables, mut lengths) = (vec![0.0; 33 * COUNT], vec![0.0; COUNT]);
-        let buffers = std::cell::RefCell::new((&mut kinds, &mut fields, &mut tables, &mut lengths));
+        let (mut tables, mut lengths, mut drawers) = (vec![0.0; 33 * COUNT], vec![0.0; COUNT], vec![0; COUNT]);
+        let buffers = std::cell::RefCell::new((&mut kinds, &mut fields, &mut tables, &mut lengths, &mut drawers));
         let ours = || {
-            let (kinds, fields, tables, lengths) = &mut *buffers.borrow_mut();
-            kihavute::build(&letters, &numbers, kinds, fields, tables, lengths).map_or(0, |counts| counts[1] as u32)
+            let (kinds, fields, tables, lengths, drawers) = &mut *buffers.borrow_mut();
+            let given = kihavute::build(&letters, &numbers, kinds, fields, tables, lengths, drawers);
+            given.map_or(0, |counts| counts[1] as u32)
         };
         row(name, large(ours, || original_build(&commands)).map(|time| time / COUNT as f64));
     }
@@ -544,7 +545,7 @@ struct Flown {
     count: usize,
     ours: Path,
     theirs: CompoundPath,
-    /// The elements of the four buffers.
+    /// The elements of the five buffers.
     stored: u64,
 }
 
@@ -570,8 +571,8 @@ impl Flown {
             numbers.extend(own.into_iter().chain(end));
             commands.push(command);
         }
-        let room = kihavute::build(&letters, &numbers, &mut [], &mut [], &mut [], &mut []);
-        let stored = room.expect_err("there is no room").carried()[..4].iter().sum();
+        let room = kihavute::build(&letters, &numbers, &mut [], &mut [], &mut [], &mut [], &mut []);
+        let stored = room.expect_err("there is no room").carried()[..5].iter().sum();
         let ours = Path::from_commands(&letters, &numbers).expect("it builds");
         Flown { count, ours, theirs: CompoundPath::from_commands(&commands), stored }
     }
