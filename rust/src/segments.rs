@@ -203,8 +203,8 @@ impl Path {
         Stored { kinds, fields, tables, lengths, commands }
     }
 
-    /// One segment more, with the number of its command that the caller names. A refused one leaves the path as it was; so is one
-    /// with a number below that of the last segment.
+    /// One segment more, with the number of its command that the caller names; one below that of the last segment is refused. What
+    /// is refused leaves the path as it was.
     ///
     /// ```
     /// use kihavute::Path;
