@@ -240,32 +240,36 @@ static void lookups(void) {
     answered("spot, one more", kihavute_spot(many, 65537, 1, answer, PLACES), 12, 0, NULL);
 }
 
+/* so many lines with so many numbers, of the arrays at hand */
+#define LINES(count, own) kinds, count, fields, own, NULL, 0, lengths, count, commands, count
+
 static void queries(void) {
     const uint8_t kinds[] = {0, 0};
     const float fields[] = {0, 0, 3, 4, 3, 4, 3, 9};
     const float lengths[] = {5, 10};
+    const uint32_t commands[] = {1, 2};
     const uint8_t unknown[] = {0, 5};
 
     fresh();
-    answered("a flight on a path", kihavute_flight(kinds, 2, fields, 8, NULL, 0, lengths, 2, 0.75f, answer, PLACES), 0, 6,
+    answered("a flight on a path", kihavute_flight(LINES(2, 8), 0.75f, answer, PLACES), 0, 6,
              (uint64_t[]){bits(3), bits(6.5f), 0, bits(1), 1, bits(0.5f)});
     fresh();
-    answered("a flight at a running length", kihavute_flight(kinds, 2, fields, 8, NULL, 0, lengths, 2, 0.5f, answer, PLACES), 0, 6,
+    answered("a flight at a running length", kihavute_flight(LINES(2, 8), 0.5f, answer, PLACES), 0, 6,
              (uint64_t[]){bits(3), bits(4), bits(0.6f), bits(0.8f), 0, bits(1)});
     fresh();
-    answered("a flight in 8 places", kihavute_flight(kinds, 2, fields, 8, NULL, 0, lengths, 2, 0, answer, 8), 0, 6,
+    answered("a flight in 8 places", kihavute_flight(LINES(2, 8), 0, answer, 8), 0, 6,
              (uint64_t[]){0, 0, bits(0.6f), bits(0.8f), 0, 0});
     fresh();
-    answered("a flight without segments", kihavute_flight(kinds, 0, fields, 0, NULL, 0, lengths, 0, 0.5f, answer, PLACES), 0, 6,
+    answered("a flight without segments", kihavute_flight(LINES(0, 0), 0.5f, answer, PLACES), 0, 6,
              (uint64_t[]){0, 0, 0, 0, KIHAVUTE_NO_SEGMENT, 0});
     fresh();
-    answered("a flight, a number too few", kihavute_flight(kinds, 2, fields, 7, NULL, 0, lengths, 2, 0.5f, answer, PLACES), 12, 0, NULL);
+    answered("a flight, a number too few", kihavute_flight(LINES(2, 7), 0.5f, answer, PLACES), 12, 0, NULL);
     fresh();
-    answered("a flight, an unknown kind", kihavute_flight(unknown, 2, fields, 8, NULL, 0, lengths, 2, 0.5f, answer, PLACES), 12, 0, NULL);
+    answered("a flight, an unknown kind", kihavute_flight(unknown, 2, fields, 8, NULL, 0, lengths, 2, commands, 2, 0.5f, answer, PLACES), 12, 0, NULL);
     fresh();
-    answered("a flight, a short answer", kihavute_flight(kinds, 2, fields, 8, NULL, 0, lengths, 2, 0.5f, answer, 7), 255, 0, NULL);
+    answered("a flight, a short answer", kihavute_flight(LINES(2, 8), 0.5f, answer, 7), 255, 0, NULL);
     fresh();
-    answered("a rotation on a path", kihavute_rotation(kinds, 2, fields, 8, NULL, 0, lengths, 2, 0.75f, answer, PLACES), 0, 1, (uint64_t[]){bits(90)});
+    answered("a rotation on a path", kihavute_rotation(LINES(2, 8), 0.75f, answer, PLACES), 0, 1, (uint64_t[]){bits(90)});
 }
 
 // the same path asked for many progresses in one call; what stands past the answers stays
@@ -273,27 +277,28 @@ static void batches(void) {
     const uint8_t kinds[] = {0, 0};
     const float fields[] = {0, 0, 3, 4, 3, 4, 3, 9};
     const float lengths[] = {5, 10};
+    const uint32_t commands[] = {1, 2};
     const float progresses[] = {0.75f, 0, 1, kihavute_float(NAN_BITS), 0.5f};
     uint32_t segments[] = {7, 7, 7, 7, 7, 7};
     float raws[] = {7, 7, 7, 7, 7, 7};
     float out[] = {7, 7, 7, 7, 7, 7, 7, 7, 7};
 
     fresh();
-    answered("places, a raw too few", kihavute_places(kinds, 2, fields, 8, NULL, 0, lengths, 2, progresses, 5, segments, 6, raws, 4, answer, PLACES), 8, 2, (uint64_t[]){5, 5});
+    answered("places, a raw too few", kihavute_places(LINES(2, 8), progresses, 5, segments, 6, raws, 4, answer, PLACES), 8, 2, (uint64_t[]){5, 5});
     fresh();
-    answered("places, a segment too few", kihavute_places(kinds, 2, fields, 8, NULL, 0, lengths, 2, progresses, 5, segments, 4, raws, 6, answer, PLACES), 8, 2, (uint64_t[]){5, 5});
+    answered("places, a segment too few", kihavute_places(LINES(2, 8), progresses, 5, segments, 4, raws, 6, answer, PLACES), 8, 2, (uint64_t[]){5, 5});
     fresh();
-    answered("places, a path and room that fail", kihavute_places(kinds, 2, fields, 7, NULL, 0, lengths, 2, progresses, 5, segments, 0, raws, 0, answer, PLACES), 12, 0, NULL);
+    answered("places, a path and room that fail", kihavute_places(LINES(2, 7), progresses, 5, segments, 0, raws, 0, answer, PLACES), 12, 0, NULL);
     fresh();
-    answered("places, a short answer", kihavute_places(kinds, 2, fields, 8, NULL, 0, lengths, 2, progresses, 5, segments, 6, raws, 6, answer, 7), 255, 0, NULL);
+    answered("places, a short answer", kihavute_places(LINES(2, 8), progresses, 5, segments, 6, raws, 6, answer, 7), 255, 0, NULL);
     for (size_t k = 0; k < 6; k++) {
         same("segments untouched", segments[k], 7);
         same("raws untouched", bits(raws[k]), bits(7));
     }
     fresh();
-    answered("places of no progress", kihavute_places(kinds, 2, fields, 8, NULL, 0, lengths, 2, progresses, 0, segments, 0, raws, 0, answer, PLACES), 0, 1, (uint64_t[]){0});
+    answered("places of no progress", kihavute_places(LINES(2, 8), progresses, 0, segments, 0, raws, 0, answer, PLACES), 0, 1, (uint64_t[]){0});
     fresh();
-    answered("places", kihavute_places(kinds, 2, fields, 8, NULL, 0, lengths, 2, progresses, 5, segments, 6, raws, 6, answer, PLACES), 0, 1, (uint64_t[]){5});
+    answered("places", kihavute_places(LINES(2, 8), progresses, 5, segments, 6, raws, 6, answer, PLACES), 0, 1, (uint64_t[]){5});
     const uint32_t due[] = {1, 0, 1, 0, 0, 7};
     const float due_raws[] = {0.5f, 0, 1, 0, 1, 7};
     for (size_t k = 0; k < 6; k++) {
@@ -302,31 +307,31 @@ static void batches(void) {
     }
 
     fresh();
-    answered("places without segments", kihavute_places(kinds, 0, fields, 0, NULL, 0, lengths, 0, progresses, 5, segments, 6, raws, 6, answer, PLACES), 0, 1, (uint64_t[]){5});
+    answered("places without segments", kihavute_places(LINES(0, 0), progresses, 5, segments, 6, raws, 6, answer, PLACES), 0, 1, (uint64_t[]){5});
     for (size_t k = 0; k < 6; k++) {
         same("no segment", segments[k], k < 5 ? KIHAVUTE_NO_SEGMENT : 7);
         same("the raw parameter of none", bits(raws[k]), k < 5 ? 0 : bits(7));
         segments[k] = 7, raws[k] = 7;
     }
     fresh();
-    answered("places without segments or room", kihavute_places(kinds, 0, fields, 0, NULL, 0, lengths, 0, progresses, 5, segments, 0, raws, 0, answer, PLACES), 8, 2, (uint64_t[]){5, 5});
+    answered("places without segments or room", kihavute_places(LINES(0, 0), progresses, 5, segments, 0, raws, 0, answer, PLACES), 8, 2, (uint64_t[]){5, 5});
 
     fresh();
-    answered("flights, a segment too few", kihavute_flights(kinds, 2, fields, 8, NULL, 0, lengths, 2, progresses, 2, segments, 1, raws, 2, out, 8, answer, PLACES), 8, 3, (uint64_t[]){2, 2, 8});
+    answered("flights, a segment too few", kihavute_flights(LINES(2, 8), progresses, 2, segments, 1, raws, 2, out, 8, answer, PLACES), 8, 3, (uint64_t[]){2, 2, 8});
     fresh();
-    answered("flights, a raw too few", kihavute_flights(kinds, 2, fields, 8, NULL, 0, lengths, 2, progresses, 2, segments, 2, raws, 1, out, 8, answer, PLACES), 8, 3, (uint64_t[]){2, 2, 8});
+    answered("flights, a raw too few", kihavute_flights(LINES(2, 8), progresses, 2, segments, 2, raws, 1, out, 8, answer, PLACES), 8, 3, (uint64_t[]){2, 2, 8});
     fresh();
-    answered("flights, a number too few", kihavute_flights(kinds, 2, fields, 8, NULL, 0, lengths, 2, progresses, 2, segments, 2, raws, 2, out, 7, answer, PLACES), 8, 3, (uint64_t[]){2, 2, 8});
+    answered("flights, a number too few", kihavute_flights(LINES(2, 8), progresses, 2, segments, 2, raws, 2, out, 7, answer, PLACES), 8, 3, (uint64_t[]){2, 2, 8});
     fresh();
-    answered("flights, an unknown kind", kihavute_flights((uint8_t[]){0, 5}, 2, fields, 8, NULL, 0, lengths, 2, progresses, 2, segments, 0, raws, 0, out, 0, answer, PLACES), 12, 0, NULL);
+    answered("flights, an unknown kind", kihavute_flights((uint8_t[]){0, 5}, 2, fields, 8, NULL, 0, lengths, 2, commands, 2, progresses, 2, segments, 0, raws, 0, out, 0, answer, PLACES), 12, 0, NULL);
     fresh();
-    answered("flights, a short answer", kihavute_flights(kinds, 2, fields, 8, NULL, 0, lengths, 2, progresses, 2, segments, 6, raws, 6, out, 9, answer, 7), 255, 0, NULL);
+    answered("flights, a short answer", kihavute_flights(LINES(2, 8), progresses, 2, segments, 6, raws, 6, out, 9, answer, 7), 255, 0, NULL);
     for (size_t k = 0; k < 9; k++) {
         same("flights untouched", bits(out[k]), bits(7));
         if (k < 6) same("flights' segments untouched", segments[k], 7), same("flights' raws untouched", bits(raws[k]), bits(7));
     }
     fresh();
-    answered("flights without segments", kihavute_flights(kinds, 0, fields, 0, NULL, 0, lengths, 0, progresses, 1, segments, 6, raws, 6, out, 9, answer, PLACES), 0, 1, (uint64_t[]){1});
+    answered("flights without segments", kihavute_flights(LINES(0, 0), progresses, 1, segments, 6, raws, 6, out, 9, answer, PLACES), 0, 1, (uint64_t[]){1});
     for (size_t k = 0; k < 9; k++) {
         same("zeros without segments", bits(out[k]), k < 4 ? 0 : bits(7));
     }
@@ -335,7 +340,7 @@ static void batches(void) {
     same("the segment past it", segments[1], 7);
     same("the raw parameter past it", bits(raws[1]), bits(7));
     fresh();
-    answered("flights", kihavute_flights(kinds, 2, fields, 8, NULL, 0, lengths, 2, progresses, 2, segments, 6, raws, 6, out, 9, answer, PLACES), 0, 1, (uint64_t[]){2});
+    answered("flights", kihavute_flights(LINES(2, 8), progresses, 2, segments, 6, raws, 6, out, 9, answer, PLACES), 0, 1, (uint64_t[]){2});
     const float flown[] = {3, 6.5f, 0, 1, 0, 0, 0.6f, 0.8f, 7};
     for (size_t k = 0; k < 9; k++) {
         same("a number of a batch", bits(out[k]), bits(flown[k]));
@@ -1037,175 +1042,225 @@ static void stored_paths(void) {
     const float fields[] = {0, 0, 3, 4, 3, 4, 3, 4, 3, 4};
     float tables[33] = {0};
     float lengths[] = {5, 5, 6};
+    const uint32_t commands[] = {1, 2, 3};
     uint64_t answer[8] = {9, 9, 9, 9, 9, 9, 9, 9};
 
-    same("the empty path", kihavute_check(kinds, 0, fields, 0, tables, 0, lengths, 0, answer, 8), 0);
+    same("the empty path", kihavute_check(kinds, 0, fields, 0, tables, 0, lengths, 0, commands, 0, answer, 8), 0);
     same("its segments", answer[0], 0);
-    same("a line", kihavute_check(kinds, 1, fields, 4, tables, 0, lengths, 1, answer, 8), 0);
-    same("a line and a quad", kihavute_check(kinds, 2, fields, 10, tables, 33, lengths, 2, answer, 8), 0);
+    same("a line", kihavute_check(kinds, 1, fields, 4, tables, 0, lengths, 1, commands, 1, answer, 8), 0);
+    same("a line and a quad", kihavute_check(kinds, 2, fields, 10, tables, 33, lengths, 2, commands, 2, answer, 8), 0);
     same("their count", answer[0], 2);
     same("past the count", answer[1], 9);
     answer[0] = 9;
-    same("an unknown kind", kihavute_check(kinds, 3, fields, 10, tables, 33, lengths, 3, answer, 8), 12);
+    same("an unknown kind", kihavute_check(kinds, 3, fields, 10, tables, 33, lengths, 3, commands, 3, answer, 8), 12);
     same("a refusal carries nothing", answer[0], 9);
-    same("a number less", kihavute_check(kinds, 2, fields, 9, tables, 33, lengths, 2, answer, 8), 12);
-    same("a table less", kihavute_check(kinds, 2, fields, 10, tables, 0, lengths, 2, answer, 8), 12);
-    same("a length less", kihavute_check(kinds, 2, fields, 10, tables, 33, lengths, 1, answer, 8), 12);
+    same("a number less", kihavute_check(kinds, 2, fields, 9, tables, 33, lengths, 2, commands, 2, answer, 8), 12);
+    same("a table less", kihavute_check(kinds, 2, fields, 10, tables, 0, lengths, 2, commands, 2, answer, 8), 12);
+    same("a length less", kihavute_check(kinds, 2, fields, 10, tables, 33, lengths, 1, commands, 2, answer, 8), 12);
     tables[32] = 1;
-    same("a total that is not the last entry", kihavute_check(kinds, 2, fields, 10, tables, 33, lengths, 2, answer, 8), 12);
+    same("a total that is not the last entry", kihavute_check(kinds, 2, fields, 10, tables, 33, lengths, 2, commands, 2, answer, 8), 12);
     tables[31] = 1;
-    same("one that is", kihavute_check(kinds, 2, fields, 10, tables, 33, lengths, 2, answer, 8), 0);
+    same("one that is", kihavute_check(kinds, 2, fields, 10, tables, 33, lengths, 2, commands, 2, answer, 8), 0);
     tables[30] = 2;
-    same("entries that fall", kihavute_check(kinds, 2, fields, 10, tables, 33, lengths, 2, answer, 8), 12);
+    same("entries that fall", kihavute_check(kinds, 2, fields, 10, tables, 33, lengths, 2, commands, 2, answer, 8), 12);
     tables[30] = kihavute_float(NAN_BITS);
-    same("a NaN among them", kihavute_check(kinds, 2, fields, 10, tables, 33, lengths, 2, answer, 8), 12);
+    same("a NaN among them", kihavute_check(kinds, 2, fields, 10, tables, 33, lengths, 2, commands, 2, answer, 8), 12);
     tables[30] = 0;
     tables[0] = kihavute_float(LEAST);
-    same("a start above 0", kihavute_check(kinds, 2, fields, 10, tables, 33, lengths, 2, answer, 8), 12);
+    same("a start above 0", kihavute_check(kinds, 2, fields, 10, tables, 33, lengths, 2, commands, 2, answer, 8), 12);
     tables[0] = kihavute_float(MINUS_ZERO);
-    same("a start of -0", kihavute_check(kinds, 2, fields, 10, tables, 33, lengths, 2, answer, 8), 0);
+    same("a start of -0", kihavute_check(kinds, 2, fields, 10, tables, 33, lengths, 2, commands, 2, answer, 8), 0);
     lengths[1] = 4;
-    same("running lengths that fall", kihavute_check(kinds, 2, fields, 10, tables, 33, lengths, 2, answer, 8), 12);
+    same("running lengths that fall", kihavute_check(kinds, 2, fields, 10, tables, 33, lengths, 2, commands, 2, answer, 8), 12);
     lengths[1] = kihavute_float(INFINITE);
-    same("an infinite one", kihavute_check(kinds, 2, fields, 10, tables, 33, lengths, 2, answer, 8), 12);
-    same("a short answer", kihavute_check(kinds, 0, fields, 0, tables, 0, lengths, 0, answer, 7), 255);
+    same("an infinite one", kihavute_check(kinds, 2, fields, 10, tables, 33, lengths, 2, commands, 2, answer, 8), 12);
+    same("a short answer", kihavute_check(kinds, 0, fields, 0, tables, 0, lengths, 0, commands, 0, answer, 7), 255);
 }
 
 static uint8_t kinds[4];
 static float fields[24], tables[70], lengths[4];
-
-/* a text into buffers of so many places, all cleared to 9 */
-static uint32_t built(const char *text, size_t kinds_len, size_t fields_len, size_t tables_len, size_t lengths_len) {
-    memset(kinds, 9, sizeof kinds);
-    for (size_t i = 0; i < 24; i++) fields[i] = 9;
-    for (size_t i = 0; i < 70; i++) tables[i] = 9;
-    for (size_t i = 0; i < 4; i++) lengths[i] = 9;
-    fresh();
-    return kihavute_build_text((const uint8_t *)text, strlen(text), kinds, kinds_len, fields, fields_len, tables, tables_len,
-                               lengths, lengths_len, answer, PLACES);
-}
-
-static void paths(void) {
-    /* a line of length 5 and the line back */
-    const uint8_t letters[] = {'M', 'L', 'Z'};
-    const float list[] = {0, 0, 3, 4};
-    memset(kinds, 9, sizeof kinds);
-    fresh();
-    answered("a list", kihavute_build(letters, 3, list, 4, kinds, 4, fields, 24, tables, 70, lengths, 4, answer, PLACES), 0, 4,
-             (uint64_t[]){2, 8, 0, 2});
-    same("its kinds", kinds[0] << 8 | kinds[1], 0);
-    same("a kind past them", kinds[2], 9);
-    same("its first length", bits(lengths[0]), bits(5));
-    same("its second length", bits(lengths[1]), bits(10));
-    fresh();
-    answered("a list with a number left over", kihavute_build(letters, 2, list, 3, kinds, 4, fields, 24, tables, 70, lengths, 4, answer, PLACES), 9, 1,
-             (uint64_t[]){1});
-    fresh();
-    answered("a list, a short answer", kihavute_build(letters, 3, list, 4, kinds, 4, fields, 24, tables, 70, lengths, 4, answer, 7), 255, 0, NULL);
-
-    answered("ZL1 2", built("ZL1 2", 4, 24, 70, 4), 0, 4, (uint64_t[]){0, 0, 0, 0});
-    answered("a quad and a fallback", built("M0 0Q1 1 2 0A0 1 0 0 0 5 4", 4, 24, 70, 4), 0, 4, (uint64_t[]){2, 17, 33, 2});
-    same("their kinds", kinds[0] << 8 | kinds[1], 1 << 8 | 4);
-    same("the quad's total", bits(tables[32]), bits(lengths[0]));
-    same("a table's place past them", bits(tables[33]), bits(9));
-    answered("a table one short", built("M0 0Q1 1 2 0", 4, 24, 32, 4), 8, 4, (uint64_t[]){1, 6, 33, 1});
-    same("nothing written", kinds[0], 9);
-    answered("1e19", built("M0 0L1e19 0", 4, 24, 70, 4), 0, 4, (uint64_t[]){1, 4, 0, 1});
-    answered("2e19", built("M0 0L2e19 0", 4, 24, 70, 4), 0, 4, (uint64_t[]){1, 4, 0, 1});
-    same("its length", bits(lengths[0]), 0x5F8AC723);
-    answered("a difference beyond the largest", built("M-3e38 0L3e38 0", 4, 24, 70, 4), 11, 1, (uint64_t[]){0});
-    answered("a length beyond the largest", built("M0 0L3e38 3e38", 4, 24, 70, 4), 11, 1, (uint64_t[]){0});
-    answered("3600 degrees", built("M0 0A1 1 3600 0 0 1 1", 4, 24, 70, 4), 0, 4, (uint64_t[]){1, 11, 33, 1});
-    answered("the next above", built("M0 0A1 1 3600.0003 0 0 1 1", 4, 24, 70, 4), 0, 4, (uint64_t[]){1, 11, 33, 1});
-    same("its rotation as given", bits(fields[8]), 0x45610001);
-    answered("an infinite rotation", built("M0 0A1 1 1e39 0 0 1 1", 4, 24, 70, 4), 10, 1, (uint64_t[]){0});
-    answered("a reading refusal after one of building", built("M0 0L3e38 3e38X", 4, 24, 70, 4), 6, 2, (uint64_t[]){'X', 14});
-}
-
-/* what stands in the four buffers past these counts is still 9 */
-static int past_is_nine(size_t kinds_used, size_t fields_used, size_t tables_used, size_t lengths_used) {
-    int nine = 1;
-    for (size_t i = kinds_used; i < 4; i++) nine = nine && kinds[i] == 9;
-    for (size_t i = fields_used; i < 24; i++) nine = nine && fields[i] == 9;
-    for (size_t i = tables_used; i < 70; i++) nine = nine && tables[i] == 9;
-    for (size_t i = lengths_used; i < 4; i++) nine = nine && lengths[i] == 9;
-    return nine;
-}
+static uint32_t commands[4];
 
 static void nine_all(void) {
     memset(kinds, 9, sizeof kinds);
     nines(fields, 24);
     nines(tables, 70);
     nines(lengths, 4);
+    for (size_t i = 0; i < 4; i++) commands[i] = 9;
 }
 
-#define BUFFERS kinds, 4, fields, 24, tables, 70, lengths, 4
-#define STORED(count, own, more) kinds, count, fields, own, tables, more, lengths, count
+/* what stands in the five buffers past these counts is still 9 */
+static int past_is_nine(size_t kinds_used, size_t fields_used, size_t tables_used, size_t lengths_used, size_t commands_used) {
+    int nine = 1;
+    for (size_t i = kinds_used; i < 4; i++) nine = nine && kinds[i] == 9;
+    for (size_t i = fields_used; i < 24; i++) nine = nine && fields[i] == 9;
+    for (size_t i = tables_used; i < 70; i++) nine = nine && tables[i] == 9;
+    for (size_t i = lengths_used; i < 4; i++) nine = nine && lengths[i] == 9;
+    for (size_t i = commands_used; i < 4; i++) nine = nine && commands[i] == 9;
+    return nine;
+}
+
+/* a text into buffers of so many places, all cleared to 9 */
+static uint32_t built(const char *text, size_t kinds_len, size_t fields_len, size_t tables_len, size_t lengths_len, size_t commands_len) {
+    nine_all();
+    fresh();
+    return kihavute_build_text((const uint8_t *)text, strlen(text), kinds, kinds_len, fields, fields_len, tables, tables_len,
+                               lengths, lengths_len, commands, commands_len, answer, PLACES);
+}
+
+static void paths(void) {
+    /* a line of length 5 and the line back */
+    const uint8_t letters[] = {'M', 'L', 'Z'};
+    const float list[] = {0, 0, 3, 4};
+    nine_all();
+    fresh();
+    answered("a list", kihavute_build(letters, 3, list, 4, kinds, 4, fields, 24, tables, 70, lengths, 4, commands, 4, answer, PLACES), 0, 5,
+             (uint64_t[]){2, 8, 0, 2, 2});
+    same("its kinds", kinds[0] << 8 | kinds[1], 0);
+    same("a kind past them", kinds[2], 9);
+    same("its first length", bits(lengths[0]), bits(5));
+    same("its second length", bits(lengths[1]), bits(10));
+    same("its commands", commands[0] << 8 | commands[1], 1 << 8 | 2);
+    same("past a list", past_is_nine(2, 8, 0, 2, 2), 1);
+    fresh();
+    answered("a list with a number left over", kihavute_build(letters, 2, list, 3, kinds, 4, fields, 24, tables, 70, lengths, 4, commands, 4, answer, PLACES), 9, 1,
+             (uint64_t[]){1});
+    fresh();
+    answered("a list, a short answer", kihavute_build(letters, 3, list, 4, kinds, 4, fields, 24, tables, 70, lengths, 4, commands, 4, answer, 7), 255, 0, NULL);
+
+    answered("ZL1 2", built("ZL1 2", 4, 24, 70, 4, 4), 0, 5, (uint64_t[]){0, 0, 0, 0, 0});
+    answered("a quad and a fallback", built("M0 0Q1 1 2 0A0 1 0 0 0 5 4", 4, 24, 70, 4, 4), 0, 5, (uint64_t[]){2, 17, 33, 2, 2});
+    same("their kinds", kinds[0] << 8 | kinds[1], 1 << 8 | 4);
+    same("the quad's total", bits(tables[32]), bits(lengths[0]));
+    same("a table's place past them", bits(tables[33]), bits(9));
+    answered("a table one short", built("M0 0Q1 1 2 0", 4, 24, 32, 4, 4), 8, 5, (uint64_t[]){1, 6, 33, 1, 1});
+    same("nothing written", past_is_nine(0, 0, 0, 0, 0), 1);
+    answered("1e19", built("M0 0L1e19 0", 4, 24, 70, 4, 4), 0, 5, (uint64_t[]){1, 4, 0, 1, 1});
+    answered("2e19", built("M0 0L2e19 0", 4, 24, 70, 4, 4), 0, 5, (uint64_t[]){1, 4, 0, 1, 1});
+    same("its length", bits(lengths[0]), 0x5F8AC723);
+    answered("a difference beyond the largest", built("M-3e38 0L3e38 0", 4, 24, 70, 4, 4), 11, 1, (uint64_t[]){0});
+    answered("a length beyond the largest", built("M0 0L3e38 3e38", 4, 24, 70, 4, 4), 11, 1, (uint64_t[]){0});
+    answered("3600 degrees", built("M0 0A1 1 3600 0 0 1 1", 4, 24, 70, 4, 4), 0, 5, (uint64_t[]){1, 11, 33, 1, 1});
+    answered("the next above", built("M0 0A1 1 3600.0003 0 0 1 1", 4, 24, 70, 4, 4), 0, 5, (uint64_t[]){1, 11, 33, 1, 1});
+    same("its rotation as given", bits(fields[8]), 0x45610001);
+    answered("an infinite rotation", built("M0 0A1 1 1e39 0 0 1 1", 4, 24, 70, 4, 4), 10, 1, (uint64_t[]){0});
+    answered("a reading refusal after one of building", built("M0 0L3e38 3e38X", 4, 24, 70, 4, 4), 6, 2, (uint64_t[]){'X', 14});
+}
+
+#define BUFFERS kinds, 4, fields, 24, tables, 70, lengths, 4, commands, 4
+#define MANY many_kinds, 65537, many_fields, 4 * 65537, tables, 0, many_lengths, 65537, many_commands, 65537
+#define STORED(count, own, more) kinds, count, fields, own, tables, more, lengths, count, commands, count
 
 static void appending(void) {
     static uint8_t many_kinds[65537];
     static float many_fields[4 * 65537], many_lengths[65537];
+    static uint32_t many_commands[65537];
 
     nine_all();
     fresh();
-    answered("a line", kihavute_line_to(BUFFERS, 0, 0, 0, 3, 4, answer, PLACES), 0, 4, (uint64_t[]){1, 4, 0, 1});
+    answered("a line", kihavute_line_to(BUFFERS, 0, 1, 0, 0, 3, 4, answer, PLACES), 0, 5, (uint64_t[]){1, 4, 0, 1, 1});
     same("its numbers", memcmp(fields, (float[]){0, 0, 3, 4}, 16), 0);
     same("its length", bits(lengths[0]), bits(5));
-    same("past a line", past_is_nine(1, 4, 0, 1), 1);
+    same("past a line", past_is_nine(1, 4, 0, 1, 1), 1);
     fresh();
-    answered("a quad", kihavute_quad_to(BUFFERS, 1, 3, 4, 4, 4, 5, 4, answer, PLACES), 0, 4, (uint64_t[]){2, 10, 33, 2});
+    answered("a quad", kihavute_quad_to(BUFFERS, 1, 3, 3, 4, 4, 4, 5, 4, answer, PLACES), 0, 5, (uint64_t[]){2, 10, 33, 2, 2});
     same("its kind", kinds[1], 1);
     same("its start", memcmp(fields + 4, (float[]){3, 4, 4, 4, 5, 4}, 24), 0);
     same("its table", bits(tables[0]) == 0 && bits(tables[31]) == bits(tables[32]), 1);
     same("the length so far", bits(lengths[1]), bits(5 + tables[32]));
-    same("past a quad", past_is_nine(2, 10, 33, 2), 1);
+    same("past a quad", past_is_nine(2, 10, 33, 2, 2), 1);
     fresh();
-    answered("a fallback", kihavute_arc_to(BUFFERS, 2, 5, 4, 0, 1, 30, 0, 1, 5, 6, answer, PLACES), 0, 4, (uint64_t[]){3, 21, 33, 3});
+    answered("a fallback", kihavute_arc_to(BUFFERS, 2, 3, 5, 4, 0, 1, 30, 0, 1, 5, 6, answer, PLACES), 0, 5, (uint64_t[]){3, 21, 33, 3, 3});
     same("its kind", kinds[2], 4);
     same("its rotation", bits(fields[18]), bits(30));
-    same("past a fallback", past_is_nine(3, 21, 33, 3), 1);
+    same("past a fallback", past_is_nine(3, 21, 33, 3, 3), 1);
+    /* the numbers named, with a gap and an equal one; what is appended passes the check */
+    same("their commands", commands[0] == 1 && commands[1] == 3 && commands[2] == 3, 1);
+    fresh();
+    answered("what is appended", kihavute_check(STORED(3, 21, 33), answer, PLACES), 0, 1, (uint64_t[]){3});
 
     /* what is refused leaves every place */
     fresh();
-    answered("an arc without room", kihavute_arc_to(BUFFERS, 3, 5, 6, 1, 1, 0, 0, 1, 7, 6, answer, PLACES), 8, 4, (uint64_t[]){4, 32, 66, 4});
+    answered("an arc without room", kihavute_arc_to(BUFFERS, 3, 4, 5, 6, 1, 1, 0, 0, 1, 7, 6, answer, PLACES), 8, 5, (uint64_t[]){4, 32, 66, 4, 4});
     fresh();
-    answered("a cubic without room", kihavute_cubic_to(BUFFERS, 3, 0, 0, 1, 0, 2, 0, 3, 0, answer, PLACES), 8, 4, (uint64_t[]){4, 29, 66, 4});
+    answered("a cubic without room", kihavute_cubic_to(BUFFERS, 3, 4, 0, 0, 1, 0, 2, 0, 3, 0, answer, PLACES), 8, 5, (uint64_t[]){4, 29, 66, 4, 4});
     fresh();
-    answered("a line without room", kihavute_line_to(BUFFERS, 3, 0, 0, 3, 4, answer, PLACES), 8, 4, (uint64_t[]){4, 25, 33, 4});
+    answered("a line without room", kihavute_line_to(BUFFERS, 3, 4, 0, 0, 3, 4, answer, PLACES), 8, 5, (uint64_t[]){4, 25, 33, 4, 4});
     fresh();
-    answered("a line of no end", kihavute_line_to(BUFFERS, 3, 0, 0, 3e38f, 3e38f, answer, PLACES), 11, 1, (uint64_t[]){3});
+    answered("a line of no end", kihavute_line_to(BUFFERS, 3, 4, 0, 0, 3e38f, 3e38f, answer, PLACES), 11, 1, (uint64_t[]){3});
     fresh();
-    answered("an arc turned without end", kihavute_arc_to(BUFFERS, 3, 0, 0, 1, 1, kihavute_float(INFINITE), 0, 0, 1, 1, answer, PLACES), 10, 1, (uint64_t[]){3});
+    answered("an arc turned without end", kihavute_arc_to(BUFFERS, 3, 4, 0, 0, 1, 1, kihavute_float(INFINITE), 0, 0, 1, 1, answer, PLACES), 10, 1, (uint64_t[]){3});
     fresh();
-    answered("a count above the path", kihavute_line_to(BUFFERS, 4, 0, 0, 3, 4, answer, PLACES), 12, 0, NULL);
+    answered("a count above the path", kihavute_line_to(BUFFERS, 4, 9, 0, 0, 3, 4, answer, PLACES), 12, 0, NULL);
     fresh();
-    answered("a count below 2^64", kihavute_line_to(BUFFERS, SIZE_MAX, 0, 0, 3, 4, answer, PLACES), 12, 0, NULL);
+    answered("a number below the last, a line", kihavute_line_to(BUFFERS, 3, 2, 0, 0, 3, 4, answer, PLACES), 12, 0, NULL);
     fresh();
-    answered("a kind above 4", kihavute_push_segment(BUFFERS, 0, 5, fields, 11, answer, PLACES), 12, 0, NULL);
+    answered("a quad", kihavute_quad_to(BUFFERS, 3, 2, 3, 4, 4, 4, 5, 4, answer, PLACES), 12, 0, NULL);
     fresh();
-    answered("a quad of five numbers", kihavute_push_segment(BUFFERS, 0, 1, fields, 5, answer, PLACES), 12, 0, NULL);
+    answered("a cubic", kihavute_cubic_to(BUFFERS, 3, 0, 0, 0, 1, 0, 2, 0, 3, 0, answer, PLACES), 12, 0, NULL);
     fresh();
-    answered("a quad, a short answer", kihavute_quad_to(BUFFERS, 3, 3, 4, 4, 4, 5, 4, answer, 7), 255, 0, NULL);
-    answered("a segment, a short answer", kihavute_push_segment(BUFFERS, 0, 0, fields, 4, answer, 7), 255, 0, NULL);
-    same("nothing written", past_is_nine(3, 21, 33, 3), 1);
+    answered("an arc turned without end", kihavute_arc_to(BUFFERS, 3, 2, 0, 0, 1, 1, kihavute_float(INFINITE), 0, 0, 1, 1, answer, PLACES), 12, 0, NULL);
+    fresh();
+    answered("a segment of no end", kihavute_push_segment(BUFFERS, 3, 2, 0, (float[]){0, 0, 3e38f, 3e38f}, 4, answer, PLACES), 12, 0, NULL);
+    fresh();
+    answered("a number too few of the path", kihavute_line_to(kinds, 4, fields, 24, tables, 70, lengths, 4, commands, 2, 3, 4, 0, 0, 3, 4, answer, PLACES), 12, 0, NULL);
+    fresh();
+    answered("a count below 2^64", kihavute_line_to(BUFFERS, SIZE_MAX, 9, 0, 0, 3, 4, answer, PLACES), 12, 0, NULL);
+    fresh();
+    answered("a kind above 4", kihavute_push_segment(BUFFERS, 0, 0, 5, fields, 11, answer, PLACES), 12, 0, NULL);
+    fresh();
+    answered("a quad of five numbers", kihavute_push_segment(BUFFERS, 0, 0, 1, fields, 5, answer, PLACES), 12, 0, NULL);
+    fresh();
+    answered("a quad, a short answer", kihavute_quad_to(BUFFERS, 3, 4, 3, 4, 4, 4, 5, 4, answer, 7), 255, 0, NULL);
+    answered("a segment, a short answer", kihavute_push_segment(BUFFERS, 0, 0, 0, fields, 4, answer, 7), 255, 0, NULL);
+    same("nothing written", past_is_nine(3, 21, 33, 3, 3), 1);
     same("the path stays", bits(fields[20]) == 0 && kinds[0] == 0 && bits(lengths[0]) == bits(5), 1);
+    same("its commands stay", commands[0] == 1 && commands[1] == 3 && commands[2] == 3, 1);
 
     /* from an earlier count on */
     fresh();
-    answered("a segment over the second", kihavute_push_segment(BUFFERS, 1, 0, (float[]){3, 4, 3, 5}, 4, answer, PLACES), 0, 4, (uint64_t[]){2, 8, 0, 2});
+    answered("a segment over the second", kihavute_push_segment(BUFFERS, 1, 1, 0, (float[]){3, 4, 3, 5}, 4, answer, PLACES), 0, 5, (uint64_t[]){2, 8, 0, 2, 2});
     same("its length", bits(lengths[1]), bits(6));
-    same("what stood after it stays", kinds[2] == 4 && bits(fields[8]) == bits(5), 1);
+    same("its command", commands[1], 1);
+    same("what stood after it stays", kinds[2] == 4 && bits(fields[8]) == bits(5) && commands[2] == 3, 1);
+    fresh();
+    answered("both", kihavute_check(STORED(2, 8, 0), answer, PLACES), 0, 1, (uint64_t[]){2});
     nine_all();
     fresh();
-    answered("a cubic", kihavute_cubic_to(BUFFERS, 0, 0, 0, 1, 0, 2, 0, 3, 0, answer, PLACES), 0, 4, (uint64_t[]){1, 8, 33, 1});
-    same("past a cubic", past_is_nine(1, 8, 33, 1), 1);
+    answered("a cubic", kihavute_cubic_to(BUFFERS, 0, 4294967295, 0, 0, 1, 0, 2, 0, 3, 0, answer, PLACES), 0, 5, (uint64_t[]){1, 8, 33, 1, 1});
+    same("past a cubic", past_is_nine(1, 8, 33, 1, 1), 1);
+    same("the largest number", commands[0], 4294967295);
+    fresh();
+    answered("one below it", kihavute_line_to(BUFFERS, 1, 4294967294, 3, 0, 4, 0, answer, PLACES), 12, 0, NULL);
+    fresh();
+    answered("the same again", kihavute_line_to(BUFFERS, 1, 4294967295, 3, 0, 4, 0, answer, PLACES), 0, 5, (uint64_t[]){2, 12, 33, 2, 2});
+    fresh();
+    answered("both", kihavute_check(STORED(2, 12, 33), answer, PLACES), 0, 1, (uint64_t[]){2});
+    nine_all();
+    for (size_t k = 0; k < 5; k++) {
+        size_t places[] = {1, 6, 33, 1, 1};
+        places[k]--;
+        fresh();
+        answered("a quad, a place too few", kihavute_quad_to(kinds, places[0], fields, places[1], tables, places[2], lengths, places[3], commands, places[4], 0, 1, 3, 4, 4, 4, 5, 4, answer, PLACES), 8, 5,
+                 (uint64_t[]){1, 6, 33, 1, 1});
+        same("nothing written", past_is_nine(0, 0, 0, 0, 0), 1);
+    }
+    fresh();
+    answered("a first with the number 0", kihavute_line_to(BUFFERS, 0, 0, 0, 0, 3, 4, answer, PLACES), 0, 5, (uint64_t[]){1, 4, 0, 1, 1});
+    same("it stands there", commands[0] == 0 && past_is_nine(1, 4, 0, 1, 1), 1);
 
     fresh();
-    answered("the 65,536th", kihavute_line_to(many_kinds, 65537, many_fields, 4 * 65537, tables, 0, many_lengths, 65537, 65535, 0, 0, 3, 4, answer, PLACES), 0, 4,
-             (uint64_t[]){65536, 4 * 65536, 0, 65536});
+    answered("the 65,536th", kihavute_line_to(MANY, 65535, 7, 0, 0, 3, 4, answer, PLACES), 0, 5, (uint64_t[]){65536, 4 * 65536, 0, 65536, 65536});
+    same("its command", many_commands[65535], 7);
     fresh();
-    answered("one more", kihavute_line_to(many_kinds, 65537, many_fields, 4 * 65537, tables, 0, many_lengths, 65537, 65536, 0, 0, 3, 4, answer, PLACES), 13, 1,
-             (uint64_t[]){65537});
+    answered("one more", kihavute_line_to(MANY, 65536, 7, 0, 0, 3, 4, answer, PLACES), 13, 1, (uint64_t[]){65537});
+    fresh();
+    answered("one more, with a number below the last", kihavute_line_to(MANY, 65536, 6, 0, 0, 3, 4, answer, PLACES), 12, 0, NULL);
+    fresh();
+    answered("65,536 segments", kihavute_check(many_kinds, 65536, many_fields, 4 * 65536, tables, 0, many_lengths, 65536, many_commands, 65536, answer, PLACES), 0, 1, (uint64_t[]){65536});
+    many_commands[0] = 1;
+    fresh();
+    answered("the second number below the first", kihavute_check(many_kinds, 65536, many_fields, 4 * 65536, tables, 0, many_lengths, 65536, many_commands, 65536, answer, PLACES), 12, 0, NULL);
 }
 
 static void segments(void) {
@@ -1221,14 +1276,14 @@ static void segments(void) {
 
     /* a line that a path takes for its end, and a quad after it */
     fresh();
-    kihavute_line_to(BUFFERS, 0, 0, 0, 1e-8f, 0, answer, PLACES);
+    kihavute_line_to(BUFFERS, 0, 1, 0, 0, 1e-8f, 0, answer, PLACES);
     fresh();
     answered("a short path's place", kihavute_flight(STORED(1, 4, 0), 0.5f, answer, PLACES), 0, 6, (uint64_t[]){bits(1e-8f), 0, 0, 0, 0, bits(1)});
     fresh();
     answered("its segment's", kihavute_segment_position(STORED(1, 4, 0), 0, 0.5f, answer, PLACES), 0, 2, (uint64_t[]){bits(1e-8f * 0.5f), 0});
     fresh();
     answered("its segment's direction", kihavute_segment_tangent(STORED(1, 4, 0), 0, 0.5f, answer, PLACES), 0, 2, (uint64_t[]){0, 0});
-    kihavute_quad_to(BUFFERS, 1, 0, 0, 1, 0, 2, 0, answer, PLACES);
+    kihavute_quad_to(BUFFERS, 1, 2, 0, 0, 1, 0, 2, 0, answer, PLACES);
     fresh();
     answered("two segments", kihavute_len(STORED(2, 10, 33), answer, PLACES), 0, 1, (uint64_t[]){2});
     fresh();
@@ -1282,25 +1337,240 @@ static void segments(void) {
     answered("a path that is none", kihavute_segment_rotation(STORED(2, 9, 33), 0, 0, answer, PLACES), 12, 0, NULL);
 }
 
+/* ---- the number of each segment's command */
+
+/* so many places of the five buffers */
+struct places {
+    size_t kinds, fields, tables, lengths, commands;
+};
+
+/* builds a list, and the text that is read as it, into buffers of so many places, all cleared to 9 */
+static uint32_t from_list(const char *letters, const float *numbers, size_t count, struct places in) {
+    nine_all();
+    fresh();
+    return kihavute_build((const uint8_t *)letters, strlen(letters), numbers, count, kinds, in.kinds, fields, in.fields, tables, in.tables,
+                          lengths, in.lengths, commands, in.commands, answer, PLACES);
+}
+
+static uint32_t from_text(const char *text, struct places in) {
+    return built(text, in.kinds, in.fields, in.tables, in.lengths, in.commands);
+}
+
+/* a text and the list that it is read as have these segments, made by these commands; into buffers one place short they are refused */
+static void made_by(const char *text, const char *letters, const float *numbers, size_t count, struct places due, const uint32_t *makers) {
+    const struct places all = {4, 24, 70, 4, 4};
+    const uint64_t counts[] = {due.kinds, due.fields, due.tables, due.lengths, due.commands};
+
+    for (int listed = 0; listed < 2; listed++) {
+        for (int exact = 0; exact < 2; exact++) {
+            const struct places in = exact ? due : all;
+            answered(text, listed ? from_list(letters, numbers, count, in) : from_text(text, in), 0, 5, counts);
+            for (size_t k = 0; k < due.commands; k++) same(text, commands[k], makers[k]);
+            same(text, past_is_nine(due.kinds, due.fields, due.tables, due.lengths, due.commands), 1);
+        }
+        for (size_t k = 0; k < 5; k++) {
+            if (counts[k] == 0) continue;
+            const struct places in = {due.kinds - (k == 0), due.fields - (k == 1), due.tables - (k == 2), due.lengths - (k == 3), due.commands - (k == 4)};
+            answered(text, listed ? from_list(letters, numbers, count, in) : from_text(text, in), 8, 5, counts);
+            same(text, past_is_nine(0, 0, 0, 0, 0), 1);
+        }
+    }
+    /* what is built passes the check */
+    from_text(text, all);
+    fresh();
+    answered(text, kihavute_check(STORED(due.kinds, due.fields, due.tables), answer, PLACES), 0, 1, counts);
+}
+
+/* two lines, with so many numbers for their commands */
+#define NUMBERED kinds, 2, fields, 8, NULL, 0, lengths, 2, makers, count
+
+/* every call over a stored path refuses two lines with these numbers, and writes nothing */
+static void numbers_refused(const char *what, const uint32_t *makers, size_t count) {
+    const float progresses[] = {0, 1};
+    uint32_t on[] = {7, 7};
+    float raws[] = {7, 7}, out[] = {7, 7, 7, 7, 7, 7, 7, 7};
+
+    fresh();
+    answered(what, kihavute_check(NUMBERED, answer, PLACES), 12, 0, NULL);
+    answered(what, kihavute_flight(NUMBERED, 0.5f, answer, PLACES), 12, 0, NULL);
+    answered(what, kihavute_rotation(NUMBERED, 0.5f, answer, PLACES), 12, 0, NULL);
+    answered(what, kihavute_places(NUMBERED, progresses, 2, on, 2, raws, 2, answer, PLACES), 12, 0, NULL);
+    answered(what, kihavute_flights(NUMBERED, progresses, 2, on, 2, raws, 2, out, 8, answer, PLACES), 12, 0, NULL);
+    answered(what, kihavute_len(NUMBERED, answer, PLACES), 12, 0, NULL);
+    answered(what, kihavute_is_empty(NUMBERED, answer, PLACES), 12, 0, NULL);
+    answered(what, kihavute_path_length(NUMBERED, answer, PLACES), 12, 0, NULL);
+    answered(what, kihavute_segment(NUMBERED, 0, out, 8, answer, PLACES), 12, 0, NULL);
+    answered(what, kihavute_segment_position(NUMBERED, 0, 0.5f, answer, PLACES), 12, 0, NULL);
+    answered(what, kihavute_segment_tangent(NUMBERED, 0, 0.5f, answer, PLACES), 12, 0, NULL);
+    answered(what, kihavute_segment_rotation(NUMBERED, 0, 0.5f, answer, PLACES), 12, 0, NULL);
+    for (size_t k = 0; k < 8; k++) {
+        same(what, bits(out[k]), bits(7));
+        if (k < 2) same(what, on[k], 7), same(what, bits(raws[k]), bits(7));
+    }
+}
+
+/* every call over a stored path takes two lines with these numbers, and answers as with any others */
+static void numbers_pass(const char *what, const uint32_t *makers) {
+    const size_t count = 2;
+    const float progresses[] = {0, 1};
+    uint32_t on[2];
+    float raws[2], out[8];
+
+    fresh();
+    answered(what, kihavute_check(NUMBERED, answer, PLACES), 0, 1, (uint64_t[]){2});
+    fresh();
+    answered(what, kihavute_flight(NUMBERED, 0.5f, answer, PLACES), 0, 6, (uint64_t[]){bits(3), bits(4), bits(0.6f), bits(0.8f), 0, bits(1)});
+    fresh();
+    answered(what, kihavute_rotation(NUMBERED, 1, answer, PLACES), 0, 1, (uint64_t[]){bits(90)});
+    fresh();
+    answered(what, kihavute_places(NUMBERED, progresses, 2, on, 2, raws, 2, answer, PLACES), 0, 1, (uint64_t[]){2});
+    fresh();
+    answered(what, kihavute_flights(NUMBERED, progresses, 2, on, 2, raws, 2, out, 8, answer, PLACES), 0, 1, (uint64_t[]){2});
+    same(what, on[0] << 8 | on[1], 1);
+    same(what, point(out[4], out[5]), point(3, 9));
+    fresh();
+    answered(what, kihavute_len(NUMBERED, answer, PLACES), 0, 1, (uint64_t[]){2});
+    fresh();
+    answered(what, kihavute_is_empty(NUMBERED, answer, PLACES), 0, 1, (uint64_t[]){0});
+    fresh();
+    answered(what, kihavute_path_length(NUMBERED, answer, PLACES), 0, 1, (uint64_t[]){bits(10)});
+    fresh();
+    answered(what, kihavute_segment(NUMBERED, 1, out, 8, answer, PLACES), 0, 2, (uint64_t[]){0, 4});
+    fresh();
+    answered(what, kihavute_segment_position(NUMBERED, 1, 1, answer, PLACES), 0, 2, (uint64_t[]){bits(3), bits(9)});
+    fresh();
+    answered(what, kihavute_segment_tangent(NUMBERED, 1, 1, answer, PLACES), 0, 2, (uint64_t[]){0, bits(1)});
+    fresh();
+    answered(what, kihavute_segment_rotation(NUMBERED, 1, 1, answer, PLACES), 0, 1, (uint64_t[]){bits(90)});
+}
+
+static void command_numbers(void) {
+    const uint32_t most = 4294967295;
+    static const uint8_t line_kinds[40];
+    static const float line_fields[160], line_lengths[40];
+    uint32_t makers[40];
+
+    /* a command that draws nothing is counted too */
+    made_by("M0 0L3 4M1 1L2 2", "MLML", (float[]){0, 0, 3, 4, 1, 1, 2, 2}, 8, (struct places){2, 8, 0, 2, 2}, (uint32_t[]){1, 3});
+    made_by("M0 0Q1 1 2 0M1 1L2 2", "MQML", (float[]){0, 0, 1, 1, 2, 0, 1, 1, 2, 2}, 10, (struct places){2, 10, 33, 2, 2}, (uint32_t[]){1, 3});
+    /* so is a Z without a point, and a line that only sets one; a further pair and a Z are commands of their own */
+    made_by("ZL1 2L3 4", "ZLL", (float[]){1, 2, 3, 4}, 4, (struct places){1, 4, 0, 1, 1}, (uint32_t[]){2});
+    made_by("m0 0 3 4zh3", "MLZL", (float[]){0, 0, 3, 4, 3, 0}, 6, (struct places){3, 12, 0, 3, 3}, (uint32_t[]){1, 2, 3});
+    made_by("M0 0A0 1 0 0 0 5 4C1 1 2 2 3 3", "MAC", (float[]){0, 0, 0, 1, 0, 0, 0, 5, 4, 1, 1, 2, 2, 3, 3}, 15, (struct places){2, 19, 33, 2, 2}, (uint32_t[]){1, 2});
+    made_by("M0 0M1 1", "MM", (float[]){0, 0, 1, 1}, 4, (struct places){0, 0, 0, 0, 0}, NULL);
+
+    /* the check: as many numbers as segments, none below the one before it; equal ones pass, and so does any size */
+    built("M0 0L3 4V9", 4, 24, 70, 4, 4);
+    numbers_pass("the numbers built", commands);
+    numbers_pass("equal numbers", (uint32_t[]){7, 7});
+    numbers_pass("two zeros", (uint32_t[]){0, 0});
+    numbers_pass("numbers far apart", (uint32_t[]){0, most});
+    numbers_pass("the largest numbers", (uint32_t[]){most, most});
+    numbers_refused("a number that falls", (uint32_t[]){2, 1}, 2);
+    numbers_refused("a number that falls below half of the largest", (uint32_t[]){1u << 31, (1u << 31) - 1}, 2);
+    numbers_refused("a number that falls to 0", (uint32_t[]){most, 0}, 2);
+    numbers_refused("a number missing", (uint32_t[]){1, 2}, 1);
+    numbers_refused("no numbers", NULL, 0);
+    numbers_refused("a number more", (uint32_t[]){1, 2, 3}, 3);
+    fresh();
+    answered("a number without a segment", kihavute_check(kinds, 0, fields, 0, tables, 0, lengths, 0, commands, 1, answer, PLACES), 12, 0, NULL);
+
+    /* wherever it stands: 5s, and among them one 4 or one 6 */
+    for (size_t k = 0; k < 40; k++) {
+        for (uint32_t other = 4; other <= 6; other++) {
+            for (size_t i = 0; i < 40; i++) makers[i] = i == k ? other : 5;
+            uint32_t due = other == 5 || (other == 4 && k == 0) || (other == 6 && k == 39) ? 0 : 12;
+            fresh();
+            answered("40 lines", kihavute_check(line_kinds, 40, line_fields, 160, NULL, 0, line_lengths, 40, makers, 40, answer, PLACES), due, due == 0, (uint64_t[]){40});
+        }
+    }
+}
+
+/* a plan: so many stations, then a head, a part so many times and a tail */
+static size_t plan_of(uint8_t *plan, const char *head, const char *part, size_t times, const char *tail) {
+    size_t size = strlen(head), width = strlen(part);
+    memcpy(plan, head, size);
+    for (size_t k = 0; k < times; k++, size += width) memcpy(plan + size, part, width);
+    memcpy(plan + size, tail, strlen(tail));
+    return size + strlen(tail);
+}
+
+/* the offset of each command and the number of each segment's, through `out`, which has 69,633 places */
+static void numbered_plans(uint8_t *out) {
+    static uint8_t plan[4200];
+    static const char due[] = "commands 5\n"
+                              "M 00000000 00000000 1\n"
+                              "L 3F800000 00000000 1\n"
+                              "Z 9\n"
+                              "M 3F800000 3F800000 11\n"
+                              "L 40000000 40000000 15\n"
+                              "segments 3\n"
+                              "line 3F800000 1\n"
+                              "line 40000000 2\n"
+                              "line 405A827A 4\n"
+                              "stations 2\n"
+                              "0 0 00000000 00000000 3F800000 00000000\n"
+                              "1 2 40000000 40000000 3F3504F3 3F3504F3\n";
+    const size_t due_len = sizeof due - 1;
+    size_t size = plan_of(plan, "2\n", " M0 0 1 0z m1 1l1 1", 1, "");
+
+    memset(out, 9, 69633);
+    fresh();
+    answered("a plan with a move between", kihavute_stations(plan, size, out, 69632, answer, PLACES), 0, 1, (uint64_t[]){due_len});
+    same("its bytes", memcmp(out, due, due_len), 0);
+
+    /* 256 commands are listed, one more is 8 in the listing, with the letters, the numbers and the offsets */
+    size = plan_of(plan, "2\nM0 0", "l1 2 ", 255, "");
+    fresh();
+    same("256 commands", kihavute_stations(plan, size, out, 69632, answer, PLACES), 0);
+    same("they are listed", memcmp(out, "commands 256\nM 00000000 00000000 0\n", 35), 0);
+    size = plan_of(plan, "2\nM0 0", "l1 2 ", 255, "q1 2 3 4");
+    memset(out, 9, 69633);
+    fresh();
+    answered("257 commands", kihavute_stations(plan, size, out, 69632, answer, PLACES), 0, 1, (uint64_t[]){22});
+    same("what it says", memcmp(out, "refused 8 257 516 257\n\11", 23), 0);
+    fresh();
+    answered("257 commands, a short output", kihavute_stations(plan, size, out, 21, answer, PLACES), 8, 1, (uint64_t[]){22});
+
+    /* 1,000 blanks before 256 commands, so that each offset has four digits: a listing of more than 65,536 bytes */
+    memset(plan, ' ', 1005);
+    memcpy(plan, "1000\n", 5);
+    size = 1005 + plan_of(plan + 1005, "M0 0", "a0 1 0 001 0", 255, "");
+    same("a plan's bytes", size - 5, 4064);
+    memset(out, 9, 69633);
+    fresh();
+    answered("a long listing, a place too few", kihavute_stations(plan, size, out, 66874, answer, PLACES), 8, 1, (uint64_t[]){66875});
+    same("nothing written", out[0] == 9 && memcmp(out, out + 1, 69632) == 0, 1);
+    fresh();
+    answered("just enough room", kihavute_stations(plan, size, out, 66875, answer, PLACES), 0, 1, (uint64_t[]){66875});
+    same("its first command", memcmp(out, "commands 256\nM 00000000 00000000 1000\nA 00000000 3F800000 00000000 00000000 00000000 3F800000 00000000 1004\n", 108), 0);
+    same("its last station", memcmp(out + 66875 - 44, "999 254 437F0000 00000000 3F800000 00000000\n\11", 45), 0);
+    static uint8_t again[69632];
+    memset(again, 9, sizeof again);
+    fresh();
+    answered("as much room as any listing takes", kihavute_stations(plan, size, again, 69632, answer, PLACES), 0, 1, (uint64_t[]){66875});
+    same("the same bytes, and nothing past them", memcmp(again, out, 69632), 0);
+}
+
 static void stations(void) {
-    /* document 01's example of the station tool */
+    /* document 01's example of the station tool, with the fields of 02's L5 */
     static const char plan[] = "3\nM0 0L3 4";
     static const char due[] = "commands 2\n"
-                              "M 00000000 00000000\n"
-                              "L 40400000 40800000\n"
+                              "M 00000000 00000000 0\n"
+                              "L 40400000 40800000 4\n"
                               "segments 1\n"
-                              "line 40A00000\n"
+                              "line 40A00000 1\n"
                               "stations 3\n"
                               "0 0 00000000 00000000 3F19999A 3F4CCCCD\n"
                               "1 0 3FC00000 40000000 3F19999A 3F4CCCCD\n"
                               "2 0 40400000 40800000 3F19999A 3F4CCCCD\n";
-    static uint8_t out[65537];
+    static uint8_t out[69633];
     const uint8_t *input = (const uint8_t *)plan;
     const size_t input_len = sizeof plan - 1, due_len = sizeof due - 1;
 
     memset(out, 9, sizeof out);
     fresh();
-    answered("a plan, a short answer", kihavute_stations(input, input_len, out, 65536, answer, 7), 255, 0, NULL);
+    answered("a plan, a short answer", kihavute_stations(input, input_len, out, 69632, answer, 7), 255, 0, NULL);
     fresh();
     answered("a plan, no output", kihavute_stations(input, input_len, out, 0, answer, PLACES), 8, 1, (uint64_t[]){due_len});
     fresh();
@@ -1313,26 +1583,28 @@ static void stations(void) {
     same("its bytes", memcmp(out, due, due_len), 0);
     memset(out, 9, sizeof out);
     fresh();
-    answered("01's example", kihavute_stations(input, input_len, out, 65536, answer, PLACES), 0, 1, (uint64_t[]){due_len});
+    answered("01's example", kihavute_stations(input, input_len, out, 69632, answer, PLACES), 0, 1, (uint64_t[]){due_len});
     same("its bytes", memcmp(out, due, due_len), 0);
     size_t past = due_len;
     while (past < sizeof out && out[past] == 9) past++;
     same("nothing past them", past, sizeof out);
 
     fresh();
-    answered("an empty plan", kihavute_stations(input, 0, out, 65537, answer, PLACES), 0, 1, (uint64_t[]){13});
+    answered("an empty plan", kihavute_stations(input, 0, out, 69633, answer, PLACES), 0, 1, (uint64_t[]){13});
     same("what it says", memcmp(out, "refused 13 0\n", 13), 0);
     same("what stood past it stays", memcmp(out + 13, due + 13, due_len - 13), 0);
     fresh();
-    answered("a plan of a letter", kihavute_stations((const uint8_t *)"2\nM0 0R", 7, out, 65536, answer, PLACES), 0, 1, (uint64_t[]){14});
+    answered("a plan of a letter", kihavute_stations((const uint8_t *)"2\nM0 0R", 7, out, 69632, answer, PLACES), 0, 1, (uint64_t[]){14});
     same("what it says", memcmp(out, "refused 6 R 4\n", 14), 0);
+    numbered_plans(out);
 }
 
 /* Every slice of every entry as C++'s empty vector lends it: a null pointer with a count of 0. The answer is that of any empty slice. */
 static void nulls(void) {
-    static uint8_t listing[65536];
+    static uint8_t listing[69632];
     const uint8_t *text = (const uint8_t *)"M0 0L3 4", kinds[] = {0};
     const float fields[] = {0, 0, 3, 4}, lengths[] = {5}, zero[] = {0};
+    const uint32_t commands[] = {1};
     const float half = 0.5f;
 
     fresh();
@@ -1395,29 +1667,35 @@ static void nulls(void) {
     answered("a list of nulls", kihavute_check_commands(NULL, 0, NULL, 0, answer, PLACES), 0, 0, NULL);
 
     fresh();
-    answered("a path of nulls", kihavute_check(NULL, 0, NULL, 0, NULL, 0, NULL, 0, answer, PLACES), 0, 1, (uint64_t[]){0});
+    answered("a path of nulls", kihavute_check(NULL, 0, NULL, 0, NULL, 0, NULL, 0, NULL, 0, answer, PLACES), 0, 1, (uint64_t[]){0});
     fresh();
-    answered("a null list into nulls", kihavute_build(NULL, 0, NULL, 0, NULL, 0, NULL, 0, NULL, 0, NULL, 0, answer, PLACES), 0, 4, (uint64_t[]){0, 0, 0, 0});
+    answered("a null list into nulls", kihavute_build(NULL, 0, NULL, 0, NULL, 0, NULL, 0, NULL, 0, NULL, 0, NULL, 0, answer, PLACES), 0, 5, (uint64_t[]){0, 0, 0, 0, 0});
     fresh();
-    answered("a list into nulls", kihavute_build((const uint8_t *)"ML", 2, fields, 4, NULL, 0, NULL, 0, NULL, 0, NULL, 0, answer, PLACES), 8, 4, (uint64_t[]){1, 4, 0, 1});
+    answered("a list into nulls", kihavute_build((const uint8_t *)"ML", 2, fields, 4, NULL, 0, NULL, 0, NULL, 0, NULL, 0, NULL, 0, answer, PLACES), 8, 5, (uint64_t[]){1, 4, 0, 1, 1});
     fresh();
-    answered("a null text built into nulls", kihavute_build_text(NULL, 0, NULL, 0, NULL, 0, NULL, 0, NULL, 0, answer, PLACES), 0, 4, (uint64_t[]){0, 0, 0, 0});
+    answered("a null text built into nulls", kihavute_build_text(NULL, 0, NULL, 0, NULL, 0, NULL, 0, NULL, 0, NULL, 0, answer, PLACES), 0, 5, (uint64_t[]){0, 0, 0, 0, 0});
     fresh();
-    answered("a text built into nulls", kihavute_build_text(text, 8, NULL, 0, NULL, 0, NULL, 0, NULL, 0, answer, PLACES), 8, 4, (uint64_t[]){1, 4, 0, 1});
+    answered("a text built into nulls", kihavute_build_text(text, 8, NULL, 0, NULL, 0, NULL, 0, NULL, 0, NULL, 0, answer, PLACES), 8, 5, (uint64_t[]){1, 4, 0, 1, 1});
     fresh();
-    answered("a flight on nulls", kihavute_flight(NULL, 0, NULL, 0, NULL, 0, NULL, 0, half, answer, PLACES), 0, 6, (uint64_t[]){0, 0, 0, 0, KIHAVUTE_NO_SEGMENT, 0});
+    answered("a flight on nulls", kihavute_flight(NULL, 0, NULL, 0, NULL, 0, NULL, 0, NULL, 0, half, answer, PLACES), 0, 6, (uint64_t[]){0, 0, 0, 0, KIHAVUTE_NO_SEGMENT, 0});
     fresh();
-    answered("a rotation on nulls", kihavute_rotation(NULL, 0, NULL, 0, NULL, 0, NULL, 0, half, answer, PLACES), 0, 1, (uint64_t[]){0});
+    answered("a rotation on nulls", kihavute_rotation(NULL, 0, NULL, 0, NULL, 0, NULL, 0, NULL, 0, half, answer, PLACES), 0, 1, (uint64_t[]){0});
     fresh();
-    answered("places on nulls", kihavute_places(NULL, 0, NULL, 0, NULL, 0, NULL, 0, NULL, 0, NULL, 0, NULL, 0, answer, PLACES), 0, 1, (uint64_t[]){0});
+    answered("places on nulls", kihavute_places(NULL, 0, NULL, 0, NULL, 0, NULL, 0, NULL, 0, NULL, 0, NULL, 0, NULL, 0, answer, PLACES), 0, 1, (uint64_t[]){0});
     fresh();
-    answered("places of null progresses", kihavute_places(kinds, 1, fields, 4, NULL, 0, lengths, 1, NULL, 0, NULL, 0, NULL, 0, answer, PLACES), 0, 1, (uint64_t[]){0});
+    answered("places of null progresses", kihavute_places(kinds, 1, fields, 4, NULL, 0, lengths, 1, commands, 1, NULL, 0, NULL, 0, NULL, 0, answer, PLACES), 0, 1, (uint64_t[]){0});
     fresh();
-    answered("places into nulls", kihavute_places(kinds, 1, fields, 4, NULL, 0, lengths, 1, &half, 1, NULL, 0, NULL, 0, answer, PLACES), 8, 2, (uint64_t[]){1, 1});
+    answered("places into nulls", kihavute_places(kinds, 1, fields, 4, NULL, 0, lengths, 1, commands, 1, &half, 1, NULL, 0, NULL, 0, answer, PLACES), 8, 2, (uint64_t[]){1, 1});
     fresh();
-    answered("flights on nulls", kihavute_flights(NULL, 0, NULL, 0, NULL, 0, NULL, 0, NULL, 0, NULL, 0, NULL, 0, NULL, 0, answer, PLACES), 0, 1, (uint64_t[]){0});
+    answered("flights on nulls", kihavute_flights(NULL, 0, NULL, 0, NULL, 0, NULL, 0, NULL, 0, NULL, 0, NULL, 0, NULL, 0, NULL, 0, answer, PLACES), 0, 1, (uint64_t[]){0});
     fresh();
-    answered("flights into nulls", kihavute_flights(kinds, 1, fields, 4, NULL, 0, lengths, 1, &half, 1, NULL, 0, NULL, 0, NULL, 0, answer, PLACES), 8, 3, (uint64_t[]){1, 1, 4});
+    answered("flights into nulls", kihavute_flights(kinds, 1, fields, 4, NULL, 0, lengths, 1, commands, 1, &half, 1, NULL, 0, NULL, 0, NULL, 0, answer, PLACES), 8, 3, (uint64_t[]){1, 1, 4});
+    fresh();
+    answered("segments of nulls", kihavute_len(NULL, 0, NULL, 0, NULL, 0, NULL, 0, NULL, 0, answer, PLACES), 0, 1, (uint64_t[]){0});
+    fresh();
+    answered("a segment of nulls", kihavute_segment(NULL, 0, NULL, 0, NULL, 0, NULL, 0, NULL, 0, 0, NULL, 0, answer, PLACES), 0, 0, NULL);
+    fresh();
+    answered("a line to nulls", kihavute_line_to(NULL, 0, NULL, 0, NULL, 0, NULL, 0, NULL, 0, 0, 1, 0, 0, 3, 4, answer, PLACES), 8, 5, (uint64_t[]){1, 4, 0, 1, 1});
     fresh();
     answered("a null plan", kihavute_stations(NULL, 0, listing, sizeof listing, answer, PLACES), 0, 1, (uint64_t[]){13});
     same("what it says", memcmp(listing, "refused 13 0\n", 13), 0);
@@ -1450,13 +1728,13 @@ static void nulls(void) {
         kihavute_read(NULL, 0, NULL, 0, NULL, 0, NULL, 0, NULL, 0),
         kihavute_read_lean(NULL, 0, NULL, 0, NULL, 0, NULL, 0, NULL, 0),
         kihavute_check_commands(NULL, 0, NULL, 0, NULL, 0),
-        kihavute_check(NULL, 0, NULL, 0, NULL, 0, NULL, 0, NULL, 0),
-        kihavute_build(NULL, 0, NULL, 0, NULL, 0, NULL, 0, NULL, 0, NULL, 0, NULL, 0),
-        kihavute_build_text(NULL, 0, NULL, 0, NULL, 0, NULL, 0, NULL, 0, NULL, 0),
-        kihavute_flight(NULL, 0, NULL, 0, NULL, 0, NULL, 0, half, NULL, 0),
-        kihavute_rotation(NULL, 0, NULL, 0, NULL, 0, NULL, 0, half, NULL, 0),
-        kihavute_places(NULL, 0, NULL, 0, NULL, 0, NULL, 0, NULL, 0, NULL, 0, NULL, 0, NULL, 0),
-        kihavute_flights(NULL, 0, NULL, 0, NULL, 0, NULL, 0, NULL, 0, NULL, 0, NULL, 0, NULL, 0, NULL, 0),
+        kihavute_check(NULL, 0, NULL, 0, NULL, 0, NULL, 0, NULL, 0, NULL, 0),
+        kihavute_build(NULL, 0, NULL, 0, NULL, 0, NULL, 0, NULL, 0, NULL, 0, NULL, 0, NULL, 0),
+        kihavute_build_text(NULL, 0, NULL, 0, NULL, 0, NULL, 0, NULL, 0, NULL, 0, NULL, 0),
+        kihavute_flight(NULL, 0, NULL, 0, NULL, 0, NULL, 0, NULL, 0, half, NULL, 0),
+        kihavute_rotation(NULL, 0, NULL, 0, NULL, 0, NULL, 0, NULL, 0, half, NULL, 0),
+        kihavute_places(NULL, 0, NULL, 0, NULL, 0, NULL, 0, NULL, 0, NULL, 0, NULL, 0, NULL, 0, NULL, 0),
+        kihavute_flights(NULL, 0, NULL, 0, NULL, 0, NULL, 0, NULL, 0, NULL, 0, NULL, 0, NULL, 0, NULL, 0, NULL, 0),
         kihavute_stations(NULL, 0, NULL, 0, NULL, 0),
     };
     for (size_t i = 0; i < sizeof found / sizeof *found; i++) same("a null answer", found[i], 255);
@@ -1477,6 +1755,7 @@ int main(void) {
     paths();
     appending();
     segments();
+    command_numbers();
     splines();
     strict_reading();
     strict_editions();

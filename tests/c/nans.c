@@ -22,6 +22,7 @@ static float out[256], other[256];
 static uint8_t kinds[2], text[ROOM];
 static uint32_t offsets[ROOM];
 static float fields[24], tables[70], lengths[2];
+static uint32_t commands[2];
 
 static uint32_t bits(float x) {
     uint32_t pattern;
@@ -170,24 +171,24 @@ static void r_number(float nan) {
 }
 /* a fallback keeps its rotation; a NaN coordinate makes a length that is refused */
 static void r_build(float nan) {
-    accepted(kihavute_build((const uint8_t *)"MA", 2, (float[]){0, 0, 0, 1, nan, 0, 0, 3, 4}, 9, kinds, 2, fields, 24, tables, 70, lengths, 2, answer, PLACES));
+    accepted(kihavute_build((const uint8_t *)"MA", 2, (float[]){0, 0, 0, 1, nan, 0, 0, 3, 4}, 9, kinds, 2, fields, 24, tables, 70, lengths, 2, commands, 2, answer, PLACES));
     is_nan(bits(fields[8]));
 }
 static void r_build_text(float nan) {
     static const char path[] = "M1e39 0m-1e39 0L1 1";
     (void)nan;
-    refused(kihavute_build_text((const uint8_t *)path, sizeof path - 1, kinds, 2, fields, 24, tables, 70, lengths, 2, answer, PLACES), 11);
+    refused(kihavute_build_text((const uint8_t *)path, sizeof path - 1, kinds, 2, fields, 24, tables, 70, lengths, 2, commands, 2, answer, PLACES), 11);
 }
 /* a NaN is printed as the others are */
 static void r_stations(float nan) {
     static const char plan[] = "2\nM1e39 0m-1e39 0";
     (void)nan;
     accepted(kihavute_stations((const uint8_t *)plan, sizeof plan - 1, text, ROOM, answer, PLACES));
-    expect(memcmp(text + 31, "M 7FC00000 00000000\n", 20) == 0, "another line", text[33]);
+    expect(memcmp(text + 33, "M 7FC00000 00000000 7\n", 22) == 0, "another line", text[35]);
 }
 
 /* a stored path: a line of which one coordinate is no number */
-#define PATH kinds, 1, fields, 4, tables, 0, lengths, 1
+#define PATH kinds, 1, fields, 4, tables, 0, lengths, 1, commands, 1
 static void stored(float nan) { kinds[0] = 0, fields[0] = 0, fields[1] = 0, fields[2] = nan, fields[3] = 4, lengths[0] = 5; }
 
 static void r_flight(float nan) {
@@ -218,15 +219,15 @@ static void r_segment_tangent(float nan) {
 }
 static void r_segment_rotation(float nan) { stored(nan), accepted(kihavute_segment_rotation(PATH, 0, 0.5f, answer, PLACES)), is_nan(answer[0]); }
 
-#define BUFFERS kinds, 2, fields, 24, tables, 70, lengths, 2
+#define BUFFERS kinds, 2, fields, 24, tables, 70, lengths, 2, commands, 2
 static void r_push_segment(float nan) {
-    accepted(kihavute_push_segment(BUFFERS, 0, 4, (float[]){0, 0, 3, 4, nan, 0, 0, nan, nan, 0, nan}, 11, answer, PLACES));
+    accepted(kihavute_push_segment(BUFFERS, 0, 0, 4, (float[]){0, 0, 3, 4, nan, 0, 0, nan, nan, 0, nan}, 11, answer, PLACES));
     is_nan(bits(fields[4])), is_nan(bits(fields[7])), is_nan(bits(fields[8])), is_nan(bits(fields[10]));
 }
-static void r_arc_to(float nan) { accepted(kihavute_arc_to(BUFFERS, 0, 0, 0, 0, 1, nan, 0, 0, 3, 4, answer, PLACES)), is_nan(bits(fields[8])); }
-static void r_line_to(float nan) { refused(kihavute_line_to(BUFFERS, 0, 0, nan, 3, 4, answer, PLACES), 11); }
-static void r_quad_to(float nan) { refused(kihavute_quad_to(BUFFERS, 0, 0, 0, nan, 1, 3, 4, answer, PLACES), 11); }
-static void r_cubic_to(float nan) { refused(kihavute_cubic_to(BUFFERS, 0, 0, 0, nan, 1, 2, 2, 3, 4, answer, PLACES), 11); }
+static void r_arc_to(float nan) { accepted(kihavute_arc_to(BUFFERS, 0, 0, 0, 0, 0, 1, nan, 0, 0, 3, 4, answer, PLACES)), is_nan(bits(fields[8])); }
+static void r_line_to(float nan) { refused(kihavute_line_to(BUFFERS, 0, 0, 0, nan, 3, 4, answer, PLACES), 11); }
+static void r_quad_to(float nan) { refused(kihavute_quad_to(BUFFERS, 0, 0, 0, 0, nan, 1, 3, 4, answer, PLACES), 11); }
+static void r_cubic_to(float nan) { refused(kihavute_cubic_to(BUFFERS, 0, 0, 0, 0, nan, 1, 2, 2, 3, 4, answer, PLACES), 11); }
 
 /* ---- the table: a function, its run, or why it has none */
 

@@ -11,12 +11,12 @@
 
 #include "kihavute.h"
 
-enum { STACK = 1 << 18, PAINT = 0xA5, LONG = 65536, PLAN = 4096 };
+enum { STACK = 1 << 18, PAINT = 0xA5, LONG = 65536, PLAN = 4096, LISTING = 69632 };
 
-static uint8_t text[LONG + 64], letters[LONG], kinds[LONG], listing[LONG];
-static uint32_t offsets[LONG];
+static uint8_t text[LONG + 64], letters[LONG], kinds[LONG], listing[LISTING];
+static uint32_t offsets[LONG], commands[LONG];
 static float numbers[LONG], fields[11 * LONG], tables[33 * LONG], lengths[LONG];
-static size_t size, commands, arguments; /* of the text, and of the list that it is read as */
+static size_t size, listed, arguments; /* the bytes of the text, and the letters and numbers of the list that it is read as */
 static uint64_t answer[8];
 static uint32_t returned;
 
@@ -35,10 +35,11 @@ static void number(void) { returned = AS(kihavute_number)(text, size, LENT(answe
 static void strict(void) { returned = AS(kihavute_strict)(text, size, KIHAVUTE_SVG_1_1, LENT(answer)); }
 static void reading(void) { returned = AS(kihavute_read)(text, size, LENT(letters), LENT(numbers), LENT(offsets), LENT(answer)); }
 static void building(void) {
-    returned = AS(kihavute_build_text)(text, size, LENT(kinds), LENT(fields), LENT(tables), LENT(lengths), LENT(answer));
+    returned = AS(kihavute_build_text)(text, size, LENT(kinds), LENT(fields), LENT(tables), LENT(lengths), LENT(commands), LENT(answer));
 }
 static void from_list(void) {
-    returned = AS(kihavute_build)(letters, commands, numbers, arguments, LENT(kinds), LENT(fields), LENT(tables), LENT(lengths), LENT(answer));
+    returned = AS(kihavute_build)(letters, listed, numbers, arguments, LENT(kinds), LENT(fields), LENT(tables), LENT(lengths), LENT(commands),
+                                  LENT(answer));
 }
 static void stations(void) { returned = AS(kihavute_stations)(text, size, LENT(listing), LENT(answer)); }
 
@@ -162,7 +163,7 @@ static int every, wrong;
 static void measure(struct entry *entry, const char *what, int right) {
     if (entry->takes == A_LIST) {
         if (kihavute_read(text, size, LENT(letters), LENT(numbers), LENT(offsets), LENT(answer))) return; /* no list */
-        commands = answer[0];
+        listed = answer[0];
         arguments = answer[1];
     }
     size_t needed = deepest(entry->caller, entry->entry);
