@@ -6,24 +6,25 @@
  * Memory: every buffer is the caller's, before, during and after a call. A call reads what is lent as const, writes to what is
  *         not, and keeps no pointer. Calls at the same time may share what they read, and no output and no answer.
  * Limits: 65,536 bytes of text, 65,536 commands, 65,536 segments of a path, 4,096 points of a list; 4,096 bytes, 256 commands
- *         and 2 to 1,000 stations of a plan; angles of 64 radians for sine and cosine. What lies beyond is refused,
- *         or a NaN where that is said. The rotation of an arc is any finite number of degrees.
+ *         and 2 to 1,000 stations of a plan, whose listing has at most 69,632 bytes; angles of 64 radians for sine and cosine.
+ *         What lies beyond is refused, or a NaN where that is said. The rotation of an arc is any finite number of degrees.
  * Stack:  at most 64 KiB, which is kihavute_stations; of the others that take a text kihavute_read some 24 KB,
  *         and the rest, building among them, at most 2 KiB. docs/RUNS.md has the table, and tests/c/stack.c holds each of them to
  *         its limit.
  * Units:  coordinates and lengths are in the unit of the path, times t are pure numbers, angles say theirs.
- * Sizes:  a coordinate is a float of 24 bits, so the larger it is, the further apart its neighbours are: 2^-10 (0.00098) from 8,192 to
- *         16,384, 2^-9 from there, 1/32 from 262,144, 1/2 from 4,194,304, and twice as much at each doubling. A northing of
- *         6672100.75 is held as 6672101. Shift the origin: subtract a whole number from every x and another from every y, in double,
- *         before the text or the list is made, and add them again, in double, to the points that come out.
+ * Sizes:  a coordinate is a float of 24 bits, so the larger it is, the further apart its neighbours are: 2^-10 (0.00098) from
+ *         8,192 to 16,384, 2^-9 from there, 1/32 from 262,144, 1/2 from 4,194,304, and twice as much at each doubling. A northing
+ *         of 6672100.75 is held as 6672101. Shift the origin: subtract a whole number from every x and another from every y, in
+ *         double, before the text or the list is made, and add them again, in double, to the points that come out.
  * Bits:   a function that returns uint32_t gives the bits of a float, as IEEE 754 binary32 lays them out. A NaN is
  *         always 0x7FC00000 there, whatever NaN went in. A function that returns uint64_t gives two such
  *         patterns: x in the low half, y in the high half.
  * Answer: a function that ends in `answer, answer_len` returns 0 where it accepts, else the number of a refusal in the
  *         table below. What it gives, or what the refusal carries, is written to the first places of answer, and to
  *         no other place: lend it 8 places. Into fewer nothing is written, and 255 is returned.
- * Slices: a pointer and the count of elements behind it. Nothing is read or written past the count, so with a count of 0 the pointer
- *         may be null, as that of C++'s empty vector is. An answer or an output overlaps nothing else that the call is lent.
+ * Slices: a pointer and the count of elements behind it. Nothing is read or written past the count, so with a count of 0 the
+ *         pointer may be null, as that of C++'s empty vector is. An answer or an output overlaps nothing else that the call is
+ *         lent.
  * Order:  each operation rounds once, to nearest with ties to even, in the order written beside each name. No
  *         multiplication is fused with an addition.
  *
@@ -139,8 +140,8 @@ uint64_t kihavute_scale(float x, float y, float factor);
 /* ax * bx + ay * by. */
 uint32_t kihavute_dot(float ax, float ay, float bx, float by);
 
-/* The root of x * x + y * y, worked out in double and then rounded to float: squares, sum and root lose nothing to float's range, so
- * that only a length above the largest float is infinite, and 2e19 and 1e-30 have their lengths. */
+/* The root of x * x + y * y, worked out in double and then rounded to float: squares, sum and root lose nothing to float's range,
+ * so that only a length above the largest float is infinite, and 2e19 and 1e-30 have their lengths. */
 uint32_t kihavute_length(float x, float y);
 
 /* The length of (bx - ax, by - ay), a difference of floats: infinite where that is. */
@@ -328,11 +329,11 @@ enum kihavute_edition {
 
 /* Whether the text matches the path grammar of an edition: answer[0] is 1 for a yes and 0 for a no. No sign stands before an
  * arc's radius in either; kihavute_read takes one, and building takes a radius by its size. SVG 2 is read to the letter: most
- * drawings in use are a NO under it, since it writes no white space between commands ("M5 5 L6 6" is a no, "M5 5L 6 6" a yes), none
- * at the end, and before the first moveto only where that is the whole path; a number has no exponent and no point without a
+ * drawings in use are a NO under it, since it writes no white space between commands ("M5 5 L6 6" is a no, "M5 5L 6 6" a yes),
+ * none at the end, and before the first moveto only where that is the whole path; a number has no exponent and no point without a
  * digit behind it, a rotation has no sign; a form feed is white space there, and not in 1.1. Every text with a yes, under either,
- * is read by kihavute_read (8 for want of room aside). Refused with 13: another edition; answer[0] is its number. Then with 1: above
- * 65,536 bytes; answer[0] is the count. The time is linear. */
+ * is read by kihavute_read (8 for want of room aside). Refused with 13: another edition; answer[0] is its number. Then with 1:
+ * above 65,536 bytes; answer[0] is the count. The time is linear. */
 uint32_t kihavute_strict(const uint8_t *text, size_t text_len, uint32_t edition, uint64_t *answer, size_t answer_len);
 
 /* Reads path data into a command list. A command is a letter (M, L, Q, C, A or Z) in letters and 2, 2, 4, 6, 7 or 0
@@ -378,14 +379,15 @@ uint32_t kihavute_check_commands(const uint8_t *letters, size_t letters_len, con
  *            radians of an arc and of a fallback
  *   tables   for each quad, cubic and arc of kind 3, 33 numbers: 32 running lengths from 0 on, then their total
  *   lengths  the running length up to the end of each segment
- *   commands the number of the command that made each segment, counted from 0: with the offsets that kihavute_read stores it
- *            leads to the letter in the text
+ *   commands the number of the command that made each segment: its place, from 0, in the list that was built or, for a text,
+ *            in the list that kihavute_read stores. A command that draws nothing is counted too: the segments of
+ *            M0 0L3 4M1 1L2 2 have 1 and 3. With the offsets that kihavute_read stores it leads to the letter in the text
  * Points and lengths are in path units. */
 
 /* Whether five arrays hold a stored path: at most 65,536 segments of known kinds with exactly their numbers and tables; running
  * lengths and tables that are finite, not below 0 and never fall; each table starts at 0 and its total is its last entry; one
- * command number for each segment, none below the one before it. answer[0] gets the count of segments. Refused with 12, which
- * carries nothing. Coordinates are not judged. */
+ * command number for each segment, none below the one before it, equal ones and any size allowed. answer[0] gets the count of
+ * segments. Refused with 12, which carries nothing. Coordinates are not judged. */
 uint32_t kihavute_check(const uint8_t *kinds, size_t kinds_len, const float *fields, size_t fields_len,
                         const float *tables, size_t tables_len, const float *lengths, size_t lengths_len,
                         const uint32_t *commands, size_t commands_len, uint64_t *answer, size_t answer_len);
@@ -404,7 +406,7 @@ uint32_t kihavute_build(const uint8_t *letters, size_t letters_len, const float 
 
 /* The same for a text of path data, with no command list between. Refused with 1 above 65,536 bytes (the count), with 2 to 7
  * where it does not read to its end (4 is an exponent without digit, at its e, and nothing else), then as above with 10, 11 and
- * 8. The commands are numbered as kihavute_read gives them. */
+ * 8. A segment's number is the place of its command in the list that kihavute_read gives. */
 uint32_t kihavute_build_text(const uint8_t *text, size_t text_len, uint8_t *kinds, size_t kinds_len,
                              float *fields, size_t fields_len, float *tables, size_t tables_len,
                              float *lengths, size_t lengths_len, uint32_t *commands, size_t commands_len,
@@ -495,8 +497,8 @@ uint32_t kihavute_segment_rotation(const uint8_t *kinds, size_t kinds_len, const
                                    uint64_t *answer, size_t answer_len);
 
 /* ---- Queries of a stored path ----
- * Each call checks the whole path first, which reads every kind, table and length once, and refuses with 12 where the
- * check fails. That takes 0.2 to 0.3 ns for each number stored (docs/BENCH.md), so the time of a single query grows
+ * Each call checks the whole path first, which reads every kind, table, length and command number once, and refuses with 12
+ * where the check fails. That takes 0.2 to 0.3 ns for each number stored (docs/BENCH.md), so the time of a single query grows
  * with the path. Ask for one place now and then by the single queries; to file many packets of one flight, collect their
  * progresses and ask by kihavute_places or kihavute_flights, which check the path once for all of them. */
 
@@ -534,15 +536,19 @@ uint32_t kihavute_flights(const uint8_t *kinds, size_t kinds_len, const float *f
 
 /* ---- The station tool ----
  * A plan is the number of stations, 2 to 1,000, in 1 to 9 digits, a LF, and path data of at most 4,096 bytes and 256 commands.
- * Its listing is text, each line with a LF: the commands, each with the offset of its letter in the path data, the segments
- * with their running lengths and the numbers of their commands, and the stations with their segment, place and direction,
- * station k of n at the progress k / (n - 1), each section after its count, floats as the eight hexadecimal digits of their
- * bits; or, for a plan that is refused, one line: `refused`, the number and what it carries. */
+ * Its listing is text, each line with a LF and its fields apart by a space: the commands, the segments and the stations, each
+ * section after its word and its count. A command has its letter, its numbers, and last the offset of the letter that made it, in
+ * bytes from the start of the path data; a segment the name of its kind, its running length, and last the number of its command,
+ * from 0; a station its number, its segment, or - where there is none, its place and its direction, station k of n at the progress
+ * k / (n - 1). Floats are the eight hexadecimal digits of their bits, all else is decimal. In the listing of `M0 0L3 4` the second
+ * command is `L 40400000 40800000 4` and its segment `line 40A00000 1`. A plan that is refused has one line: `refused`, the number
+ * and what it carries; more than 256 commands are 8 with the letters, the numbers and the offsets that they have. */
 
 /* Writes the listing of a plan from the start of output: answer[0] gets how many bytes it has, and what stands past them stays.
  * A plan that is refused is accepted here: its listing says so. Refused with 8, and answer[0] is how many bytes the listing
- * has, where output has fewer places; then nothing is written. Every listing fits in 69,632. It holds the buffers of a path on
- * its stack: call it from a thread with more than 64 KiB. */
+ * has, where output has fewer places; then nothing is written. Every listing fits in 69,632 places, and into as many it is written
+ * with the work done once; into fewer it is measured first. It holds the buffers of a path on its stack: call it from a thread
+ * with more than 64 KiB. */
 uint32_t kihavute_stations(const uint8_t *input, size_t input_len, uint8_t *output, size_t output_len,
                            uint64_t *answer, size_t answer_len);
 
