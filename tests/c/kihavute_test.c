@@ -1475,6 +1475,19 @@ static void command_numbers(void) {
     fresh();
     answered("a number without a segment", kihavute_check(kinds, 0, fields, 0, tables, 0, lengths, 0, commands, 1, answer, PLACES), 12, 0, NULL);
 
+    /* from a progress to a byte of the text: the segment, its command, that one's offset */
+    static const char plan[] = "M0 0 H30 M0 10 H30 V50";
+    built(plan, 4, 24, 70, 4, 4);
+    fresh();
+    same("half of the way", kihavute_flight(STORED(3, 12, 0), 0.5f, answer, PLACES), 0);
+    same("its segment", answer[4], 1);
+    same("its command", commands[answer[4]], 3);
+    uint32_t command = commands[answer[4]];
+    fresh();
+    answered("the same text", kihavute_read((const uint8_t *)plan, strlen(plan), list_letters, ROOM, list_numbers, ROOM, list_offsets, ROOM, answer, PLACES), 0, 3, (uint64_t[]){5, 10, 5});
+    same("its letter's offset", list_offsets[command], 15);
+    same("its letter", (uint8_t)plan[list_offsets[command]], 'H');
+
     /* wherever it stands: 5s, and among them one 4 or one 6 */
     for (size_t k = 0; k < 40; k++) {
         for (uint32_t other = 4; other <= 6; other++) {
