@@ -5,7 +5,7 @@ use lib.Ieee.{Float, binary32, ofBits, le}
 use lib.Ieee.Scale.{finite}
 use Rattle.floats.specs.Floats.{epsilonF}
 use Rattle.math.specs.Math.{distanceOf}
-use Rattle.bezier.specs.declared.curves.Placed.the-variants as Placed
+use Rattle.flight.specs.declared.single.Placed.the-variants as Placed
 use Rattle.bezier.specs.Curves.{placedOf}
 use Rattle.ellipse.specs.declared.ends.Chord.{Chord}
 use Rattle.ellipse.specs.Ends.{sizeOf}

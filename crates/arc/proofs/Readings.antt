@@ -9,7 +9,7 @@ use Rattle.floats.specs.Floats.{zeroF, epsilonF}
 use Rattle.root.specs.Root.{rootOf}
 use Rattle.lengths.specs.Length as lengths
 use Rattle.math.specs.Math.{pointOf, subOf, lengthOf, distanceOf}
-use Rattle.bezier.specs.declared.curves.Verdict.the-variants as Verdict
+use Rattle.flight.specs.declared.single.Verdict.the-variants as Verdict
 use Rattle.bezier.specs.Curves.{verdictOf}
 use Rattle.ellipse.specs.Ends.{sizeOf}
 use Rattle.arc.specs.Lines.{lineLengthOf, madeLineOf}

@@ -12,7 +12,7 @@ use Rattle.table.specs.Lookup.{lastOf}
 use Rattle.table_order.specs.Stated.{F32Table}
 use Rattle.table_order.specs.Swept.{Steady}
 use Rattle.table_order.proofs.Swept.{steady}
-use Rattle.bezier.specs.declared.curves.Verdict.the-variants as Verdict
+use Rattle.flight.specs.declared.single.Verdict.the-variants as Verdict
 use Rattle.bezier.proofs.Steady.{accepted-table, made-last}
 use Rattle.ellipse.specs.declared.ends.Chord.{Chord}
 use Rattle.ellipse.specs.declared.ends.Arc.{Arc}

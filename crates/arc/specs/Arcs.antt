@@ -12,11 +12,11 @@ use Rattle.angles.specs.Angles.{rotationDegOf}
 use Rattle.table.specs.declared.tables.Table.{Table}
 use Rattle.table.specs.Lookup.{rawOf}
 use Rattle.table_samples.specs.Samples.{tableOf}
-use Rattle.bezier.specs.declared.curves.Placed.{Placed}
-use Rattle.bezier.specs.declared.curves.Placed.the-variants as Placed
-use Rattle.bezier.specs.declared.curves.Turned.{Turned}
-use Rattle.bezier.specs.declared.curves.Turned.the-variants as Turned
-use Rattle.bezier.specs.declared.curves.Verdict.the-variants as Verdict
+use Rattle.flight.specs.declared.single.Placed.{Placed}
+use Rattle.flight.specs.declared.single.Placed.the-variants as Placed
+use Rattle.flight.specs.declared.single.Turned.{Turned}
+use Rattle.flight.specs.declared.single.Turned.the-variants as Turned
+use Rattle.flight.specs.declared.single.Verdict.the-variants as Verdict
 use Rattle.bezier.specs.Curves.{verdictOf, placedOf}
 use Rattle.ellipse.specs.declared.ends.Chord.{Chord}
 use Rattle.ellipse.specs.declared.ends.Arc.{Arc}

@@ -1,8 +1,8 @@
 // A straight line.
 use angles::rotation_deg;
-use bezier::Verdict;
 use bezier::tidied;
 use bezier::verdict_of;
+use flight::Verdict;
 use floats::tidy;
 use math::Point;
 use math::distance;

@@ -6,10 +6,10 @@ use Rattle.answers.specs.declared.refusals.Refusal.the-variants.{BadPath}
 use Rattle.math.specs.declared.points.Point.{Point}
 use Rattle.table.specs.declared.tables.Table.{Table}
 use Rattle.table.specs.Sound.{tableIsSound}
-use Rattle.bezier.specs.declared.curves.Placed.{Placed}
-use Rattle.bezier.specs.declared.curves.Placed.the-variants as Placed
-use Rattle.bezier.specs.declared.curves.Turned.{Turned}
-use Rattle.bezier.specs.declared.curves.Turned.the-variants as Turned
+use Rattle.flight.specs.declared.single.Placed.{Placed}
+use Rattle.flight.specs.declared.single.Placed.the-variants as Placed
+use Rattle.flight.specs.declared.single.Turned.{Turned}
+use Rattle.flight.specs.declared.single.Turned.the-variants as Turned
 use Rattle.bezier.specs.Curves.{isNothing, secondTry, placedOf, turnedOf}
 
 -- ---- the table's test, by its result b

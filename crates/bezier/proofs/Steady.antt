@@ -17,8 +17,8 @@ use Rattle.table_order.specs.Swept.{Steady}
 use Rattle.table_order.proofs.Swept.{steady}
 use Rattle.table_samples.specs.Samples.{totalOf, lengthsOf, tableOf}
 use Rattle.table_samples.proofs.Made.{made-sound, made-fits, made-total-fits, made-count}
-use Rattle.bezier.specs.declared.curves.Verdict.{Verdict}
-use Rattle.bezier.specs.declared.curves.Verdict.the-variants as Verdict
+use Rattle.flight.specs.declared.single.Verdict.{Verdict}
+use Rattle.flight.specs.declared.single.Verdict.the-variants as Verdict
 use Rattle.bezier.specs.declared.quads.QuadBezier.{QuadBezier}
 use Rattle.bezier.specs.declared.cubics.CubicBezierCurve.{CubicBezierCurve}
 use Rattle.bezier.specs.Curves.{verdictOf}

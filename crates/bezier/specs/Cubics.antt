@@ -6,8 +6,8 @@ use Rattle.math.specs.Math.{addOf, subOf, scaleOf, normalizeOf, lerpPointOf}
 use Rattle.table.specs.Lookup.{rawOf}
 use Rattle.table_samples.specs.Samples.{tableOf}
 use Rattle.angles.specs.Angles.{rotationDegOf}
-use Rattle.bezier.specs.declared.curves.Placed.{Placed}
-use Rattle.bezier.specs.declared.curves.Turned.{Turned}
+use Rattle.flight.specs.declared.single.Placed.{Placed}
+use Rattle.flight.specs.declared.single.Turned.{Turned}
 use Rattle.bezier.specs.declared.cubics.MadeCubic.{MadeCubic}
 use Rattle.bezier.specs.declared.cubics.CubicBezierCurve.{CubicBezierCurve}
 use Rattle.bezier.specs.Curves.{verdictOf, aheadOf, secondTry, placedOf, turnedOf}

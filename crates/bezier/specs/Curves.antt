@@ -8,12 +8,12 @@ use Rattle.math.specs.declared.points.Point.{Point}
 use Rattle.table.specs.Lookup.{thousandthF}
 use Rattle.table.specs.declared.tables.Table.{Table}
 use Rattle.table.specs.Sound.{tableIsSound}
-use Rattle.bezier.specs.declared.curves.Placed.{Placed}
-use Rattle.bezier.specs.declared.curves.Placed.the-variants as Placed
-use Rattle.bezier.specs.declared.curves.Turned.{Turned}
-use Rattle.bezier.specs.declared.curves.Turned.the-variants as Turned
-use Rattle.bezier.specs.declared.curves.Verdict.{Verdict}
-use Rattle.bezier.specs.declared.curves.Verdict.the-variants as Verdict
+use Rattle.flight.specs.declared.single.Placed.{Placed}
+use Rattle.flight.specs.declared.single.Placed.the-variants as Placed
+use Rattle.flight.specs.declared.single.Turned.{Turned}
+use Rattle.flight.specs.declared.single.Turned.the-variants as Turned
+use Rattle.flight.specs.declared.single.Verdict.{Verdict}
+use Rattle.flight.specs.declared.single.Verdict.the-variants as Verdict
 
 -- `tangent == [0.0, 0.0]`
 unfoldable pub isNothing : Point → Bool

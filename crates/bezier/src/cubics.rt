@@ -1,13 +1,13 @@
 // A curve of third degree.
-use crate::curves::Placed;
-use crate::curves::Turned;
-use crate::curves::Verdict;
 use crate::curves::tidied;
 use crate::curves::verdict_of;
 use crate::inner;
 use crate::rows::cubic_differences;
 use angles::rotation_deg;
 use answers::Refusal;
+use flight::Placed;
+use flight::Turned;
+use flight::Verdict;
 use floats::tidy;
 use lengths::lengths;
 use math::Point;

@@ -1,23 +1,12 @@
-// What quads and cubics share: the answer of a query, and the second try at a direction.
+// What quads and cubics share: the verdict on a curve, and the second try at a direction.
 use answers::Refusal;
+use flight::Verdict;
 use floats::min;
 use floats::tidy;
 use math::Point;
 use table::Progress;
 ghost use mathlib.Core.Path.{_≡_};
 ghost use Rattle.bezier.specs.Curves.{aheadOf, isNothing, verdictOf};
-
-// A place or a direction, or why there is none.
-pub enum Placed {
-    At(Point),
-    Refused(Refusal),
-}
-
-// A heading in degrees, or why there is none.
-pub enum Turned {
-    Degrees(f32),
-    Refused(Refusal),
-}
 
 // p as it leaves the library.
 pub fn tidied(p: Point) -> Point
@@ -46,12 +35,6 @@ pub fn ahead(progress: Progress) -> Progress
     Progress {
         value: min(progress.value + 0.001, 1.0),
     }
-}
-
-// Whether a curve can be had.
-pub enum Verdict {
-    Accepted,
-    Refused(Refusal),
 }
 
 // What a lone curve of this total answers: it is segment 0. Only a finite number less itself is 0.

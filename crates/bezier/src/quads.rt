@@ -1,7 +1,4 @@
 // A curve of second degree.
-use crate::curves::Placed;
-use crate::curves::Turned;
-use crate::curves::Verdict;
 use crate::curves::tidied;
 use crate::curves::verdict_of;
 use crate::inner;
@@ -9,6 +6,9 @@ use crate::rows::quad_coordinate;
 use crate::rows::sample_mark;
 use angles::rotation_deg;
 use answers::Refusal;
+use flight::Placed;
+use flight::Turned;
+use flight::Verdict;
 use floats::tidy;
 use lengths::lengths;
 use math::Point;

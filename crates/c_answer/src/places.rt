@@ -2,8 +2,8 @@
 ghost use Rattle.c_answer.specs.Given.{Given};
 ghost use Rattle.c_answer.specs.Places.{placeGiven, turnGiven};
 use answers::Values;
-use bezier::Placed;
-use bezier::Turned;
+use flight::Placed;
+use flight::Turned;
 
 // The bits of x and of y.
 pub fn give_place(placed: Placed, answer: &mut [u64]) -> u32

@@ -12,8 +12,8 @@ use Rattle.answers.specs.declared.refusals.Refusal.{Refusal}
 use Rattle.answers.specs.Answers.{numberOf, carriedOf, listed}
 use Rattle.answers.specs.Report.{Report, written, short}
 use Rattle.answers.proofs.Writing.{written-next}
-use Rattle.bezier.specs.declared.curves.Verdict.{Verdict}
-use Rattle.bezier.specs.declared.curves.Verdict.the-variants as Verdict
+use Rattle.flight.specs.declared.single.Verdict.{Verdict}
+use Rattle.flight.specs.declared.single.Verdict.the-variants as Verdict
 use Rattle.c_output.specs.Filling.{Filled, fillAnswer, fillOutput}
 
 -- the output of an answer that is long enough is the one of `fillOutput`

@@ -11,8 +11,8 @@ use Rattle.answers.specs.declared.refusals.Refusal.the-variants.{NoRoom}
 use Rattle.answers.specs.Answers.{Answer, accepted, refused}
 use Rattle.answers.specs.Report.{Report, written, short}
 use Rattle.table.specs.declared.tables.Table.{Table}
-use Rattle.bezier.specs.declared.curves.Verdict.{Verdict}
-use Rattle.bezier.specs.declared.curves.Verdict.the-variants as Verdict
+use Rattle.flight.specs.declared.single.Verdict.{Verdict}
+use Rattle.flight.specs.declared.single.Verdict.the-variants as Verdict
 use Rattle.ellipse.specs.declared.ends.Arc.{Arc}
 
 -- "NoRoom: all else is right and a lent output is too short"; it carries "the count needed of each output"

@@ -4,11 +4,11 @@ ghost use mathlib.Core.Path.{_≡_};
 ghost use lib.ListN.{length};
 ghost use Rattle.answers.specs.Answers.{listed};
 ghost use Rattle.answers.specs.Report.{written};
-ghost use Rattle.bezier.specs.declared.curves.Verdict.the-variants.{Accepted};
+ghost use Rattle.flight.specs.declared.single.Verdict.the-variants.{Accepted};
 ghost use Rattle.c_output.specs.Filling.{Filled};
 use answers::Refusal;
 use answers::Values;
-use bezier::Verdict;
+use flight::Verdict;
 use floats::tidy;
 
 // Puts the numbers at the start of out, and touches no other place. A NaN is stored as 7FC00000.

@@ -13,8 +13,8 @@ use Rattle.math.specs.declared.points.Point.{Point}
 use Rattle.table.specs.declared.tables.Table.{Table}
 use Rattle.table.specs.declared.quantities.RawParameter.{RawParameter}
 use Rattle.table.specs.Sound.{tableIsSound}
-use Rattle.bezier.specs.declared.curves.Verdict.{Verdict}
-use Rattle.bezier.specs.declared.curves.Verdict.the-variants as Verdict
+use Rattle.flight.specs.declared.single.Verdict.{Verdict}
+use Rattle.flight.specs.declared.single.Verdict.the-variants as Verdict
 use Rattle.bezier.specs.declared.quads.MadeQuad.{MadeQuad}
 use Rattle.bezier.specs.declared.cubics.MadeCubic.{MadeCubic}
 use Rattle.bezier.specs.Quads.{quadSampleOf, quadOf, madeQuadOf}

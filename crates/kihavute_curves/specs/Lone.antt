@@ -6,8 +6,8 @@ use lib.Ieee.{Float}
 use Rattle.answers.specs.Answers.{Answer, accepted, refused}
 use Rattle.floats.specs.Floats.{bitsOf, clamp01Of}
 use Rattle.math.specs.declared.points.Point.{Point}
-use Rattle.bezier.specs.declared.curves.Verdict.{Verdict}
-use Rattle.bezier.specs.declared.curves.Verdict.the-variants as Verdict
+use Rattle.flight.specs.declared.single.Verdict.{Verdict}
+use Rattle.flight.specs.declared.single.Verdict.the-variants as Verdict
 use Rattle.bezier.specs.declared.quads.QuadBezier.{QuadBezier}
 use Rattle.bezier.specs.declared.quads.MadeQuad.{MadeQuad}
 use Rattle.bezier.specs.declared.cubics.CubicBezierCurve.{CubicBezierCurve}

@@ -11,8 +11,8 @@ use crate::lone::give_lone;
 use crate::lone::line_lone;
 use answers::Values;
 use arc::MadeArc;
-use bezier::Verdict;
 use ellipse::Chord;
+use flight::Verdict;
 use math::Point;
 use table::Progress;
 

@@ -7,7 +7,7 @@ ghost use Rattle.kihavute_curves.specs.Lone.{quadGiven, cubicGiven};
 use crate::lone::cubic_lone;
 use crate::lone::give_lone;
 use crate::lone::quad_lone;
-use bezier::Verdict;
+use flight::Verdict;
 use math::Point;
 use table::Progress;
 

@@ -12,8 +12,8 @@ use Rattle.math.specs.declared.points.Point.{Point}
 use Rattle.floats.proofs.Tests.{passed, cond-yes, same-test}
 use Rattle.table.specs.declared.tables.Table.{Table}
 use Rattle.table.specs.Sound.{tableIsSound}
-use Rattle.bezier.specs.declared.curves.Placed.{Placed}
-use Rattle.bezier.specs.declared.curves.Placed.the-variants as Placed
+use Rattle.flight.specs.declared.single.Placed.{Placed}
+use Rattle.flight.specs.declared.single.Placed.the-variants as Placed
 use Rattle.bezier.specs.Curves.{placedOf}
 use Rattle.bezier.specs.Quads.{quadPlacedOf, quadPositionOf, quadHeadingOf, quadTangentOf}
 use Rattle.bezier.specs.Cubics.{cubicPlacedOf, cubicPositionOf, cubicHeadingOf, cubicTangentOf}

@@ -4,9 +4,9 @@ use mathlib.Core.Bool.{false}
 use lib.Ieee.{Float}
 use Rattle.math.specs.declared.points.Point.{Point}
 use Rattle.table.specs.declared.tables.Table.{Table}
-use Rattle.bezier.specs.declared.curves.Placed.{Placed}
-use Rattle.bezier.specs.declared.curves.Placed.the-variants as Placed
-use Rattle.bezier.specs.declared.curves.Turned.{Turned}
+use Rattle.flight.specs.declared.single.Placed.{Placed}
+use Rattle.flight.specs.declared.single.Placed.the-variants as Placed
+use Rattle.flight.specs.declared.single.Turned.{Turned}
 use Rattle.bezier.specs.declared.quads.QuadBezier.{QuadBezier}
 use Rattle.bezier.specs.declared.cubics.CubicBezierCurve.{CubicBezierCurve}
 use Rattle.bezier.specs.Quads.{quadPlacedOf, quadHeadingOf}

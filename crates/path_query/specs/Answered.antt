@@ -5,8 +5,8 @@ use Rattle.answers.specs.declared.refusals.Refusal.the-variants.{BadPath}
 use Rattle.angles.specs.Angles.{rotationDegOf}
 use Rattle.flight.specs.declared.Flown.{Flown}
 use Rattle.flight.specs.declared.Flown.the-variants as Flown
-use Rattle.bezier.specs.declared.curves.Turned.{Turned}
-use Rattle.bezier.specs.declared.curves.Turned.the-variants as Turned
+use Rattle.flight.specs.declared.single.Turned.{Turned}
+use Rattle.flight.specs.declared.single.Turned.the-variants as Turned
 use Rattle.path_stored.specs.Buffers.{Buffers}
 use Rattle.path_stored.specs.Stored.{isStored}
 use Rattle.path_query.specs.Flights.{flightOf}

@@ -2,8 +2,8 @@
 // and how many differ. `oracle/record bezier` writes the records to this crate's stdin.
 ghost use Prim.Native.Nat.{_+_, _≤_};
 ghost use lib.ListN.{length};
-use bezier::Placed;
-use bezier::Turned;
+use flight::Placed;
+use flight::Turned;
 use replay_records::float;
 use replay_records::has_bits;
 use replay_records::number_of;

@@ -4,12 +4,12 @@ use mathlib.Core.Bool.{Bool, _&&_}
 use mathlib.Core.List.{List}
 use lib.Dec.{eqb}
 use Rattle.answers.specs.Answers.{numberOf}
-use Rattle.bezier.specs.declared.curves.Verdict.{Verdict}
-use Rattle.bezier.specs.declared.curves.Verdict.the-variants as Verdict
-use Rattle.bezier.specs.declared.curves.Placed.{Placed}
-use Rattle.bezier.specs.declared.curves.Placed.the-variants as Placed
-use Rattle.bezier.specs.declared.curves.Turned.{Turned}
-use Rattle.bezier.specs.declared.curves.Turned.the-variants as Turned
+use Rattle.flight.specs.declared.single.Verdict.{Verdict}
+use Rattle.flight.specs.declared.single.Verdict.the-variants as Verdict
+use Rattle.flight.specs.declared.single.Placed.{Placed}
+use Rattle.flight.specs.declared.single.Placed.the-variants as Placed
+use Rattle.flight.specs.declared.single.Turned.{Turned}
+use Rattle.flight.specs.declared.single.Turned.the-variants as Turned
 use Rattle.replay_records.specs.Records.{patternOf}
 use Rattle.replay_records.specs.Given.{hasBits, samePoint}
 

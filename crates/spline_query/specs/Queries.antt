@@ -15,8 +15,8 @@ use Rattle.flight.specs.declared.Found.the-variants.{Segment}
 use Rattle.flight.specs.declared.Flight.{Flight}
 use Rattle.flight.specs.declared.Flown.{Flown}
 use Rattle.flight.specs.declared.Flown.the-variants as Flown
-use Rattle.bezier.specs.declared.curves.Turned.{Turned}
-use Rattle.bezier.specs.declared.curves.Turned.the-variants as Turned
+use Rattle.flight.specs.declared.single.Turned.{Turned}
+use Rattle.flight.specs.declared.single.Turned.the-variants as Turned
 use Rattle.polyline.specs.Points.{countOf}
 use Rattle.polyline.specs.Judging.{isOdd}
 use Rattle.spline.specs.Formula.{splineSampleOf, splineDirectionOf}

@@ -2,7 +2,7 @@
 use borrow.Author.Needs.{needs}
 use mathlib.Core.Path.{sym, ap, _∙_}
 use denote.Floats.{passes}
-use Rattle.bezier.specs.declared.curves.Placed.the-variants as Placed
+use Rattle.flight.specs.declared.single.Placed.the-variants as Placed
 use Rattle.bezier.proofs.Queries.{placed-at, placed-refused}
 use Rattle.arc.specs.Lines.{lineTangentOf}
 use Rattle.arc.proofs.Cases.{headed-on-line, headed-on-arc}

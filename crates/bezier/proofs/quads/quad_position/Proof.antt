@@ -2,7 +2,7 @@
 use borrow.Author.Needs.{needs}
 use mathlib.Core.Path.{sym, ap, _∙_}
 use denote.Floats.{passes}
-use Rattle.bezier.specs.declared.curves.Placed.the-variants as Placed
+use Rattle.flight.specs.declared.single.Placed.the-variants as Placed
 use Rattle.bezier.specs.Quads.{quadPlacedOf}
 use Rattle.bezier.proofs.Queries.{placed-at, placed-refused}
 use Rattle.bezier.proofs.quads.quad_position.Statement.{statement}

@@ -3,7 +3,7 @@ use borrow.Author.Needs.{needs}
 use mathlib.Core.Path.{sym, ap, _∙_}
 use denote.Floats.{passes}
 use Rattle.angles.specs.Angles.{rotationDegOf}
-use Rattle.bezier.specs.declared.curves.Turned.the-variants as Turned
+use Rattle.flight.specs.declared.single.Turned.the-variants as Turned
 use Rattle.bezier.specs.Quads.{quadTurnedOf}
 use Rattle.bezier.proofs.Queries.{turned-by, turned-refused}
 use Rattle.bezier.proofs.quads.quad_rotation_deg.Statement.{statement}

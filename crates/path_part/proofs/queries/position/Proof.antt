@@ -1,7 +1,7 @@
 -- `path_part::position` meets its contract: in each arm the segment that was matched is the arm's, and the entry of its kind answers. Assumes nothing.
 use borrow.Author.Needs.{needs}
 use mathlib.Core.Path.{ap, _∙_}
-use Rattle.bezier.specs.declared.curves.Placed.the-variants as Placed
+use Rattle.flight.specs.declared.single.Placed.the-variants as Placed
 use Rattle.arc.specs.declared.lines.LineSegment.{LineSegment}
 use Rattle.arc.specs.Lines.{linePositionOf}
 use Rattle.path_part.specs.Parts.{positionOf}

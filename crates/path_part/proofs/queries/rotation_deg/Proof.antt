@@ -1,7 +1,7 @@
 -- `path_part::rotation_deg` meets its contract: both cases of the tangent. Assumes nothing.
 use borrow.Author.Needs.{needs}
 use mathlib.Core.Path.{sym, ap, _∙_}
-use Rattle.bezier.specs.declared.curves.Turned.the-variants as Turned
+use Rattle.flight.specs.declared.single.Turned.the-variants as Turned
 use Rattle.path_part.specs.Parts.{rotationOf}
 use Rattle.path_part.proofs.queries.rotation_deg.Statement.{statement}
 use Rattle.path_part.proofs.queries.rotation_deg.Tie as tie

@@ -1,7 +1,7 @@
 -- `path_query::rotation_deg` meets its contract: both cases of what is flown. Assumes nothing.
 use borrow.Author.Needs.{needs}
 use mathlib.Core.Path.{sym, ap, _∙_}
-use Rattle.bezier.specs.declared.curves.Turned.the-variants as Turned
+use Rattle.flight.specs.declared.single.Turned.the-variants as Turned
 use Rattle.path_query.specs.Answered.{turnedOf}
 use Rattle.path_query.proofs.queries.rotation_deg.Statement.{statement}
 use Rattle.path_query.proofs.queries.rotation_deg.Tie as tie

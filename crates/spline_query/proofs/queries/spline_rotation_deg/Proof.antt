@@ -3,7 +3,7 @@ use borrow.Author.Needs.{needs}
 use mathlib.Core.Path.{ap, _∙_}
 use Rattle.flight.specs.declared.Flight.{Flight}
 use Rattle.angles.specs.Angles.{rotationDegOf}
-use Rattle.bezier.specs.declared.curves.Turned.the-variants as Turned
+use Rattle.flight.specs.declared.single.Turned.the-variants as Turned
 use Rattle.spline_query.proofs.Checking.{taken, refused, tested-sound}
 use Rattle.spline_query.specs.Queries.{splineTurnedOf}
 use Rattle.spline_query.proofs.queries.spline_rotation_deg.Statement.{statement}
