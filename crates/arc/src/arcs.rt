@@ -6,7 +6,6 @@ use crate::lines::line_position;
 use crate::lines::line_tangent;
 use angles::rotation_deg;
 use answers::Refusal;
-use bezier::tidied;
 use bezier::verdict_of;
 use ellipse::Arc;
 use ellipse::Chord;
@@ -25,6 +24,7 @@ use floats::tidy;
 use lengths::lengths;
 use math::Point;
 use math::distance;
+use math::tidy_point;
 use table::Progress;
 use table::RawParameter;
 use table::Table;
@@ -71,14 +71,14 @@ pub fn is_fallback(chord: Chord) -> bool
 pub fn arc_sample(shape: Arc, raw: RawParameter) -> Point
     ensures { λ r. ⌜ r ≡ pointOn shape (raw .value) ⌝ }
 {
-    tidied(point(shape, raw))
+    tidy_point(point(shape, raw))
 }
 
 // The direction at a raw parameter, with the length 1, or (0, 0) where the derivative is too short.
 pub fn arc_heading(shape: Arc, raw: RawParameter) -> Point
     ensures { λ r. ⌜ r ≡ directionOn shape (raw .value) ⌝ }
 {
-    tidied(direction(shape, raw))
+    tidy_point(direction(shape, raw))
 }
 
 // The distances from each of the 32 samples to the next. They share the turn, so that it is taken once for all, and are measured

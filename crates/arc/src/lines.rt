@@ -1,6 +1,5 @@
 // A straight line.
 use angles::rotation_deg;
-use bezier::tidied;
 use bezier::verdict_of;
 use flight::Verdict;
 use floats::tidy;
@@ -9,6 +8,7 @@ use math::distance;
 use math::lerp_point;
 use math::normalize;
 use math::sub;
+use math::tidy_point;
 use table::Progress;
 use table::RawParameter;
 use table::inner::straight;
@@ -43,7 +43,7 @@ pub fn line_point(line: LineSegment, raw: RawParameter) -> Point
 {
     let start = line.start;
     let end = line.end;
-    tidied(lerp_point(start, end, number_of(raw)))
+    tidy_point(lerp_point(start, end, number_of(raw)))
 }
 
 // Where a line is at a progress, which is clamped; a NaN is the start.
@@ -59,7 +59,7 @@ pub fn line_tangent(line: LineSegment) -> Point
 {
     let start = line.start;
     let end = line.end;
-    tidied(normalize(sub(end, start)))
+    tidy_point(normalize(sub(end, start)))
 }
 
 // That heading in degrees.

@@ -1,5 +1,4 @@
 // A curve of third degree.
-use crate::curves::tidied;
 use crate::curves::verdict_of;
 use crate::inner;
 use crate::rows::cubic_differences;
@@ -16,6 +15,7 @@ use math::clamp01;
 use math::lerp_point;
 use math::scale;
 use math::sub;
+use math::tidy_point;
 use table::Progress;
 use table::RawParameter;
 use table::Table;
@@ -51,7 +51,7 @@ pub fn cubic_sample(
     let c = lerp_point(control2, end, t);
     let d = lerp_point(a, b, t);
     let e = lerp_point(b, c, t);
-    tidied(lerp_point(d, e, t))
+    tidy_point(lerp_point(d, e, t))
 }
 
 // The direction and speed at a raw parameter.
@@ -118,7 +118,7 @@ pub fn cubic_position(curve: CubicBezierCurve, progress: Progress) -> Placed
 {
     let table = curve.table;
     if table_is_sound(table) {
-        return Placed::At(tidied(inner::cubic_position(curve, progress)));
+        return Placed::At(tidy_point(inner::cubic_position(curve, progress)));
     }
     Placed::Refused(Refusal::BadPath)
 }
@@ -129,7 +129,7 @@ pub fn cubic_tangent(curve: CubicBezierCurve, progress: Progress) -> Placed
 {
     let table = curve.table;
     if table_is_sound(table) {
-        return Placed::At(tidied(inner::cubic_tangent(curve, progress)));
+        return Placed::At(tidy_point(inner::cubic_tangent(curve, progress)));
     }
     Placed::Refused(Refusal::BadPath)
 }

@@ -2,21 +2,10 @@
 use answers::Refusal;
 use flight::Verdict;
 use floats::min;
-use floats::tidy;
 use math::Point;
 use table::Progress;
 ghost use mathlib.Core.Path.{_≡_};
 ghost use Rattle.bezier.specs.Curves.{aheadOf, isNothing, verdictOf};
-
-// p as it leaves the library.
-pub fn tidied(p: Point) -> Point
-    ensures { λ r. ⌜ r ≡ p ⌝ }
-{
-    Point {
-        x: tidy(p.x),
-        y: tidy(p.y),
-    }
-}
 
 // Whether p is (0, 0), of either sign.
 pub fn is_nothing(p: Point) -> bool

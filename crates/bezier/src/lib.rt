@@ -18,7 +18,6 @@ pub use cubics::cubic_table;
 pub use cubics::cubic_tangent;
 pub use curves::ahead;
 pub use curves::is_nothing;
-pub use curves::tidied;
 pub use curves::verdict_of;
 pub use quads::MadeQuad;
 pub use quads::QuadBezier;

@@ -1,5 +1,4 @@
 // A curve of second degree.
-use crate::curves::tidied;
 use crate::curves::verdict_of;
 use crate::inner;
 use crate::rows::quad_coordinate;
@@ -17,6 +16,7 @@ use math::clamp01;
 use math::lerp_point;
 use math::scale;
 use math::sub;
+use math::tidy_point;
 use table::Progress;
 use table::RawParameter;
 use table::Table;
@@ -42,7 +42,7 @@ pub fn quad_sample(start: Point, control: Point, end: Point, raw: RawParameter) 
     let t = clamp01(number_of(raw));
     let a = lerp_point(start, control, t);
     let b = lerp_point(control, end, t);
-    tidied(lerp_point(a, b, t))
+    tidy_point(lerp_point(a, b, t))
 }
 
 // The direction and speed at a raw parameter.
@@ -111,7 +111,7 @@ pub fn quad_position(curve: QuadBezier, progress: Progress) -> Placed
 {
     let table = curve.table;
     if table_is_sound(table) {
-        return Placed::At(tidied(inner::quad_position(curve, progress)));
+        return Placed::At(tidy_point(inner::quad_position(curve, progress)));
     }
     Placed::Refused(Refusal::BadPath)
 }
@@ -122,7 +122,7 @@ pub fn quad_tangent(curve: QuadBezier, progress: Progress) -> Placed
 {
     let table = curve.table;
     if table_is_sound(table) {
-        return Placed::At(tidied(inner::quad_tangent(curve, progress)));
+        return Placed::At(tidy_point(inner::quad_tangent(curve, progress)));
     }
     Placed::Refused(Refusal::BadPath)
 }

@@ -78,3 +78,13 @@ pub fn lerp_point(a: Point, b: Point, t: f32) -> Point
         y: lerp(a.y, b.y, t),
     }
 }
+
+// p with each NaN in the one pattern: a point that is stored or leaves goes through it.
+pub fn tidy_point(p: Point) -> Point
+    ensures { λ r. ⌜ r ≡ p ⌝ }
+{
+    Point {
+        x: floats::tidy(p.x),
+        y: floats::tidy(p.y),
+    }
+}

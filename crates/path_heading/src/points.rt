@@ -4,8 +4,8 @@ use arc::chord_line;
 use arc::line_point;
 use bezier::cubic_sample;
 use bezier::quad_sample;
-use bezier::tidied;
 use math::Point;
+use math::tidy_point;
 use path_segment::PathSegment;
 use table::RawParameter;
 ghost use mathlib.Core.Path.{_≡_};
@@ -16,19 +16,19 @@ pub fn sample(segment: PathSegment, raw: RawParameter) -> Point
     ensures { λ r. ⌜ r ≡ sampleOf segment (raw .value) ⌝ }
 {
     match segment {
-        PathSegment::Line(line) => tidied(line_point(line, raw)),
+        PathSegment::Line(line) => tidy_point(line_point(line, raw)),
         PathSegment::Quad {
             start,
             control,
             end,
-        } => tidied(quad_sample(start, control, end, raw)),
+        } => tidy_point(quad_sample(start, control, end, raw)),
         PathSegment::Cubic {
             start,
             control1,
             control2,
             end,
-        } => tidied(cubic_sample(start, control1, control2, end, raw)),
-        PathSegment::Arc(shape) => tidied(arc_sample(shape, raw)),
-        PathSegment::Fallback(shape) => tidied(line_point(chord_line(shape), raw)),
+        } => tidy_point(cubic_sample(start, control1, control2, end, raw)),
+        PathSegment::Arc(shape) => tidy_point(arc_sample(shape, raw)),
+        PathSegment::Fallback(shape) => tidy_point(line_point(chord_line(shape), raw)),
     }
 }

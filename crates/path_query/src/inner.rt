@@ -1,8 +1,8 @@
 // The query without the check, for callers that know the path to be a stored one.
-use bezier::tidied;
 use flight::Flight;
 use flight::Found;
 use math::Point;
+use math::tidy_point;
 use path_heading::inner::heading;
 use path_heading::sample;
 use path_place::Cursor;
@@ -41,8 +41,8 @@ pub fn flown_within(
 {
     let segment = segment_here(kinds, fields, tables, at);
     let raw = raw_within(kinds, tables, at, along);
-    let position = tidied(sample(segment, raw));
-    let tangent = tidied(heading(segment, tables, at.tables, along, raw));
+    let position = tidy_point(sample(segment, raw));
+    let tangent = tidy_point(heading(segment, tables, at.tables, along, raw));
     Flight {
         position,
         tangent,

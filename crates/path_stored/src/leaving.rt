@@ -1,8 +1,8 @@
 // A segment as it leaves the library: the coordinates of a stored path are not judged, and each NaN of them becomes 7FC00000.
 use arc::LineSegment;
-use bezier::tidied;
 use ellipse::Arc;
 use floats::tidy;
+use math::tidy_point;
 use path_segment::PathSegment;
 ghost use mathlib.Core.Path.{_≡_};
 
@@ -14,10 +14,10 @@ fn shape_leaving(shape: Arc) -> Arc
     let center = shape.center;
     let radii = shape.radii;
     Arc {
-        start: tidied(start),
-        end: tidied(end),
-        center: tidied(center),
-        radii: tidied(radii),
+        start: tidy_point(start),
+        end: tidy_point(end),
+        center: tidy_point(center),
+        radii: tidy_point(radii),
         x_axis_rotation: tidy(shape.x_axis_rotation),
         start_angle: tidy(shape.start_angle),
         delta_angle: tidy(shape.delta_angle),
@@ -33,8 +33,8 @@ pub(crate) fn leaving(segment: PathSegment) -> PathSegment
             let start = line.start;
             let end = line.end;
             PathSegment::Line(LineSegment {
-                start: tidied(start),
-                end: tidied(end),
+                start: tidy_point(start),
+                end: tidy_point(end),
             })
         }
         PathSegment::Quad {
@@ -42,9 +42,9 @@ pub(crate) fn leaving(segment: PathSegment) -> PathSegment
             control,
             end,
         } => PathSegment::Quad {
-            start: tidied(start),
-            control: tidied(control),
-            end: tidied(end),
+            start: tidy_point(start),
+            control: tidy_point(control),
+            end: tidy_point(end),
         },
         PathSegment::Cubic {
             start,
@@ -52,10 +52,10 @@ pub(crate) fn leaving(segment: PathSegment) -> PathSegment
             control2,
             end,
         } => PathSegment::Cubic {
-            start: tidied(start),
-            control1: tidied(control1),
-            control2: tidied(control2),
-            end: tidied(end),
+            start: tidy_point(start),
+            control1: tidy_point(control1),
+            control2: tidy_point(control2),
+            end: tidy_point(end),
         },
         PathSegment::Arc(shape) => PathSegment::Arc(shape_leaving(shape)),
         PathSegment::Fallback(shape) => PathSegment::Fallback(shape_leaving(shape)),

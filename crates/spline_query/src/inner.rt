@@ -1,7 +1,7 @@
 // The queries without their tests, for callers that know the spline to be sound.
-use bezier::tidied;
 use flight::Flight;
 use flight::Found;
+use math::tidy_point;
 use spline::inner::direction;
 use spline::inner::sample;
 use table::Progress;
@@ -32,8 +32,8 @@ pub fn flight(points: &[f32], table: &[f32], progress: Progress) -> Flight
     ensures { λ r. ⌜ r ≡ splineFlightOf (now (points .entry)) (now (table .entry)) (progress .value) ⌝ }
 {
     let at = raw(points, table, progress);
-    let position = tidied(sample(points, at));
-    let tangent = tidied(direction(points, at));
+    let position = tidy_point(sample(points, at));
+    let tangent = tidy_point(direction(points, at));
     Flight {
         position,
         tangent,

@@ -1,11 +1,11 @@
--- `tidied` keeps the direction. Assumes nothing.
+-- `tidy_point` keeps the direction. Assumes nothing.
 use borrow.Author.Needs.{needs}
 use mathlib.Core.Path.{_∙_}
 use Rattle.arc.proofs.arcs.arc_heading.Statement.{statement}
 use Rattle.arc.proofs.arcs.arc_heading.Tie as tie
 
 returns : tie.Need-returns
-returns c = c .tidied .ensures ∙ c .before .direction .ensures
+returns c = c .tidy-point .ensures ∙ c .before .direction .ensures
 
 pub arc-heading-spec : {M : Type 1} → statement M
 arc-heading-spec =

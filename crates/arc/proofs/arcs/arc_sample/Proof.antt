@@ -1,11 +1,11 @@
--- `tidied` keeps the point. Assumes nothing.
+-- `tidy_point` keeps the point. Assumes nothing.
 use borrow.Author.Needs.{needs}
 use mathlib.Core.Path.{_∙_}
 use Rattle.arc.proofs.arcs.arc_sample.Statement.{statement}
 use Rattle.arc.proofs.arcs.arc_sample.Tie as tie
 
 returns : tie.Need-returns
-returns c = c .tidied .ensures ∙ c .before .point .ensures
+returns c = c .tidy-point .ensures ∙ c .before .point .ensures
 
 pub arc-sample-spec : {M : Type 1} → statement M
 arc-sample-spec =

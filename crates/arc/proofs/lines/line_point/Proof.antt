@@ -1,4 +1,4 @@
--- `tidied` keeps the point. Assumes nothing.
+-- `tidy_point` keeps the point. Assumes nothing.
 use borrow.Author.Needs.{needs}
 use mathlib.Core.Path.{ap, _∙_}
 use Rattle.math.specs.Math.{lerpPointOf}
@@ -8,7 +8,7 @@ use Rattle.arc.proofs.lines.line_point.Tie as tie
 
 returns : tie.Need-returns
 unfolding linePointOf
-returns c = c .tidied .ensures ∙ c .before .lerp-point .ensures ∙ ap (lerpPointOf _ _) (c .before .before .number-of .ensures)
+returns c = c .tidy-point .ensures ∙ c .before .lerp-point .ensures ∙ ap (lerpPointOf _ _) (c .before .before .number-of .ensures)
 
 pub line-point-spec : {M : Type 1} → statement M
 line-point-spec =

@@ -1,4 +1,4 @@
--- `tidied` keeps the direction. Assumes nothing.
+-- `tidy_point` keeps the direction. Assumes nothing.
 use borrow.Author.Needs.{needs}
 use mathlib.Core.Path.{ap, _∙_}
 use Rattle.math.specs.Math.{normalizeOf}
@@ -8,7 +8,7 @@ use Rattle.arc.proofs.lines.line_tangent.Tie as tie
 
 returns : tie.Need-returns
 unfolding lineTangentOf
-returns c = c .tidied .ensures ∙ c .before .normalize .ensures ∙ ap normalizeOf (c .before .before .sub .ensures)
+returns c = c .tidy-point .ensures ∙ c .before .normalize .ensures ∙ ap normalizeOf (c .before .before .sub .ensures)
 
 pub line-tangent-spec : {M : Type 1} → statement M
 line-tangent-spec =

@@ -1,4 +1,4 @@
--- The table's test decides; `tidied` keeps the point. Assumes nothing.
+-- The table's test decides; `tidy_point` keeps the point. Assumes nothing.
 use borrow.Author.Needs.{needs}
 use mathlib.Core.Path.{sym, ap, _∙_}
 use denote.Floats.{passes}
@@ -13,7 +13,7 @@ quad-tangent-requires c κs = passes _ (sym (c .before .table-is-sound .ensures)
 
 returns : tie.Need-returns
 unfolding quadHeadingOf
-returns c = ap Placed.At (c .tidied .ensures ∙ c .before .quad-tangent .ensures) ∙ placed-at _ _ _ (c .before .before .before .table-is-sound .ensures) (c .before .before .if1 .taken)
+returns c = ap Placed.At (c .tidy-point .ensures ∙ c .before .quad-tangent .ensures) ∙ placed-at _ _ _ (c .before .before .before .table-is-sound .ensures) (c .before .before .if1 .taken)
 
 returns-2 : tie.Need-returns-2
 unfolding quadHeadingOf

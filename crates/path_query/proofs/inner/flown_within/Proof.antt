@@ -19,7 +19,7 @@ returns c =
     let start = here .before .before .before .before in
     let a = start .args in
     flown-is (a .kinds .now) (a .fields .now) (a .tables .now) (a .at) (a .along .value) _ _ _ _ (start .pre .standing .is) (here .segment-here .ensures)
-    (sample .before .raw-within .ensures) (placed .tidied .ensures ∙ sample .sample .ensures) (c .tidied2 .ensures ∙ heading .heading .ensures)
+    (sample .before .raw-within .ensures) (placed .tidy-point .ensures ∙ sample .sample .ensures) (c .tidy-point2 .ensures ∙ heading .heading .ensures)
 
 pub flown-within-spec : {M : Type 1} → statement M
 flown-within-spec =

@@ -1,4 +1,4 @@
--- `path_stored::shape_leaving` meets its contract: `tidied` and `tidy` keep each of its numbers. Assumes nothing.
+-- `path_stored::shape_leaving` meets its contract: `tidy_point` and `tidy` keep each of its numbers. Assumes nothing.
 use borrow.Author.Needs.{needs}
 use Rattle.path_stored.proofs.leaving.shape_leaving.Statement.{statement}
 use Rattle.path_stored.proofs.leaving.shape_leaving.Tie as tie
@@ -10,10 +10,10 @@ returns c =
       c .tidy3 .ensures,
       c .before .tidy2 .ensures,
       c .before .before .tidy .ensures,
-      points .tidied4 .ensures,
-      points .before .tidied3 .ensures,
-      points .before .before .tidied2 .ensures,
-      points .before .before .before .tidied .ensures,
+      points .tidy-point4 .ensures,
+      points .before .tidy-point3 .ensures,
+      points .before .before .tidy-point2 .ensures,
+      points .before .before .before .tidy-point .ensures,
     )
 
 pub shape-leaving-spec : {M : Type 1} → statement M

@@ -1,4 +1,4 @@
--- Both points are taken at what the lookup gives, and `tidied` keeps them. Assumes nothing.
+-- Both points are taken at what the lookup gives, and `tidy_point` keeps them. Assumes nothing.
 use borrow.Author.Needs.{needs}
 use mathlib.Core.Path.{_≡_, ap, _∙_}
 use lib.Ieee.{Float}
@@ -21,8 +21,8 @@ returns c =
     let heading = c .before in
     let placed = heading .before in
     let raw = placed .before .before .raw in
-    same _ (placed .tidied .ensures ∙ placed .before .sample .ensures ∙ ap (splineSampleOf _) (raw .ensures))
-    (c .tidied2 .ensures ∙ heading .direction .ensures ∙ ap (splineDirectionOf _) (raw .ensures)) (raw .ensures)
+    same _ (placed .tidy-point .ensures ∙ placed .before .sample .ensures ∙ ap (splineSampleOf _) (raw .ensures))
+    (c .tidy-point2 .ensures ∙ heading .direction .ensures ∙ ap (splineDirectionOf _) (raw .ensures)) (raw .ensures)
 
 pub flight-spec : {M : Type 1} → statement M
 flight-spec =
