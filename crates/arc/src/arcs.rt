@@ -21,7 +21,7 @@ use flight::Verdict;
 use floats::EPSILON;
 use floats::is_finite;
 use floats::tidy;
-use lengths::lengths;
+use lengths::inner::lengths;
 use math::Point;
 use math::distance;
 use math::tidy_point;

@@ -9,7 +9,7 @@ use flight::Placed;
 use flight::Turned;
 use flight::Verdict;
 use floats::tidy;
-use lengths::lengths;
+use lengths::inner::lengths;
 use math::Point;
 use math::add;
 use math::clamp01;

@@ -1,12 +1,13 @@
-// Lengths of vectors, a whole array at once: a pass without a branch, which the compiler lays over two lanes of f64, guesses each root
-// and judges it by two squares; what it does not settle is worked out digit by digit.
+// The length of a vector, and of a whole row of them at once (`inner`): a pass without a branch, which the compiler lays over two lanes
+// of f64, guesses each root and judges it by two squares; what it does not settle is worked out digit by digit.
 
 mod exact;
+pub mod inner;
 mod passes;
+mod rows;
 
 ghost use mathlib.Core.Path.{_≡_};
-ghost use lib.ListN.{length};
-ghost use Rattle.lengths.specs.Length.{lengthOf, lengthsOf};
+ghost use Rattle.lengths.specs.Length.{lengthOf};
 
 // The length of the vector (x, y).
 pub fn length(x: f32, y: f32) -> f32
@@ -17,29 +18,4 @@ pub fn length(x: f32, y: f32) -> f32
         return exact::length(x, y);
     }
     known
-}
-
-// Puts the lengths of the first 31 of 32 vectors. They are judged in two runs of 16, which leave no rest in lanes and have one in common;
-// what a run did not settle is 0.
-pub fn lengths(x: &[f32; 32], y: &[f32; 32], out: &mut [f32; 31])
-    requires { ⌜ length (now out) ≡ 31 ⌝ }
-    ensures { λ _. ⌜ now (out .exit) ≡ lengthsOf 31 (now (x .entry)) (now (y .entry)) ⌝ }
-{
-    let mut at = 0usize;
-    while at < 16 {
-        let known = passes::judged_run(x, y, at);
-        let mut k = 0usize;
-        while k < 16 {
-            out[at + k] = known[k];
-            k += 1;
-        }
-        at += 15;
-    }
-    let mut j = 0usize;
-    while j < 31 {
-        if out[j] == 0.0 {
-            out[j] = exact::length(x[j], y[j]);
-        }
-        j += 1;
-    }
 }

@@ -1,5 +1,5 @@
 // A row of 31 entries. Their steps are measured together, so that the compiler works out several at once.
-use lengths::lengths;
+use lengths::inner::lengths;
 use math::Point;
 use spline::inner::sample;
 use table::inner::mark;

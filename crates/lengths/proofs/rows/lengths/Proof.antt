@@ -21,8 +21,8 @@ use Rattle.lengths.proofs.Lists.{
   Measured,
   measured,
 }
-use Rattle.lengths.proofs.lengths.Statement.{statement}
-use Rattle.lengths.proofs.lengths.Tie as tie
+use Rattle.lengths.proofs.rows.lengths.Statement.{statement}
+use Rattle.lengths.proofs.rows.lengths.Tie as tie
 
 abbrev Judged : List Float → List Float → ℕ → Float → Type 0
 Judged xs ys j v = (v ≡ zeroF) ⊎ (v ≡ lengthAt xs ys j)
