@@ -16,7 +16,7 @@ use lib.Ieee.Positive.{positive-of-value, values-of-le}
 use Rattle.decimal_rounding.proofs.Compares.{below-or-not}
 use Rattle.decimal_rounding.proofs.Halves.{near-down, near-up}
 use Rattle.decimal_rounding.proofs.Pattern.{units-pattern}
-use Rattle.lengths.proofs.Wide.{digitsOf, powerOf, pattern-value}
+use Rattle.decimal_rounding.proofs.Wide.{digitsOf, powerOf, pattern-value}
 use Rattle.decimal.specs.Bits.{Nearest, Tells, narrowedOf}
 
 abbrev sized : ℕ → ℕ

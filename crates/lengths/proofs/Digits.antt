@@ -21,7 +21,7 @@ use Rattle.root.proofs.Middles.{Between}
 use Rattle.root.proofs.Units.{units-of-value}
 use Rattle.root.proofs.Nearest.{nearest-of-between, is-root}
 use Rattle.lengths.specs.Length.{narrowOf}
-use Rattle.lengths.proofs.Wide.{digitsOf, powerOf, pattern-value, pattern-positive, joined}
+use Rattle.decimal_rounding.proofs.Wide.{digitsOf, powerOf, pattern-value, pattern-positive, joined}
 use Rattle.lengths.proofs.Narrow.{narrow-is}
 
 -- the digits below the root, doubled where the field is even; the power of two of the root's 53 digits; and those, of 54 that were cut off

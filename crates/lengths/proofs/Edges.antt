@@ -17,7 +17,7 @@ use Rattle.floats.proofs.Unique.{antisym}
 use Rattle.root.specs.Root.{rootOf}
 use Rattle.root.proofs.Nearest.{root-nearest}
 use Rattle.lengths.specs.Length.{squareSumOf, narrowOf, lengthOf, upward}
-use Rattle.lengths.proofs.Wide.{pattern-positive}
+use Rattle.decimal_rounding.proofs.Wide.{pattern-positive}
 use Rattle.lengths.proofs.Upward.{round-upward, upward-real}
 use Rattle.lengths.proofs.Sizes.{middling-bits}
 use Rattle.lengths.proofs.Narrow.{narrow-is, narrow-fits, narrow-mono}

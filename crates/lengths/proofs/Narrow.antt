@@ -16,7 +16,7 @@ use Rattle.decimal_rounding.proofs.Cell.{cell}
 use Rattle.decimal_rounding.proofs.Compares.{compare-lt, compare-gt, compare-scale}
 use Rattle.decimal_rounding.proofs.Pattern.{units-pattern}
 use Rattle.lengths.specs.Length.{narrowOf}
-use Rattle.lengths.proofs.Wide.{digitsOf, powerOf, pattern-value, pattern-positive, joined}
+use Rattle.decimal_rounding.proofs.Wide.{digitsOf, powerOf, pattern-value, pattern-positive, joined}
 
 pub narrow-is : (x : Float) → T (positive x) → narrowOf x ≡ round binary32 false (num x) (den x)
 unfolding narrowOf

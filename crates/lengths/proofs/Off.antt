@@ -11,7 +11,7 @@ use lib.Ieee.{binary32, ofBits, round, nearest}
 use lib.Ieee.Fits.{nearest-le}
 use lib.Ieee.Nearest.{nearest-ge}
 use Rattle.decimal_rounding.proofs.Pattern.{units-pattern}
-use Rattle.lengths.proofs.Wide.{joined}
+use Rattle.decimal_rounding.proofs.Wide.{joined}
 use Rattle.lengths.proofs.Narrow.{round-at}
 
 -- ---- a shift of 1

@@ -12,7 +12,7 @@ use lib.Ieee.Exact.{HasValue}
 use lib.Ieee.Fits.{kept-lt}
 use lib.Ieee.Positive.{positive, values-of-le}
 use Rattle.root.specs.Root.{unitsOf}
-use Rattle.lengths.proofs.Wide.{digitsOf, powerOf, pattern-value, pattern-positive}
+use Rattle.decimal_rounding.proofs.Wide.{digitsOf, powerOf, pattern-value, pattern-positive}
 use Rattle.lengths.proofs.Exactly.{units-exact}
 
 -- ---- the pattern of n units

@@ -11,7 +11,7 @@ use Rattle.floats.proofs.Tests.{passed, failed}
 use Rattle.floats.proofs.Order.{same→real}
 use Rattle.root.specs.Root.{rootOf}
 use Rattle.lengths.specs.Length.{squareSumOf, narrowOf, lengthOf}
-use Rattle.lengths.proofs.Wide.{no-nan-single}
+use Rattle.decimal_rounding.proofs.Wide.{no-nan-single}
 use Rattle.lengths.proofs.Upward.{squares-upward, upward-real}
 use Rattle.lengths.proofs.Edges.{length-nan-x, length-nan-y, root-tiny, root-huge, middling, sum-fits}
 use Rattle.lengths.proofs.exact.length.Statement.{statement}

@@ -11,7 +11,7 @@ use lib.Ieee.Positive.{between}
 use Rattle.floats.specs.Kinds.{real}
 use Rattle.floats.proofs.Tests.{passed}
 use Rattle.floats.proofs.Order.{lt→le, le-real-l}
-use Rattle.lengths.proofs.Wide.{pattern-positive}
+use Rattle.decimal_rounding.proofs.Wide.{pattern-positive}
 use Rattle.lengths.proofs.Sizes.{clamped-bits}
 use Rattle.lengths.proofs.passes.clamped.Statement.{statement}
 use Rattle.lengths.proofs.passes.clamped.Tie as tie

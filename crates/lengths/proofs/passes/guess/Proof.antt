@@ -2,7 +2,7 @@
 use borrow.Author.Needs.{needs}
 use native.Mathlib.Omega.{arith}
 use denote.Floats.{passes}
-use Rattle.lengths.proofs.Wide.{no-nan}
+use Rattle.decimal_rounding.proofs.Wide.{no-nan}
 use Rattle.lengths.proofs.Upward.{upward-real, upward-bits}
 use Rattle.lengths.proofs.passes.guess.Statement.{statement}
 use Rattle.lengths.proofs.passes.guess.Tie as tie

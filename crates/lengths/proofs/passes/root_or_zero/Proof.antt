@@ -8,7 +8,7 @@ use denote.Floats.{passes}
 use lib.Ieee.{binary64, toBits}
 use Rattle.floats.specs.Floats.{zeroF}
 use Rattle.floats.proofs.Tests.{passed}
-use Rattle.lengths.proofs.Wide.{no-nan, no-nan-single}
+use Rattle.decimal_rounding.proofs.Wide.{no-nan, no-nan-single}
 use Rattle.lengths.proofs.Judged.{settled}
 use Rattle.lengths.proofs.Far.{under-far}
 use Rattle.lengths.proofs.passes.root_or_zero.Statement.{statement}
