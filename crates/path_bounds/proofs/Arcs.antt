@@ -20,7 +20,7 @@ use Rattle.ellipse.specs.Shape.{product, onEllipse, angleAt, pointTurned, point
 use Rattle.path_segment.specs.Segments.{lengthFor}
 use Rattle.path_segment.specs.declared.segments.PathSegment.the-variants as Segment
 use Rattle.path_bounds.specs.Calm.{wideF, wideBackF, isNarrow, isCalm, isCalmArc}
-use Rattle.float_bounds.proofs.Within.{Within, within-le, Holds, holds-scaled, add-within, mul-within}
+use Rattle.floats.proofs.Within.{Within, within-le, Holds, holds-scaled, add-within, mul-within}
 use Rattle.path_bounds.proofs.Tested.{Near, calm-near, clamped-within}
 use Rattle.path_bounds.proofs.Roots.{holds-power, add-power, sub-power}
 use Rattle.path_bounds.proofs.Lengths.{total-within}

@@ -18,7 +18,7 @@ use Rattle.table.specs.Sums.{sumsFrom, runningSums, sumOf}
 use Rattle.table_samples.specs.Samples.{sampleAt, stepsFrom, stepsOf, totalOf}
 use Rattle.bezier.specs.Quads.{quadSampleOf}
 use Rattle.bezier.specs.Cubics.{cubicSampleOf}
-use Rattle.float_bounds.proofs.Within.{Within, within-le, Holds, holds-scaled, add-within, mul-within}
+use Rattle.floats.proofs.Within.{Within, within-le, Holds, holds-scaled, add-within, mul-within}
 use Rattle.path_bounds.proofs.Tested.{Near, clamped-within}
 use Rattle.path_bounds.proofs.Roots.{holds-power, add-power, sub-power, distance-within}
 

@@ -21,7 +21,7 @@ use Rattle.lengths.specs.Length as lengths
 use Rattle.lengths.proofs.Upward.{squares-upward}
 use Rattle.math.specs.declared.points.Point.{Point}
 use Rattle.math.specs.Math.{subOf, lengthOf, distanceOf}
-use Rattle.float_bounds.proofs.Within.{Within, within-le, Holds, holds-scaled, round-within, add-within, sub-within, mul-within}
+use Rattle.floats.proofs.Within.{Within, within-le, Holds, holds-scaled, round-within, add-within, sub-within, mul-within}
 use Rattle.path_bounds.proofs.Tested.{Near}
 
 -- ---- powers of 2 that the format holds

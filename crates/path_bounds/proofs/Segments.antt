@@ -15,7 +15,7 @@ use Rattle.arc.specs.Lines.{lineOf, lineLengthOf}
 use Rattle.path_segment.specs.Segments.{lengthFor}
 use Rattle.path_segment.specs.declared.segments.PathSegment.the-variants as Segment
 use Rattle.path_bounds.specs.Calm.{isCalm}
-use Rattle.float_bounds.proofs.Within.{Within, within-le}
+use Rattle.floats.proofs.Within.{Within, within-le}
 use Rattle.path_bounds.proofs.Tested.{calm-near}
 use Rattle.path_bounds.proofs.Roots.{distance-within}
 use Rattle.path_bounds.proofs.Lengths.{quad-near, cubic-near, one-more, total-within}

@@ -14,7 +14,7 @@ use lib.Ieee.{Float, nan, inf, fin, binary32, up, down, ofBits, le, lt, eq, fits
 use lib.Ieee.Bits.{is-true}
 use lib.Ieee.Fits.{and-l, and-r, and-i}
 use Rattle.floats.proofs.Signs.{SignedLe, le→signed, signed→le}
-use Rattle.float_bounds.proofs.Within.{Within, within-le}
+use Rattle.floats.proofs.Within.{Within, within-le}
 use Rattle.trig_rule.specs.Rule.{inReach, Is}
 use Rattle.trig_rule.specs.Steps.{half, restOf, fixedOf, flipOf, plain, signBit, sinePlus, sineMinus, cosinePlus, cosineMinus, gapOf, overOf, dropOf, packOf, sineAt, cosineAt, sineOf, cosineOf}
 use Rattle.trig_rule.proofs.Gaps.{sine-gap, cosine-gap}

@@ -14,7 +14,7 @@ use Rattle.floats.proofs.Signs.{le→signed}
 use Rattle.floats.proofs.Clamping.{clamp01-nonneg, clamp01-at-most, at-most-one}
 use Rattle.math.specs.declared.points.Point.{Point}
 use Rattle.path_bounds.specs.Calm.{farF, backF, isNear, isCalm}
-use Rattle.float_bounds.proofs.Within.{Within, nonneg-finite}
+use Rattle.floats.proofs.Within.{Within, nonneg-finite}
 
 -- both coordinates of a point are within 2^k
 pub record Near (k : ℕ) (p : Point) : Type 0 where

@@ -24,7 +24,7 @@ use Rattle.path_segment.specs.declared.segments.PathSegment.{PathSegment}
 use Rattle.path_segment.specs.declared.segments.PathSegment.the-variants.{Line, Quad, Cubic, Arc, Fallback}
 use Rattle.path_stored.specs.Layout.{tableStored}
 use Rattle.path_bounds.specs.Calm.{farF, backF, isNear, isCalm}
-use Rattle.float_bounds.proofs.Within.{Within}
+use Rattle.floats.proofs.Within.{Within}
 use Rattle.path_bounds.proofs.Arcs.{arc-short}
 use Rattle.path_bounds.proofs.Lengths.{zero-within}
 use Rattle.path_bounds.proofs.Segments.{line-short, quad-short, cubic-short, fallback-short, running-short}

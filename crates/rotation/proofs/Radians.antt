@@ -9,7 +9,7 @@ use lib.Ieee.{Float, nan, inf, fin, binary32, up, down, ofBits, mul, div, unlike
 use lib.Ieee.Fits.{down-pos, and-i, div-fits}
 use lib.Ieee.Scale.{finite}
 use Rattle.floats.proofs.Signs.{SignedLe, signed→le}
-use Rattle.float_bounds.proofs.Within.{Within, holds-scaled, round-within, mul-within}
+use Rattle.floats.proofs.Within.{Within, holds-scaled, round-within, mul-within}
 use Rattle.trig_rule.specs.Rule.{inReach, Is}
 use Rattle.trig_rule.specs.Steps.{sineOf, cosineOf}
 use Rattle.trig_rule.proofs.Ruled.{sine-keeps-rule, cosine-keeps-rule}

@@ -20,7 +20,7 @@ use Rattle.floats.proofs.Rounded.{sub-rounds}
 use Rattle.floats.proofs.Between.{nonneg-between}
 use Rattle.floats.proofs.Constants.{zero-held}
 use Rattle.floats.proofs.Whole.{whole-value}
-use Rattle.float_bounds.proofs.Within.{Within, round-within}
+use Rattle.floats.proofs.Within.{Within, round-within}
 use Rattle.path_bounds.proofs.Roots.{holds-power}
 use Rattle.spline.specs.Formula.{indexOf, InSpans}
 

@@ -16,7 +16,7 @@ use Rattle.floats.proofs.Tests.{decide}
 use Rattle.math.specs.declared.points.Point.{Point}
 use Rattle.math.specs.Math.{originF, lerpPointOf}
 use Rattle.table.specs.Lookup.{at}
-use Rattle.float_bounds.proofs.Within.{Within, within-le, Holds, neg-within, mul-within}
+use Rattle.floats.proofs.Within.{Within, within-le, Holds, neg-within, mul-within}
 use Rattle.path_bounds.proofs.Tested.{Near, near-within, clamped-within}
 use Rattle.path_bounds.proofs.Roots.{holds-power, add-power, sub-power}
 use Rattle.path_bounds.proofs.Lengths.{lerp-near}

@@ -1,2 +1,0 @@
--- The laws of sizes.
-pub mod Within
