@@ -24,7 +24,7 @@ use Rattle.floats.proofs.Within.{Within, within-le, Holds, holds-scaled, add-wi
 use Rattle.path_bounds.proofs.Tested.{Near, calm-near, clamped-within}
 use Rattle.path_bounds.proofs.Roots.{holds-power, add-power, sub-power}
 use Rattle.path_bounds.proofs.Lengths.{total-within}
-use Rattle.path_bounds.proofs.Sines.{within-reach, sine-within, cosine-within}
+use Rattle.trig_rule.proofs.Sizes.{within-reach, sine-within, cosine-within}
 
 -- ---- the angles
 wide-is : wideF ≡ fin false 1 (pos 4)

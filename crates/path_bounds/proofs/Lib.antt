@@ -3,5 +3,4 @@ pub mod Tested
 pub mod Roots
 pub mod Lengths
 pub mod Segments
-pub mod Sines
 pub mod Arcs

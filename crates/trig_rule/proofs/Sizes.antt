@@ -1,4 +1,4 @@
--- Sine and cosine are at most 64 in size, which is enough here: the steps pack a number below 4, the sine of a small angle is the angle, and an angle in reach is at most 64. Assumes nothing.
+-- Sine and cosine are at most 64 in size, which is enough for the bounds of paths: the steps pack a number below 4, the sine of a small angle is the angle, and an angle in reach is at most 64. Assumes nothing.
 use mathlib.Core.Path.{_≡_, refl, sym, ap, _∙_, subst}
 use Prim.Native.Nat.{ℕ, zero, suc, _+_, _-_, _*_, _/_, _%_, _^_, _≤_, _<_}
 use native.Mathlib.Nat.{le-trans, le-of-eq, le-of-lt, lt-of-lt-of-le, lt-of-le-of-lt, lt-of-not-le, mod-lt, mul-one, mul-assoc, mul-right-comm, mul-le-mul}
