@@ -1,5 +1,4 @@
--- The laws of lines and arcs, the loop of an arc's samples, why an arc's queries never step back, and worked examples.
+-- The laws of lines and arcs, why an arc's queries never step back, and worked examples.
 pub mod Cases
-pub mod Spreading
 pub mod Steady
 mod Readings

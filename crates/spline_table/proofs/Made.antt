@@ -20,7 +20,7 @@ use Rattle.table.specs.Sums.{sumOf}
 use Rattle.table_order.specs.Stated.{F32Table}
 use Rattle.table_samples.specs.Samples.{stepsOf, lengthsOf, totalOf}
 use Rattle.table_samples.proofs.Made.{made-sound, made-fits, made-count}
-use Rattle.table_samples.proofs.Stepping.{steps-count}
+use Rattle.table_samples.proofs.Steps.{steps-count}
 use Rattle.polyline.specs.Points.{countOf}
 use Rattle.polyline.specs.Lengths.{firstNotFinite}
 use Rattle.polyline.specs.Judging.{isOdd}

@@ -11,7 +11,7 @@ use Rattle.math.specs.Math.{distanceOf}
 use Rattle.table.specs.Lookup.{at}
 use Rattle.table.proofs.Sums.{running-first, running-next}
 use Rattle.table_samples.specs.Samples.{sampleAt, stepsOf, lengthsOf}
-use Rattle.table_samples.proofs.Stepping.{steps-count, step-is}
+use Rattle.table_samples.proofs.Steps.{steps-count, step-is}
 use Rattle.spline_table.specs.Rows.{walkOf, Walking}
 
 module _ (formula : Float → Point) (n : ℕ) where

@@ -1,4 +1,4 @@
--- The laws of sampling: the loop of any sampler, the lengths of all its differences at once, and when its table is sound.
-pub mod Stepping
+-- The laws of sampling: the steps, the loop that takes a row of differences, and when a table is sound.
 pub mod Steps
+pub mod Crossing
 pub mod Made

@@ -22,7 +22,7 @@ use Rattle.table.specs.Sound.{tableIsSound}
 use Rattle.table.specs.Sums.{sumsFrom, runningSums, sumOf}
 use Rattle.table.proofs.Sums.{running-length, sums-sound}
 use Rattle.table_samples.specs.Samples.{sampleAt, stepsOf, lengthsOf, totalOf}
-use Rattle.table_samples.proofs.Stepping.{steps-count, step-is}
+use Rattle.table_samples.proofs.Steps.{steps-count, step-is}
 
 -- ---- no length is below 0
 nan-not-below : (x y : Float) → T (isNan x) → T (not (lt x y))

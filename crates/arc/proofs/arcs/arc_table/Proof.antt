@@ -3,7 +3,7 @@ use borrow.Author.Needs.{needs}
 use mathlib.Core.Path.{_≡_, ap, _∙_}
 use Rattle.trig.specs.declared.SinCos.{SinCos}
 use Rattle.table_samples.specs.Samples.{stepsOf}
-use Rattle.table_samples.proofs.Stepping.{table-is}
+use Rattle.table_samples.proofs.Steps.{table-is}
 use Rattle.ellipse.specs.declared.ends.Arc.{Arc}
 use Rattle.ellipse.specs.Turn.{turnOf}
 use Rattle.ellipse.specs.Shape.{pointTurned, pointOn}

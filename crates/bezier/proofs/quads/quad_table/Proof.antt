@@ -1,6 +1,6 @@
 -- `table_of` sums the steps. Assumes nothing.
 use borrow.Author.Needs.{needs}
-use Rattle.table_samples.proofs.Stepping.{table-is}
+use Rattle.table_samples.proofs.Steps.{table-is}
 use Rattle.bezier.proofs.quads.quad_table.Statement.{statement}
 use Rattle.bezier.proofs.quads.quad_table.Tie as tie
 

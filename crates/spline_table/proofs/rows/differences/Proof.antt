@@ -4,7 +4,8 @@ use mathlib.Core.Path.{_≡_, refl, sym, ap, _∙_}
 use Prim.Native.Nat.{_-_}
 use Rattle.table_samples.specs.Samples.{sampleAt}
 use Rattle.spline.specs.Formula.{splineSampleOf}
-use Rattle.spline_table.proofs.Crossing.{Crossing, crossing-start, crossing-more, crossing-done}
+use Rattle.table_samples.proofs.Crossing.{Crossing, crossing-start, crossing-more}
+use Rattle.spline_table.proofs.RowLaws.{row-done}
 use Rattle.spline_table.proofs.rows.differences.Statement.{statement}
 use Rattle.spline_table.proofs.rows.differences.Tie as tie
 
@@ -21,11 +22,11 @@ loop-again : tie.Need-loop-again Inv-loop μ-loop
 unfolding sampleAt
 loop-again c =
     let at-loop = c .before .before .before .before .before .before .before in
-    crossing-more (at-loop .loop .inv) (c .before .before .before .before .before .before .loop-test .taken) _
+    crossing-more (at-loop .loop .inv) (c .before .before .before .before .before .before .loop-test .taken) _ _ refl
     (c .before .before .before .before .sample .ensures ∙ ap (splineSampleOf _) (c .before .before .before .before .before .mark .ensures))
 
 returns : tie.Need-returns Inv-loop μ-loop
-returns c = crossing-done (c .before .loop .inv) (c .loop-test .left)
+returns c = row-done (c .before .loop .inv) (c .loop-test .left)
 
 pub differences-spec : {M : Type 1} → statement M
 differences-spec =

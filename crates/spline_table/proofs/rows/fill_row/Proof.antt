@@ -4,7 +4,7 @@ use mathlib.Core.Path.{refl}
 use native.Mathlib.Omega.{arith}
 use Prim.Native.Nat.{_-_}
 use Rattle.spline.specs.Formula.{splineSampleOf}
-use Rattle.spline_table.proofs.Crossing.{Storing, row-step, storing-start, storing-more, storing-ends}
+use Rattle.spline_table.proofs.RowLaws.{Storing, row-step, storing-start, storing-more, storing-ends}
 use Rattle.spline_table.proofs.rows.fill_row.Statement.{statement}
 use Rattle.spline_table.proofs.rows.fill_row.Tie as tie
 
