@@ -3,6 +3,7 @@
 mod arcs;
 pub mod inner;
 mod lines;
+mod lookups;
 
 pub use arcs::EllipticalArc;
 pub use arcs::MadeArc;

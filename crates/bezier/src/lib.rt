@@ -3,6 +3,7 @@
 mod cubics;
 mod curves;
 pub mod inner;
+mod lookups;
 mod quads;
 mod rows;
 

@@ -14,8 +14,8 @@ use Rattle.floats.specs.Floats.{bitsOf}
 use Rattle.commands.specs.Listed.{numberAt, pointAt, isFlag, isSet, arcOf, commandOf}
 use Rattle.commands.specs.declared.command.PathCommand.{PathCommand}
 use Rattle.commands.specs.declared.command.PathCommand.the-variants.{MoveTo, LineTo, QuadTo, CubicTo, ArcTo, ClosePath}
-use Rattle.commands.specs.declared.inner.Decoded.{Decoded}
-use Rattle.commands.specs.declared.inner.Decoded.the-variants.{Command, Bad}
+use Rattle.commands.specs.declared.encoding.Decoded.{Decoded}
+use Rattle.commands.specs.declared.encoding.Decoded.the-variants.{Command, Bad}
 
 -- ---- numbers from a place on
 

@@ -15,8 +15,8 @@ use Rattle.commands.specs.Stored.{argumentsOf}
 use Rattle.commands.specs.Listed.{isFlag, numberAt, arcOf, commandOf, Listing, wellFormed, malformed, prepend, follow, listed}
 use Rattle.commands.specs.Checked.{judged, checkCommandsOf}
 use Rattle.commands.specs.declared.command.PathCommand.{PathCommand}
-use Rattle.commands.specs.declared.inner.Decoded.{Decoded}
-use Rattle.commands.specs.declared.inner.Decoded.the-variants.{Command, Bad}
+use Rattle.commands.specs.declared.encoding.Decoded.{Decoded}
+use Rattle.commands.specs.declared.encoding.Decoded.the-variants.{Command, Bad}
 
 -- ---- a command that is read back takes numbers that are there
 

@@ -15,8 +15,8 @@ use Rattle.commands.specs.Listed.{isFlag, isSet, commandOf, Listing, wel
 use Rattle.commands.specs.Checked.{judged, checkCommandsOf}
 use Rattle.commands.specs.declared.command.PathCommand.{PathCommand}
 use Rattle.commands.specs.declared.command.PathCommand.the-variants.{MoveTo, LineTo, QuadTo, CubicTo, ArcTo, ClosePath}
-use Rattle.commands.specs.declared.inner.Decoded.{Decoded}
-use Rattle.commands.specs.declared.inner.Decoded.the-variants.{Command}
+use Rattle.commands.specs.declared.encoding.Decoded.{Decoded}
+use Rattle.commands.specs.declared.encoding.Decoded.the-variants.{Command}
 use Rattle.commands.proofs.Decoding.{is-move, is-line, is-quad, is-cubic, is-arc, is-close, arc-flagged}
 use Rattle.commands.proofs.Listing.{check-few}
 

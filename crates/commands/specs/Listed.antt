@@ -11,8 +11,8 @@ use Rattle.floats.specs.Floats.{bitsOf}
 use Rattle.commands.specs.Stored.{argumentsOf}
 use Rattle.commands.specs.declared.command.PathCommand.{PathCommand}
 use Rattle.commands.specs.declared.command.PathCommand.the-variants.{MoveTo, LineTo, QuadTo, CubicTo, ArcTo, ClosePath}
-use Rattle.commands.specs.declared.inner.Decoded.{Decoded}
-use Rattle.commands.specs.declared.inner.Decoded.the-variants.{Command, Bad}
+use Rattle.commands.specs.declared.encoding.Decoded.{Decoded}
+use Rattle.commands.specs.declared.encoding.Decoded.the-variants.{Command, Bad}
 
 -- the number at a place among those of a command
 abbrev pub numberAt : List Float → ℕ → Float

@@ -2,8 +2,8 @@
 ghost use mathlib.Core.Path.{_≡_};
 ghost use Rattle.commands.specs.Checked.{answerOf, checkCommandsOf};
 use crate::command::width;
-use crate::inner::Decoded;
-use crate::inner::decode;
+use crate::encoding::Decoded;
+use crate::encoding::decode;
 use answers::Refusal;
 
 pub enum Checked {

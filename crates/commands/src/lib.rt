@@ -1,6 +1,7 @@
 // Path commands: decoded as an enum, stored as letters and numbers, and the check of a stored list.
 mod checking;
 mod command;
+mod encoding;
 pub mod inner;
 
 pub use checking::Checked;

@@ -25,8 +25,8 @@ use Rattle.scan.proofs.NumberLaws.{mark-taken, mark-left, mark-end, number-none
 use Rattle.decimal_digits.specs.Digits.{digitsIn, val}
 use Rattle.decimal_digits.specs.Leading.{Leads, Gathers}
 use Rattle.decimal_digits.specs.Exponent.{capped, exponentOf}
-use Rattle.decimal_digits.specs.declared.inner.Leading.{Leading}
-use Rattle.decimal_digits.specs.declared.inner.Power.{Power}
+use Rattle.decimal_digits.specs.declared.gathering.Leading.{Leading}
+use Rattle.decimal_digits.specs.declared.gathering.Power.{Power}
 use Rattle.decimal_digits.proofs.Places.{none-in, join-in, other-in, run-in}
 use Rattle.decimal_digits.proofs.Holding.{leads-start, leads-other}
 use Rattle.decimal_digits.proofs.Capping.{size-start, capped-small}

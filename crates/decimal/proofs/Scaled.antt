@@ -16,8 +16,8 @@ use Rattle.decimal_digits.specs.Digits.{val}
 use Rattle.decimal_digits.specs.Leading.{Leads}
 use Rattle.decimal_digits.proofs.Values.{ten-pos}
 use Rattle.decimal_product.specs.Near.{Leading, Cell, Says, Nearest as Product}
-use Rattle.decimal_product.specs.declared.inner.Near.{Near}
-use Rattle.decimal_product.specs.declared.inner.Near.the-variants.{Bits, Between}
+use Rattle.decimal_product.specs.declared.products.Near.{Near}
+use Rattle.decimal_product.specs.declared.products.Near.the-variants.{Bits, Between}
 use Rattle.decimal.specs.Bits.{Nearest}
 
 -- no digit but 0

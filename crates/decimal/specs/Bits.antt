@@ -14,7 +14,7 @@ use Rattle.decimal_digits.specs.Leading.{Leads}
 use Rattle.decimal_digits.specs.Exponent.{most, capped}
 use Rattle.decimal_product.specs.Near.{Cell}
 use Rattle.decimal_tie.specs.Weighing.{orderOf}
-use Rattle.decimal_tie.specs.declared.inner.Order.{Order}
+use Rattle.decimal_tie.specs.declared.scales.Order.{Order}
 use Rattle.decimal.specs.Decimal.{digitsOf, placesOf, riseOf, fallOf, numberOf}
 use Rattle.decimal.specs.declared.numbers.Read.the-variants.{Refused}
 use Rattle.decimal.specs.declared.numbers.Found.{Found}

@@ -1,9 +1,9 @@
 // A number of a text: its places, its digits and its value in one pass.
-use crate::inner::magnitude;
-use crate::inner::narrow;
-use crate::inner::pattern;
-use crate::inner::signed;
-use crate::inner::tells;
+use crate::magnitudes::magnitude;
+use crate::magnitudes::narrow;
+use crate::magnitudes::pattern;
+use crate::magnitudes::signed;
+use crate::magnitudes::tells;
 use answers::Refusal;
 use decimal_digits::inner::exponent;
 use decimal_digits::inner::gather;

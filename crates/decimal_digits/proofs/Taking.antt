@@ -16,7 +16,7 @@ use Rattle.scan.proofs.RunLaws.{all-pass, all-stop, all-end, all-onward, all-wi
 use Rattle.decimal_digits.specs.Digits.{digitsIn, val}
 use Rattle.decimal_digits.specs.Leading.{Leads, Takes, Gathers}
 use Rattle.decimal_digits.specs.Words.{eightOf, begun}
-use Rattle.decimal_digits.specs.declared.inner.Leading.{Leading}
+use Rattle.decimal_digits.specs.declared.gathering.Leading.{Leading}
 use Rattle.decimal_digits.proofs.Values.{ten-pos, digit-lt}
 use Rattle.decimal_digits.proofs.Holding.{leads-digit, leads-run}
 

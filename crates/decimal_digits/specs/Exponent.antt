@@ -5,7 +5,7 @@ use mathlib.Core.Bool.{cond}
 use lib.Dec.{ltb}
 use Rattle.scan.specs.Runs.{pastDigitsOf}
 use Rattle.decimal_digits.specs.Digits.{digitsIn, val}
-use Rattle.decimal_digits.specs.declared.inner.Power.{Power}
+use Rattle.decimal_digits.specs.declared.gathering.Power.{Power}
 
 -- more than 2 ^ 63: no text has as many digits as would bring a number back from such an exponent
 abbrev pub most : ℕ

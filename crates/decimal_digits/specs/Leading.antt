@@ -4,8 +4,8 @@ use mathlib.Core.Path.{_≡_}
 use mathlib.Core.List.{List}
 use Rattle.scan.specs.Runs.{pastDigitsOf}
 use Rattle.decimal_digits.specs.Digits.{digitsIn, val}
-use Rattle.decimal_digits.specs.declared.inner.Leading.{Leading}
-use Rattle.decimal_digits.specs.declared.inner.Taken.{Taken}
+use Rattle.decimal_digits.specs.declared.gathering.Leading.{Leading}
+use Rattle.decimal_digits.specs.declared.gathering.Taken.{Taken}
 
 -- w is the number of all the digits but the last ones, of which there are dropped; none while w has 18 digits or fewer
 pub record Leads (ds : List ℕ) (w dropped : ℕ) : Type 0 where

@@ -5,8 +5,8 @@ use mathlib.Core.Logic.{_⊎_}
 use mathlib.Core.Bool.{Bool, cond}
 use lib.Ieee.{binary32, round, ofBits}
 use Rattle.decimal_tens.specs.Tens.{height}
-use Rattle.decimal_product.specs.declared.inner.Near.{Near}
-use Rattle.decimal_product.specs.declared.inner.Near.the-variants.{Bits, Between}
+use Rattle.decimal_product.specs.declared.products.Near.{Near}
+use Rattle.decimal_product.specs.declared.products.Near.the-variants.{Bits, Between}
 
 -- num / den has the leading digits w before 10 ^ (place - 64): it is that many, or, where w has all the digits that it can have, up to one more
 pub record Leading (w place num den : ℕ) : Type 0 where

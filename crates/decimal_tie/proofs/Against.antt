@@ -11,8 +11,8 @@ use Rattle.decimal_digits.specs.Digits.{val}
 use Rattle.decimal_digits.proofs.Values.{ten-pos}
 use Rattle.decimal_tie.specs.Words.{wideOf, Small, Tens}
 use Rattle.decimal_tie.specs.Weighing.{against}
-use Rattle.decimal_tie.specs.declared.inner.Wide.{Wide}
-use Rattle.decimal_tie.specs.declared.inner.Tenfold.{Tenfold}
+use Rattle.decimal_tie.specs.declared.scales.Wide.{Wide}
+use Rattle.decimal_tie.specs.declared.scales.Tenfold.{Tenfold}
 use Rattle.decimal_tie.proofs.Wides.{tens-wide, wide-lt}
 
 -- ---- the leading part of both numbers settles their order, or leaves it to the rest

@@ -6,7 +6,7 @@ use native.Mathlib.Omega.{arith}
 use lib.Dec.{lit≤}
 use lib.Pow.{pow-pos, pow-mono, pow-add, shr-le}
 use Rattle.decimal_tie.specs.Words.{wideOf, Small, Splits}
-use Rattle.decimal_tie.specs.declared.inner.Wide.{Wide}
+use Rattle.decimal_tie.specs.declared.scales.Wide.{Wide}
 
 -- ---- the two words
 

@@ -13,11 +13,11 @@ use Rattle.decimal_digits.specs.Digits.{digitsAmong, val}
 use Rattle.decimal_digits.proofs.Values.{ten-pos}
 use Rattle.decimal_tie.specs.Words.{wideOf, Small}
 use Rattle.decimal_tie.specs.Weighing.{against, weighOf, partly, first, others, SaysWhole, Wholes, SaysLowered, Lowers}
-use Rattle.decimal_tie.specs.declared.inner.Wide.{Wide}
-use Rattle.decimal_tie.specs.declared.inner.Whole.{Whole}
-use Rattle.decimal_tie.specs.declared.inner.Whole.the-variants.{Beyond as WholeBeyond, Is}
-use Rattle.decimal_tie.specs.declared.inner.Lowered.{Lowered}
-use Rattle.decimal_tie.specs.declared.inner.Lowered.the-variants.{Beyond as LoweredBeyond, To}
+use Rattle.decimal_tie.specs.declared.scales.Wide.{Wide}
+use Rattle.decimal_tie.specs.declared.scales.Whole.{Whole}
+use Rattle.decimal_tie.specs.declared.scales.Whole.the-variants.{Beyond as WholeBeyond, Is}
+use Rattle.decimal_tie.specs.declared.scales.Lowered.{Lowered}
+use Rattle.decimal_tie.specs.declared.scales.Lowered.the-variants.{Beyond as LoweredBeyond, To}
 use Rattle.decimal_tie.proofs.Against.{lead-lt, lead-gt, lead-eq}
 
 -- ---- whole digits

@@ -6,8 +6,8 @@ use native.Mathlib.Omega.{arith}
 use lib.Arith.{digits-lt}
 use Rattle.decimal_rounding.proofs.Compares.{compare-lt, compare-eq, compare-gt}
 use Rattle.decimal_tie.specs.Words.{wideOf, Small, Tens}
-use Rattle.decimal_tie.specs.declared.inner.Wide.{Wide}
-use Rattle.decimal_tie.specs.declared.inner.Tenfold.{Tenfold}
+use Rattle.decimal_tie.specs.declared.scales.Wide.{Wide}
+use Rattle.decimal_tie.specs.declared.scales.Tenfold.{Tenfold}
 
 -- ---- ten times
 

@@ -5,14 +5,14 @@ use mathlib.Core.List.{List, [], _∷_}
 use lib.ListN.{length, drop}
 use Rattle.decimal_digits.specs.Digits.{digitsAmong, val}
 use Rattle.decimal_tie.specs.Words.{wideOf, Small}
-use Rattle.decimal_tie.specs.declared.inner.Wide.{Wide}
-use Rattle.decimal_tie.specs.declared.inner.Taken.{Taken}
-use Rattle.decimal_tie.specs.declared.inner.Order.{Order}
-use Rattle.decimal_tie.specs.declared.inner.Order.the-variants.{Less, Equal, Greater}
-use Rattle.decimal_tie.specs.declared.inner.Whole.{Whole}
-use Rattle.decimal_tie.specs.declared.inner.Whole.the-variants.{Beyond as WholeBeyond, Is}
-use Rattle.decimal_tie.specs.declared.inner.Lowered.{Lowered}
-use Rattle.decimal_tie.specs.declared.inner.Lowered.the-variants.{Beyond as LoweredBeyond, To}
+use Rattle.decimal_tie.specs.declared.scales.Wide.{Wide}
+use Rattle.decimal_tie.specs.declared.scales.Taken.{Taken}
+use Rattle.decimal_tie.specs.declared.scales.Order.{Order}
+use Rattle.decimal_tie.specs.declared.scales.Order.the-variants.{Less, Equal, Greater}
+use Rattle.decimal_tie.specs.declared.scales.Whole.{Whole}
+use Rattle.decimal_tie.specs.declared.scales.Whole.the-variants.{Beyond as WholeBeyond, Is}
+use Rattle.decimal_tie.specs.declared.scales.Lowered.{Lowered}
+use Rattle.decimal_tie.specs.declared.scales.Lowered.the-variants.{Beyond as LoweredBeyond, To}
 
 -- an answer as antt's own ordering
 abbrev pub orderOf : Order → Ordering

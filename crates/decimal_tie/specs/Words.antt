@@ -1,9 +1,9 @@
 -- Numbers of three words of 50 binary digits. Definitions only.
 use Prim.Native.Nat.{ℕ, _+_, _*_, _^_, _<_}
 use mathlib.Core.Path.{_≡_}
-use Rattle.decimal_tie.specs.declared.inner.Wide.{Wide}
-use Rattle.decimal_tie.specs.declared.inner.Tenfold.{Tenfold}
-use Rattle.decimal_tie.specs.declared.inner.Six.{Six}
+use Rattle.decimal_tie.specs.declared.scales.Wide.{Wide}
+use Rattle.decimal_tie.specs.declared.scales.Tenfold.{Tenfold}
+use Rattle.decimal_tie.specs.declared.scales.Six.{Six}
 
 -- the number that three words stand for
 abbrev pub wideOf : Wide → ℕ

@@ -16,7 +16,7 @@ use Rattle.polyline.specs.declared.judging.Judged.the-variants as Judged
 use Rattle.polyline.proofs.Rows.{rows-length}
 use Rattle.resample.specs.Planning.{rowsBy, needOf, Planned}
 use Rattle.resample.specs.Resample as Resample
-use Rattle.resample.specs.declared.inner.Way.{Way}
+use Rattle.resample.specs.declared.spreading.Way.{Way}
 use Rattle.resample.proofs.Plans.{need-is}
 use Rattle.morph.specs.Shapes.{progressOf, sharedOf, betweenAt}
 use Rattle.morph.specs.Evaluate.{shapeOf, evaluateOf, Evaluate}

@@ -6,9 +6,9 @@ use mathlib.Core.List.{List}
 use lib.Ieee.{Float}
 use Rattle.answers.specs.declared.refusals.Refusal.{Refusal}
 use Rattle.resample.specs.Planning.{planOf}
-use Rattle.resample.specs.declared.inner.Way.{Way}
-use Rattle.resample.specs.declared.inner.Plan.{Plan}
-use Rattle.resample.specs.declared.inner.Plan.the-variants.{Go, Refused}
+use Rattle.resample.specs.declared.spreading.Way.{Way}
+use Rattle.resample.specs.declared.spreading.Plan.{Plan}
+use Rattle.resample.specs.declared.spreading.Plan.the-variants.{Go, Refused}
 use Rattle.morph.specs.Morph.{both, plansOf}
 use Rattle.morph.specs.declared.morphing.Plans.{Plans}
 use Rattle.morph.specs.declared.morphing.Plans.the-variants.{Both, Broken}

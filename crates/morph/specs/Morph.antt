@@ -17,9 +17,9 @@ use Rattle.polyline.specs.Judging.{judgeTwoOf}
 use Rattle.polyline.specs.declared.judging.Judged.{Judged}
 use Rattle.polyline.specs.declared.judging.Judged.the-variants as Judged
 use Rattle.resample.specs.Planning.{planOf, rowsBy}
-use Rattle.resample.specs.declared.inner.Way.{Way}
-use Rattle.resample.specs.declared.inner.Plan.{Plan}
-use Rattle.resample.specs.declared.inner.Plan.the-variants as Plan
+use Rattle.resample.specs.declared.spreading.Way.{Way}
+use Rattle.resample.specs.declared.spreading.Plan.{Plan}
+use Rattle.resample.specs.declared.spreading.Plan.the-variants as Plan
 use Rattle.morph.specs.declared.morphing.Plans.{Plans}
 use Rattle.morph.specs.declared.morphing.Plans.the-variants as Plans
 use Rattle.morph.specs.declared.morphing.Morphed.{Morphed}

@@ -11,7 +11,7 @@ use Rattle.commands.specs.Stored.{argumentsOf}
 use Rattle.commands.specs.Listed.{commandOf, wellFormed, listed}
 use Rattle.commands.specs.Checked.{checkCommandsOf}
 use Rattle.commands.specs.declared.command.PathCommand.{PathCommand}
-use Rattle.commands.specs.declared.inner.Decoded.the-variants.{Command, Bad}
+use Rattle.commands.specs.declared.encoding.Decoded.the-variants.{Command, Bad}
 use Rattle.path_segment.specs.declared.segments.PathSegment.{PathSegment}
 use Rattle.path_stored.specs.Layout.{kindsOf, fieldsOfAll, tablesOfAll}
 use Rattle.path_stored.specs.Buffers.{Buffers}

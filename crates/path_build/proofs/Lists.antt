@@ -15,7 +15,7 @@ use Rattle.commands.specs.Stored.{argumentsOf}
 use Rattle.commands.specs.Listed.{commandOf, Listing, wellFormed, malformed, prepend, listed}
 use Rattle.commands.specs.Checked.{judged, checkCommandsOf}
 use Rattle.commands.specs.declared.command.PathCommand.{PathCommand}
-use Rattle.commands.specs.declared.inner.Decoded.the-variants.{Command, Bad}
+use Rattle.commands.specs.declared.encoding.Decoded.the-variants.{Command, Bad}
 use Rattle.commands.proofs.Listing.{command-fits, listedFrom, from-next, from-bad, from-left-over, from-end}
 
 -- ---- a list that passes the check

@@ -16,8 +16,8 @@ use Rattle.table.specs.Sound.{allFinite}
 use Rattle.commands.specs.Stored.{argumentsOf}
 use Rattle.commands.specs.Listed.{commandOf, Listing, wellFormed, malformed, prepend as prependCommand, follow as followCommand, listed}
 use Rattle.commands.specs.declared.command.PathCommand.{PathCommand}
-use Rattle.commands.specs.declared.inner.Decoded.{Decoded}
-use Rattle.commands.specs.declared.inner.Decoded.the-variants.{Command, Bad}
+use Rattle.commands.specs.declared.encoding.Decoded.{Decoded}
+use Rattle.commands.specs.declared.encoding.Decoded.the-variants.{Command, Bad}
 use Rattle.path_segment.specs.declared.segments.PathSegment.{PathSegment}
 use Rattle.path_stored.specs.Layout.{runningOf, lengthsOfAll, laidOut}
 use Rattle.path_stored.specs.Stored.{isStored}

@@ -1,7 +1,7 @@
 // The entry over a command list.
 ghost use Rattle.path_stored.specs.Buffers.{after, before};
 ghost use Rattle.path_build.specs.Paths.{BuildPath};
-use crate::inner::build_listed;
+use crate::listed::build_listed;
 use crate::sizes::Building;
 use commands::Checked;
 use commands::check_commands;

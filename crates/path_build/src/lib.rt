@@ -2,6 +2,7 @@
 // asks nothing and refuses; `inner` has the same for a list that is known to be well formed.
 mod building;
 pub mod inner;
+mod listed;
 mod passes;
 mod sizes;
 

@@ -1,56 +1,7 @@
-// The lookups without their tests, for callers that know the path to be a stored one.
-use crate::cursors::Cursor;
+// What asks more of its callers than an entry may: handed on to crates that are proved to meet it.
 pub use crate::cursors::back;
 pub use crate::cursors::forward;
-use path_segment::has_table;
-use table::Progress;
-use table::RawParameter;
-use table::inner::raw_parameter_in;
-use table::inner::straight;
-ghost use mathlib.Core.Path.{_≡_};
-ghost use lib.Dec.{T};
-ghost use Rattle.path_segment.specs.Segments.{hasTable};
-ghost use Rattle.path_place.specs.Cursors.{Moving, cursorOf};
-ghost use Rattle.path_place.specs.Places.{Standing, TableThere, rawFor, rawIn, rawWithin};
-
-// The raw parameter of a local progress in the table that starts at a place.
-pub fn raw_in(tables: &[f32], place: usize, along: Progress) -> RawParameter
-    requires { ⌜ TableThere (now tables) place ⌝ }
-    ensures { λ r. ⌜ r .value ≡ rawIn (now (tables .entry)) place (along .value) ⌝ }
-{
-    let end = place + 32;
-    let total = tables[end];
-    raw_parameter_in(&tables[place..end], total, along)
-}
-
-// The raw parameter of a local progress on a segment of a kind, whose table starts at a place, if it
-// has one.
-pub fn raw_for(kind: u8, tables: &[f32], place: usize, along: Progress) -> RawParameter
-    requires { ⌜ (T (hasTable kind) → TableThere (now tables) place) ⌝ }
-    ensures { λ r. ⌜ r .value ≡ rawFor kind (now (tables .entry)) place (along .value) ⌝ }
-{
-    if has_table(kind) {
-        return raw_in(tables, place, along);
-    }
-    straight(along)
-}
-
-// The raw parameter of a local progress on the segment at which a cursor stands.
-pub fn raw_within(kinds: &[u8], tables: &[f32], at: Cursor, along: Progress) -> RawParameter
-    requires { ⌜ Standing (now kinds) (now tables) at ⌝ }
-    ensures { λ r. ⌜ r .value ≡ rawWithin (now (kinds .entry)) (now (tables .entry)) (at .segment) (along .value) ⌝ }
-{
-    let segment = at.segment;
-    raw_for(kinds[segment], tables, at.tables, along)
-}
-
-// From a cursor to a segment before or after it.
-pub fn moved(kinds: &[u8], from: Cursor, segment: usize) -> Cursor
-    requires { ⌜ Moving (now kinds) from segment ⌝ }
-    ensures { λ r. ⌜ r ≡ cursorOf (now (kinds .entry)) segment ⌝ }
-{
-    if from.segment <= segment {
-        return forward(kinds, from, segment);
-    }
-    back(kinds, from, segment)
-}
+pub use crate::lookups::moved;
+pub use crate::lookups::raw_for;
+pub use crate::lookups::raw_in;
+pub use crate::lookups::raw_within;

@@ -1,6 +1,7 @@
 // A place on a path.
 mod cursors;
 pub mod inner;
+mod lookups;
 mod places;
 
 pub use cursors::Cursor;

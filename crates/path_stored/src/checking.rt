@@ -1,6 +1,6 @@
 // The stored path check.
-use crate::inner::numbers_before;
-use crate::inner::tables_before;
+use crate::parts::numbers_before;
+use crate::parts::tables_before;
 use table::entries_are_sound;
 use table::lengths_are_sound;
 ghost use mathlib.Core.Path.{_≡_};

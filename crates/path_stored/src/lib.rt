@@ -3,6 +3,7 @@
 mod checking;
 pub mod inner;
 mod leaving;
+mod parts;
 mod queries;
 
 pub use checking::check_path;

@@ -5,7 +5,7 @@ ghost use Prim.Native.Nat.{_≤_};
 ghost use Rattle.path_drawing.specs.Drawing.{drawOf};
 ghost use Rattle.path_storing.specs.Sites.{startOf};
 ghost use Rattle.path_storing.specs.Tallies.{Scant, tallyOf, stayedOf, grownOf, strokedOf, isBounded, countedOf, talliedOf};
-use crate::inner::table_width;
+use crate::laying::table_width;
 use commands::PathCommand;
 use math::Point;
 use path_bounds::is_calm;

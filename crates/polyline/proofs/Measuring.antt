@@ -15,8 +15,8 @@ use Rattle.floats.proofs.Tests.{passed}
 use Rattle.table.specs.Lookup.{at}
 use Rattle.polyline.specs.Points.{countOf}
 use Rattle.polyline.specs.Lengths.{legOf, lengthsOf, totalOf, firstNotFinite, measuredOf}
-use Rattle.polyline.specs.declared.inner.Measured.{Measured}
-use Rattle.polyline.specs.declared.inner.Measured.the-variants.{Total, NotFinite}
+use Rattle.polyline.specs.declared.outline.Measured.{Measured}
+use Rattle.polyline.specs.declared.outline.Measured.the-variants.{Total, NotFinite}
 use Rattle.polyline.proofs.Legs.{lengths-count, lengths-first, lengths-next, total-is}
 use Rattle.polyline.proofs.FirstNotFinite.{finite-more, finite-start, finite-stop, finite-before}
 

@@ -10,8 +10,8 @@ use lib.Ieee.Scale.{finite}
 use Rattle.math.specs.Math.{distanceOf}
 use Rattle.table.specs.Sums.{runningSums, sumOf}
 use Rattle.polyline.specs.Points.{countOf, pointAt}
-use Rattle.polyline.specs.declared.inner.Measured.{Measured}
-use Rattle.polyline.specs.declared.inner.Measured.the-variants.{Total, NotFinite}
+use Rattle.polyline.specs.declared.outline.Measured.{Measured}
+use Rattle.polyline.specs.declared.outline.Measured.the-variants.{Total, NotFinite}
 
 -- the distance from the point i to the next
 unfoldable pub legOf : List Float → ℕ → Float

@@ -2,6 +2,7 @@
 // the line through its points is, and how points are put into an output.
 pub mod inner;
 mod judging;
+mod outline;
 
 pub use judging::Judged;
 pub use judging::judge;

@@ -18,9 +18,9 @@ use Rattle.polyline.specs.declared.judging.Judged.the-variants as Judged
 use Rattle.resample.specs.Spacing as Spacing
 use Rattle.resample.specs.Planning.{planOf, rowsBy, needOf, Planned}
 use Rattle.resample.specs.Resample.{Outcome, numbers, refusal, resampleOf, Resample}
-use Rattle.resample.specs.declared.inner.Way.{Way}
-use Rattle.resample.specs.declared.inner.Way.the-variants.{Copies, Spread}
-use Rattle.resample.specs.declared.inner.Plan.the-variants as Plan
+use Rattle.resample.specs.declared.spreading.Way.{Way}
+use Rattle.resample.specs.declared.spreading.Way.the-variants.{Copies, Spread}
+use Rattle.resample.specs.declared.spreading.Plan.the-variants as Plan
 use Rattle.resample.specs.declared.resampling.Resampled.the-variants as Resampled
 use Rattle.resample.proofs.Plans.{need-is, planned-copies, planned-spread}
 

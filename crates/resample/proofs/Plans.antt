@@ -11,17 +11,17 @@ use Rattle.floats.specs.Floats.{epsilonF}
 use Rattle.answers.specs.declared.refusals.Refusal.the-variants as Refusal
 use Rattle.polyline.specs.Points.{countOf, pointAt}
 use Rattle.polyline.specs.Lengths.{measuredOf}
-use Rattle.polyline.specs.declared.inner.Measured.{Measured}
-use Rattle.polyline.specs.declared.inner.Measured.the-variants.{Total, NotFinite}
+use Rattle.polyline.specs.declared.outline.Measured.{Measured}
+use Rattle.polyline.specs.declared.outline.Measured.the-variants.{Total, NotFinite}
 use Rattle.polyline.proofs.Measuring.{measured-whole}
 use Rattle.polyline.proofs.Rows.{rows-length}
 use Rattle.resample.specs.Spacing as Spacing
 use Rattle.resample.specs.Spacing.{spreadAt}
 use Rattle.resample.specs.Planning.{byLength, planOf, rowsBy, needOf, Planned}
-use Rattle.resample.specs.declared.inner.Way.{Way}
-use Rattle.resample.specs.declared.inner.Way.the-variants.{Nothing, Copies, Spread}
-use Rattle.resample.specs.declared.inner.Plan.{Plan}
-use Rattle.resample.specs.declared.inner.Plan.the-variants.{Go, Refused}
+use Rattle.resample.specs.declared.spreading.Way.{Way}
+use Rattle.resample.specs.declared.spreading.Way.the-variants.{Nothing, Copies, Spread}
+use Rattle.resample.specs.declared.spreading.Plan.{Plan}
+use Rattle.resample.specs.declared.spreading.Plan.the-variants.{Go, Refused}
 
 -- ---- the numbers needed are those of the list
 pub need-is : (points : List Float) (count : ℕ) (way : Way) → length (rowsBy points count way) ≡ needOf way count

@@ -10,13 +10,13 @@ use Rattle.floats.specs.Floats.{epsilonF}
 use Rattle.answers.specs.declared.refusals.Refusal.the-variants as Refusal
 use Rattle.polyline.specs.Points.{countOf, pointAt, rowsOf}
 use Rattle.polyline.specs.Lengths.{measuredOf}
-use Rattle.polyline.specs.declared.inner.Measured.{Measured}
-use Rattle.polyline.specs.declared.inner.Measured.the-variants.{Total, NotFinite}
+use Rattle.polyline.specs.declared.outline.Measured.{Measured}
+use Rattle.polyline.specs.declared.outline.Measured.the-variants.{Total, NotFinite}
 use Rattle.resample.specs.Spacing.{spreadAt}
-use Rattle.resample.specs.declared.inner.Way.{Way}
-use Rattle.resample.specs.declared.inner.Way.the-variants.{Nothing, Copies, Spread}
-use Rattle.resample.specs.declared.inner.Plan.{Plan}
-use Rattle.resample.specs.declared.inner.Plan.the-variants.{Go, Refused}
+use Rattle.resample.specs.declared.spreading.Way.{Way}
+use Rattle.resample.specs.declared.spreading.Way.the-variants.{Nothing, Copies, Spread}
+use Rattle.resample.specs.declared.spreading.Plan.{Plan}
+use Rattle.resample.specs.declared.spreading.Plan.the-variants.{Go, Refused}
 
 -- "a total of at most 2^-23 gives copies too"; 11 carries the "first such .. polyline point"
 unfoldable pub byLength : Measured → Plan

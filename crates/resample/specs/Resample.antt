@@ -15,8 +15,8 @@ use Rattle.polyline.specs.Judging.{judgeOf}
 use Rattle.polyline.specs.declared.judging.Judged.{Judged}
 use Rattle.polyline.specs.declared.judging.Judged.the-variants as Judged
 use Rattle.resample.specs.Planning.{planOf, rowsBy}
-use Rattle.resample.specs.declared.inner.Plan.{Plan}
-use Rattle.resample.specs.declared.inner.Plan.the-variants as Plan
+use Rattle.resample.specs.declared.spreading.Plan.{Plan}
+use Rattle.resample.specs.declared.spreading.Plan.the-variants as Plan
 use Rattle.resample.specs.declared.resampling.Resampled.{Resampled}
 use Rattle.resample.specs.declared.resampling.Resampled.the-variants as Resampled
 

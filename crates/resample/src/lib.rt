@@ -2,6 +2,7 @@
 // `resample` asks nothing and refuses; `inner` has its parts, for points and counts that were judged.
 pub mod inner;
 mod resampling;
+mod spreading;
 mod walking;
 
 pub use resampling::Resampled;

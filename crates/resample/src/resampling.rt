@@ -1,8 +1,8 @@
 // The entry.
-use crate::inner::Plan;
-use crate::inner::fill;
-use crate::inner::needed;
-use crate::inner::plan_for;
+use crate::spreading::Plan;
+use crate::spreading::fill;
+use crate::spreading::needed;
+use crate::spreading::plan_for;
 use answers::Refusal;
 use answers::Values;
 use polyline::Judged;

@@ -28,17 +28,17 @@ use Rattle.polyline.specs.Lengths.{totalOf, measuredOf}
 use Rattle.polyline.specs.Judging.{judgeOf}
 use Rattle.polyline.specs.declared.judging.Judged.{Judged}
 use Rattle.polyline.specs.declared.judging.Judged.the-variants as Judged
-use Rattle.polyline.specs.declared.inner.Measured.{Measured}
-use Rattle.polyline.specs.declared.inner.Measured.the-variants as Measured
+use Rattle.polyline.specs.declared.outline.Measured.{Measured}
+use Rattle.polyline.specs.declared.outline.Measured.the-variants as Measured
 use Rattle.polyline.proofs.Measuring.{measured-whole}
 use Rattle.polyline.proofs.Rows.{rows-length}
 use Rattle.resample.specs.Spacing.{spreadAt}
 use Rattle.resample.specs.Planning.{planOf, rowsBy}
 use Rattle.resample.specs.Resample.{Outcome, numbers, refusal, after, byPlan, roomed, resampleOf, answered, writtenBy, Resample}
-use Rattle.resample.specs.declared.inner.Way.{Way}
-use Rattle.resample.specs.declared.inner.Way.the-variants as Way
-use Rattle.resample.specs.declared.inner.Plan.{Plan}
-use Rattle.resample.specs.declared.inner.Plan.the-variants as Plan
+use Rattle.resample.specs.declared.spreading.Way.{Way}
+use Rattle.resample.specs.declared.spreading.Way.the-variants as Way
+use Rattle.resample.specs.declared.spreading.Plan.{Plan}
+use Rattle.resample.specs.declared.spreading.Plan.the-variants as Plan
 use Rattle.resample.specs.declared.resampling.Resampled.the-variants.{Numbers}
 use Rattle.resample.proofs.Plans.{plan-broken, plan-spread}
 use Rattle.resample_order.specs.Ordered.{chosenOf, shareAt, OnLeg, InOrder}

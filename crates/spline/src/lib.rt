@@ -2,3 +2,4 @@
 // What stands here asks nothing and refuses; `inner` has what asks for points and a table that were judged.
 mod formula;
 pub mod inner;
+mod sampling;

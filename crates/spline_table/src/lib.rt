@@ -1,4 +1,5 @@
 // The table of running lengths of a Catmull-Rom spline through lent points (bezier.rs, `build_table`), stored in a lent slice.
+mod entries;
 pub mod inner;
 mod rows;
 mod tables;

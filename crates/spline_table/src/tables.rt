@@ -1,7 +1,7 @@
 // The entry that makes a table.
-use crate::inner::fill;
-use crate::inner::first_not_finite;
-use crate::inner::last_entry;
+use crate::entries::fill;
+use crate::entries::first_not_finite;
+use crate::entries::last_entry;
 use answers::Refusal;
 use answers::Values;
 ghost use Rattle.spline_table.specs.Tables.{SplineTable};

@@ -16,7 +16,7 @@ use Rattle.scan.proofs.ByteLaws.{either-way}
 use Rattle.scan.proofs.RunLaws.{all-onward, all-within, all-end, all-passed}
 use Rattle.decimal_digits.specs.Digits.{digitsIn, val}
 use Rattle.decimal_digits.specs.Exponent.{capped, exponentOf}
-use Rattle.decimal_digits.specs.declared.inner.Power.{Power}
+use Rattle.decimal_digits.specs.declared.gathering.Power.{Power}
 use Rattle.decimal_digits.proofs.Capping.{capped-small}
 use Rattle.decimal_digits.proofs.Places.{run-in}
 use Rattle.decimal_digits.proofs.Values.{val-lt}

@@ -1,11 +1,12 @@
 // Sine and cosine of an angle in radians. Each equals its definition by steps in the crate `trig_rule`,
 // whose laws show that it keeps the rule.
 pub mod inner;
+mod sides;
 
-use crate::inner::cosine_at;
-use crate::inner::fixed;
-use crate::inner::reduce;
-use crate::inner::sine_at;
+use crate::sides::cosine_at;
+use crate::sides::fixed;
+use crate::sides::reduce;
+use crate::sides::sine_at;
 ghost use mathlib.Core.Path.{_≡_};
 ghost use Rattle.trig_rule.specs.Rule.{inReach};
 ghost use Rattle.trig_rule.specs.Steps.{sineOf, cosineOf};

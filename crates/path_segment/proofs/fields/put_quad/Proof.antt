@@ -1,0 +1,17 @@
+-- `path_segment::fields::put_quad` meets its contract: two runs of numbers, one after the other. Assumes nothing.
+use Rattle.path_segment.specs.Segments.{xy}
+use Rattle.commands.proofs.Storing.{then-put}
+use mathlib.Core.List.{[]}
+use mathlib.Core.Path.{refl}
+use Prim.Native.Nat.{_+_}
+use borrow.Author.Needs.{needs}
+use Rattle.path_segment.proofs.fields.put_quad.Statement.{statement}
+use Rattle.path_segment.proofs.fields.put_quad.Tie as tie
+
+returns : tie.Need-returns
+returns c = let a = c .before .before .before .before .before .before .before .before .before .args in then-put (a .numbers .now) (a .at) (xy (a .start) (xy (a .control) [])) (xy (a .end) []) (c .before .before .before .before .before .before .put-pair .last .0) _ (a .at + 4) (c .before .before .before .before .before .before .put-pair .ensures) refl (c .before .before .put-two .ensures)
+
+pub put-quad-spec : {M : Type 1} → statement M
+put-quad-spec =
+    tie.close
+    (tie.spec (λ c κs. search needs) (λ c. search needs) (λ c κs. search needs) (λ c. search needs) returns)

@@ -1,0 +1,38 @@
+-- `path_segment::fields::put_table` meets its contract. The invariant: the entries before k are stored. The measure is the entries left. Assumes nothing.
+use Rattle.path_segment.proofs.Runs.{put-next, put-last}
+use lib.Seq.{sets, length-sets}
+use lib.ListN.{length, take, length-set}
+use native.Mathlib.Omega.{arith}
+use mathlib.Core.Path.{_≡_, refl, sym}
+use Prim.Native.Nat.{_-_, _≤_}
+use borrow.Author.Needs.{needs}
+use Rattle.path_segment.proofs.fields.put_table.Statement.{statement}
+use Rattle.path_segment.proofs.fields.put_table.Tie as tie
+
+abbrev Inv-loop : tie.InvT-loop
+Inv-loop tables₀ at table entries k₀ tables k = (k ≤ 32) × (length entries ≡ 32) × (tables ≡ sets tables₀ at (take k entries))
+
+abbrev μ-loop : tie.MeasureT-loop
+μ-loop tables₀ at table entries k₀ tables k = 32 - k
+
+slice-write-tables : tie.Need-slice-write-tables Inv-loop μ-loop
+slice-write-tables c = let l = c .before .before .loop in let a = c .before .before .before .before .before .args in let s : length (l .tables) ≡ length (a .tables .now) = rw (l .inv .2) (length-sets (a .tables .now) (a .at) (take (l .k) (a .table .entries))) in omega arith
+
+loop-again : tie.Need-loop-again Inv-loop μ-loop
+loop-again c = let l = c .before .before .loop in let a = c .before .before .before .before .before .args in (omega arith, l .inv .1, put-next (a .table .entries) (a .tables .now) (a .at) (l .k) (l .tables) _ (omega arith) (l .inv .2) (c .tidy .ensures))
+
+slice-write-tables-2 : tie.Need-slice-write-tables-2 Inv-loop μ-loop
+slice-write-tables-2 c = let l = c .before .before .loop in let a = c .before .before .before .before .before .args in let s : length (l .tables) ≡ length (a .tables .now) = rw (l .inv .2) (length-sets (a .tables .now) (a .at) (take (l .k) (a .table .entries))) in omega arith
+
+same-length : tie.Need-same-length Inv-loop μ-loop
+same-length c = let l = c .before .before .loop in let a = c .before .before .before .before .before .args in let s : length (l .tables) ≡ length (a .tables .now) = rw (l .inv .2) (length-sets (a .tables .now) (a .at) (take (l .k) (a .table .entries))) in simp length-set s
+
+returns : tie.Need-returns Inv-loop μ-loop
+returns c = let l = c .before .before .loop in let a = c .before .before .before .before .before .args in let k : l .k ≡ 32 = omega arith in put-last (a .table .entries) (a .tables .now) (a .at) 32 (l .tables) _ _ (l .inv .1) (rw k at (l .inv .2)) (c .tidy2 .ensures)
+
+pub put-table-spec : {M : Type 1} → statement M
+put-table-spec =
+    tie.close
+    (tie.spec Inv-loop μ-loop (λ c. search needs) (λ c. search needs) (λ c. search needs) (λ c κs. search needs)
+    (λ c. search needs) (λ c. search needs) slice-write-tables (λ c. search needs) (λ c. search needs) loop-again
+    (λ c κs. search needs) (λ c. search needs) (λ c. search needs) slice-write-tables-2 same-length returns)

@@ -1,0 +1,89 @@
+-- `path_segment::fields::segment_at` meets its contract: each arm is a case of `segmentOf`, and what stands from a place on is `drop` of it. Assumes nothing.
+use Rattle.path_segment.proofs.Reading.{fifth, is-line, is-quad, is-cubic, is-arc, is-fallback}
+use Rattle.path_segment.proofs.Runs.{room}
+use Rattle.path_segment.specs.Segments.{widthOf}
+use Rattle.commands.proofs.Decoding.{point-from}
+use lib.ListN.{drop}
+use native.Mathlib.Omega.{arith}
+use native.Mathlib.Nat.{add-zero}
+use mathlib.Core.Path.{refl, sym, _∙_}
+use Prim.Native.Nat.{_+_}
+use borrow.Author.Needs.{needs}
+use Rattle.path_segment.proofs.fields.segment_at.Statement.{statement}
+use Rattle.path_segment.proofs.fields.segment_at.Tie as tie
+
+point-at-requires : tie.Need-point-at-requires
+unfolding widthOf
+point-at-requires c κs = omega (arith, room _ 0 _ _ (c .match .keys1) (c .before .before .pre .1))
+
+point-at-requires-2 : tie.Need-point-at-requires-2
+unfolding widthOf
+point-at-requires-2 c κs = omega (arith, room _ 0 _ _ (c .before .match .keys1) (c .before .before .before .pre .1))
+
+point-at-requires-3 : tie.Need-point-at-requires-3
+unfolding widthOf
+point-at-requires-3 c κs = omega (arith, room _ 1 _ _ (c .match .keys2) (c .before .before .pre .1))
+
+point-at-requires-4 : tie.Need-point-at-requires-4
+unfolding widthOf
+point-at-requires-4 c κs = omega (arith, room _ 1 _ _ (c .before .match .keys2) (c .before .before .before .pre .1))
+
+point-at-requires-5 : tie.Need-point-at-requires-5
+unfolding widthOf
+point-at-requires-5 c κs = omega (arith, room _ 1 _ _ (c .before .before .match .keys2) (c .before .before .before .before .pre .1))
+
+point-at-requires-6 : tie.Need-point-at-requires-6
+unfolding widthOf
+point-at-requires-6 c κs = omega (arith, room _ 2 _ _ (c .match .keys3) (c .before .before .pre .1))
+
+point-at-requires-7 : tie.Need-point-at-requires-7
+unfolding widthOf
+point-at-requires-7 c κs = omega (arith, room _ 2 _ _ (c .before .match .keys3) (c .before .before .before .pre .1))
+
+point-at-requires-8 : tie.Need-point-at-requires-8
+unfolding widthOf
+point-at-requires-8 c κs = omega (arith, room _ 2 _ _ (c .before .before .match .keys3) (c .before .before .before .before .pre .1))
+
+point-at-requires-9 : tie.Need-point-at-requires-9
+unfolding widthOf
+point-at-requires-9 c κs = omega (arith, room _ 2 _ _ (c .before .before .before .match .keys3) (c .before .before .before .before .before .pre .1))
+
+shape-at-requires : tie.Need-shape-at-requires
+unfolding widthOf
+shape-at-requires c κs = omega (arith, room _ 3 _ _ (c .match .keys4) (c .before .before .pre .1))
+
+shape-at-requires-2 : tie.Need-shape-at-requires-2
+unfolding widthOf
+shape-at-requires-2 c κs = omega (arith, room _ 4 _ _ (fifth _ (c .match .rest .0 .0 .0 .1) (c .match .rest .0 .0 .1) (c .match .rest .0 .1) (c .match .rest .1) (c .before .before .pre .0)) (c .before .before .pre .1))
+
+returns : tie.Need-returns
+returns c =
+    let a = c .before .before .before .before .args in
+    let n = a .numbers .now in
+    is-line (a .kind) (drop (a .at) n) _ _ (c .before .point-at .ensures ∙ point-from n (a .at) 0 (a .at) (sym (add-zero (a .at)))) (c .point-at2 .ensures ∙ point-from n (a .at) 2 (a .at + 2) refl) (c .before .before .match .keys1)
+
+returns-2 : tie.Need-returns-2
+returns-2 c =
+    let a = c .before .before .before .before .before .args in
+    let n = a .numbers .now in
+    is-quad (a .kind) (drop (a .at) n) _ _ _ (c .before .before .point-at3 .ensures ∙ point-from n (a .at) 0 (a .at) (sym (add-zero (a .at)))) (c .before .point-at4 .ensures ∙ point-from n (a .at) 2 (a .at + 2) refl) (c .point-at5 .ensures ∙ point-from n (a .at) 4 (a .at + 4) refl) (c .before .before .before .match .keys2)
+
+returns-3 : tie.Need-returns-3
+returns-3 c =
+    let a = c .before .before .before .before .before .before .args in
+    let n = a .numbers .now in
+    is-cubic (a .kind) (drop (a .at) n) _ _ _ _ (c .before .before .before .point-at6 .ensures ∙ point-from n (a .at) 0 (a .at) (sym (add-zero (a .at)))) (c .before .before .point-at7 .ensures ∙ point-from n (a .at) 2 (a .at + 2) refl) (c .before .point-at8 .ensures ∙ point-from n (a .at) 4 (a .at + 4) refl) (c .point-at9 .ensures ∙ point-from n (a .at) 6 (a .at + 6) refl) (c .before .before .before .before .match .keys3)
+
+returns-4 : tie.Need-returns-4
+returns-4 c = is-arc _ _ _ (c .shape-at .ensures) (c .before .match .keys4)
+
+returns-5 : tie.Need-returns-5
+returns-5 c = let r = c .before .match .rest in is-fallback _ _ _ (c .shape-at2 .ensures) (fifth _ (r .0 .0 .0 .1) (r .0 .0 .1) (r .0 .1) (r .1) (c .before .before .before .pre .0))
+
+pub segment-at-spec : {M : Type 1} → statement M
+segment-at-spec =
+    tie.close
+    (tie.spec point-at-requires (λ c. search needs) point-at-requires-2 point-at-requires-3 (λ c. search needs)
+    point-at-requires-4 (λ c. search needs) point-at-requires-5 point-at-requires-6 (λ c. search needs)
+    point-at-requires-7 (λ c. search needs) point-at-requires-8 (λ c. search needs) point-at-requires-9
+    shape-at-requires shape-at-requires-2 returns returns-2 returns-3 returns-4 returns-5)

@@ -1,0 +1,164 @@
+// A segment's numbers and its table in the buffers of a stored path: read from a place, and stored at it.
+use crate::segments::PathSegment;
+use arc::LineSegment;
+use commands::inner::point_at;
+use commands::inner::put_two;
+use ellipse::Arc;
+use floats::tidy;
+use math::Point;
+use table::Table;
+ghost use mathlib.Core.Path.{_≡_};
+ghost use mathlib.Core.List.{[]};
+ghost use Prim.Native.Nat.{_+_, _≤_, _<_};
+ghost use lib.ListN.{length, drop};
+ghost use lib.Seq.{sets};
+ghost use Rattle.path_segment.specs.Segments.{widthOf, xy, shapeFields, fieldsOf, shapeOf, segmentOf, tableNumbers, tableAt};
+
+// Puts two points at four places, and touches no other.
+fn put_pair(numbers: &mut [f32], at: usize, p: Point, q: Point)
+    requires { ⌜ at + 4 ≤ length (now numbers) ⌝ }
+    ensures { λ _. ⌜ now (numbers .exit) ≡ sets (now (numbers .entry)) at (xy p (xy q [])) ⌝ }
+{
+    put_two(numbers, at, p.x, p.y);
+    put_two(numbers, at + 2, q.x, q.y);
+}
+
+fn put_quad(numbers: &mut [f32], at: usize, start: Point, control: Point, end: Point)
+    requires { ⌜ at + 6 ≤ length (now numbers) ⌝ }
+    ensures { λ _. ⌜ now (numbers .exit) ≡ sets (now (numbers .entry)) at (xy start (xy control (xy end []))) ⌝ }
+{
+    put_pair(numbers, at, start, control);
+    put_two(numbers, at + 4, end.x, end.y);
+}
+
+fn put_cubic(
+    numbers: &mut [f32],
+    at: usize,
+    start: Point,
+    control1: Point,
+    control2: Point,
+    end: Point,
+)
+    requires { ⌜ at + 8 ≤ length (now numbers) ⌝ }
+    ensures { λ _. ⌜ now (numbers .exit) ≡ sets (now (numbers .entry)) at (xy start (xy control1 (xy control2 (xy end [])))) ⌝ }
+{
+    put_pair(numbers, at, start, control1);
+    put_pair(numbers, at + 4, control2, end);
+}
+
+fn put_shape(numbers: &mut [f32], at: usize, shape: Arc)
+    requires { ⌜ at + 11 ≤ length (now numbers) ⌝ }
+    ensures { λ _. ⌜ now (numbers .exit) ≡ sets (now (numbers .entry)) at (shapeFields shape) ⌝ }
+{
+    put_cubic(
+        numbers,
+        at,
+        shape.start,
+        shape.end,
+        shape.center,
+        shape.radii,
+    );
+    put_two(numbers, at + 8, shape.x_axis_rotation, shape.start_angle);
+    numbers[at + 10] = tidy(shape.delta_angle);
+}
+
+// Stores a segment's numbers from `at` on.
+pub fn put_segment(numbers: &mut [f32], at: usize, segment: PathSegment)
+    requires { ⌜ at + length (fieldsOf segment) ≤ length (now numbers) ⌝ }
+    ensures { λ _. ⌜ now (numbers .exit) ≡ sets (now (numbers .entry)) at (fieldsOf segment) ⌝ }
+{
+    match segment {
+        PathSegment::Line(line) => put_pair(numbers, at, line.start, line.end),
+        PathSegment::Quad {
+            start,
+            control,
+            end,
+        } => put_quad(numbers, at, start, control, end),
+        PathSegment::Cubic {
+            start,
+            control1,
+            control2,
+            end,
+        } => put_cubic(numbers, at, start, control1, control2, end),
+        PathSegment::Arc(shape) => put_shape(numbers, at, shape),
+        PathSegment::Fallback(shape) => put_shape(numbers, at, shape),
+    }
+}
+
+fn shape_at(numbers: &[f32], at: usize) -> Arc
+    requires { ⌜ at + 11 ≤ length (now numbers) ⌝ }
+    ensures { λ r. ⌜ r ≡ shapeOf (drop at (now (numbers .entry))) ⌝ }
+{
+    let start = point_at(numbers, at);
+    let end = point_at(numbers, at + 2);
+    let center = point_at(numbers, at + 4);
+    let radii = point_at(numbers, at + 6);
+    Arc {
+        start,
+        end,
+        center,
+        radii,
+        x_axis_rotation: numbers[at + 8],
+        start_angle: numbers[at + 9],
+        delta_angle: numbers[at + 10],
+    }
+}
+
+// The segment of a known kind, whose numbers stand from `at` on.
+pub fn segment_at(kind: u8, numbers: &[f32], at: usize) -> PathSegment
+    requires { ⌜ kind < 5 ⌝ }
+    requires { ⌜ at + widthOf kind ≤ length (now numbers) ⌝ }
+    ensures { λ r. ⌜ r ≡ segmentOf kind (drop at (now (numbers .entry))) ⌝ }
+{
+    match kind {
+        0 => {
+            let start = point_at(numbers, at);
+            let end = point_at(numbers, at + 2);
+            PathSegment::Line(LineSegment { start, end })
+        }
+        1 => PathSegment::Quad {
+            start: point_at(numbers, at),
+            control: point_at(numbers, at + 2),
+            end: point_at(numbers, at + 4),
+        },
+        2 => PathSegment::Cubic {
+            start: point_at(numbers, at),
+            control1: point_at(numbers, at + 2),
+            control2: point_at(numbers, at + 4),
+            end: point_at(numbers, at + 6),
+        },
+        3 => PathSegment::Arc(shape_at(numbers, at)),
+        _ => PathSegment::Fallback(shape_at(numbers, at)),
+    }
+}
+
+// The table whose 33 numbers stand from `at` on: 32 entries, then the total.
+pub fn table_at(tables: &[f32], at: usize) -> Table
+    requires { ⌜ at + 33 ≤ length (now tables) ⌝ }
+    ensures { λ r. ⌜ r ≡ tableAt (now (tables .entry)) at ⌝ }
+{
+    let mut entries = [0.0f32; 32];
+    let mut k = 0usize;
+    while k < 32 {
+        entries[k] = tables[at + k];
+        k += 1;
+    }
+    Table {
+        entries,
+        total: tables[at + 32],
+    }
+}
+
+// Stores a table at 33 places.
+pub fn put_table(tables: &mut [f32], at: usize, table: Table)
+    requires { ⌜ at + 33 ≤ length (now tables) ⌝ }
+    ensures { λ _. ⌜ now (tables .exit) ≡ sets (now (tables .entry)) at (tableNumbers table) ⌝ }
+{
+    let entries = table.entries;
+    let mut k = 0usize;
+    while k < 32 {
+        tables[at + k] = tidy(entries[k]);
+        k += 1;
+    }
+    tables[at + 32] = tidy(table.total);
+}

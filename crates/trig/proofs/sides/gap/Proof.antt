@@ -1,0 +1,17 @@
+-- Each branch is the case of the definition that its test picks. Assumes nothing.
+use borrow.Author.Needs.{needs}
+use borrow.Author.Tests.{le-leb, lt-leb}
+use native.Mathlib.Omega.{arith}
+use Rattle.trig.proofs.sides.gap.Statement.{statement}
+use Rattle.trig.proofs.sides.gap.Tie as tie
+
+returns : tie.Need-returns
+returns c = (simp (le-leb _ _ (c .if1 .taken)), omega arith)
+
+returns-2 : tie.Need-returns-2
+returns-2 c = (simp (lt-leb _ _ (c .if1 .left)), omega arith)
+
+pub gap-spec : {M : Type 1} → statement M
+gap-spec =
+    tie.close
+    (tie.spec (λ c. search needs) returns returns-2)
