@@ -51,7 +51,12 @@ pub fn slow<I: Copy>(inputs: &[I], ours: impl Fn(I) -> u32, theirs: impl Fn(I) -
 
 /// Times both sides in turn on one large input, with a few calls in each round.
 pub fn large(ours: impl Fn() -> u32, theirs: impl Fn() -> u32) -> [f64; 2] {
-    best(16, 1, ours, theirs)
+    repeated(16, ours, theirs)
+}
+
+/// The same with so many calls in each round.
+pub fn repeated(calls: usize, ours: impl Fn() -> u32, theirs: impl Fn() -> u32) -> [f64; 2] {
+    best(calls, 1, ours, theirs)
 }
 
 // both sides have as many calls in each round

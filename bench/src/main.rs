@@ -2,6 +2,10 @@
 //! called and not inlined, as a C caller has it. A ratio is the Rust's time over ours: above 1 we are faster.
 
 mod clock;
+mod growth;
+mod lists;
+#[cfg(others)]
+mod others;
 
 use animato_path::bezier::{CatmullRomSpline, CubicBezierCurve, PathEvaluate, QuadBezier};
 use animato_path::math::open;
@@ -9,37 +13,47 @@ use animato_path::morph::{MorphPath, resample};
 use animato_path::poly::{CompoundPath, EllipticalArc, LineSegment, PathCommand, PathSegment};
 use animato_path::svg::SvgPathParser;
 use clock::{large, latency, slow, throughput};
-use kihavute::{Chord, Path, Progress};
+use kihavute::{Chord, Progress};
+use lists::{List, Room};
 use std::cell::RefCell;
 
 const INPUTS: usize = 4096;
 
+type Rows = &'static [(&'static str, fn())];
+
+const ROWS: Rows = &[
+    ("root", root),
+    ("length", length),
+    ("angles", angles),
+    ("strict", strict),
+    ("drawings", drawings),
+    ("build", build),
+    ("read", read),
+    ("decimals", decimals),
+    ("shapes", shapes),
+    ("lookup", lookup),
+    ("curves", curves),
+    ("spot", spot),
+    ("splines", splines),
+    ("kurbo", others::lengths),
+];
+
+const GROWTH: Rows =
+    &[("sizes", growth::sizes), ("flight", growth::flight), ("places", growth::places), ("texts", growth::texts)];
+
 fn main() {
-    let rows: &[(&str, fn())] = &[
-        ("root", root),
-        ("length", length),
-        ("angles", angles),
-        ("strict", strict),
-        ("drawings", drawings),
-        ("build", build),
-        ("read", read),
-        ("decimals", decimals),
-        ("shapes", shapes),
-        ("lookup", lookup),
-        ("curves", curves),
-        ("spot", spot),
-        ("flight", flight),
-        ("places", places),
-        ("splines", splines),
-    ];
     let wanted: Vec<String> = std::env::args().skip(1).collect();
-    if let Some(word) = wanted.iter().find(|word| rows.iter().all(|(name, _)| name != word)) {
-        eprintln!("no rows {word}: {}", rows.iter().map(|(name, _)| *name).collect::<Vec<_>>().join(" "));
+    let names: Vec<&str> = ROWS.iter().chain(GROWTH).map(|(name, _)| *name).collect();
+    if let Some(word) = wanted.iter().find(|word| !names.contains(&word.as_str())) {
+        eprintln!("no rows {word}: {}", names.join(" "));
         std::process::exit(2);
     }
-    println!("{:28} {:>9} {:>9} {:>7}", "ns per call, best of 25", "ours", "the Rust", "ratio");
-    for (name, run) in rows {
-        if wanted.is_empty() || wanted.iter().any(|word| word == name) {
+    for (title, rows) in [("Row, ns per call, best of 25", ROWS), ("How cost grows, ns for each", GROWTH)] {
+        let asked = |name: &str| wanted.is_empty() || wanted.iter().any(|word| word == name);
+        if rows.iter().any(|(name, _)| asked(name)) {
+            println!("{title:28} {:>9} {:>9} {:>7}", "ours", "the Rust", "ratio");
+        }
+        for (_, run) in rows.iter().filter(|(name, _)| asked(name)) {
             run();
         }
     }
@@ -47,6 +61,11 @@ fn main() {
 
 fn row(name: &str, [ours, theirs]: [f64; 2]) {
     println!("{name:28} {ours:9.2} {theirs:9.2} {:7.2}", theirs / ours);
+}
+
+// what the Rust has nothing beside
+fn row_alone(name: &str, ours: f64) {
+    println!("{name:28} {ours:9.2} {:>9} {:>7}", "-", "-");
 }
 
 // ---- the sides, each behind a call
@@ -250,30 +269,22 @@ fn read() {
     row("read, smooth, a byte", per_byte_of([&smooth, &plain], ours, original_reads));
     let owned = |text: &[u8]| kihavute::read(text).map_or(0, |commands| commands.letters.len());
     row("read, own buffers, a byte", per_byte(&texts, owned, original_reads));
-    other_readers(&texts, &ours);
-}
-
-// two other readers on the texts that they read too; they convert to f64, and keep each command as it is written
-#[cfg(others)]
-fn other_readers(texts: &[&[u8]], ours: &dyn Fn(&[u8]) -> usize) {
-    fn svgtypes(text: &[u8]) -> usize {
-        let text = std::str::from_utf8(text).expect("a drawing is ASCII");
-        text.parse::<svgtypes::Path>().map_or(0, |path| path.len())
-    }
-    fn kurbo(text: &[u8]) -> usize {
-        let text = std::str::from_utf8(text).expect("a drawing is ASCII");
-        kurbo::BezPath::from_svg(text).map_or(0, |path| path.elements().len())
-    }
-    let readers: [(&str, fn(&[u8]) -> usize); 2] = [("read, beside svgtypes", svgtypes), ("read, beside kurbo", kurbo)];
-    for (name, reader) in readers {
-        let read: Vec<&[u8]> = texts.iter().copied().filter(|text| reader(text) > 0).collect();
-        row(name, per_byte(&read, ours, reader));
-    }
+    others::readers(&texts, &ours);
 }
 
 #[cfg(not(others))]
-fn other_readers(_: &[&[u8]], _: &dyn Fn(&[u8]) -> usize) {
-    println!("{:28} left out: bench/others says why", "read, beside other readers");
+mod others {
+    fn left_out(what: &str) {
+        println!("{what:28} left out: bench/others says why");
+    }
+
+    pub fn readers(_: &[&[u8]], _: &dyn Fn(&[u8]) -> usize) {
+        left_out("read, beside other readers");
+    }
+
+    pub fn lengths() {
+        left_out("building and places, kurbo");
+    }
 }
 
 // a hundred bytes of a drawing; the Rust reads them permissively, and has no strict reading
@@ -346,7 +357,9 @@ fn lookup() {
     let tables: Vec<([f32; 32], f32)> = curves.iter().map(QuadBezier::open_table).collect();
     let inputs: Vec<(usize, f32)> =
         bits.iter().map(|bits| (*bits as usize % 64, (bits >> 8) as f32 / 16_777_216.0)).collect();
-    let ours = |(k, t): (usize, f32)| kihavute::raw_parameter(&tables[k].0, tables[k].1, Progress(t)).map_or(0, |raw| raw.value().to_bits());
+    let ours = |(k, t): (usize, f32)| {
+        kihavute::raw_parameter(&tables[k].0, tables[k].1, Progress(t)).map_or(0, |raw| raw.value().to_bits())
+    };
     row("lookup in a table of 32", throughput(&inputs, ours, |(k, t)| original_raw_t(&curves[k], t).to_bits()));
 }
 
@@ -405,7 +418,9 @@ fn splines() {
         let asked: Vec<(usize, f32)> =
             patterns().map(|bits| (bits as usize % 64, (bits >> 8) as f32 / 16_777_216.0)).collect();
         let table = |k: usize| splines[k].open_table().0;
-        let ours = |(k, t): (usize, f32)| kihavute::spline_flight(own(starts[k]), table(k), Progress(t)).map_or(0, |f| f.position[0] ^ f.tangent[0]);
+        let ours = |(k, t): (usize, f32)| {
+            kihavute::spline_flight(own(starts[k]), table(k), Progress(t)).map_or(0, |f| f.position[0] ^ f.tangent[0])
+        };
         let theirs = |(k, t): (usize, f32)| {
             original_position(&splines[k], t)[0].to_bits() ^ original_tangent(&splines[k], t)[0].to_bits()
         };
@@ -493,151 +508,16 @@ fn original_build(commands: &[PathCommand]) -> u32 {
     CompoundPath::from_commands(commands).arc_length().to_bits()
 }
 
-// a list of a MoveTo and 500 segments of one kind, some hundred metres each, by the segment; ours judges the whole list before
-// it writes, so that each table is made twice
+// a list of a MoveTo and 500 segments of one kind, by the segment; ours judges the whole list before it writes
 fn build() {
     const COUNT: usize = 500;
-    let bits: Vec<u32> = patterns().collect();
-    let metres = |k: usize| (bits[k] % 1_000_000) as f32 / 1000.0;
-    let point = |k: usize| [metres(k), metres(k + 1)];
     for (letter, name) in
         [(b'L', "building a line"), (b'Q', "building a quad"), (b'C', "building a cubic"), (b'A', "building an arc")]
     {
-        let mut commands = vec![PathCommand::MoveTo(point(0))];
-        let (mut letters, mut numbers) = (vec![b'M'], point(0).to_vec());
-        for k in 0..COUNT {
-            let [a, b, c] = [point(8 * k), point(8 * k + 2), point(8 * k + 4)];
-            let end = point(8 * k + 6);
-            let radii = [a[0] + 1.0, a[1] + 1.0];
-            letters.push(letter);
-            commands.push(match letter {
-                b'L' => PathCommand::LineTo(end),
-                b'Q' => PathCommand::QuadTo { control: b, end },
-                b'C' => PathCommand::CubicTo { control1: b, control2: c, end },
-                _ => PathCommand::ArcTo { radii, x_axis_rotation: 30.0, large_arc: k % 2 == 0, sweep: k % 3 == 0, end },
-            });
-            match letter {
-                b'L' => {}
-                b'Q' => numbers.extend(b),
-                b'C' => numbers.extend(b.into_iter().chain(c)),
-                _ => numbers.extend(radii.into_iter().chain([
-                    30.0,
-                    if k % 2 == 0 { 1.0 } else { 0.0 },
-                    if k % 3 == 0 { 1.0 } else { 0.0 },
-                ])),
-            }
-            numbers.extend(end);
-        }
-        let (mut kinds, mut fields) = (vec![0; COUNT], vec![0.0; 11 * COUNT]);
-        let (mut tables, mut lengths, mut drawers) = (vec![0.0; 33 * COUNT], vec![0.0; COUNT], vec![0; COUNT]);
-        let buffers = std::cell::RefCell::new((&mut kinds, &mut fields, &mut tables, &mut lengths, &mut drawers));
-        let ours = || {
-            let (kinds, fields, tables, lengths, drawers) = &mut *buffers.borrow_mut();
-            let given = kihavute::build(&letters, &numbers, kinds, fields, tables, lengths, drawers);
-            given.map_or(0, |counts| counts[1] as u32)
-        };
-        row(name, large(ours, || original_build(&commands)).map(|time| time / COUNT as f64));
-    }
-}
-
-// a path of so many segments, lines, quads, cubics and arcs in turn of some hundred metres, on both sides
-struct Flown {
-    count: usize,
-    ours: Path,
-    theirs: CompoundPath,
-    /// The elements of the five buffers.
-    stored: u64,
-}
-
-impl Flown {
-    fn of(count: usize) -> Flown {
-        let bits: Vec<u32> = patterns().collect();
-        let metres = |k: usize| (bits[k % INPUTS] % 1_000_000) as f32 / 1000.0;
-        let point = |k: usize| [metres(k), metres(k + 1)];
-        let (mut letters, mut numbers) = (vec![b'M'], point(0).to_vec());
-        let mut commands = vec![PathCommand::MoveTo(point(0))];
-        for k in 0..count {
-            let [control1, control2, end, radii] = [0, 2, 4, 6].map(|more| point(7 * k + more));
-            let (letter, own, command) = match k % 4 {
-                0 => (b'L', vec![], PathCommand::LineTo(end)),
-                1 => (b'Q', control1.to_vec(), PathCommand::QuadTo { control: control1, end }),
-                2 => (b'C', [control1, control2].concat(), PathCommand::CubicTo { control1, control2, end }),
-                _ => {
-                    let arc = PathCommand::ArcTo { radii, x_axis_rotation: 30.0, large_arc: false, sweep: true, end };
-                    (b'A', vec![radii[0], radii[1], 30.0, 0.0, 1.0], arc)
-                }
-            };
-            letters.push(letter);
-            numbers.extend(own.into_iter().chain(end));
-            commands.push(command);
-        }
-        let room = kihavute::build(&letters, &numbers, &mut [], &mut [], &mut [], &mut [], &mut []);
-        let stored = room.expect_err("there is no room").carried()[..5].iter().sum();
-        let ours = Path::from_commands(&letters, &numbers).expect("it builds");
-        Flown { count, ours, theirs: CompoundPath::from_commands(&commands), stored }
-    }
-}
-
-const SIZES: [usize; 3] = [16, 256, 4096];
-
-#[inline(never)]
-fn original_place(path: &CompoundPath, t: f32) -> (u32, f32) {
-    path.open_place_at(t).map_or((0, 0.0), |(segment, raw)| (segment as u32, raw))
-}
-
-#[inline(never)]
-fn original_flown(path: &CompoundPath, t: f32) -> [f32; 4] {
-    let ([x, y], [tx, ty]) = (path.position(t), path.tangent(t));
-    [x, y, tx, ty]
-}
-
-// one query, against the original's position and tangent; ours checks the whole path first: its time by the element stored stands below
-fn flight() {
-    let inputs: Vec<f32> = patterns().take(16).map(|bits| (bits >> 8) as f32 / 16_777_216.0).collect();
-    let all = |side: &dyn Fn(f32) -> u32| inputs.iter().fold(0u32, |sum, t| sum.wrapping_add(side(*t)));
-    for path in SIZES.map(Flown::of) {
-        let ours = |t: f32| path.ours.flight(Progress(t)).map_or(0, |there| there.position[0] ^ there.tangent[0]);
-        let theirs = |t: f32| original_flown(&path.theirs, t)[0].to_bits();
-        let times = large(|| all(&ours), || all(&theirs)).map(|time| time / inputs.len() as f64);
-        row(&format!("a flight on {} segments", path.count), times);
-        println!("{:28} {:9.3}", "  for each number stored", times[0] / path.stored as f64);
-    }
-}
-
-// a batch of 1,000, by the progress: ours checks the path once; the Rust is asked one by one
-fn places() {
-    const COUNT: usize = 1000;
-    let rising: Vec<Progress> = (0..COUNT).map(|k| Progress(k as f32 / 999.0)).collect();
-    let any: Vec<Progress> = patterns().take(COUNT).map(|bits| Progress((bits >> 8) as f32 / 16_777_216.0)).collect();
-    let lent = RefCell::new((vec![0; COUNT], vec![0.0f32; COUNT], vec![0.0f32; 4 * COUNT]));
-    let each = |times: [f64; 2]| times.map(|time| time / COUNT as f64);
-    for path in SIZES.map(Flown::of) {
-        for (order, progresses) in [("rising", &rising), ("any", &any)] {
-            let ours = || {
-                let (segments, raws, _) = &mut *lent.borrow_mut();
-                path.ours.places(progresses, segments, raws).map_or(0, |count| count as u32)
-            };
-            let theirs = || {
-                let (segments, raws, _) = &mut *lent.borrow_mut();
-                for (k, t) in progresses.iter().enumerate() {
-                    (segments[k], raws[k]) = original_place(&path.theirs, t.0);
-                }
-                segments[0]
-            };
-            row(&format!("places on {}, {order}", path.count), each(large(ours, theirs)));
-            let ours = || {
-                let (segments, raws, out) = &mut *lent.borrow_mut();
-                path.ours.flights(progresses, segments, raws, out).map_or(0, |count| count as u32)
-            };
-            let theirs = || {
-                let (_, _, out) = &mut *lent.borrow_mut();
-                for (four, t) in out.chunks_exact_mut(4).zip(progresses) {
-                    four.copy_from_slice(&original_flown(&path.theirs, t.0));
-                }
-                out[0].to_bits()
-            };
-            row(&format!("flights on {}, {order}", path.count), each(large(ours, theirs)));
-        }
+        let list = List::of(COUNT, &[letter]);
+        let room = RefCell::new(Room::of(COUNT));
+        let times = large(|| room.borrow_mut().build(&list), || original_build(&list.commands));
+        row(name, times.map(|time| time / COUNT as f64));
     }
 }
 
