@@ -9,7 +9,8 @@ use animato_path::svg::SvgPathParser;
 use kihavute::{Path, Progress};
 use std::cell::RefCell;
 
-const SIZES: [usize; 4] = [16, 256, 4096, 65_536];
+// the last is the most that a list builds: 65,536 commands with one MoveTo
+const SIZES: [usize; 4] = [16, 256, 4096, 65_535];
 const KILOBYTES: [usize; 4] = [1, 4, 16, 64];
 
 // the segments of a path of every kind

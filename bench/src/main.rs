@@ -59,8 +59,11 @@ fn main() {
     }
 }
 
+// a ratio below a tenth has more digits, so that it can be compared
 fn row(name: &str, [ours, theirs]: [f64; 2]) {
-    println!("{name:28} {ours:9.2} {theirs:9.2} {:7.2}", theirs / ours);
+    let ratio = theirs / ours;
+    let digits = if ratio < 0.1 { 4 } else { 2 };
+    println!("{name:28} {ours:9.2} {theirs:9.2} {ratio:7.digits$}");
 }
 
 // what the Rust has nothing beside
