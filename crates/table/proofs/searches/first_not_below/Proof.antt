@@ -16,26 +16,30 @@ Inv-loop lengths target lo₀ hi₀ lo hi = Bracket lengths target lo hi
 abbrev μ-loop : tie.MeasureT-loop
 μ-loop lengths target lo₀ hi₀ lo hi = hi - lo
 
+few-returns : tie.Need-returns Inv-loop μ-loop
+few-returns c = c .count-below .ensures
+
 loop-holds : tie.Need-loop-holds Inv-loop μ-loop
-loop-holds c = bracket-start (now (c .args .lengths)) (c .args .target)
+loop-holds c = bracket-start (now (c .before .before .args .lengths)) (c .before .before .args .target)
 
 loop-again : tie.Need-loop-again Inv-loop μ-loop
 loop-again c =
     let lo = c .before .before .before .loop .lo in
     let hi = c .before .before .before .loop .hi in
-    bracket-up (lo + (hi - lo) / 2) (c .before .before .before .before .pre) (c .before .before .before .loop .inv) (search needs) (subst T (sym (c .if2 .taken)) tt)
+    bracket-up (lo + (hi - lo) / 2) (c .before .before .before .before .before .before .pre) (c .before .before .before .loop .inv) (search needs) (subst T (sym (c .if3 .taken)) tt)
 
 loop-again-2 : tie.Need-loop-again-2 Inv-loop μ-loop
 loop-again-2 c =
     let lo = c .before .before .before .loop .lo in
     let hi = c .before .before .before .loop .hi in
-    bracket-down (lo + (hi - lo) / 2) (c .before .before .before .loop .inv) (search needs) (search needs) (subst (λ (b : Bool). T (not b)) (sym (c .if2 .left)) tt)
+    bracket-down (lo + (hi - lo) / 2) (c .before .before .before .loop .inv) (search needs) (search needs) (subst (λ (b : Bool). T (not b)) (sym (c .if3 .left)) tt)
 
-returns : tie.Need-returns Inv-loop μ-loop
-returns c = bracket-done (c .before .loop .inv) (search needs)
+returns-2 : tie.Need-returns-2 Inv-loop μ-loop
+returns-2 c = bracket-done (c .before .loop .inv) (search needs)
 
 pub first-not-below-spec : {M : Type 1} → statement M
 first-not-below-spec =
     tie.close
-    (tie.spec Inv-loop μ-loop loop-holds (λ c. search needs) (λ c. search needs) (λ c. search needs)
-    (λ c. search needs) (λ c. search needs) (λ c. search needs) loop-again (λ c. search needs) loop-again-2 returns)
+    (tie.spec Inv-loop μ-loop (λ c κs. search needs) few-returns loop-holds (λ c. search needs) (λ c. search needs)
+    (λ c. search needs) (λ c. search needs) (λ c. search needs) (λ c. search needs) loop-again (λ c. search needs)
+    loop-again-2 returns-2)
