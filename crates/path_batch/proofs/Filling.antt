@@ -21,6 +21,7 @@ use Rattle.path_place.specs.declared.places.Place.{Place}
 use Rattle.path_place.specs.Cursors.{cursorOf, Moving}
 use Rattle.path_place.specs.Places.{placeIn, placeOf}
 use Rattle.path_place.proofs.Standing.{cursor-own, spot-among}
+use Rattle.path_marks.specs.Marks.{Marks, Leap}
 use Rattle.path_query.specs.Flights.{flownOf, flightOf, Flyable}
 use Rattle.path_query.proofs.Answering.{flight-some, flight-none}
 use Rattle.path_query.proofs.Seats.{some-place}
@@ -47,6 +48,11 @@ module _ {b : Buffers} {progresses : List Float} {at : Cursor} {k : ℕ} (f : Fl
 
   pub looking-moves : (p : Float) {spot : Spot} → spot ≡ spotOf (b .lengths) p → Moving (b .kinds) at (spot .segment)
   looking-moves p e = let h = among p e in let few = f .path .few in let stood = l .inside in record { few = few; is = l .is; stood = omega arith; inside = omega arith }
+
+  -- from the cursor or a mark
+  pub looking-leaps : {shift : ℕ} {numbers tables : List ℕ} → Marks (b .kinds) shift numbers tables → (p : Float) {spot : Spot} → spot ≡ spotOf (b .lengths) p
+      → Leap (b .kinds) shift numbers tables at (spot .segment)
+  looking-leaps m p e = record { marks = m; move = looking-moves p e; inside = among p e }
 
 -- ---- one element for each progress
 

@@ -1,8 +1,9 @@
--- `path_batch::batches::fill_places` meets its contract. The loop keeps what is filled up to its place and where the cursor stands, `Looking`; the measure is what is left of
--- the progresses. Assumes nothing.
+-- `path_batch::batches::fill_places` meets its contract. The loop keeps what is filled up to its place, where the cursor stands, `Looking`, and that the marks are marks of the
+-- path; the measure is what is left of the progresses. Assumes nothing.
 use borrow.Author.Needs.{needs}
-use Prim.Native.Nat.{_-_, _<_}
+use Prim.Native.Nat.{_*_, _-_, _<_}
 use mathlib.Core.Path.{_≡_, refl, ap, _∙_}
+use mathlib.Core.Logic.{⊎-elim}
 use native.Mathlib.Omega.{arith}
 use lib.ListN.{length, take, getD}
 use lib.Seq.{take-all}
@@ -11,21 +12,25 @@ use mathlib.Core.List.{List}
 use Rattle.answers.specs.Report.{written}
 use Rattle.flight.specs.Flights.{segmentGiven}
 use Rattle.path_stored.specs.Buffers.{Buffers, buffers, lent}
+use Rattle.path_place.specs.Cursors.{cursorOf}
 use Rattle.path_place.proofs.Standing.{some-path, standing, place-is}
+use Rattle.path_marks.specs.Marks.{Marks}
+use Rattle.path_marks.proofs.Marking.{marks-none, marks-same}
 use Rattle.path_query.specs.Flights.{flightOf}
 use Rattle.path_query.proofs.Seats.{some-place}
 use Rattle.path_batch.specs.Batches.{each, segmentsFor, rawsFor}
-use Rattle.path_batch.proofs.Filling.{Looking, looking-first, looking-next, among, looking-moves, each-size, each-next, segment-there, raw-there}
+use Rattle.path_batch.proofs.Filling.{Looking, looking-first, looking-next, among, looking-moves, looking-leaps, each-size, each-next, segment-there, raw-there}
 use Rattle.path_batch.proofs.batches.fill_places.Statement.{statement}
 use Rattle.path_batch.proofs.batches.fill_places.Tie as tie
 
 abbrev Inv-loop : tie.InvT-loop
-Inv-loop kinds fields tables lengths commands progresses segments₀ raws₀ at₀ i₀ segments raws at i =
+Inv-loop kinds fields tables lengths commands progresses segments₀ raws₀ shift₀ number-marks₀ table-marks₀ at₀ near₀ i₀ segments raws shift number-marks table-marks at near i =
     let b = buffers kinds fields tables lengths commands in
     Looking kinds progresses at i × (segments ≡ written (segmentsFor b (take i progresses)) segments₀) × (raws ≡ written (rawsFor b (take i progresses)) raws₀)
+    × Marks kinds shift number-marks table-marks
 
 abbrev μ-loop : tie.MeasureT-loop
-μ-loop kinds fields tables lengths commands progresses segments₀ raws₀ at₀ i₀ segments raws at i = length progresses - i
+μ-loop kinds fields tables lengths commands progresses segments₀ raws₀ shift₀ number-marks₀ table-marks₀ at₀ near₀ i₀ segments raws shift number-marks table-marks at near i = length progresses - i
 
 -- ---- the points, and what is known there
 
@@ -54,79 +59,111 @@ raws-size l =
 
 loop-holds : tie.Need-loop-holds Inv-loop μ-loop
 unfolding each
-loop-holds c = (looking-first (c .first-cursor .ensures) (c .before .before .before .before .before .before .before .before .before .pre .path .some), refl, refl)
+loop-holds c =
+    let path = c .before .before .before .before .before .before .before .before .before .pre .path in
+    (looking-first (c .first-cursor .ensures) (path .some), refl, refl, marks-none (path .path .few))
 
 spot-near-requires : tie.Need-spot-near-requires Inv-loop μ-loop
 spot-near-requires c κs = some-path (some-place (start (c .before .before) .pre .path))
 
 moved-requires : tie.Need-moved-requires Inv-loop μ-loop
-moved-requires c κs = let l = c .before .before .before .before in looking-moves (start l .pre .path) (l .loop .inv .0) _ (c .before .spot-near .ensures)
+moved-requires c κs =
+    let l = c .before .before .before .before .before .before in
+    looking-moves (start l .pre .path) (l .loop .inv .0) _ (c .before .before .before .spot-near .ensures)
+
+marked-requires : tie.Need-marked-requires Inv-loop μ-loop
+marked-requires c κs =
+    let spotted = c .before .before .before .before .before in
+    let l = spotted .before .before .before in
+    looking-leaps (start l .pre .path) (l .loop .inv .0) (l .loop .inv .3) _ (spotted .spot-near .ensures)
+
+nearest-requires : tie.Need-nearest-requires Inv-loop μ-loop
+nearest-requires c κs =
+    let spotted = c .before .before .before .before .before .before .before .before in
+    let l = spotted .before .before .before in
+    looking-leaps (start l .pre .path) (l .loop .inv .0) (c .before .before .marked .ensures) _ (spotted .spot-near .ensures)
+
+moved-requires-2 : tie.Need-moved-requires-2 Inv-loop μ-loop
+moved-requires-2 c κs = c .nearest .ensures
+
+-- where the cursor has moved, near or far: that one more progress was left, the loop's start, and the spot
+abbrev Moved : Type 0
+Moved = tie.Joined1 Inv-loop μ-loop
+
+abbrev spotted : Moved → tie.After-spot-near Inv-loop μ-loop
+spotted m = m .before .before .before
+
+abbrev tested : Moved → tie.In-loop Inv-loop μ-loop
+tested m = spotted m .before .before
+
+abbrev looked : Moved → Loop
+looked m = tested m .before
+
+more : (m : Moved) → looked m .loop .i < length (start (looked m) .args .progresses .now)
+more m = omega (arith, tested m .loop-test .taken)
+
+few : (m : Moved) → length (start (looked m) .args .progresses .now) * 4 < 9223372036854775808
+few m = let good = start (looked m) .good in omega arith
+
+-- the cursor stands at the spot's segment, and the marks are marks still
+landed : (m : Moved) → let kinds = start (looked m) .args .kinds .now in
+    (m .if1 .here ≡ cursorOf kinds (spotted m .spot-near .result .segment)) × Marks kinds (m .if1 .shift) (m .if1 .number-marks) (m .if1 .table-marks)
+landed m =
+    ⊎-elim
+    (λ near. (near .6 ∙ near .1 .ensures, marks-same (near .2) (near .3) (near .4) (looked m .loop .inv .3)))
+    (λ far. (far .12 ∙ far .7 .ensures, marks-same (far .8) (far .9) (far .10) (far .3 .ensures)))
+    (m .if1 .came)
 
 raw-within-requires : tie.Need-raw-within-requires Inv-loop μ-loop
 raw-within-requires c κs =
-    let l = c .before .before .before .before .before in
+    let l = looked c in
     let there = start l .pre .path in
-    standing (some-place there) (c .moved .ensures) (among there (l .loop .inv .0) _ (c .before .before .spot-near .ensures))
+    standing (some-place there) (landed c .0) (among there (l .loop .inv .0) _ (spotted c .spot-near .ensures))
 
 cast-segments : tie.Need-cast-segments Inv-loop μ-loop
 cast-segments c =
-    let l = c .before .before .before .before .before .before .before in
-    let h = among (start l .pre .path) (l .loop .inv .0) _ (c .before .before .before .before .spot-near .ensures) in
-    let few = start l .pre .path .path .few in
+    let m = c .before .before in
+    let l = looked m in
+    let h = among (start l .pre .path) (l .loop .inv .0) _ (spotted m .spot-near .ensures) in
+    let most = start l .pre .path .path .few in
     omega arith
 
 mul-segments : tie.Need-mul-segments Inv-loop μ-loop
-mul-segments c =
-    let test = c .before .before .before .before .before .before in
-    let more = test .loop-test .taken in
-    let good = start (test .before) .good in
-    omega arith
+mul-segments c = let m = c .before .before in omega (arith, more m, few m)
 
 slice-write-segments : tie.Need-slice-write-segments Inv-loop μ-loop
-slice-write-segments c =
-    let l = c .before .before .before .before .before .before .before in
-    let n = segments-size l in
-    let room = start l .pre .segmentsRoom in
-    omega arith
+slice-write-segments c = let m = c .before .before in omega (arith, more m, segments-size (looked m), start (looked m) .pre .segmentsRoom)
 
 mul-raws : tie.Need-mul-raws Inv-loop μ-loop
-mul-raws c =
-    let test = c .before .before .before .before .before .before .before .before in
-    let more = test .loop-test .taken in
-    let good = start (test .before) .good in
-    omega arith
+mul-raws c = let m = c .before .before .before .before in omega (arith, more m, few m)
 
 slice-write-raws : tie.Need-slice-write-raws Inv-loop μ-loop
-slice-write-raws c =
-    let l = c .before .before .before .before .before .before .before .before .before in
-    let n = raws-size l in
-    let room = start l .pre .rawsRoom in
-    omega arith
+slice-write-raws c = let m = c .before .before .before .before in omega (arith, more m, raws-size (looked m), start (looked m) .pre .rawsRoom)
 
 add-i : tie.Need-add-i Inv-loop μ-loop
-add-i c =
-    let test = c .before .before .before .before .before .before .before .before in
-    let more = test .loop-test .taken in
-    let good = start (test .before) .good in
-    omega arith
+add-i c = let m = c .before .before .before .before in omega (arith, more m, few m)
+
+loop-less : tie.Need-loop-less Inv-loop μ-loop
+loop-less c = omega (arith, more (c .before .before .before .before))
 
 loop-again : tie.Need-loop-again Inv-loop μ-loop
 loop-again c =
     let raw = c .before .before .before in
-    let moved = raw .before .moved in
-    let spot = raw .before .before .before .spot-near in
-    let test = raw .before .before .before .before .before in
-    let l = test .before in
+    let m = raw .before in
+    let here = m .if1 .here in
+    let stands = landed m .0 in
+    let spot = spotted m .spot-near in
+    let l = looked m in
     let a = start l .args in
     let pre = start l .pre in
     let p = getD (a .progresses .now) (l .loop .i) nan in
-    let pair = place-is _ _ _ p (spot .result) (moved .result) (raw .raw-within .result) (spot .ensures) (moved .ensures) (raw .raw-within .ensures) in
-    let more : l .loop .i < length (a .progresses .now) = omega (arith, test .loop-test .taken) in (
-      looking-next (moved .result) (spot .result .segment) (moved .ensures) (among (pre .path) (l .loop .inv .0) p (spot .ensures)) more,
-      each-next (λ p. segmentGiven (flightOf (path l) p .segment)) (a .progresses .now) (a .segments .now) (l .loop .segments) (l .loop .i) _ more (pre .segmentsRoom) (l .loop .inv .1)
+    let pair = place-is _ _ _ p (spot .result) here (raw .raw-within .result) (spot .ensures) stands (raw .raw-within .ensures) in (
+      looking-next here (spot .result .segment) stands (among (pre .path) (l .loop .inv .0) p (spot .ensures)) (more m),
+      each-next (λ p. segmentGiven (flightOf (path l) p .segment)) (a .progresses .now) (a .segments .now) (l .loop .segments) (l .loop .i) _ (more m) (pre .segmentsRoom) (l .loop .inv .1)
           (segment-there (path l) p (pre .path .some) (spot .ensures)),
-      each-next (λ p. flightOf (path l) p .raw .value) (a .progresses .now) (a .raws .now) (l .loop .raws) (l .loop .i) _ more (pre .rawsRoom) (l .loop .inv .2)
+      each-next (λ p. flightOf (path l) p .raw .value) (a .progresses .now) (a .raws .now) (l .loop .raws) (l .loop .i) _ (more m) (pre .rawsRoom) (l .loop .inv .2)
           (c .tidy .ensures ∙ c .before .number-of .ensures ∙ raw-there (path l) p (pre .path .some) pair),
+      landed m .1,
     )
 
 same-length : tie.Need-same-length Inv-loop μ-loop
@@ -149,6 +186,6 @@ pub fill-places-spec : {M : Type 1} → statement M
 fill-places-spec =
     tie.close
     (tie.spec Inv-loop μ-loop (λ c κs. search needs) loop-holds (λ c. search needs) (λ c. search needs)
-    spot-near-requires moved-requires raw-within-requires cast-segments mul-segments slice-write-segments
-    (λ c κs. search needs) (λ c κs. search needs) mul-raws slice-write-raws add-i (λ c. search needs) loop-again
+    spot-near-requires (λ c κs. search needs) moved-requires marked-requires nearest-requires moved-requires-2 raw-within-requires cast-segments mul-segments slice-write-segments
+    (λ c κs. search needs) (λ c κs. search needs) mul-raws slice-write-raws add-i loop-less loop-again
     same-length same-length-2 returns)

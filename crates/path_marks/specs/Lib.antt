@@ -1,0 +1,2 @@
+-- Cursors at every so many segments.
+pub mod Marks
