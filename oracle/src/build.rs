@@ -1,6 +1,7 @@
-//! Paths built on both sides: command lists and texts into kinds, fields, tables and running lengths, by bits.
+//! Paths built on both sides: command lists and texts into kinds, fields, tables, running lengths and command numbers, by bits.
 
 use crate::compare::{Input, Report};
+use crate::makers;
 use crate::math::alike;
 use crate::read;
 use crate::samples::{SPECIALS, Stream};
@@ -16,14 +17,16 @@ enum Source {
     Text(String),
 }
 
-/// What is built, and how many places a buffer lacks: the number of the buffer, or none.
+/// What is built, and which buffer lacks a place: its number, `ALL` for each of the five, or none.
 #[derive(Clone)]
 struct Asked {
     source: Source,
     short: Option<usize>,
 }
 
-/// A path in four buffers, floats by their bits; or the number of a refusal and what it carries.
+const ALL: usize = 5;
+
+/// A path in five buffers, floats by their bits; or the number of a refusal and what it carries.
 #[derive(Clone, PartialEq)]
 enum Answer {
     Path {
@@ -31,8 +34,9 @@ enum Answer {
         fields: Vec<u32>,
         tables: Vec<u32>,
         lengths: Vec<u32>,
+        commands: Vec<u32>,
     },
-    Refused(u32, [u64; 4]),
+    Refused(u32, [u64; 5]),
     /// The text does not read.
     Unread,
     /// A place was written that should not have been.
@@ -44,6 +48,7 @@ use Answer::{Overwritten, Path, Refused, Unread};
 /// What stands in a buffer before the call.
 const BYTE: u8 = 0xA5;
 const FLOAT: u32 = 0xC0DE_F00D;
+const NUMBER: u32 = 0xA5A5_A5A5;
 
 /// A list in its stored form.
 pub fn stored(commands: &[PathCommand]) -> (Vec<u8>, Vec<f32>) {
@@ -125,16 +130,17 @@ fn theirs(commands: &[PathCommand]) -> Answer {
         if let PathSegment::Arc(arc) = segment {
             let rotation = rotations.next().expect("each arc was given");
             if !arc.open_is_fallback() && !rotation.is_finite() {
-                return Refused(10, [number as u64, 0, 0, 0]);
+                return Refused(10, [number as u64, 0, 0, 0, 0]);
             }
             given = Some(rotation);
         }
         if !length.is_finite() {
-            return Refused(11, [number as u64, 0, 0, 0]);
+            return Refused(11, [number as u64, 0, 0, 0, 0]);
         }
         lay(segment, given, &mut kinds, &mut fields, &mut tables);
     }
-    Path { kinds, fields, tables, lengths: lengths.iter().map(|x| alike(*x)).collect() }
+    let lengths = lengths.iter().map(|x| alike(*x)).collect();
+    Path { kinds, fields, tables, lengths, commands: makers::numbers(commands) }
 }
 
 /// The refusal that document 01 has for a command list, where it has one: its number and the segment.
@@ -142,6 +148,18 @@ pub fn refused(commands: &[PathCommand]) -> Option<(u32, u64)> {
     match theirs(commands) {
         Refused(number, [segment, ..]) => Some((number, segment)),
         _ => None,
+    }
+}
+
+impl Answer {
+    // how many places of each buffer a path takes
+    fn counts(&self) -> Option<[usize; 5]> {
+        match self {
+            Path { kinds, fields, tables, lengths, commands } => {
+                Some([kinds.len(), fields.len(), tables.len(), lengths.len(), commands.len()])
+            }
+            _ => None,
+        }
     }
 }
 
@@ -153,40 +171,42 @@ impl Asked {
         }
     }
 
+    fn is_short(&self, buffer: usize) -> bool {
+        self.short == Some(buffer) || self.short == Some(ALL)
+    }
+
     fn expected(&self) -> Answer {
-        match (self.commands().map(|commands| theirs(&commands)), self.short) {
-            (None, _) => Unread,
-            (Some(Path { kinds, fields, tables, lengths }), Some(short)) => {
-                let counts = [kinds.len(), fields.len(), tables.len(), lengths.len()].map(|count| count as u64);
-                if counts[short] == 0 { Path { kinds, fields, tables, lengths } } else { Refused(8, counts) }
+        let Some(commands) = self.commands() else { return Unread };
+        let answer = theirs(&commands);
+        match answer.counts() {
+            Some(counts) if (0..5).any(|k| self.is_short(k) && counts[k] > 0) => {
+                Refused(8, counts.map(|count| count as u64))
             }
-            (Some(answer), _) => answer,
+            _ => answer,
         }
     }
 
-    // the buffers have as many places as the Rust's path needs, and three more, or one too few in one of them
+    // the buffers have as many places as the Rust's path needs, and three more, or one too few where they are short
     fn ours(&self) -> Answer {
-        let needs = match self.commands().map(|commands| theirs(&commands)) {
-            Some(Path { kinds, fields, tables, lengths }) => [kinds.len(), fields.len(), tables.len(), lengths.len()],
-            _ => [8, 64, 64, 8],
-        };
+        let needs = self.commands().and_then(|commands| theirs(&commands).counts()).unwrap_or([8, 64, 64, 8, 8]);
         let mut places = needs.map(|count| count + 3);
-        if let Some(short) = self.short {
-            places[short] = needs[short].saturating_sub(1);
+        for k in (0..5).filter(|k| self.is_short(*k)) {
+            places[k] = needs[k].saturating_sub(1);
         }
         let mut kinds = vec![BYTE; places[0]];
         let [mut fields, mut tables, mut lengths] = [1, 2, 3].map(|k| vec![f32::from_bits(FLOAT); places[k]]);
+        let mut commands = vec![NUMBER; places[4]];
+        let (own, tabled, run, made) = (&mut fields, &mut tables, &mut lengths, &mut commands);
         let given = match &self.source {
-            Source::List(commands) => {
-                let (letters, numbers) = stored(commands);
-                kihavute::build(&letters, &numbers, &mut kinds, &mut fields, &mut tables, &mut lengths)
+            Source::List(list) => {
+                let (letters, numbers) = stored(list);
+                kihavute::build(&letters, &numbers, &mut kinds, own, tabled, run, made)
             }
-            Source::Text(text) => {
-                kihavute::build_text(text.as_bytes(), &mut kinds, &mut fields, &mut tables, &mut lengths)
-            }
+            Source::Text(text) => kihavute::build_text(text.as_bytes(), &mut kinds, own, tabled, run, made),
         };
-        let counts = given.unwrap_or([0; 4]);
+        let counts = given.unwrap_or([0; 5]);
         let untouched = kinds.iter().skip(counts[0]).all(|byte| *byte == BYTE)
+            && commands.iter().skip(counts[4]).all(|number| *number == NUMBER)
             && [(&fields, counts[1]), (&tables, counts[2]), (&lengths, counts[3])]
                 .iter()
                 .all(|(buffer, count)| buffer.iter().skip(*count).all(|x| x.to_bits() == FLOAT));
@@ -194,8 +214,8 @@ impl Asked {
             _ if !untouched => Overwritten,
             Err(refusal) if (2..=7).contains(&refusal.number()) => Unread,
             Err(refusal) => {
-                let [a, b, c, d, ..] = refusal.carried();
-                Refused(refusal.number(), [a, b, c, d])
+                let [a, b, c, d, e, ..] = refusal.carried();
+                Refused(refusal.number(), [a, b, c, d, e])
             }
             Ok(counts) => {
                 let bits = |buffer: &[f32], count: usize| buffer[..count].iter().map(|x| x.to_bits()).collect();
@@ -204,6 +224,7 @@ impl Asked {
                     fields: bits(&fields, counts[1]),
                     tables: bits(&tables, counts[2]),
                     lengths: bits(&lengths, counts[3]),
+                    commands: commands[..counts[4]].to_vec(),
                 }
             }
         }
@@ -217,6 +238,7 @@ impl fmt::Display for Asked {
             Source::Text(text) => write!(out, "{text:?}")?,
         }
         match self.short {
+            Some(ALL) => write!(out, ", each buffer one short"),
             Some(short) => write!(out, ", buffer {short} one short"),
             None => Ok(()),
         }
@@ -226,8 +248,9 @@ impl fmt::Display for Asked {
 impl fmt::Display for Answer {
     fn fmt(&self, out: &mut fmt::Formatter) -> fmt::Result {
         match self {
-            Path { kinds, fields, tables, lengths } => {
-                write!(out, "kinds {kinds:?} fields {fields:X?} tables {tables:X?} lengths {lengths:X?}")
+            Path { kinds, fields, tables, lengths, commands } => {
+                write!(out, "kinds {kinds:?} fields {fields:X?} tables {tables:X?} lengths {lengths:X?} ")?;
+                write!(out, "commands {commands:?}")
             }
             Refused(number, carried) => write!(out, "refused {number} {carried:?}"),
             Unread => write!(out, "not read"),
@@ -237,10 +260,16 @@ impl fmt::Display for Answer {
 }
 
 impl Input for Asked {
-    // without a command, or without a byte
+    // without a command, of many without an eighth of them, or without a byte
     fn simpler(&self) -> Vec<Asked> {
         let of = |source| Asked { source, short: self.short };
         match &self.source {
+            Source::List(commands) if commands.len() > 64 => {
+                let eighth = commands.len().div_ceil(8);
+                let without = |part: usize| commands.chunks(eighth).enumerate().filter(move |(k, _)| *k != part);
+                let fewer = |part| without(part).flat_map(|(_, chunk)| chunk).cloned().collect();
+                (0..8).map(|part| of(Source::List(fewer(part)))).collect()
+            }
             Source::List(commands) => (0..commands.len())
                 .map(|left_out| {
                     let mut fewer = commands.clone();
@@ -332,12 +361,14 @@ pub fn text(stream: &mut Stream, kind: u32) -> String {
 pub const KINDS: [&str; 7] = ["whole", "thousandths", "near", "huge", "special", "any bits", "mixed"];
 
 fn short(stream: &mut Stream) -> Option<usize> {
-    (stream.below(8) == 0).then(|| stream.below(4) as usize)
+    (stream.below(8) == 0).then(|| stream.below(ALL as u32 + 1) as usize)
 }
 
 /// So many lists and so many texts of each kind of number.
 pub fn compare(report: &mut Report, seed: u64, count: u64) {
     compare_known(report);
+    compare_long(report);
+    makers::compare(report, seed, count / 5);
     for (kind, name) in (0..).zip(KINDS) {
         let mut stream = Stream::new(seed ^ u64::from(kind));
         let lists =
@@ -350,8 +381,8 @@ pub fn compare(report: &mut Report, seed: u64, count: u64) {
     }
 }
 
-/// What a text is to answer in buffers with room for so many kinds, fields, tables and running lengths: the refusal's number
-/// or 0, the counts or what the refusal carries, the total's bits, and what is stored.
+/// What a text is to answer in buffers with room for so many kinds, fields, tables, running lengths and command numbers: the
+/// refusal's number or 0, the counts or what the refusal carries, the total's bits, and what is stored in the first four.
 pub struct Due {
     pub number: u32,
     pub values: Vec<u64>,
@@ -361,7 +392,7 @@ pub struct Due {
 }
 
 impl Due {
-    pub fn of(text: &str, room: [usize; 4]) -> Due {
+    pub fn of(text: &str, room: [usize; 5]) -> Due {
         let refused =
             |number, values| Due { number, values, total: 0, kinds: vec![], numbers: [vec![], vec![], vec![]] };
         let commands = match (smooth::try_parse(text), read::theirs(text.as_bytes())) {
@@ -369,9 +400,10 @@ impl Due {
             (Err(_), read::Said::Refused { number, carried }) => return refused(number, carried),
             (Err(error), _) => panic!("{error}"),
         };
-        match theirs(&commands) {
-            Path { kinds, fields, tables, lengths } => {
-                let counts = [kinds.len(), fields.len(), tables.len(), lengths.len()];
+        let answer = theirs(&commands);
+        let counts = answer.counts().unwrap_or_default();
+        match answer {
+            Path { kinds, fields, tables, lengths, .. } => {
                 let values = counts.iter().map(|count| *count as u64).collect();
                 if counts.iter().zip(room).any(|(count, room)| *count > room) {
                     return refused(8, values);
@@ -407,34 +439,41 @@ pub fn compare_drawings(report: &mut Report) {
     report.group("building drawings' lists", asked, Asked::ours, Asked::expected);
 }
 
-// document 01's cases, and the order of refusals; what is expected is written here
+// document 01's and 02's cases, and the order of refusals; what is expected, the command numbers too, is written here
 fn compare_known(report: &mut Report) {
-    let cases: [(&str, Result<usize, (u32, u64)>); 18] = [
-        ("", Ok(0)),
-        ("M0 0L1e19 0", Ok(1)),
-        ("M0 0L2e19 0", Ok(1)),
+    let cases: [(&str, Result<&[u32], (u32, u64)>); 25] = [
+        ("", Ok(&[])),
+        ("M0 0L1e19 0", Ok(&[1])),
+        ("M0 0L2e19 0", Ok(&[1])),
         ("M-3e38 0L3e38 0", Err((11, 0))),
         ("M0 0L3 4L3e38 3e38", Err((11, 1))),
-        ("M0 0A1 1 3600 0 0 1 1", Ok(1)),
-        ("M0 0A1 1 3600.0002441406250 0 0 1 1", Ok(1)),
-        ("M0 0A1 1 -3e38 0 0 1 1", Ok(1)),
+        ("M0 0A1 1 3600 0 0 1 1", Ok(&[1])),
+        ("M0 0A1 1 3600.0002441406250 0 0 1 1", Ok(&[1])),
+        ("M0 0A1 1 -3e38 0 0 1 1", Ok(&[1])),
         ("M0 0A1 1 1e39 0 0 1 1", Err((10, 0))),
         ("M0 0A1 1 4000 0 0 1e39 4", Err((11, 0))),
         ("M0 0A1 1 1e39 0 0 1e39 4", Err((10, 0))),
-        ("M0 0A0 1 1e39 0 0 3 4", Ok(1)),
+        ("M0 0A0 1 1e39 0 0 3 4", Ok(&[1])),
         ("M0 0L3e38 3e38A1 1 1e39 0 0 3 4", Err((11, 0))),
-        ("ZL1 2", Ok(0)),
-        ("ZL1 2L3 4Z", Ok(2)),
-        ("M1 2Z", Ok(1)),
+        ("ZL1 2", Ok(&[])),
+        ("ZL1 2L3 4Z", Ok(&[2, 3])),
+        ("M1 2Z", Ok(&[1])),
         ("M0 0A5e9 5e9 0 0 1 3 4", Err((11, 0))),
         ("M1e39 0Z", Err((11, 0))),
+        ("M0 0L3 4M1 1L2 2", Ok(&[1, 3])),
+        ("M0 0M1 1M2 2", Ok(&[])),
+        ("M1 2ZM3 4ZM5 6Z", Ok(&[1, 3, 5])),
+        ("M0 0L0 0L0 0ZZ", Ok(&[1, 2, 3, 4])),
+        ("m1 1 2 2 3 3zm1 1 1 1z", Ok(&[1, 2, 3, 5, 6])),
+        ("M0 0H1 2 3v4 5", Ok(&[1, 2, 3, 4, 5])),
+        ("M0 0C1 2 3 4 5 6s7 8 9 10 1 2 3 4M9 9q1 1 2 2t3 3 4 4", Ok(&[1, 2, 3, 5, 6, 7])),
     ];
     let mut equal = true;
     for (text, expected) in cases {
-        let (mut kinds, mut numbers) = ([0; 8], [[0.0; 512]; 3]);
+        let (mut kinds, mut numbers, mut commands) = ([0; 8], [[0.0; 512]; 3], [0; 8]);
         let [fields, tables, lengths] = &mut numbers;
-        let given = kihavute::build_text(text.as_bytes(), &mut kinds, fields, tables, lengths)
-            .map(|counts| counts[0])
+        let given = kihavute::build_text(text.as_bytes(), &mut kinds, fields, tables, lengths, &mut commands)
+            .map(|counts| &commands[..counts[4]])
             .map_err(|refusal| (refusal.number(), refusal.carried()[0]));
         if given != expected {
             println!("  DIFFERENT in the cases known: {text:?}: ours {given:?}, expected {expected:?}");
@@ -442,4 +481,18 @@ fn compare_known(report: &mut Report) {
         }
     }
     report.count(cases.len() as u64, equal);
+    let short = cases.iter().flat_map(|(text, _)| {
+        (0..=ALL).map(|buffer| Asked { source: Source::Text(text.to_string()), short: Some(buffer) })
+    });
+    report.group("the cases known, each buffer one short", short, Asked::ours, Asked::expected);
+}
+
+// as many commands as a list may have, of which each but the first, or each second one, makes a segment
+fn compare_long(report: &mut Report) {
+    let line = |k: usize| PathCommand::LineTo([(k % 7) as f32, 0.0]);
+    let long = [65_536, 2].map(|run| {
+        let commands = (0..65_536).map(|k| if k % run == 0 { PathCommand::MoveTo([0.0, 0.0]) } else { line(k) });
+        Asked { source: Source::List(commands.collect()), short: None }
+    });
+    report.group("building the longest lists", long.into_iter(), Asked::ours, Asked::expected);
 }

@@ -8,6 +8,7 @@ mod compare;
 mod decimal;
 mod earley;
 mod lengths;
+mod makers;
 mod math;
 mod morph;
 mod order;

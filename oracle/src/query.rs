@@ -3,6 +3,7 @@
 
 use crate::build;
 use crate::compare::{Input, Report};
+use crate::makers;
 use crate::math::alike;
 use crate::samples::{Stream, worked_out};
 use crate::turns;
@@ -18,8 +19,8 @@ pub struct Asked {
     pub progresses: Vec<f32>,
 }
 
-/// At each progress the segment and the bits of raw parameter, x, y, the direction's two and the heading; or the number of
-/// the refusal that document 01 has for the path.
+/// At each progress the segment, its command, and the bits of raw parameter, x, y, the direction's two and the heading; or the
+/// number of the refusal that document 01 has for the path.
 #[derive(Clone, PartialEq)]
 pub enum Answer {
     Flown(Vec<Flight>),
@@ -28,8 +29,8 @@ pub enum Answer {
     Apart,
 }
 
-/// The segment, where there is one, and the bits of the six numbers.
-pub type Flight = (Option<u64>, [u32; 6]);
+/// The segment and the number of its command, where there is one, and the bits of the six numbers.
+pub type Flight = (Option<(usize, usize)>, [u32; 6]);
 
 use Answer::{Apart, Flown, Refused};
 
@@ -39,12 +40,13 @@ impl Asked {
             return Refused(number);
         }
         let path = turns::path(&self.commands);
+        let commands = makers::numbers(&self.commands);
         let at = |t: f32| {
             let found = path.open_place_at(t);
             let raw = found.map_or(0.0, |(_, raw)| raw);
             let ([x, y], [tx, ty]) = (path.position(t), path.tangent(t));
             let numbers = [raw, x, y, tx, ty, path.rotation_deg(t)];
-            (found.map(|(number, _)| number as u64), numbers.map(alike))
+            (found.map(|(number, _)| (number, commands[number] as usize)), numbers.map(alike))
         };
         Flown(self.progresses.iter().map(|t| at(*t)).collect())
     }
@@ -59,7 +61,8 @@ impl Asked {
             let t = Progress(t);
             let kihavute::Flight { position: [x, y], tangent: [tx, ty], segment, raw } = path.flight(t)?;
             let numbers = [raw.value().to_bits(), x, y, tx, ty, path.rotation_deg(t)?.to_bits()];
-            Ok((segment.map(|number| number as u64), numbers))
+            let command = |number: usize| path.command(number).unwrap_or(usize::MAX);
+            Ok((segment.map(|number| (number, command(number))), numbers))
         };
         let asked: Result<Vec<Flight>, kihavute::Refusal> = self.progresses.iter().map(|t| at(*t)).collect();
         match asked {
@@ -83,7 +86,7 @@ impl Asked {
         let flown = path.flights(&progresses, &mut segments, &mut raws, &mut out);
         let same = |k: usize| {
             let (segment, [raw, numbers @ .., _]) = single[k];
-            let due = (segment.map_or(kihavute::NO_SEGMENT, |number| number as u32), raw);
+            let due = (segment.map_or(kihavute::NO_SEGMENT, |(number, _)| number as u32), raw);
             (segments[k], raws[k].to_bits()) == due
                 && (columns[k], others[k].to_bits()) == due
                 && (0..4).all(|n| out[4 * k + n].to_bits() == numbers[n])

@@ -21,10 +21,11 @@ pub enum One {
     Whole(Box<One>),
 }
 
-/// Segments in their order, how many places a buffer lacks for the last (the number of the buffer, or none), and progresses.
+/// Segments in their order, each with the number of its command, the buffer that has no place for the last (its number, or none),
+/// and progresses.
 #[derive(Clone)]
 struct Asked {
-    segments: Vec<One>,
+    segments: Vec<(One, u32)>,
     short: Option<usize>,
     progresses: Vec<f32>,
 }
@@ -34,8 +35,8 @@ struct Asked {
 #[derive(Clone, PartialEq)]
 enum Answer {
     Grown {
-        steps: Vec<Result<[u64; 4], (u32, [u64; 4])>>,
-        path: [Vec<u32>; 4],
+        steps: Vec<Result<[u64; 5], (u32, [u64; 5])>>,
+        path: [Vec<u32>; 5],
         asked: Vec<[u32; 5]>,
     },
     /// A place was written that should not have been, or two calls disagree.
@@ -46,8 +47,9 @@ use Answer::{Grown, Overwritten};
 
 const BYTE: u8 = 0xA5;
 const FLOAT: u32 = 0xC0DE_F00D;
+const NUMBER: u32 = 0xA5A5_A5A5;
 /// The most that a segment adds to each buffer.
-const MOST: [usize; 4] = [1, 11, 33, 1];
+const MOST: [usize; 5] = [1, 11, 33, 1, 1];
 
 impl One {
     // the rotation that is given for an arc
@@ -74,17 +76,17 @@ impl One {
         self.onto(CompoundPath::new()).segments()[0].clone()
     }
 
-    fn append(&self, room: &mut Growing) -> Result<[usize; 4], Refusal> {
+    fn append(&self, command: u32, room: &mut Growing) -> Result<[usize; 5], Refusal> {
         match self {
-            One::Line(points) => room.line_to(*points),
-            One::Quad(points) => room.quad_to(*points),
-            One::Cubic(points) => room.cubic_to(*points),
-            One::Arc(chord) => room.arc_to(chord),
+            One::Line(points) => room.line_to(command, *points),
+            One::Quad(points) => room.quad_to(command, *points),
+            One::Cubic(points) => room.cubic_to(command, *points),
+            One::Arc(chord) => room.arc_to(command, chord),
             One::Whole(one) => {
                 let (mut kinds, mut fields, mut tables) = (vec![], vec![], vec![]);
                 build::lay(&one.segment(), one.given(), &mut kinds, &mut fields, &mut tables);
                 let numbers: Vec<f32> = fields.into_iter().map(f32::from_bits).collect();
-                room.push_segment(kinds[0], &numbers)
+                room.push_segment(command, kinds[0], &numbers)
             }
         }
     }
@@ -99,27 +101,33 @@ fn refused(path: &CompoundPath, given: Option<f32>) -> Option<u32> {
     }
 }
 
-// a path's buffers, with the rotation that was given for each segment
-fn laid(path: &CompoundPath, given: &[Option<f32>]) -> [Vec<u32>; 4] {
-    let (mut kinds, mut fields, mut tables) = (vec![], vec![], vec![]);
-    for (segment, given) in path.segments().iter().zip(given) {
-        build::lay(segment, *given, &mut kinds, &mut fields, &mut tables);
+// a path's buffers, with the rotation and the command number that were given for each segment
+fn laid(path: &CompoundPath, given: &[(Option<f32>, u32)]) -> [Vec<u32>; 5] {
+    let (mut kinds, mut fields, mut tables, mut commands) = (vec![], vec![], vec![], vec![]);
+    for (segment, (rotation, command)) in path.segments().iter().zip(given) {
+        build::lay(segment, *rotation, &mut kinds, &mut fields, &mut tables);
+        commands.push(*command);
     }
     let lengths = path.open_lengths().0.iter().map(|x| alike(*x)).collect();
-    [kinds.into_iter().map(u32::from).collect(), fields, tables, lengths]
+    [kinds.into_iter().map(u32::from).collect(), fields, tables, lengths, commands]
 }
 
 impl Asked {
     fn theirs(&self) -> Answer {
         let mut path = CompoundPath::new();
         let (mut steps, mut given) = (vec![], vec![]);
-        for (k, one) in self.segments.iter().enumerate() {
+        for (k, (one, command)) in self.segments.iter().enumerate() {
+            given.truncate(path.len());
+            // 02, L5: a path whose command numbers fall is none, and so none grows so; the Rust has no such number
+            if given.last().is_some_and(|(_, last)| command < last) {
+                steps.push(Err((12, [0; 5])));
+                continue;
+            }
             let grown = one.onto(path.clone());
             let count = path.len() as u64;
-            given.truncate(path.len());
-            given.push(one.given());
+            given.push((one.given(), *command));
             if let Some(number) = refused(&grown, one.given()) {
-                steps.push(Err((number, [count, 0, 0, 0])));
+                steps.push(Err((number, [count, 0, 0, 0, 0])));
                 continue;
             }
             let [before, needs] = [laid(&path, &given), laid(&grown, &given)].map(|buffers| buffers.map(|buffer| buffer.len() as u64));
@@ -148,22 +156,26 @@ impl Asked {
         let room = MOST.map(|most| most * self.segments.len() + 3);
         let mut kinds = vec![BYTE; room[0]];
         let [mut fields, mut tables, mut lengths] = [1, 2, 3].map(|k| vec![f32::from_bits(FLOAT); room[k]]);
+        let mut commands = vec![NUMBER; room[4]];
         let mut steps = vec![];
-        let mut used = [0; 4];
-        for (k, one) in self.segments.iter().enumerate() {
+        let mut used = [0; 5];
+        for (k, (one, command)) in self.segments.iter().enumerate() {
             let mut ends = room;
             if let (Some(short), true) = (self.short, k + 1 == self.segments.len()) {
                 ends[short] = used[short];
             }
-            let given = one.append(&mut Growing {
+            let mut lent = Growing {
                 kinds: &mut kinds[..ends[0]],
                 fields: &mut fields[..ends[1]],
                 tables: &mut tables[..ends[2]],
                 lengths: &mut lengths[..ends[3]],
+                commands: &mut commands[..ends[4]],
                 count: used[0],
-            });
+            };
+            let given = one.append(*command, &mut lent);
             used = given.unwrap_or(used);
             let untouched = kinds.iter().skip(used[0]).all(|byte| *byte == BYTE)
+                && commands.iter().skip(used[4]).all(|number| *number == NUMBER)
                 && [(&fields, used[1]), (&tables, used[2]), (&lengths, used[3])]
                     .iter()
                     .all(|(buffer, count)| buffer.iter().skip(*count).all(|x| x.to_bits() == FLOAT));
@@ -171,8 +183,8 @@ impl Asked {
                 return Overwritten("past the counts");
             }
             steps.push(given.map(|counts| counts.map(|n| n as u64)).map_err(|refusal| {
-                let [a, b, c, d, ..] = refusal.carried();
-                (refusal.number(), [a, b, c, d])
+                let [a, b, c, d, e, ..] = refusal.carried();
+                (refusal.number(), [a, b, c, d, e])
             }));
         }
         let stored = Stored {
@@ -180,6 +192,7 @@ impl Asked {
             fields: &fields[..used[1]],
             tables: &tables[..used[2]],
             lengths: &lengths[..used[3]],
+            commands: &commands[..used[4]],
         };
         let total = stored.lengths.last().map_or(0, |length| length.to_bits());
         if (stored.len(), stored.is_empty(), stored.arc_length()) != (Ok(used[0]), Ok(used[0] == 0), Ok(total)) {
@@ -215,6 +228,7 @@ impl Asked {
             bits(stored.fields),
             bits(stored.tables),
             bits(stored.lengths),
+            stored.commands.to_vec(),
         ];
         Grown { steps, path, asked }
     }
@@ -270,14 +284,28 @@ fn one(stream: &mut Stream, kind: u32) -> One {
     }
 }
 
+// a command number: mostly that of the last segment or one above it, at times one below, or a large one
+fn command(stream: &mut Stream, last: &mut u32) -> u32 {
+    let number = match stream.below(16) {
+        0 => return last.saturating_sub(1 + stream.below(2)),
+        1 => stream.bits(),
+        2 => u32::MAX - stream.below(2),
+        3..7 => *last,
+        _ => last.saturating_add(1 + stream.below(2)),
+    };
+    *last = number.max(*last);
+    number
+}
+
 /// So many paths of up to six segments of each kind of number, each segment asked at 20 progresses.
 pub fn compare(report: &mut Report, seed: u64, count: u64) {
     compare_known(report);
     for (kind, name) in (0..).zip(build::KINDS) {
         let mut stream = Stream::new(seed ^ 0x5E_0000 ^ u64::from(kind));
         let asked = (0..count).map(move |_| {
-            let segments = (0..1 + stream.below(6)).map(|_| one(&mut stream, kind)).collect();
-            let short = (stream.below(4) == 0).then(|| stream.below(4) as usize);
+            let mut last = 0;
+            let segments = (0..1 + stream.below(6)).map(|_| (one(&mut stream, kind), command(&mut stream, &mut last))).collect();
+            let short = (stream.below(4) == 0).then(|| stream.below(5) as usize);
             let mut progresses = vec![0.0, 1.0, 0.5, -0.0, -1.0, 2.0, f32::NAN, f32::INFINITY, f32::MIN_POSITIVE];
             progresses.resize_with(20, || match stream.below(4) {
                 0 => f32::from_bits(stream.bits()),
@@ -291,22 +319,115 @@ pub fn compare(report: &mut Report, seed: u64, count: u64) {
 
 // what is refused although the Rust takes it, or has no such call; what is expected is written here
 fn compare_known(report: &mut Report) {
+    let number = |refusal: Refusal| refusal.number();
     let mut path = Path::from_text(b"M0 0L1e-8 0").expect("it builds");
     let cases = [
         // a path of at most 2^-23 is at its end; its segment is not
         path.stored().segment_position(0, Progress(0.5)) == Ok(Some([5e-9f32.to_bits(), 0])),
-        path.append(|room| room.push_segment(5, &[])).map_err(|refusal| refusal.number()) == Err(12),
-        path.append(|room| room.push_segment(0, &[0.0; 3])).map_err(|refusal| refusal.number()) == Err(12),
+        path.append(|room| room.push_segment(1, 5, &[])).map_err(number) == Err(12),
+        path.append(|room| room.push_segment(1, 0, &[0.0; 3])).map_err(number) == Err(12),
         // the path in use is judged: its running length is not one
         path.append(|room| {
             room.lengths[0] = -1.0;
-            room.line_to([[0.0; 2]; 2])
+            room.line_to(1, [[0.0; 2]; 2])
         })
-        .map_err(|refusal| refusal.number())
+        .map_err(number)
             == Err(12),
     ];
-    for (number, case) in cases.iter().enumerate().filter(|(_, case)| !**case) {
-        println!("  DIFFERENT in the cases known of segments: {number}, {case}");
+    tell(report, "segments", &cases);
+    compare_fallen(report);
+    compare_full(report);
+}
+
+fn tell(report: &mut Report, name: &str, cases: &[bool]) {
+    for (number, _) in cases.iter().enumerate().filter(|(_, case)| !**case) {
+        println!("  DIFFERENT in the cases known of {name}: {number}");
     }
     report.count(cases.len() as u64, cases.iter().all(|case| *case));
+}
+
+// a path whose command numbers fall, or are one too few or too many: no call over a stored path takes it
+fn compare_fallen(report: &mut Report) {
+    let mut path = Path::from_text(b"M0 0L3 4M1 1Q2 2 3 1").expect("it builds");
+    let whole = path.clone();
+    let stored = whole.stored();
+    let half = Progress(0.5);
+    let mut cases = vec![[0, 1, 2].map(|segment| path.command(segment)) == [Some(1), Some(3), None]];
+    let numbers: [(&[u32], bool); 9] = [
+        (&[1, 3], true),
+        (&[3, 3], true),
+        (&[0, 0], true),
+        (&[0, u32::MAX], true),
+        (&[u32::MAX, u32::MAX], true),
+        (&[4, 3], false),
+        (&[u32::MAX, 0], false),
+        (&[1], false),
+        (&[1, 3, 3], false),
+    ];
+    for (commands, passes) in numbers {
+        let lent = Stored { commands, ..stored };
+        let judged = |refusal: Option<Refusal>| match refusal {
+            None => passes,
+            Some(refusal) => !passes && refusal.number() == 12 && refusal.carried() == [0; 8],
+        };
+        cases.extend([
+            judged(kihavute::check(lent.kinds, lent.fields, lent.tables, lent.lengths, lent.commands).err()),
+            judged(lent.len().err()),
+            judged(lent.is_empty().err()),
+            judged(lent.arc_length().err()),
+            judged(lent.segment(1, &mut [0.0; 44]).err()),
+            judged(lent.segment_position(1, half).err()),
+            judged(lent.segment_tangent(1, half).err()),
+            judged(lent.segment_rotation_deg(1, half).err()),
+        ]);
+    }
+    // the wrapper's own path, made to fall by a refused call
+    let number = |refusal: Refusal| refusal.number();
+    let fallen = path.append(|room| {
+        room.commands[0] = 4;
+        room.line_to(5, [[0.0; 2]; 2])
+    });
+    let (mut segments, mut raws, mut out) = ([9; 1], [9.0; 1], [9.0; 4]);
+    cases.extend([
+        fallen.map_err(number) == Err(12),
+        path.flight(half).map(|_| ()).map_err(number) == Err(12),
+        path.rotation_deg(half).map_err(number) == Err(12),
+        path.places(&[half], &mut segments, &mut raws).map_err(number) == Err(12),
+        path.flights(&[half], &mut segments, &mut raws, &mut out).map_err(number) == Err(12),
+        (segments, raws, out) == ([9; 1], [9.0; 1], [9.0; 4]),
+    ]);
+    tell(report, "command numbers that fall", &cases);
+}
+
+// a path of as many segments as may be takes no further one: a number below the last is judged before that, and room after it
+fn compare_full(report: &mut Report) {
+    const FULL: usize = 65_536;
+    let mut kinds = vec![0; FULL];
+    let (mut fields, mut lengths) = (vec![0.0; 4 * FULL], vec![1.0; FULL]);
+    let mut commands = vec![7; FULL];
+    let mut due = |command: u32, count: usize| {
+        let mut room = Growing {
+            kinds: &mut kinds,
+            fields: &mut fields,
+            tables: &mut [],
+            lengths: &mut lengths,
+            commands: &mut commands,
+            count,
+        };
+        room.line_to(command, [[0.0; 2]; 2]).map_err(|refusal| (refusal.number(), refusal.carried()[0]))
+    };
+    let cases = [
+        due(6, FULL) == Err((12, 0)),
+        due(0, FULL) == Err((12, 0)),
+        due(7, FULL) == Err((13, 65_537)),
+        due(u32::MAX, FULL) == Err((13, 65_537)),
+        // one segment less, and a place for one
+        due(6, FULL - 1) == Err((12, 0)),
+        due(7, FULL - 1) == Ok([FULL, 4 * FULL, 0, FULL, FULL]),
+        due(u32::MAX, FULL - 1) == Ok([FULL, 4 * FULL, 0, FULL, FULL]),
+        // the last of the path is that one now
+        due(u32::MAX - 1, FULL) == Err((12, 0)),
+        due(u32::MAX, FULL) == Err((13, 65_537)),
+    ];
+    tell(report, "a path that is full", &cases);
 }

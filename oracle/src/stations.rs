@@ -3,6 +3,7 @@
 
 use crate::build;
 use crate::compare::Report;
+use crate::makers;
 use crate::math::alike;
 use crate::read::{self, Paths, Said};
 use crate::samples::Stream;
@@ -49,23 +50,25 @@ fn first_line(plan: &[u8]) -> Result<(usize, &[u8]), Refused> {
     if (2..=1000).contains(&count) { Ok((count as usize, text)) } else { Err(range(count)) }
 }
 
-// bytes that are no UTF-8 are refused by the second reader
-fn read(text: &[u8]) -> Result<Vec<PathCommand>, Refused> {
+// the commands, each with the offset of its letter; bytes that are no UTF-8 are refused by the second reader
+fn read(text: &[u8]) -> Result<Vec<(PathCommand, u32)>, Refused> {
     if text.len() > 4096 {
         return Err(Refused(1, vec![4097]));
     }
-    if let Said::Refused { number, carried } = read::judge(text) {
-        return Err(Refused(number, carried));
-    }
+    let offsets = match read::judge(text) {
+        Said::Read { offsets, .. } => offsets,
+        Said::Refused { number, carried } => return Err(Refused(number, carried)),
+        Said::Wrong(what) => panic!("{what}"),
+    };
     let text = std::str::from_utf8(text).expect("a path that reads is ASCII");
     let commands = smooth::try_parse(text).expect("the original reads what it read before");
     if commands.len() > 256 {
         let (letters, numbers) = build::stored(&commands);
-        return Err(Refused(8, vec![letters.len() as u64, numbers.len() as u64]));
+        return Err(Refused(8, [letters.len(), numbers.len(), offsets.len()].map(|count| count as u64).to_vec()));
     }
     match build::refused(&commands) {
         Some((number, segment)) => Err(Refused(number, vec![segment])),
-        None => Ok(commands),
+        None => Ok(commands.into_iter().zip(offsets).collect()),
     }
 }
 
@@ -84,17 +87,20 @@ fn kind(segment: &PathSegment) -> &'static str {
     }
 }
 
-// "Output, each section after its count"
-fn sections(count: usize, commands: &[PathCommand]) -> String {
-    let path = turns::path(commands);
+// "Output, each section after its count"; 02, L5: "the offset as the last field of a command line and the command number as the
+// last field of a segment line"
+fn sections(count: usize, read: Vec<(PathCommand, u32)>) -> String {
+    let (commands, offsets): (Vec<PathCommand>, Vec<u32>) = read.into_iter().unzip();
+    let path = turns::path(&commands);
     let mut out = format!("commands {}\n", commands.len());
-    for command in commands {
+    for (command, offset) in commands.iter().zip(offsets) {
         let (letters, numbers) = build::stored(std::slice::from_ref(command));
-        out += &format!("{}{}\n", char::from(letters[0]), bits(&numbers));
+        out += &format!("{}{} {offset}\n", char::from(letters[0]), bits(&numbers));
     }
-    out += &format!("segments {}\n", path.segments().len());
-    for (segment, length) in path.segments().iter().zip(path.open_lengths().0) {
-        out += &format!("{}{}\n", kind(segment), bits(&[*length]));
+    let segments = path.segments();
+    out += &format!("segments {}\n", segments.len());
+    for ((segment, length), number) in segments.iter().zip(path.open_lengths().0).zip(makers::numbers(&commands)) {
+        out += &format!("{}{} {number}\n", kind(segment), bits(&[*length]));
     }
     out += &format!("stations {count}\n");
     for k in 0..count {
@@ -108,7 +114,7 @@ fn sections(count: usize, commands: &[PathCommand]) -> String {
 
 /// What the tool is to print for a plan.
 pub fn due(plan: &[u8]) -> Vec<u8> {
-    let listed = first_line(plan).and_then(|(count, text)| Ok(sections(count, &read(text)?).into_bytes()));
+    let listed = first_line(plan).and_then(|(count, text)| Ok(sections(count, read(text)?).into_bytes()));
     listed.unwrap_or_else(|refused| refused.line())
 }
 
@@ -274,8 +280,43 @@ pub fn compare_plans(report: &mut Report, name: &str, plans: Vec<Text>) {
     group(report, name, plans, ours);
 }
 
-/// Random plans through the library.
+// plans whose listings are the longest, beyond 65,536 bytes: the most stations, and the most commands of the longest lines, some
+// with blanks that put the last letters as far back as may be
+fn longest() -> Vec<Text> {
+    let commands = ["a0 1 0 001 1", "a1 1 0 001 1", "c1 1 2 2 3 1", "a0 1 0 00-1 1"];
+    let texts = commands.iter().flat_map(|command| {
+        let text = |blanks: usize| format!("1000\nM0 0{}{}", " ".repeat(blanks), command.repeat(255));
+        [0, 4096 - 4 - 255 * command.len()].map(|blanks| Text(text(blanks).into_bytes()))
+    });
+    texts.collect()
+}
+
+// whether the longest of them needs more than document 01's room and no more than document 02's, which the wrapper names
+fn compare_limit(report: &mut Report) {
+    let most = longest().iter().map(|plan| due(&plan.0).len()).max().expect("there are such plans");
+    let within = kihavute::LISTING == 69_632 && (65_537..=69_632).contains(&most);
+    println!("  the longest listings: up to {most} bytes{}", if within { "" } else { ", DIFFERENT from 65,537 to 69,632" });
+    report.count(0, within);
+}
+
+// whether the listings of examples/, which the tool is held to, are what the original answers
+fn compare_examples(report: &mut Report) {
+    let files = std::fs::read_dir("examples").expect("the examples are there");
+    let files = files.map(|file| file.expect("a file has a name").path());
+    let plans: Vec<_> = files.filter(|file| file.extension().is_some_and(|word| word == "plan")).collect();
+    let read = |file: &std::path::Path| std::fs::read(file).unwrap_or_default();
+    let stale: Vec<_> = plans.iter().filter(|file| read(&file.with_extension("listing")) != due(&read(file))).collect();
+    for file in &stale {
+        println!("  DIFFERENT: the listing of {}", file.display());
+    }
+    report.count(plans.len() as u64, stale.is_empty() && !plans.is_empty());
+}
+
+/// The example plans, the longest listings and random plans, through the library.
 pub fn compare(report: &mut Report, seed: u64, count: u64) {
+    compare_limit(report);
+    compare_examples(report);
+    compare_plans(report, "the longest listings", longest());
     compare_plans(report, "random plans", plans(seed, count).collect());
 }
 

@@ -1,28 +1,30 @@
 //! The check of a stored path: paths that the original builds, whole and damaged, against a second check that is written
-//! here from document 01's sentence alone.
+//! here from document 01's sentence alone, and from document 02's, L5, for the command numbers.
 
 use crate::compare::{Input, Report};
+use crate::makers;
 use crate::samples::{SPECIALS, Stream};
 use animato_path::poly::{CompoundPath, PathCommand, PathSegment};
 use std::cell::Cell;
 use std::fmt;
 
-/// The four buffers of a path.
+/// The five buffers of a path.
 #[derive(Clone)]
 pub struct Buffers {
     kinds: Vec<u8>,
     fields: Vec<f32>,
     tables: Vec<f32>,
     lengths: Vec<f32>,
+    commands: Vec<u32>,
 }
 
 impl Buffers {
-    /// The path of these commands as document 01 stores it.
+    /// The path of these commands as the documents store it.
     fn of(commands: &[PathCommand]) -> Buffers {
         let path = CompoundPath::from_commands(commands);
-        let (lengths, _) = path.open_lengths();
-        let mut buffers =
-            Buffers { kinds: Vec::new(), fields: Vec::new(), tables: Vec::new(), lengths: lengths.to_vec() };
+        let lengths = path.open_lengths().0.to_vec();
+        let commands = makers::numbers(commands);
+        let mut buffers = Buffers { kinds: Vec::new(), fields: Vec::new(), tables: Vec::new(), lengths, commands };
         for segment in path.segments() {
             buffers.store(segment);
         }
@@ -54,7 +56,7 @@ impl Buffers {
 
     // the proved check
     fn ours(&self) -> bool {
-        match kihavute::check(&self.kinds, &self.fields, &self.tables, &self.lengths) {
+        match kihavute::check(&self.kinds, &self.fields, &self.tables, &self.lengths, &self.commands) {
             Ok(count) => count == self.kinds.len(),
             Err(refusal) => refusal.number() != 12 || refusal.carried() != [0; 8],
         }
@@ -62,10 +64,13 @@ impl Buffers {
 
     // "at most 65,536 segments of known kinds with exactly their numbers and tables; one running length each, finite, not
     // below 0, never falling; each table starts at 0, is finite, never falls, and its total is its last entry": the buffers are
-    // eaten up from their starts
+    // eaten up from their starts. "BadPath also when command numbers are not one per segment, or fall."
     fn second(&self) -> bool {
         let (mut fields, mut tables) = (&self.fields[..], &self.tables[..]);
         if self.kinds.len() > 65_536 || self.kinds.len() != self.lengths.len() {
+            return false;
+        }
+        if self.commands.len() != self.kinds.len() || !self.commands.is_sorted() {
             return false;
         }
         let mut before = 0.0;
@@ -99,7 +104,7 @@ impl Buffers {
 
     // one place made wrong, or perhaps right again
     fn damage(&mut self, stream: &mut Stream) {
-        match stream.below(12) {
+        match stream.below(16) {
             0 if !self.kinds.is_empty() => {
                 let place = stream.below(self.kinds.len() as u32) as usize;
                 self.kinds[place] = if stream.below(4) == 0 { stream.below(256) as u8 } else { stream.below(6) as u8 };
@@ -127,6 +132,19 @@ impl Buffers {
                 // a start
                 let table = stream.below(self.tables.len() as u32 / 33) as usize;
                 self.tables[33 * table] = other(0.0, stream);
+            }
+            10 => {
+                let number = another(self.commands.last().copied().unwrap_or(0), stream);
+                cut_or_grow(&mut self.commands, number, stream)
+            }
+            11..14 if !self.commands.is_empty() => {
+                let place = stream.below(self.commands.len() as u32) as usize;
+                self.commands[place] = match stream.below(4) {
+                    // that of the segment before, or of the one behind, or one less or one more than these
+                    0 if place > 0 => self.commands[place - 1].wrapping_sub(stream.below(2)),
+                    1 if place + 1 < self.commands.len() => self.commands[place + 1].wrapping_add(stream.below(2)),
+                    _ => another(self.commands[place], stream),
+                };
             }
             _ => change(&mut self.tables, stream),
         }
@@ -159,6 +177,18 @@ fn other(number: f32, stream: &mut Stream) -> f32 {
     }
 }
 
+// a command number that is lower, higher or the same, or one of the largest
+fn another(number: u32, stream: &mut Stream) -> u32 {
+    match stream.below(6) {
+        0 => number,
+        1 => number.wrapping_sub(1),
+        2 => number.wrapping_add(1),
+        3 => u32::MAX - stream.below(2),
+        4 => number ^ 1 << stream.below(32),
+        _ => 0,
+    }
+}
+
 impl Input for Buffers {
     fn simpler(&self) -> Vec<Buffers> {
         let mut found = Vec::new();
@@ -167,6 +197,12 @@ impl Input for Buffers {
             let mut less = self.clone();
             less.kinds.pop();
             less.lengths.pop();
+            less.commands.pop();
+            found.push(less);
+        }
+        if !self.commands.is_empty() {
+            let mut less = self.clone();
+            less.commands.pop();
             found.push(less);
         }
         for cut in [1, 33] {
@@ -190,11 +226,12 @@ impl fmt::Display for Buffers {
         let bits = |list: &[f32]| list.iter().map(|x| format!(" {:08X}", x.to_bits())).collect::<String>();
         write!(
             f,
-            "kinds {:?} fields{} tables{} lengths{}",
+            "kinds {:?} fields{} tables{} lengths{} commands {:?}",
             self.kinds,
             bits(&self.fields),
             bits(&self.tables),
-            bits(&self.lengths)
+            bits(&self.lengths),
+            self.commands
         )
     }
 }
@@ -256,15 +293,20 @@ pub fn compare(report: &mut Report, seed: u64, count: u64) {
         );
         println!("  stored paths, {name}: {calls} checked, of which {} are stored", stored.get());
     }
-    let long = |segments: usize| Buffers {
+    // lines of so many commands, numbered by a rule
+    let long = |segments: usize, number: fn(u32) -> u32| Buffers {
         kinds: vec![0; segments],
         fields: vec![0.0; 4 * segments],
         tables: Vec::new(),
         lengths: vec![1.0; segments],
+        commands: (0..segments as u32).map(number).collect(),
     };
+    let rules: [fn(u32) -> u32; 5] =
+        [|k| k, |_| 7, |k| u32::MAX - 65_536 + k, |k| k ^ 1, |k| if k < 65_535 { k } else { 65_533 }];
+    let lengths = [0, 65_535, 65_536, 65_537];
     report.group(
         "stored paths, as long as may be",
-        [0, 65_535, 65_536, 65_537].map(long).into_iter(),
+        rules.iter().flat_map(|number| lengths.map(|segments| long(segments, *number))),
         |buffers| buffers.ours(),
         |buffers| buffers.second(),
     );

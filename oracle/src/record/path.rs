@@ -4,6 +4,7 @@
 //! digits, and three values as three digits each, the counts of kinds, fields and tables where the path is built; the total
 //! as eight hexadecimal digits; what buffers of 8 kinds, 88 fields, 264 numbers of tables and 8 running lengths hold
 //! afterwards, the kinds as digits, all else mixed to one pattern; and a line's end. A place that is not written holds 9 or 77.
+//! The fifth buffer, of 8 command numbers, is lent too and not looked at here: `oracle/run build` and the listings compare it.
 
 use crate::build::{Due, compare_texts};
 use crate::compare::Report;
@@ -92,7 +93,7 @@ pub fn list(report: &mut Report, seed: u64) -> (Vec<u8>, u64) {
 }
 
 fn due(text: &str) -> Due {
-    Due::of(text, [KINDS, NUMBERS[0], NUMBERS[1], NUMBERS[2]])
+    Due::of(text, [KINDS, NUMBERS[0], NUMBERS[1], NUMBERS[2], KINDS])
 }
 
 // for each number of a whole buffer, what is so far times an odd factor, and the number's bits, modulo 2^32

@@ -8,7 +8,7 @@ use super::bezier::patterns;
 use super::path;
 use crate::build::Due;
 use crate::compare::Report;
-use crate::query::{Answer, Asked};
+use crate::query::{Answer, Asked, Flight};
 use crate::samples::Stream;
 use crate::smooth;
 use crate::turns;
@@ -16,7 +16,7 @@ use animato_path::poly::PathCommand;
 
 // the longest text that a block holds, and the places of the program's buffers: 8 segments of any kind
 const LONGEST: usize = 90;
-const ROOM: [usize; 4] = [8, 88, 264, 8];
+const ROOM: [usize; 5] = [8, 88, 264, 8, 8];
 
 const PATHS: usize = 100;
 
@@ -80,8 +80,8 @@ pub fn list(report: &mut Report, seed: u64) -> (Vec<u8>, u64) {
 
 fn lines(asked: &Asked) -> String {
     let Answer::Flown(places) = asked.theirs() else { panic!("the path is built") };
-    let line = |(progress, (segment, numbers)): (&f32, &(Option<u64>, [u32; 6]))| {
-        let segment = segment.map_or(u32::MAX, |number| number as u32);
+    let line = |(progress, (segment, numbers)): (&f32, &Flight)| {
+        let segment = segment.map_or(u32::MAX, |(number, _)| number as u32);
         patterns([progress.to_bits(), segment].into_iter().chain(*numbers)) + "\n"
     };
     asked.progresses.iter().zip(&places).map(line).collect()
