@@ -1,10 +1,10 @@
--- `path_marks::inner::nearest` meets its contract: the mark is the cursor of a segment that is no later. Assumes nothing.
+-- `path_marks::marks::nearest` meets its contract: the mark is the cursor of a segment that is no later. Assumes nothing.
 use borrow.Author.Needs.{needs}
 use Prim.Native.Nat.{_/_, _^_, _<_}
 use native.Mathlib.Omega.{arith}
 use Rattle.path_marks.proofs.Marking.{mark-lt, mark-le, mark-whole, mark-moves}
-use Rattle.path_marks.proofs.inner.nearest.Statement.{statement}
-use Rattle.path_marks.proofs.inner.nearest.Tie as tie
+use Rattle.path_marks.proofs.marks.nearest.Statement.{statement}
+use Rattle.path_marks.proofs.marks.nearest.Tie as tie
 
 -- the mark's place
 place : (s : tie.Start) → s .args .segment / 2 ^ s .args .shift < 256

@@ -1,4 +1,4 @@
--- `path_marks::inner::set_marks` meets its contract. The loop keeps that the marks before its own are set and where the cursor stands, `Setting`; the measure is the way that is left. Assumes nothing.
+-- `path_marks::marks::set_marks` meets its contract. The loop keeps that the marks before its own are set and where the cursor stands, `Setting`; the measure is the way that is left. Assumes nothing.
 use borrow.Author.Needs.{needs}
 use Prim.Native.Nat.{_-_, _≤_, _<_}
 use native.Mathlib.Omega.{arith}
@@ -7,8 +7,8 @@ use lib.Pow.{pow-pos}
 use Rattle.path_place.proofs.Standing.{cursor-own}
 use Rattle.path_marks.specs.Marks.{Reach}
 use Rattle.path_marks.proofs.Marking.{Setting, apart-is, setting-first, setting-own, setting-numbers, setting-tables, setting-lt, setting-stored, setting-done, setting-next}
-use Rattle.path_marks.proofs.inner.set_marks.Statement.{statement}
-use Rattle.path_marks.proofs.inner.set_marks.Tie as tie
+use Rattle.path_marks.proofs.marks.set_marks.Statement.{statement}
+use Rattle.path_marks.proofs.marks.set_marks.Tie as tie
 
 abbrev Inv-loop : tie.InvT-loop
 Inv-loop kinds numbers₀ tables₀ count shift apart at₀ k₀ numbers tables at k = Setting kinds shift at k numbers tables

@@ -1,11 +1,11 @@
--- `path_marks::inner::shift_for` meets its contract. The loop keeps that `reach` is what 256 marks reach over at its shift; the measure is what they do not reach. Assumes nothing.
+-- `path_marks::marks::shift_for` meets its contract. The loop keeps that `reach` is what 256 marks reach over at its shift; the measure is what they do not reach. Assumes nothing.
 use borrow.Author.Needs.{needs}
 use Prim.Native.Nat.{_*_, _-_, _^_, _≤_}
 use mathlib.Core.Path.{_≡_, refl}
 use native.Mathlib.Omega.{arith}
 use Rattle.path_marks.proofs.Marking.{reach-next, reach-few}
-use Rattle.path_marks.proofs.inner.shift_for.Statement.{statement}
-use Rattle.path_marks.proofs.inner.shift_for.Tie as tie
+use Rattle.path_marks.proofs.marks.shift_for.Statement.{statement}
+use Rattle.path_marks.proofs.marks.shift_for.Tie as tie
 
 abbrev Inv-loop : tie.InvT-loop
 Inv-loop count shift₀ reach₀ shift reach = (256 ≤ reach) × (shift ≤ 8) × (reach ≡ 256 * 2 ^ shift)

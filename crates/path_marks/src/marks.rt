@@ -1,0 +1,104 @@
+// Marks: how many numbers and table entries stand before every so many segments, at 256 places at most. They are a power of two of
+// segments apart, which is kept as its exponent, the shift.
+use path_place::Cursor;
+use path_place::first_cursor;
+use path_place::inner::forward;
+ghost use mathlib.Core.Path.{_≡_};
+ghost use Prim.Native.Nat.{_≤_};
+ghost use Rattle.path_place.specs.Cursors.{Moving};
+ghost use Rattle.path_marks.specs.Marks.{Leap, Markable, Marks, Reach};
+
+// The shift of 256 zeros, which are marks of any path: so far apart, the first stands at its first segment and none of the others on it.
+pub const UNSET: usize = 16;
+
+// The least shift at which 256 marks reach over so many segments.
+fn shift_for(count: usize) -> usize
+    requires { ⌜ count ≤ 65536 ⌝ }
+    ensures { λ r. ⌜ Reach count r ⌝ }
+{
+    let mut shift = 0usize;
+    let mut reach = 256usize;
+    while reach < count {
+        reach = 2 * reach;
+        shift += 1;
+    }
+    shift
+}
+
+// Sets the marks of a path, as near to each other as 256 allow, and gives their shift.
+fn set_marks(kinds: &[u8], numbers: &mut [u32; 256], tables: &mut [u32; 256]) -> usize
+    requires { ⌜ Markable (now kinds) (now numbers) (now tables) ⌝ }
+    ensures { λ r. ⌜ Marks (now (kinds .entry)) r (now (numbers .exit)) (now (tables .exit)) ⌝ }
+{
+    let count = kinds.len();
+    let shift = shift_for(count);
+    let apart = 1usize << shift;
+    let mut at = first_cursor(kinds);
+    let mut k = 0usize;
+    loop {
+        numbers[k] = at.numbers as u32;
+        tables[k] = at.tables as u32;
+        if count - at.segment <= apart {
+            return shift;
+        }
+        at = forward(kinds, at, at.segment + apart);
+        k += 1;
+    }
+}
+
+// Sets the marks before the first step back of more than 16 segments, and gives their shift.
+pub fn marked(
+    kinds: &[u8],
+    shift: usize,
+    numbers: &mut [u32; 256],
+    tables: &mut [u32; 256],
+    from: Cursor,
+    segment: usize,
+) -> usize
+    requires { ⌜ Leap (now kinds) shift (now numbers) (now tables) from segment ⌝ }
+    ensures { λ r. ⌜ Marks (now (kinds .entry)) r (now (numbers .exit)) (now (tables .exit)) ⌝ }
+{
+    if shift < UNSET {
+        return shift;
+    }
+    if from.segment <= segment + 16 {
+        return shift;
+    }
+    set_marks(kinds, numbers, tables)
+}
+
+// How far two segments are apart.
+fn distance(a: usize, b: usize) -> usize {
+    if a <= b { b - a } else { a - b }
+}
+
+// The same number.
+fn wide(x: u32) -> usize
+    ensures { λ r. ⌜ r ≡ x ⌝ }
+{
+    x as usize
+}
+
+// Where the walk to a segment starts: at the cursor or at the mark before the segment, whichever is nearer.
+pub fn nearest(
+    kinds: &[u8],
+    shift: usize,
+    numbers: &[u32; 256],
+    tables: &[u32; 256],
+    from: Cursor,
+    segment: usize,
+) -> Cursor
+    requires { ⌜ Leap (now kinds) shift (now numbers) (now tables) from segment ⌝ }
+    ensures { λ r. ⌜ Moving (now (kinds .entry)) r segment ⌝ }
+{
+    let k = segment >> shift;
+    let start = k << shift;
+    if distance(from.segment, segment) <= segment - start {
+        return from;
+    }
+    Cursor {
+        segment: start,
+        numbers: wide(numbers[k]),
+        tables: wide(tables[k]),
+    }
+}
