@@ -8,6 +8,9 @@ ghost use Rattle.path_build.specs.Paths.{BuildPath};
 use crate::passes::fill;
 use crate::passes::measure;
 use crate::sizes::Building;
+use crate::sizes::Counts;
+use crate::sizes::Size;
+use crate::sizes::is_short;
 use answers::Refusal;
 use answers::Values;
 

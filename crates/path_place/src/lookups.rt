@@ -1,5 +1,7 @@
 // The lookups without their tests, for callers that know the path to be a stored one.
 use crate::cursors::Cursor;
+use crate::cursors::back;
+use crate::cursors::forward;
 use path_segment::has_table;
 use table::Progress;
 use table::RawParameter;
