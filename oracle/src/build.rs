@@ -382,19 +382,20 @@ pub fn compare(report: &mut Report, seed: u64, count: u64) {
 }
 
 /// What a text is to answer in buffers with room for so many kinds, fields, tables, running lengths and command numbers: the
-/// refusal's number or 0, the counts or what the refusal carries, the total's bits, and what is stored in the first four.
+/// refusal's number or 0, the counts or what the refusal carries, the total's bits, and what is stored.
+#[derive(Default)]
 pub struct Due {
     pub number: u32,
     pub values: Vec<u64>,
     pub total: u32,
     pub kinds: Vec<u8>,
     pub numbers: [Vec<u32>; 3],
+    pub commands: Vec<u32>,
 }
 
 impl Due {
     pub fn of(text: &str, room: [usize; 5]) -> Due {
-        let refused =
-            |number, values| Due { number, values, total: 0, kinds: vec![], numbers: [vec![], vec![], vec![]] };
+        let refused = |number, values| Due { number, values, ..Due::default() };
         let commands = match (smooth::try_parse(text), read::theirs(text.as_bytes())) {
             (Ok(commands), _) => commands,
             (Err(_), read::Said::Refused { number, carried }) => return refused(number, carried),
@@ -402,14 +403,14 @@ impl Due {
         };
         let answer = theirs(&commands);
         let counts = answer.counts().unwrap_or_default();
+        let total = alike(turns::path(&commands).open_lengths().1);
         match answer {
-            Path { kinds, fields, tables, lengths, .. } => {
+            Path { kinds, fields, tables, lengths, commands } => {
                 let values = counts.iter().map(|count| *count as u64).collect();
                 if counts.iter().zip(room).any(|(count, room)| *count > room) {
                     return refused(8, values);
                 }
-                let total = alike(turns::path(&commands).open_lengths().1);
-                Due { number: 0, values, total, kinds, numbers: [fields, tables, lengths] }
+                Due { number: 0, values, total, kinds, numbers: [fields, tables, lengths], commands }
             }
             Refused(number, [segment, ..]) => refused(number, vec![segment]),
             Unread | Overwritten => panic!("the original builds or is refused"),

@@ -12,7 +12,8 @@ use replay_records::two;
 // The bytes of a record: the text's length as two digits; the text, which has at most 90 bytes, and
 // blanks up to 90; the refusal's number, or 0, as two digits, and three values as three digits each,
 // the counts of kinds, fields and tables where the path is built; the whole length's pattern; what the
-// buffers hold afterwards, 8 kinds and one pattern of all numbers (see `mixed`); and a line's end.
+// buffers hold afterwards, 8 kinds and one pattern of all numbers, those of the commands last (see
+// `mixed`); and a line's end.
 const RECORD: usize = 128;
 
 // An odd factor, so that no difference is lost on the way.
@@ -72,7 +73,10 @@ fn agrees(lines: &[u8], at: usize) -> bool
     );
     let answered = answers_as(building, &lengths, lines, at + 92);
     let of_kinds = same_bytes(&kinds, b'0', lines, at + 111);
-    let sum = mixed(mixed(mixed(0, &fields), &tables), &lengths);
+    let sum = numbered(
+        mixed(mixed(mixed(0, &fields), &tables), &lengths),
+        &commands,
+    );
     answered & of_kinds & (sum == pattern(lines, at + 119) as u64)
 }
 
@@ -85,6 +89,18 @@ fn mixed(before: u64, numbers: &[f32]) -> u64
     let mut sum = before;
     for i in 0..numbers.len() {
         sum = (sum * FACTOR + floats::bits(numbers[i]) as u64) % 0x1_0000_0000;
+    }
+    sum
+}
+
+// The same for whole numbers.
+fn numbered(before: u64, numbers: &[u32]) -> u64
+    requires { ⌜ before < 4294967296 ⌝ }
+    ensures { λ r. ⌜ r < 4294967296 ⌝ }
+{
+    let mut sum = before;
+    for i in 0..numbers.len() {
+        sum = (sum * FACTOR + numbers[i] as u64) % 0x1_0000_0000;
     }
     sum
 }

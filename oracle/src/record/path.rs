@@ -2,9 +2,8 @@
 //!
 //! A record is 128 bytes: the text's length as two digits; the text and blanks up to 90 bytes; the refusal's number or 0 as two
 //! digits, and three values as three digits each, the counts of kinds, fields and tables where the path is built; the total
-//! as eight hexadecimal digits; what buffers of 8 kinds, 88 fields, 264 numbers of tables and 8 running lengths hold
-//! afterwards, the kinds as digits, all else mixed to one pattern; and a line's end. A place that is not written holds 9 or 77.
-//! The fifth buffer, of 8 command numbers, is lent too and not looked at here: `oracle/run build` and the listings compare it.
+//! as eight hexadecimal digits; what buffers of 8 kinds, 88 fields, 264 numbers of tables, 8 running lengths and 8 command numbers
+//! hold afterwards, the kinds as digits, all else mixed to one pattern; and a line's end. A place that is not written holds 9 or 77.
 
 use crate::build::{Due, compare_texts};
 use crate::compare::Report;
@@ -97,9 +96,8 @@ fn due(text: &str) -> Due {
 }
 
 // for each number of a whole buffer, what is so far times an odd factor, and the number's bits, modulo 2^32
-fn mixed(before: u32, numbers: &[u32], places: usize) -> u32 {
-    let rest = std::iter::repeat(77.0f32.to_bits());
-    let whole = numbers.iter().copied().chain(rest).take(places);
+fn mixed(before: u32, numbers: &[u32], places: usize, unwritten: u32) -> u32 {
+    let whole = numbers.iter().copied().chain(std::iter::repeat(unwritten)).take(places);
     whole.fold(before, |sum, bits| sum.wrapping_mul(16_777_619).wrapping_add(bits))
 }
 
@@ -107,7 +105,8 @@ fn line(text: &str) -> Vec<u8> {
     let due = due(text);
     let value = |k: usize| due.values.get(k).copied().unwrap_or(0);
     let kinds: String = (0..KINDS).map(|k| due.kinds.get(k).map_or('9', |kind| char::from(b'0' + kind))).collect();
-    let pattern = due.numbers.iter().zip(NUMBERS).fold(0, |sum, (numbers, places)| mixed(sum, numbers, places));
+    let floats = |sum, (numbers, places): (&Vec<u32>, usize)| mixed(sum, numbers, places, 77.0f32.to_bits());
+    let pattern = mixed(due.numbers.iter().zip(NUMBERS).fold(0, floats), &due.commands, KINDS, 77);
     let answer = format!("{:02}{:03}{:03}{:03}", due.number, value(0), value(1), value(2));
     let line = format!("{:02}{text:90}{answer}{:08X}{kinds}{pattern:08X}\n", text.len(), due.total).into_bytes();
     assert_eq!(line.len(), 128, "a record's size");
