@@ -148,6 +148,13 @@ static void r_morph_default(float nan) {
 static void r_evaluate(float nan) {
     accepted(kihavute_evaluate((float[]){1, 2}, 2, (float[]){3, 4}, 2, nan, out, 64, answer, PLACES));
     is_nan(bits(out[0])), is_nan(bits(out[1]));
+    /* one among the numbers of ten points, which are made several at a time */
+    for (int at = 0; at < 20; at++) {
+        float from[20] = {0}, to[20] = {0};
+        from[at] = nan;
+        accepted(kihavute_evaluate(from, 20, to, 20, 0.5f, out, 64, answer, PLACES));
+        for (int i = 0; i < 20; i++) i == at ? is_nan(bits(out[i])) : no_nan(bits(out[i]));
+    }
 }
 static void r_bounds(float nan) {
     accepted(kihavute_bounds((float[]){1, 2}, 2, (float[]){3, 4}, 2, nan, answer, PLACES));

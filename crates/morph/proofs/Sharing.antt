@@ -23,6 +23,10 @@ module _ (from to : List Float) where
   unfolding sharedOf
   shared-upto = min-le-left (countOf from) (countOf to)
 
+  pub shared-upto-second : sharedOf from to ≤ countOf to
+  unfolding sharedOf
+  shared-upto-second = min-le-right (countOf from) (countOf to)
+
   pub in-first : (i : ℕ) → i < sharedOf from to → i < countOf from
   unfolding sharedOf
   in-first i h = le-trans h (min-le-left (countOf from) (countOf to))

@@ -1,18 +1,18 @@
 // The shape between two shapes, put into an output.
-use crate::between::between_at;
 use crate::between::progress;
 use crate::between::shared;
 use answers::Refusal;
 use answers::Values;
+use floats::tidy;
+use math::lerp;
 use polyline::Judged;
-use polyline::inner::put_point;
 use polyline::judge_two;
 ghost use mathlib.Core.Path.{_≡_};
 ghost use Prim.Native.Nat.{_*_, _≤_};
 ghost use lib.ListN.{length};
 ghost use Rattle.answers.specs.Report.{written};
 ghost use Rattle.polyline.specs.Points.{rowsOf};
-ghost use Rattle.morph.specs.Shapes.{sharedOf, betweenAt};
+ghost use Rattle.morph.specs.Shapes.{sharedOf, betweenAt, numbersBetween, anyNan};
 ghost use Rattle.morph.specs.Evaluate.{Evaluate};
 
 pub enum Evaluated {
@@ -21,16 +21,45 @@ pub enum Evaluated {
     Refused(Refusal),
 }
 
-// Every point of the shape between.
+// The numbers of the shape between, two for each point, each NaN in the pattern that the processor
+// gives it. Whether there is one.
+fn put_numbers(from: &[f32], to: &[f32], along: f32, out: &mut [f32]) -> bool
+    requires { ⌜ 2 * sharedOf (now from) (now to) ≤ length (now out) ⌝ }
+    ensures answer { λ r. ⌜ r ≡ anyNan (numbersBetween (now (from .entry)) (now (to .entry)) along) ⌝ }
+    ensures memory { λ _. ⌜ now (out .exit) ≡ written (numbersBetween (now (from .entry)) (now (to .entry)) along) (now (out .entry)) ⌝ }
+{
+    let count = 2 * shared(from, to);
+    let mut any = false;
+    let mut j: usize = 0;
+    while j < count {
+        let number = lerp(from[j], to[j], along);
+        out[j] = number;
+        any = any | (number != number);
+        j += 1;
+    }
+    any
+}
+
+// The first numbers with each NaN in the one pattern.
+fn tidy_numbers(out: &mut [f32], count: usize)
+    requires { ⌜ count ≤ length (now out) ⌝ }
+    ensures { λ _. ⌜ now (out .exit) ≡ now (out .entry) ⌝ }
+{
+    let mut j: usize = 0;
+    while j < count {
+        out[j] = tidy(out[j]);
+        j += 1;
+    }
+}
+
+// Every point of the shape between. A second pass tidies the numbers, where one is a NaN: in the first
+// it would cost each number as much as the arithmetic.
 fn fill_between(from: &[f32], to: &[f32], along: f32, out: &mut [f32])
     requires { ⌜ 2 * sharedOf (now from) (now to) ≤ length (now out) ⌝ }
     ensures { λ _. ⌜ now (out .exit) ≡ written (rowsOf (betweenAt (now (from .entry)) (now (to .entry)) along) (sharedOf (now (from .entry)) (now (to .entry)))) (now (out .entry)) ⌝ }
 {
-    let count = shared(from, to);
-    let mut i: usize = 0;
-    while i < count {
-        put_point(out, i, between_at(from, to, along, i));
-        i += 1;
+    if put_numbers(from, to, along, out) {
+        tidy_numbers(out, 2 * shared(from, to));
     }
 }
 
