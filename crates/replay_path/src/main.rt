@@ -53,6 +53,7 @@ fn agrees(lines: &[u8], at: usize) -> bool
     requires { ⌜ at + 128 ≤ length (now lines) ⌝ }
 {
     let size = two(lines, at);
+    let due = pattern(lines, at + 119) as u64;
     if 90 < size {
         return false;
     }
@@ -77,7 +78,12 @@ fn agrees(lines: &[u8], at: usize) -> bool
         mixed(mixed(mixed(0, &fields), &tables), &lengths),
         &commands,
     );
-    answered & of_kinds & (sum == pattern(lines, at + 119) as u64)
+    answered & of_kinds & (sum == due)
+}
+
+// One pattern of all that is stored but the kinds.
+fn summed(fields: &[f32], tables: &[f32], lengths: &[f32], commands: &[u32]) -> u64 {
+    numbered(mixed(mixed(mixed(0, fields), tables), lengths), commands)
 }
 
 // One pattern for a pattern before and all these numbers: for each, what is so far times an odd factor,
@@ -93,6 +99,12 @@ fn mixed(before: u64, numbers: &[f32]) -> u64
     sum
 }
 
+fn wide(x: u32) -> u64
+    ensures { λ r. ⌜ r < 4294967296 ⌝ }
+{
+    x as u64
+}
+
 // The same for whole numbers.
 fn numbered(before: u64, numbers: &[u32]) -> u64
     requires { ⌜ before < 4294967296 ⌝ }
@@ -100,7 +112,7 @@ fn numbered(before: u64, numbers: &[u32]) -> u64
 {
     let mut sum = before;
     for i in 0..numbers.len() {
-        sum = (sum * FACTOR + numbers[i] as u64) % 0x1_0000_0000;
+        sum = (sum * FACTOR + wide(numbers[i])) % 0x1_0000_0000;
     }
     sum
 }
