@@ -3,13 +3,11 @@
 use borrow.Author.Needs.{needs}
 use native.Mathlib.Omega.{arith}
 use mathlib.Core.Path.{_≡_, refl}
-use mathlib.Core.Logic.{_⊎_}
 use Prim.Native.Nat.{ℕ, _+_, _-_}
 use mathlib.Core.List.{List}
 use lib.ListN.{getD}
 use lib.Ieee.{Float, nan}
-use Rattle.floats.specs.Floats.{zeroF}
-use Rattle.lengths.specs.Length.{lengthOf, Summed}
+use Rattle.lengths.specs.Length.{Summed, Judged}
 use Rattle.lengths.proofs.Far.{judged-at}
 use Rattle.lengths.proofs.Lists.{Passing, passing-start, passing-more}
 use Rattle.lengths.proofs.passes.judged_run.Statement.{statement}
@@ -22,8 +20,8 @@ Sum x y at j s = Summed (getD x (at + j) nan) (getD y (at + j) nan) s
 abbrev Anything : ℕ → Float → Type 0
 Anything j g = g ≡ g
 
-abbrev Judged : List Float → List Float → ℕ → ℕ → Float → Type 0
-Judged x y at j r = (r ≡ zeroF) ⊎ (r ≡ lengthOf (getD x (at + j) nan) (getD y (at + j) nan))
+abbrev Root : List Float → List Float → ℕ → ℕ → Float → Type 0
+Root x y at j r = Judged (getD x (at + j) nan) (getD y (at + j) nan) r
 
 abbrev Inv-loop : tie.InvT-loop
 Inv-loop x y at sums₀ i₀ sums i = Passing (Sum x y at) sums 16 i
@@ -38,7 +36,7 @@ abbrev μ-loop2 : tie.MeasureT-loop2
 μ-loop2 x y at sums i guesses₀ j₀ guesses j = 16 - j
 
 abbrev Inv-loop3 : tie.InvT-loop3
-Inv-loop3 x y at sums i guesses j r₀ k₀ r k = Passing (Judged x y at) r 16 k
+Inv-loop3 x y at sums i guesses j r₀ k₀ r k = Passing (Root x y at) r 16 k
 
 abbrev μ-loop3 : tie.MeasureT-loop3
 μ-loop3 x y at sums i guesses j r₀ k₀ r k = 16 - k
