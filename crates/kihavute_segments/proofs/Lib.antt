@@ -1,4 +1,3 @@
 -- The laws of what segments give through C.
-pub mod AppendingGiven
 pub mod SegmentsGiven
 pub mod Stored

@@ -1,3 +1,2 @@
 -- What segments give to C.
-pub mod Appending
 pub mod Segments

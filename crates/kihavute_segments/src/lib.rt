@@ -1,3 +1,2 @@
-// The C interface's fifth part: segments one by one, appended to a stored path and asked.
-mod appending;
+// The C interface's fifth part: the segments of a stored path, asked one by one.
 mod segments;

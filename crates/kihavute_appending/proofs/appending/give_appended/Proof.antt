@@ -2,9 +2,9 @@
 use borrow.Author.Needs.{needs}
 use mathlib.Core.Path.{sym}
 use Rattle.c_answer.proofs.Giving.{given-same}
-use Rattle.kihavute_segments.proofs.AppendingGiven.{appended-added, appended-refused}
-use Rattle.kihavute_segments.proofs.appending.give_appended.Statement.{statement}
-use Rattle.kihavute_segments.proofs.appending.give_appended.Tie as tie
+use Rattle.kihavute_appending.proofs.AppendingGiven.{appended-added, appended-refused}
+use Rattle.kihavute_appending.proofs.appending.give_appended.Statement.{statement}
+use Rattle.kihavute_appending.proofs.appending.give_appended.Tie as tie
 
 returns : tie.Need-returns
 returns c =

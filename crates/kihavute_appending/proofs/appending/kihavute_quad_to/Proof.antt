@@ -1,8 +1,8 @@
 -- `kihavute_quad_to` meets its contract: the answer's length is judged first, then the entry's own promise is reported. Assumes nothing.
 use borrow.Author.Needs.{needs}
-use Rattle.kihavute_segments.proofs.AppendingGiven.{not-appended, appends-reported}
-use Rattle.kihavute_segments.proofs.appending.kihavute_quad_to.Statement.{statement}
-use Rattle.kihavute_segments.proofs.appending.kihavute_quad_to.Tie as tie
+use Rattle.kihavute_appending.proofs.AppendingGiven.{not-appended, appends-reported}
+use Rattle.kihavute_appending.proofs.appending.kihavute_quad_to.Statement.{statement}
+use Rattle.kihavute_appending.proofs.appending.kihavute_quad_to.Tie as tie
 
 returns : tie.Need-returns
 returns c = not-appended _ _ _ _ _ _ (c .if1 .taken)

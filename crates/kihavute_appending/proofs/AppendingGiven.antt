@@ -22,7 +22,7 @@ use Rattle.path_append.specs.declared.pushing.Appended.the-variants as Appended
 use Rattle.path_append.specs.Appending.{appendedOf, answerOf, afterwards, Append}
 use Rattle.c_answer.specs.Given.{Given}
 use Rattle.c_answer.proofs.Giving.{given-same, given-short}
-use Rattle.kihavute_segments.specs.Appending.{isSegment, pushedOf, Appending, Appends, Pushes}
+use Rattle.kihavute_appending.specs.Appending.{isSegment, pushedOf, Appending, Appends, Pushes}
 
 -- ---- the answer
 module _ (appended : Appended) where

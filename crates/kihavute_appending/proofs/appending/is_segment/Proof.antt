@@ -4,9 +4,9 @@ use mathlib.Core.Path.{ap}
 use Prim.Native.Nat.{ℕ}
 use lib.Dec.{eqb}
 use lib.ListN.{length}
-use Rattle.kihavute_segments.proofs.AppendingGiven.{known-kind, unknown-kind}
-use Rattle.kihavute_segments.proofs.appending.is_segment.Statement.{statement}
-use Rattle.kihavute_segments.proofs.appending.is_segment.Tie as tie
+use Rattle.kihavute_appending.proofs.AppendingGiven.{known-kind, unknown-kind}
+use Rattle.kihavute_appending.proofs.appending.is_segment.Statement.{statement}
+use Rattle.kihavute_appending.proofs.appending.is_segment.Tie as tie
 
 returns : tie.Need-returns
 returns c =

@@ -1,9 +1,9 @@
 -- `kihavute_push_segment` meets its contract: the answer's length is judged first, then the kind and its numbers; then the entry's own promise is reported. Assumes nothing.
 use borrow.Author.Needs.{needs}
 use mathlib.Core.Path.{sym, _∙_}
-use Rattle.kihavute_segments.proofs.AppendingGiven.{segment-known, not-appended, pushes-reported, push-refused}
-use Rattle.kihavute_segments.proofs.appending.kihavute_push_segment.Statement.{statement}
-use Rattle.kihavute_segments.proofs.appending.kihavute_push_segment.Tie as tie
+use Rattle.kihavute_appending.proofs.AppendingGiven.{segment-known, not-appended, pushes-reported, push-refused}
+use Rattle.kihavute_appending.proofs.appending.kihavute_push_segment.Statement.{statement}
+use Rattle.kihavute_appending.proofs.appending.kihavute_push_segment.Tie as tie
 
 returns : tie.Need-returns
 returns c = not-appended _ _ _ _ _ _ (c .if1 .taken)

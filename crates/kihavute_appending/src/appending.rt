@@ -7,7 +7,7 @@ ghost use Rattle.path_stored.specs.Buffers.{after, before};
 ghost use Rattle.path_append.specs.Appending.{answerOf, arcSegment};
 ghost use Rattle.arc.specs.Lines.{lineOf};
 ghost use Rattle.path_segment.specs.declared.segments.PathSegment.the-variants.{Line, Quad, Cubic};
-ghost use Rattle.kihavute_segments.specs.Appending.{Appends, Pushes, pointOf, chordOf, isSegment};
+ghost use Rattle.kihavute_appending.specs.Appending.{Appends, Pushes, pointOf, chordOf, isSegment};
 use answers::Refusal;
 use ellipse::Chord;
 use math::Point;

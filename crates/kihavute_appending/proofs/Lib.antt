@@ -1,0 +1,2 @@
+-- The laws of what appending gives through C.
+pub mod AppendingGiven

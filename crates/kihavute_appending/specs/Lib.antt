@@ -1,0 +1,2 @@
+-- What appending gives to C.
+pub mod Appending
