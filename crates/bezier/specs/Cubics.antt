@@ -57,12 +57,16 @@ unfoldable pub cubicPositionOf : CubicBezierCurve → Float → Point
 unfolding cubicSampleOf
 cubicPositionOf curve progress = cubicSampleOf (curve .start) (curve .control1) (curve .control2) (curve .end) (cubicRaw curve progress)
 
+-- the direction at a raw parameter, as a quad's
+unfoldable pub cubicDirection : Point → Point → Point → Point → Float → Float → Point
+cubicDirection start control1 control2 end raw further =
+    secondTry (normalizeOf (cubicDerivativeOf start control1 control2 end raw))
+    (normalizeOf (subOf (cubicSampleOf start control1 control2 end further) (cubicSampleOf start control1 control2 end raw)))
+
 -- `tangent` at the raw parameter of a progress: the second try is made from the progress as it was given
 unfoldable pub cubicTangentAt : CubicBezierCurve → Float → Float → Point
-unfolding cubicPositionOf
-cubicTangentAt curve raw progress =
-    secondTry (normalizeOf (cubicDerivativeOf (curve .start) (curve .control1) (curve .control2) (curve .end) raw))
-    (normalizeOf (subOf (cubicPositionOf curve (aheadOf progress)) (cubicSampleOf (curve .start) (curve .control1) (curve .control2) (curve .end) raw)))
+unfolding cubicDirection
+cubicTangentAt curve raw progress = cubicDirection (curve .start) (curve .control1) (curve .control2) (curve .end) raw (cubicRaw curve (aheadOf progress))
 
 -- `tangent`
 unfoldable pub cubicTangentOf : CubicBezierCurve → Float → Point

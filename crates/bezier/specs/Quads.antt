@@ -46,12 +46,15 @@ unfoldable pub quadPositionOf : QuadBezier → Float → Point
 unfolding quadSampleOf
 quadPositionOf curve progress = quadSampleOf (curve .start) (curve .control) (curve .end) (quadRaw curve progress)
 
+-- the direction at a raw parameter: the derivative's, or where that is (0, 0), the one from the sample there to the sample further on
+unfoldable pub quadDirection : Point → Point → Point → Float → Float → Point
+quadDirection start control end raw further =
+    secondTry (normalizeOf (quadDerivativeOf start control end raw)) (normalizeOf (subOf (quadSampleOf start control end further) (quadSampleOf start control end raw)))
+
 -- `tangent` at the raw parameter of a progress: the second try is made from the progress as it was given
 unfoldable pub quadTangentAt : QuadBezier → Float → Float → Point
-unfolding quadPositionOf
-quadTangentAt curve raw progress =
-    secondTry (normalizeOf (quadDerivativeOf (curve .start) (curve .control) (curve .end) raw))
-    (normalizeOf (subOf (quadPositionOf curve (aheadOf progress)) (quadSampleOf (curve .start) (curve .control) (curve .end) raw)))
+unfolding quadDirection
+quadTangentAt curve raw progress = quadDirection (curve .start) (curve .control) (curve .end) raw (quadRaw curve (aheadOf progress))
 
 -- `tangent`
 unfoldable pub quadTangentOf : QuadBezier → Float → Point

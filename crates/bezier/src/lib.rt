@@ -2,6 +2,7 @@
 // progress. What stands here asks nothing and refuses; `inner` has the same for a caller that knows the table to be sound.
 mod cubics;
 mod curves;
+mod directions;
 pub mod inner;
 mod lookups;
 mod quads;

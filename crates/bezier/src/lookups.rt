@@ -1,15 +1,11 @@
 // The queries without their tests, for callers that know the table to be sound.
 use crate::cubics::CubicBezierCurve;
-use crate::cubics::cubic_derivative;
 use crate::cubics::cubic_sample;
-use crate::curves::ahead;
-use crate::curves::is_nothing;
+use crate::directions::cubic_direction;
+use crate::directions::quad_direction;
 use crate::quads::QuadBezier;
-use crate::quads::quad_derivative;
 use crate::quads::quad_sample;
 use math::Point;
-use math::normalize;
-use math::sub;
 use table::Progress;
 use table::RawParameter;
 use table::inner::raw_parameter;
@@ -29,19 +25,22 @@ pub fn quad_position(curve: QuadBezier, progress: Progress) -> Point
     quad_sample(curve.start, curve.control, curve.end, raw)
 }
 
-// Where a quad heads at the raw parameter of a progress, with the length 1: its derivative's direction, or where that is (0, 0), the
-// direction to the place a thousandth further than the progress; that may be (0, 0) too.
+// Where a quad heads at the raw parameter of a progress.
 pub fn quad_tangent_at(curve: QuadBezier, raw: RawParameter, progress: Progress) -> Point
     requires { ⌜ T (tableIsSound (curve .table .entries) (curve .table .total)) ⌝ }
     ensures { λ r. ⌜ r ≡ quadTangentAt curve (raw .value) (progress .value) ⌝ }
 {
-    let first = normalize(quad_derivative(curve.start, curve.control, curve.end, raw));
-    if is_nothing(first) {
-        let there = quad_position(curve, ahead(progress));
-        let here = quad_sample(curve.start, curve.control, curve.end, raw);
-        return normalize(sub(there, here));
-    }
-    first
+    let table = curve.table;
+    let total = table.total;
+    quad_direction(
+        curve.start,
+        curve.control,
+        curve.end,
+        raw,
+        &table.entries,
+        total,
+        progress,
+    )
 }
 
 // Where a quad heads at a progress.
@@ -63,25 +62,23 @@ pub fn cubic_position(curve: CubicBezierCurve, progress: Progress) -> Point
     cubic_sample(curve.start, curve.control1, curve.control2, curve.end, raw)
 }
 
-// Where a cubic heads at the raw parameter of a progress, with the length 1: its derivative's direction, or where that is (0, 0), the
-// direction to the place a thousandth further than the progress; that may be (0, 0) too.
+// Where a cubic heads at the raw parameter of a progress.
 pub fn cubic_tangent_at(curve: CubicBezierCurve, raw: RawParameter, progress: Progress) -> Point
     requires { ⌜ T (tableIsSound (curve .table .entries) (curve .table .total)) ⌝ }
     ensures { λ r. ⌜ r ≡ cubicTangentAt curve (raw .value) (progress .value) ⌝ }
 {
-    let first = normalize(cubic_derivative(
+    let table = curve.table;
+    let total = table.total;
+    cubic_direction(
         curve.start,
         curve.control1,
         curve.control2,
         curve.end,
         raw,
-    ));
-    if is_nothing(first) {
-        let there = cubic_position(curve, ahead(progress));
-        let here = cubic_sample(curve.start, curve.control1, curve.control2, curve.end, raw);
-        return normalize(sub(there, here));
-    }
-    first
+        &table.entries,
+        total,
+        progress,
+    )
 }
 
 // Where a cubic heads at a progress.

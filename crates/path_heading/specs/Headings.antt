@@ -1,10 +1,8 @@
 -- Where a segment is and where it heads, at its raw parameter (source documents 001 and 002, `position` and `tangent` of each kind of `PathSegment`). Definitions only.
 use lib.Ieee.{Float}
 use Rattle.math.specs.declared.points.Point.{Point}
-use Rattle.math.specs.Math.{subOf, normalizeOf}
-use Rattle.bezier.specs.Curves.{secondTry}
-use Rattle.bezier.specs.Quads.{quadSampleOf, quadDerivativeOf}
-use Rattle.bezier.specs.Cubics.{cubicSampleOf, cubicDerivativeOf}
+use Rattle.bezier.specs.Quads.{quadSampleOf, quadDirection}
+use Rattle.bezier.specs.Cubics.{cubicSampleOf, cubicDirection}
 use Rattle.ellipse.specs.Shape.{pointOn, directionOn}
 use Rattle.arc.specs.Lines.{linePointOf, lineTangentOf}
 use Rattle.arc.specs.Arcs.{chordLine}
@@ -19,21 +17,11 @@ sampleOf (Segment.Cubic start control1 control2 end) raw = cubicSampleOf start c
 sampleOf (Segment.Arc shape) raw = pointOn shape raw
 sampleOf (Segment.Fallback shape) raw = linePointOf (chordLine shape) raw
 
--- `tangent` of a quad and a cubic: the derivative's direction, or where that is (0, 0), the one from the sample at the raw parameter to the sample further on
-unfoldable pub quadHeading : Point → Point → Point → Float → Float → Point
-quadHeading start control end raw further =
-    secondTry (normalizeOf (quadDerivativeOf start control end raw)) (normalizeOf (subOf (quadSampleOf start control end further) (quadSampleOf start control end raw)))
-
-unfoldable pub cubicHeading : Point → Point → Point → Point → Float → Float → Point
-cubicHeading start control1 control2 end raw further =
-    secondTry (normalizeOf (cubicDerivativeOf start control1 control2 end raw))
-    (normalizeOf (subOf (cubicSampleOf start control1 control2 end further) (cubicSampleOf start control1 control2 end raw)))
-
 -- `tangent`; only quads and cubics look at what is further on
 unfoldable pub headingOf : PathSegment → Float → Float → Point
-unfolding quadHeading cubicHeading
+unfolding quadDirection cubicDirection
 headingOf (Segment.Line line) raw further = lineTangentOf line
-headingOf (Segment.Quad start control end) raw further = quadHeading start control end raw further
-headingOf (Segment.Cubic start control1 control2 end) raw further = cubicHeading start control1 control2 end raw further
+headingOf (Segment.Quad start control end) raw further = quadDirection start control end raw further
+headingOf (Segment.Cubic start control1 control2 end) raw further = cubicDirection start control1 control2 end raw further
 headingOf (Segment.Arc shape) raw further = directionOn shape raw
 headingOf (Segment.Fallback shape) raw further = lineTangentOf (chordLine shape)
