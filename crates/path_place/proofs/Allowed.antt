@@ -9,17 +9,23 @@ use lib.ListN.{length, getD}
 use lib.Ieee.{Float, ofBits, lt, le, eq}
 use Rattle.floats.specs.Floats.{zeroF, oneF, epsilonF, clamp01Of}
 use Rattle.table.specs.declared.tables.Spot.{Spot}
-use Rattle.table.specs.Lookup.{at, lastOf, rawOf}
+use Rattle.table.specs.Lookup.{at, lastOf, firstNotBelow, rawOf}
 use Rattle.table.specs.Spots.{pathTotal, spotOf}
 use Rattle.floats.proofs.Tests.{clashing, cond-yes}
 use Rattle.floats.proofs.Order.{le-le-trans}
+use Rattle.table_order.specs.Swept.{Steady}
+use Rattle.table_order.proofs.Division.{quotientOf}
+use Rattle.table_order.proofs.Variants.{wayAlong}
+use Rattle.table_order.proofs.Contraction.{contractedClamped}
+use Rattle.table_order.proofs.Kept.{contracted-steady as by-shares}
 use Rattle.table_order.proofs.Theorems.{path-order, path-starts, path-ends, carried}
 use Rattle.path_segment.specs.Segments.{hasTable}
 use Rattle.path_stored.specs.Buffers.{Buffers}
 use Rattle.path_place.specs.declared.places.Place.{Place}
 use Rattle.path_place.specs.Places.{placed, tablePlace, rawIn, rawFor, rawWithin, placeIn, placeOf}
 use Rattle.path_place.specs.Demand.{Demand3, tableOn}
-use Rattle.path_place.proofs.Demand3.{F32Stored, spot-counts, path-held, demand-3}
+use Rattle.path_place.proofs.AnyLookup.{F32Stored, WaySteady, spot-counts, path-held, withWay, steady-meets}
+use Rattle.path_place.proofs.Demand3.{demand-3}
 use Rattle.path_place.proofs.Refuting.{Lookup}
 use Rattle.path_place.proofs.Refused.{unchanged}
 
@@ -94,3 +100,16 @@ jumping-kept {b} f some long bare =
   where
     jumped : Spot → Place
     jumped spot = placed (spot .segment) (jump (spot .segment) (spot .progress .value))
+
+-- ---- The contraction that a compiler makes by itself, with its clamp: target - lower as total * progress - lower rounded once. It is steady, so that only the comparison with the Rust refuses its bits.
+
+abbrev pub contracted : List Float → Float → Float → Float
+contracted xs total p = wayAlong (λ t. firstNotBelow t xs) (contractedClamped total) (quotientOf (lastOf xs)) xs total p
+
+pub contracted-steady : WaySteady contracted
+contracted-steady xs total f last = subst (λ (n : ℕ). Steady n xs total (contracted xs total)) last (by-shares f)
+
+-- so the letter's sentence allows it
+pub contraction-kept : {b : Buffers} → F32Stored b → 0 < length (b .kinds) → T (lt epsilonF (pathTotal (b .lengths)))
+    → Demand3 b (withWay contracted b)
+contraction-kept f = steady-meets contracted contracted-steady f

@@ -1,6 +1,6 @@
--- Whatever looks a table up so that it is steady (`Steady` of table_order/specs/Swept.antt), a path's lookup with it meets demand 3: `steady-meets`. So the demand asks of a curve just what
--- `Steady` says. The contraction that a compiler makes by itself, with its clamp, is steady: the demand allows it, and only the comparison with the Rust refuses its bits. Assumes nothing.
-use mathlib.Core.Path.{_≡_, sym, ap, _∙_, subst}
+-- Lookups of a path that differ from the code's in one table alone, and what demand 3 asks of them: whatever looks a table up so that it is steady (`Steady` of table_order/specs/Swept.antt),
+-- a path's lookup with it meets the demand: `steady-meets`. So the demand asks of a curve just what `Steady` says. Assumes nothing.
+use mathlib.Core.Path.{_≡_, refl, sym, ap, _∙_, subst}
 use Prim.Native.Nat.{ℕ, _-_, _<_}
 use native.Mathlib.Omega.{arith}
 use mathlib.Core.Bool.{Bool, true, false, cond}
@@ -11,28 +11,46 @@ use lib.Ieee.{Float, lt, le}
 use Rattle.floats.specs.Floats.{zeroF, oneF, epsilonF, clamp01Of}
 use Rattle.floats.proofs.Tests.{cond-yes}
 use Rattle.floats.proofs.Clamping.{clamp01-mono}
+use Rattle.floats.proofs.Order.{le→not-lt}
 use Rattle.table.specs.declared.tables.Spot.{Spot}
-use Rattle.table.specs.Lookup.{lastOf, firstNotBelow, targetOf}
-use Rattle.table.specs.Spots.{pathTotal, spotWithin, spotOf}
-use Rattle.table_order.specs.Stated.{F32Table}
-use Rattle.table_order.specs.Swept.{Inside, Swept, Steady}
-use Rattle.table_order.proofs.Division.{quotientOf}
+use Rattle.table.specs.Lookup.{at, lastOf, firstNotBelow, targetOf}
+use Rattle.table.specs.Spots.{before, pathTotal, spotWithin, spotOf}
+use Rattle.table_order.specs.Stated.{F32Table, F32Path}
+use Rattle.table_order.specs.Swept.{Inside, Enclose, Swept, Steady}
 use Rattle.table_order.proofs.Ends.{clamped-zero, clamped-one}
-use Rattle.table_order.proofs.Theorems.{path-order, path-starts, path-ends, carried}
-use Rattle.table_order.proofs.Variants.{wayAlong}
-use Rattle.table_order.proofs.Contraction.{contractedClamped}
-use Rattle.table_order.proofs.Kept.{contracted-steady as by-shares}
+use Rattle.table_order.proofs.Swept.{clamped-again}
+use Rattle.table_order.proofs.Theorems.{path-order, path-starts, path-ends, path-enclosed, carried}
 use Rattle.path_segment.specs.Segments.{hasTable}
 use Rattle.path_stored.specs.Buffers.{Buffers}
+use Rattle.path_stored.specs.Stored.{Stored}
+use Rattle.path_stored.proofs.Values.{F32s}
 use Rattle.path_place.specs.declared.places.Place.{Place}
-use Rattle.path_place.specs.Places.{placed, placeIn}
-use Rattle.path_place.specs.Demand.{SweptBy, Demand3, targetAlong, localOf, tableOn}
+use Rattle.path_place.specs.Places.{placed}
+use Rattle.path_place.specs.Demand.{EnclosedBy, SweptBy, Demand3, targetAlong, localOf, tableOn}
 use Rattle.path_place.proofs.Tables.{entries-last, has-inside, table-there}
 use Rattle.path_place.proofs.Pairs.{table-held, picked-inside}
-use Rattle.path_place.proofs.Demand3.{F32Stored, spot-counts, path-held, demand-3}
-use Rattle.path_place.proofs.Refused.{withWay}
 
--- ---- any steady lookup of a table
+-- a stored path whose tables and running lengths are f32 values, as those of every lent slice are
+pub record F32Stored (b : Buffers) : Type 0 where
+  pub stored : Stored b
+  pub tableValues : F32s (b .tables)
+  pub lengthValues : F32s (b .lengths)
+
+pub path-held : {b : Buffers} → F32Stored b → 0 < length (b .kinds) → F32Path (b .lengths)
+path-held f some = let one = f .stored .one in record { path = record { some = omega arith; sound = f .stored .rising }; values = f .lengthValues }
+
+pub spot-counts : (lengths : List Float) (p : Float) → spotOf lengths p ≡ spotOf lengths (clamp01Of p)
+unfolding spotOf targetOf
+spot-counts lengths p = rw (clamped-again p) refl
+
+-- ---- another way through a table: the segment and the local progress are 01's, the raw parameter is what `way` makes of the entries, the total and the local progress
+
+abbrev pub withWay : (List Float → Float → Float → Float) → Buffers → Float → Place
+withWay way b p =
+    let spot = spotOf (b .lengths) p in
+    let table = tableOn b (spot .segment) in
+    let along = spot .progress .value in
+    placed (spot .segment) (cond (hasTable (getD (b .kinds) (spot .segment) 0)) (way (table .entries) (table .total) along) (clamp01Of along))
 
 -- in every sound table of 32 f32 values
 abbrev pub WaySteady : (List Float → Float → Float → Float) → Type 0
@@ -75,42 +93,35 @@ module _ (way : List Float → Float → Float → Float) (is : WaySteady way) {
       by-kind true steady = steady tt .ends
       by-kind false steady = clamped-one
 
+  -- on a stored path with a segment, longer than 2^-23
   pub steady-meets : 0 < length (b .kinds) → T (lt epsilonF (pathTotal (b .lengths))) → Demand3 b (withWay way b)
-  unfolding placeIn
   steady-meets some long =
       let path = path-held f some in
-      let d = demand-3 f some long in
       let last : lastOf (b .lengths) ≡ length (b .kinds) - 1 = (let one = f .stored .one in omega arith) in
       record {
         counts = λ p. ap placeBy (spot-counts (b .lengths) p);
         order = λ p q h. carried rawBy by-order _ _ _ _ (path-order path p q h);
         starts = ap placeBy (path-starts path long) ∙ ap (placed 0) (by-starts 0);
         ends = ap placeBy (path-ends path) ∙ ap (placed (lastOf (b .lengths))) (by-ends (lastOf (b .lengths))) ∙ ap (λ (i : ℕ). placed i oneF) last;
-        enclosed = d .enclosed;
+        enclosed = λ p inside. subst (EnclosedBy b p) (sym (ap placeBy (picked p inside))) (enclosed-there path p inside);
         swept = λ p inside. subst (SweptBy b p) (sym (ap placeBy (picked p inside))) (λ has far. within (wanted p) (localOf (b .lengths) p (wanted p)) has far);
       }
     where
+      -- the segment that 01 picks
       wanted : Float → ℕ
       wanted p = firstNotBelow (targetAlong (b .lengths) p) (b .lengths)
 
       picked : (p : Float) → Inside (pathTotal (b .lengths)) (targetAlong (b .lengths) p) → spotOf (b .lengths) p ≡ spotWithin (b .lengths) (targetAlong (b .lengths) p) (wanted p)
       picked p inside = picked-inside (b .lengths) p long (inside .above) (inside .below)
 
+      enclosed-there : F32Path (b .lengths) → (p : Float) → Inside (pathTotal (b .lengths)) (targetAlong (b .lengths) p)
+          → Enclose (before (b .lengths) (wanted p)) (at (b .lengths) (wanted p)) (targetAlong (b .lengths) p)
+      enclosed-there path p inside =
+          let e = path-enclosed path p (inside .above) (inside .below) in
+          record { lower = e .lower; upper = le→not-lt (targetAlong (b .lengths) p) (at (b .lengths) (wanted p)) (e .upper) }
+
       within : (i : ℕ) (along : Float) → T (hasTable (getD (b .kinds) i 0)) → let table = tableOn b i in
           T (lt epsilonF (table .total)) → Swept 31 (table .entries) (table .total) (targetOf (table .total) along) (rawBy i along)
       within i along has far =
           let table = tableOn b i in
           subst (Swept 31 (table .entries) (table .total) (targetOf (table .total) along)) (sym (cond-yes (hasTable (getD (b .kinds) i 0)) _ _ has)) (held i has .swept along far)
-
--- ---- the contraction with its clamp: target - lower as total * progress - lower rounded once
-
-abbrev pub contracted : List Float → Float → Float → Float
-contracted xs total p = wayAlong (λ t. firstNotBelow t xs) (contractedClamped total) (quotientOf (lastOf xs)) xs total p
-
-pub contracted-steady : WaySteady contracted
-contracted-steady xs total f last = subst (λ (n : ℕ). Steady n xs total (contracted xs total)) last (by-shares f)
-
--- so the letter's sentence allows it
-pub contraction-kept : {b : Buffers} → F32Stored b → 0 < length (b .kinds) → T (lt epsilonF (pathTotal (b .lengths)))
-    → Demand3 b (withWay contracted b)
-contraction-kept f = steady-meets contracted contracted-steady f

@@ -18,6 +18,7 @@ use Rattle.path_segment.specs.Segments.{hasTable}
 use Rattle.path_stored.specs.Buffers.{Buffers, buffers}
 use Rattle.path_place.specs.Places.{placed, rawWithin, placeIn, placeOf}
 use Rattle.path_place.specs.Demand.{tableOn, targetAlong}
+use Rattle.path_place.proofs.AnyLookup.{withWay}
 use Rattle.path_place.proofs.Refuting.{Lookup, Refused, computing, steps-back, strays-refused, misplaces-refused}
 
 -- ---- the paths
@@ -50,14 +51,7 @@ standing k rest = tableFrom (replicate k zeroF ++ (oneF ∷ replicate rest two))
 abbrev pub lines : Buffers
 lines = buffers (0 ∷ 0 ∷ []) (replicate 8 zeroF) [] (oneF ∷ two ∷ []) (1 ∷ 2 ∷ [])
 
--- ---- lookups that differ in the curve's table: the segment and the local progress are 01's, the raw parameter is what `way` makes of the entries, the total and the local progress
-
-abbrev pub withWay : (List Float → Float → Float → Float) → Lookup
-withWay way b p =
-    let spot = spotOf (b .lengths) p in
-    let table = tableOn b (spot .segment) in
-    let along = spot .progress .value in
-    placed (spot .segment) (cond (hasTable (getD (b .kinds) (spot .segment) 0)) (way (table .entries) (table .total) along) (clamp01Of along))
+-- ---- lookups that differ in the curve's table
 
 -- "a lookup that returns its progress unchanged"
 abbrev pub unchanged : Lookup

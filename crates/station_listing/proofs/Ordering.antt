@@ -17,7 +17,7 @@ use Rattle.path_stored.specs.Buffers.{Buffers}
 use Rattle.path_stored.specs.Layout.{lengthsOfAll, laidOut}
 use Rattle.path_stored.proofs.Rule.{stored-rule}
 use Rattle.path_stored.proofs.Values.{tables-fit, lengths-fit}
-use Rattle.path_place.proofs.Demand3.{F32Stored}
+use Rattle.path_place.proofs.AnyLookup.{F32Stored}
 use Rattle.path_drawing.specs.Building.{drawersOf}
 use Rattle.path_build.proofs.Sound.{built-stored}
 use Rattle.station_commands.proofs.PlanLaws.{letters-count}

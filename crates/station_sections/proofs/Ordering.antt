@@ -32,7 +32,8 @@ use Rattle.table_order.proofs.Theorems.{path-starts, path-ends}
 use Rattle.flight.specs.declared.Found.the-variants.{Segment}
 use Rattle.path_stored.specs.Buffers.{Buffers}
 use Rattle.path_place.specs.Places.{placeAt, placeIn, placeOf}
-use Rattle.path_place.proofs.Demand3.{F32Stored, path-held, demand-3}
+use Rattle.path_place.proofs.AnyLookup.{F32Stored, path-held}
+use Rattle.path_place.proofs.Demand3.{demand-3}
 use Rattle.path_query.specs.Flights.{flownOf, flightOf}
 use Rattle.path_query.proofs.Answering.{some-kinds}
 use Rattle.station_lines.specs.Lines.{stationLine}
