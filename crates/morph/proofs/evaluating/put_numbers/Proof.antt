@@ -29,13 +29,16 @@ shared-slice-read-lerp-4 : tie.Need-shared-slice-read-lerp-4 Inv-loop μ-loop
 shared-slice-read-lerp-4 c = filling-second (c .before .before .before .before .before .before .loop .inv) (c .before .before .before .before .before .loop-test .taken)
 
 slice-write-out : tie.Need-slice-write-out Inv-loop μ-loop
-slice-write-out c = omega (arith, filling-room (c .before .before .before .before .before .before .before .loop .inv) (c .before .before .before .before .before .before .loop-test .taken))
+slice-write-out c = let at-test = c .before .before .before .before .before .before in omega (arith, filling-room (at-test .before .loop .inv) (at-test .loop-test .taken))
 
 slice-write-out-2 : tie.Need-slice-write-out-2 Inv-loop μ-loop
-slice-write-out-2 c = omega (arith, filling-room (c .before .before .before .before .before .before .before .loop .inv) (c .before .before .before .before .before .before .loop-test .taken), length-set (c .before .before .before .before .before .before .before .loop .out) (c .before .before .before .before .before .before .before .loop .j) (c .before .before .before .lerp .result))
+slice-write-out-2 c =
+    let at-test = c .before .before .before .before .before .before in
+    let at-loop = at-test .before .loop in
+    omega (arith, filling-room (at-loop .inv) (at-test .loop-test .taken), length-set (at-loop .out) (at-loop .j) (c .before .before .before .lerp .result))
 
 loop-again : tie.Need-loop-again Inv-loop μ-loop
-loop-again c = filling-more (c .before .before .before .before .before .before .before .loop .inv) (c .before .before .before .before .before .before .loop-test .taken) (c .before .before .before .lerp .ensures) (c .lerp2 .ensures)
+loop-again c = let at-test = c .before .before .before .before .before .before in filling-more (at-test .before .loop .inv) (at-test .loop-test .taken) (c .before .before .before .lerp .ensures) (c .lerp2 .ensures)
 
 same-length : tie.Need-same-length Inv-loop μ-loop
 same-length c = c .before .loop .inv .size
@@ -46,4 +49,8 @@ returns c = (filling-seen (c .before .loop .inv) (c .loop-test .left), filling-d
 pub put-numbers-spec : {M : Type 1} → statement M
 put-numbers-spec =
     tie.close
-    (tie.spec Inv-loop μ-loop (λ c κs. search needs) loop-holds (λ c. search needs) shared-slice-read-lerp (λ c. search needs) shared-slice-read-lerp-2 (λ c κs. search needs) (λ c. search needs) (λ c. search needs) shared-slice-read-lerp-3 (λ c. search needs) (λ c. search needs) shared-slice-read-lerp-4 (λ c κs. search needs) (λ c. search needs) slice-write-out (λ c. search needs) (λ c. search needs) slice-write-out-2 (λ c. search needs) (λ c. search needs) loop-again same-length returns)
+    (tie.spec Inv-loop μ-loop (λ c κs. search needs) loop-holds (λ c. search needs) shared-slice-read-lerp
+    (λ c. search needs) shared-slice-read-lerp-2 (λ c κs. search needs) (λ c. search needs) (λ c. search needs)
+    shared-slice-read-lerp-3 (λ c. search needs) (λ c. search needs) shared-slice-read-lerp-4
+    (λ c κs. search needs) (λ c. search needs) slice-write-out (λ c. search needs) (λ c. search needs)
+    slice-write-out-2 (λ c. search needs) (λ c. search needs) loop-again same-length returns)
