@@ -1,4 +1,4 @@
--- What the passes over a spline's samples keep: how far they have come, a row of differences, and the entries stored so far. A row is of 16 samples. Samples and entries count from 0. Definitions only.
+-- What the passes over a spline's samples keep: how far they have come, a row of differences, of 16 samples, and the entries stored so far. Samples and entries count from 0. Definitions only.
 use Prim.Native.Nat.{ℕ, suc, _+_, _≤_, _<_}
 use mathlib.Core.Path.{_≡_}
 use mathlib.Core.List.{List}
