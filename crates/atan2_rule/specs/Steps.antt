@@ -10,7 +10,7 @@ use Rattle.trig_rule.specs.Reduction.{turn}
 use Rattle.trig_rule.specs.Steps.{half, fixedOf, sinePlus, sineMinus, cosinePlus, cosineMinus}
 
 -- ---- y and x on one scale
--- a number's bits as an f64 without the sign, and the sign's bit
+-- a number's bits as an f64 without the sign, and the sign's bit: as an f64 every f32 but 0 is normal, so that subnormals need no case
 abbrev pub plain : Float → ℕ
 plain x = toBits binary64 x % 2 ^ 63
 

@@ -1,4 +1,5 @@
-// A walk along the line: the targets never fall, so that one walk serves all of them.
+// A walk along the line: the targets never fall, so that one walk serves all of them, and no running
+// length is kept, for which the caller would have to lend room.
 use math::Point;
 use math::lerp_point;
 use polyline::inner::leg;

@@ -21,7 +21,8 @@ answerOf Yes = accepted (1 ∷ [])
 answerOf No = accepted (0 ∷ [])
 answerOf (Refused refusal) = refused refusal
 
--- "A yes or no: the text matches the 1.1 grammar", or SVG 2's; "Strict reading: 1 only.", which carries "its length"
+-- "A yes or no: the text matches the 1.1 grammar", or SVG 2's; "Strict reading: 1 only.", which carries "its length". A yes holds a derivation and a no its refutation,
+-- so that two allowed verdicts are equal without deciding the grammar.
 pub data Judged (edition : Edition) (text : List ℕ) : Answer → Type 0 where
   yes : {answer : Answer} → length text ≤ mostBytes → Matches edition text → answer ≡ accepted (1 ∷ []) → Judged edition text answer
   no : {answer : Answer} → length text ≤ mostBytes → (Matches edition text → ⊥) → answer ≡ accepted (0 ∷ []) → Judged edition text answer

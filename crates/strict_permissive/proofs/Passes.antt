@@ -1,4 +1,5 @@
--- The permissive reader passes what is left of a derivation, command by command and group by group, and so reads it. Assumes nothing.
+-- The permissive reader passes what is left of a derivation, command by command and group by group, and so reads it. The derivation is laid flat by strict's own law (`Rest`),
+-- so that it is done once. Assumes nothing.
 use Prim.Native.Nat.{ℕ, zero, suc, _+_, _≤_, _<_}
 use mathlib.Core.Path.{_≡_, refl, sym, subst, _∙_, ap}
 use mathlib.Core.Bool.{Bool, true, false, not}

@@ -35,7 +35,8 @@ impl<'a> TextReader<'a> {
     }
 }
 
-// The first line of a plan.
+// The first line of a plan. This and the next make the reader themselves, so that no caller has to
+// keep one.
 pub fn first_line(text: &[u8]) -> FirstLine
     ensures { λ r. ⌜ r ≡ firstLineOf (now (text .entry)) 0 ⌝ }
 {
