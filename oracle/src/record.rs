@@ -17,13 +17,13 @@ use crate::compare::Report;
 use crate::{math, trig};
 use std::fs;
 
-/// The recorded answers of a part: a list as the program of its name reads it, and how many answers it has.
+/// The recorded answers that one program reads: its lists one after another, each block after the letter of its kind.
 pub struct Recording {
     pub name: &'static str,
-    list: List,
+    lists: &'static [(&'static str, List)],
 }
 
-// a program prints how many answers differ, or all that it answers
+// a program prints of a list how many answers differ, or before that all that it answers
 enum List {
     Counted(fn(&mut Report, u64) -> (Vec<u8>, u64)),
     Printed(fn(&mut Report, u64) -> (Vec<u8>, Vec<u8>, u64)),
@@ -32,34 +32,53 @@ enum List {
 use List::{Counted, Printed};
 
 pub const RECORDINGS: &[Recording] = &[
-    Recording { name: "math", list: Counted(|report, seed| helpers::list(report, &math::FAMILY, seed)) },
-    Recording { name: "trig", list: Counted(|report, seed| helpers::list(report, &trig::FAMILY, seed)) },
-    Recording { name: "table", list: Counted(table::list) },
-    Recording { name: "strict", list: Counted(strict::list) },
-    Recording { name: "decimal", list: Counted(decimal::list) },
-    Recording { name: "svg", list: Counted(svg::list) },
-    Recording { name: "bezier", list: Counted(bezier::list) },
-    Recording { name: "spline", list: Counted(spline::list) },
-    Recording { name: "arc", list: Counted(arc::list) },
-    Recording { name: "path", list: Counted(path::list) },
-    Recording { name: "query", list: Counted(query::list) },
-    Recording { name: "morph", list: Counted(morph::list) },
-    Recording { name: "stations", list: Printed(stations::list) },
+    Recording {
+        name: "numbers",
+        lists: &[
+            ("math", Counted(|report, seed| helpers::list(report, &math::FAMILY, 'm', seed))),
+            ("trig", Counted(|report, seed| helpers::list(report, &trig::FAMILY, 't', seed))),
+            ("decimal", Counted(decimal::list)),
+        ],
+    },
+    Recording {
+        name: "reading",
+        lists: &[("svg", Counted(svg::list)), ("strict", Counted(strict::list)), ("stations", Printed(stations::list))],
+    },
+    Recording {
+        name: "curves",
+        lists: &[
+            ("table", Counted(table::list)),
+            ("bezier", Counted(bezier::list)),
+            ("arc", Counted(arc::list)),
+            ("spline", Counted(spline::list)),
+            ("morph", Counted(morph::list)),
+        ],
+    },
+    Recording { name: "paths", lists: &[("path", Counted(path::list)), ("query", Counted(query::list))] },
 ];
 
 impl Recording {
     // what the program reads and what it is to print, and how many answers there are
     fn made(&self, report: &mut Report, seed: u64) -> (Vec<u8>, Vec<u8>, u64) {
-        match self.list {
-            Counted(list) => {
-                let (list, count) = list(report, seed);
-                (list, format!("replayed {count}, different 0\n").into_bytes(), count)
-            }
-            Printed(list) => list(report, seed),
+        let (mut lists, mut printed, mut counts, mut whole) = (Vec::new(), Vec::new(), String::new(), 0);
+        for (name, list) in self.lists {
+            let (list, due, count) = match list {
+                Counted(list) => {
+                    let (list, count) = list(report, seed);
+                    (list, Vec::new(), count)
+                }
+                Printed(list) => list(report, seed),
+            };
+            lists.extend(list);
+            printed.extend(due);
+            counts.push_str(&format!("{name}: replayed {count}, different 0\n"));
+            whole += count;
         }
+        printed.extend(counts.into_bytes());
+        (lists, printed, whole)
     }
 
-    /// Writes the list and what the program is to print.
+    /// Writes the lists and what the program is to print.
     pub fn write(&self, report: &mut Report, seed: u64) {
         let (list, due, count) = self.made(report, seed);
         fs::write(self.file("stdin"), list).expect("the list is written");
@@ -67,7 +86,7 @@ impl Recording {
         println!("{}: {count} answers, seed {seed}", self.file("stdin"));
     }
 
-    /// Sees that the list in the repository is the one that would be written.
+    /// Sees that the lists in the repository are those that would be written.
     pub fn compare(&self, report: &mut Report, seed: u64) {
         let (list, due, count) = self.made(report, seed);
         let read = |name: &str| fs::read(self.file(name)).unwrap_or_default();

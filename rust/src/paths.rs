@@ -1,9 +1,9 @@
-//! A path that owns its buffers: built from a plan's text, then asked where a progress lies.
+//! Stored paths: the five arrays that are lent, or a path that owns them, and what is flown along them.
 
-use crate::Flight;
-use crate::refusals::{Reason, Refusal};
+use crate::{Flight, Progress, Reason, Refusal};
 
 answering! {
+    fn kihavute_check(kinds: [u8], fields: [f32], tables: [f32], lengths: [f32], commands: [u32]);
     fn kihavute_flight(kinds: [u8], fields: [f32], tables: [f32], lengths: [f32], commands: [u32], progress: f32);
     fn kihavute_rotation(kinds: [u8], fields: [f32], tables: [f32], lengths: [f32], commands: [u32], progress: f32);
     fn kihavute_places(
@@ -16,37 +16,71 @@ answering! {
     );
 }
 
-/// How far along by length: 0 at the start, 1 at the end. A NaN counts as 0, and the rest is clamped.
-#[derive(Clone, Copy, Debug, PartialEq, PartialOrd)]
-#[repr(transparent)]
-pub struct Progress(pub f32);
+/// How many segments the path in these five buffers has; refused with 12 where they hold none.
+#[inline]
+pub fn check(
+    kinds: &[u8],
+    fields: &[f32],
+    tables: &[f32],
+    lengths: &[f32],
+    commands: &[u32],
+) -> Result<usize, Refusal> {
+    let lent = Stored { kinds, fields, tables, lengths, commands };
+    Ok(ask!(lent, kihavute_check())?[0] as usize)
+}
 
-/// The parameter of a segment's own formula, from 0 to 1. Only a lookup makes one, and no call takes it, or a bare number, for a
-/// progress:
+/// A stored path that is lent: its five arrays, as `docs/STORED.md` lays them out. Each call checks them whole.
 ///
-/// ```compile_fail,E0308
-/// let raw = kihavute::raw_parameter(&[0.0, 1.0], 1.0, kihavute::Progress(0.5)).unwrap();
-/// kihavute::line(&[[0.0, 0.0], [1.0, 0.0]], raw);
 /// ```
+/// use kihavute::{Path, Progress};
 ///
-/// ```compile_fail,E0308
-/// kihavute::spot(&[1.0], 0.5);
+/// let path = Path::from_text(b"M0 0 L1e-8 0").unwrap();
+/// // a path this short is at its end throughout, and its segment is not
+/// assert_eq!(path.flight(Progress(0.5)).unwrap().position.map(f32::from_bits), [1e-8, 0.0]);
+/// assert_eq!(path.stored().segment_position(0, Progress(0.5)).unwrap(), Some([5e-9f32.to_bits(), 0]));
+/// assert_eq!(path.stored().segment_position(1, Progress(0.5)).unwrap(), None);
 /// ```
-///
-/// ```compile_fail,E0423
-/// let raw = kihavute::RawParameter(0.5);
-/// ```
-#[derive(Clone, Copy, Debug, PartialEq, PartialOrd)]
-pub struct RawParameter(f32);
+#[derive(Clone, Copy, Debug, PartialEq)]
+pub struct Stored<'a> {
+    pub kinds: &'a [u8],
+    pub fields: &'a [f32],
+    pub tables: &'a [f32],
+    pub lengths: &'a [f32],
+    pub commands: &'a [u32],
+}
 
-impl RawParameter {
-    pub(crate) fn of_bits(bits: u32) -> Self {
-        Self(f32::from_bits(bits))
+impl Stored<'_> {
+    /// What is flown at a progress; [`Path::flight`] says it whole.
+    pub fn flight(&self, progress: Progress) -> Result<Flight, Refusal> {
+        Ok(Flight::given(ask!(self, kihavute_flight(progress.0))?))
     }
 
-    /// The number that the segment's formula takes.
-    pub fn value(self) -> f32 {
-        self.0
+    /// The direction at a progress in degrees from the x axis towards the y axis.
+    pub fn rotation_deg(&self, progress: Progress) -> Result<f32, Refusal> {
+        Ok(f32::from_bits(ask!(self, kihavute_rotation(progress.0))?[0] as u32))
+    }
+
+    /// The segment at each progress and its raw parameter; [`Path::places`] says it whole.
+    pub fn places(&self, progresses: &[Progress], segments: &mut [u32], raws: &mut [f32]) -> Result<usize, Refusal> {
+        let (lent, count) = (progresses.as_ptr().cast(), progresses.len());
+        let (out, places) = (segments.as_mut_ptr(), segments.len());
+        let given = ask!(self, kihavute_places(lent, count, out, places, raws.as_mut_ptr(), raws.len()))?;
+        Ok(given[0] as usize)
+    }
+
+    /// All of what is flown at each progress; [`Path::flights`] says it whole.
+    pub fn flights(
+        &self,
+        progresses: &[Progress],
+        segments: &mut [u32],
+        raws: &mut [f32],
+        out: &mut [f32],
+    ) -> Result<usize, Refusal> {
+        let (lent, count) = (progresses.as_ptr().cast(), progresses.len());
+        let (own, places) = (segments.as_mut_ptr(), segments.len());
+        let (along, more) = (raws.as_mut_ptr(), raws.len());
+        let given = ask!(self, kihavute_flights(lent, count, own, places, along, more, out.as_mut_ptr(), out.len()))?;
+        Ok(given[0] as usize)
     }
 }
 
@@ -139,17 +173,23 @@ impl Path {
         self.commands.get(segment).map(|&command| command as usize)
     }
 
+    /// Its five arrays, lent.
+    pub fn stored(&self) -> Stored<'_> {
+        let Self { kinds, fields, tables, lengths, commands } = self;
+        Stored { kinds, fields, tables, lengths, commands }
+    }
+
     /// What is flown at a progress: where it is, in path units, where it heads, and the pair of segment and raw parameter at which
     /// both were taken. Without segments there is none, and all numbers are 0. Of two progresses of which the first is not the
     /// larger, the first one's pair is not after the second one's. The whole path is checked at each call:
     /// [`places`](Path::places) and [`flights`](Path::flights) check it once for many progresses.
     pub fn flight(&self, progress: Progress) -> Result<Flight, Refusal> {
-        Ok(Flight::given(ask!(self, kihavute_flight(progress.0))?))
+        self.stored().flight(progress)
     }
 
     /// The direction at a progress in degrees from the x axis towards the y axis.
     pub fn rotation_deg(&self, progress: Progress) -> Result<f32, Refusal> {
-        Ok(f32::from_bits(ask!(self, kihavute_rotation(progress.0))?[0] as u32))
+        self.stored().rotation_deg(progress)
     }
 
     /// The segment at each progress and its raw parameter, each from its buffer's start: [`NO_SEGMENT`](crate::NO_SEGMENT) and 0
@@ -168,10 +208,7 @@ impl Path {
     /// assert_eq!((segments[2], raws[2]), (1, 1.0));
     /// ```
     pub fn places(&self, progresses: &[Progress], segments: &mut [u32], raws: &mut [f32]) -> Result<usize, Refusal> {
-        let (lent, count) = (progresses.as_ptr().cast(), progresses.len());
-        let (out, places) = (segments.as_mut_ptr(), segments.len());
-        let given = ask!(self, kihavute_places(lent, count, out, places, raws.as_mut_ptr(), raws.len()))?;
-        Ok(given[0] as usize)
+        self.stored().places(progresses, segments, raws)
     }
 
     /// All of what is flown at each progress: segments and raw parameters as [`places`](Path::places) gives them, and x, y and the
@@ -194,121 +231,6 @@ impl Path {
         raws: &mut [f32],
         out: &mut [f32],
     ) -> Result<usize, Refusal> {
-        let (lent, count) = (progresses.as_ptr().cast(), progresses.len());
-        let (own, places) = (segments.as_mut_ptr(), segments.len());
-        let (along, more) = (raws.as_mut_ptr(), raws.len());
-        let given = ask!(self, kihavute_flights(lent, count, own, places, along, more, out.as_mut_ptr(), out.len()))?;
-        Ok(given[0] as usize)
-    }
-}
-
-#[cfg(test)]
-mod tests {
-    use super::*;
-
-    #[test]
-    fn a_path_of_every_kind() {
-        let path = Path::from_text(b"M0 0L3 4Q6 4 6 8C6 12 9 12 9 8A2 2 0 0 1 13 8A0 1 0 0 1 14 8").expect("it builds");
-        assert_eq!(path.len(), 5);
-        let mut last = (Some(0), RawParameter(0.0));
-        for k in 0..=1000 {
-            let flight = path.flight(Progress(k as f32 / 1000.0)).expect("it passes the check");
-            let pair = (flight.segment, flight.raw);
-            assert!(pair.0.is_some() && pair >= last, "it steps back at {k}");
-            last = pair;
-        }
-        assert_eq!(last, (Some(4), RawParameter(1.0)));
-        assert_eq!(path.flight(Progress(f32::NAN)), path.flight(Progress(0.0)));
-        let bits = |point: [f32; 2]| point.map(f32::to_bits);
-        let start = Flight { position: [0, 0], tangent: bits([0.6, 0.8]), segment: Some(0), raw: RawParameter(0.0) };
-        assert_eq!(path.flight(Progress(0.0)), Ok(start));
-        assert_eq!(path.rotation_deg(Progress(1.0)), Ok(0.0));
-        assert!(path.arc_length() > 20.0 && path.lengths().len() == 5);
-    }
-
-    #[test]
-    fn a_path_of_nothing_and_a_refused_one() {
-        let empty = Path::from_text(b"").expect("no commands build");
-        assert!(empty.is_empty() && empty.arc_length() == 0.0);
-        let nowhere = Flight { position: [0, 0], tangent: [0, 0], segment: None, raw: RawParameter(0.0) };
-        assert_eq!(empty.flight(Progress(0.5)), Ok(nowhere));
-        let refusal = Path::from_commands(b"ML", &[0.0, 0.0, 3e38, 3e38]).expect_err("its length is not finite");
-        assert_eq!(refusal.reason(), Reason::NotFinite { place: 0 });
-    }
-
-    #[test]
-    fn a_segment_knows_its_command() {
-        let commands = |path: &Path| (0..path.len()).map(|k| path.command(k)).collect::<Option<Vec<usize>>>();
-        let numbers = |text: &[u8]| commands(&Path::from_text(text).expect("it builds")).expect("each has a number");
-        assert_eq!(numbers(b"M0 0L3 4M1 1L2 2"), [1, 3]);
-        assert_eq!(numbers(b""), []);
-        // a pair after an M draws, a group that repeats its letter is a command of its own, and a Z draws the way back
-        assert_eq!(numbers(b"M0 0 3 4 6 8Z"), [1, 2, 3]);
-        assert_eq!(
-            numbers(b"M0 0M1 1Q3 4 6 8 6 4 9 9M2 2M3 3C1 2 3 4 5 6A2 2 0 0 1 13 8A0 1 0 0 1 14 8"),
-            [2, 3, 6, 7, 8]
-        );
-        let path = Path::from_commands(b"MLML", &[0.0, 0.0, 3.0, 4.0, 1.0, 1.0, 2.0, 2.0]).expect("it builds");
-        assert_eq!(commands(&path), Some(vec![1, 3]));
-        assert_eq!((path.command(2), path.command(usize::MAX), Path::default().command(0)), (None, None, None));
-    }
-
-    #[test]
-    fn a_query_looks_at_the_numbers_of_the_commands() {
-        let path = Path::from_text(b"M0 0L3 4M1 1L2 2").expect("it builds");
-        let with = |commands: &[u32]| Path { commands: commands.to_vec(), ..path.clone() };
-        let half = Progress(0.5);
-        for numbers in [&[3, 1][..], &[1], &[], &[1, 3, 3]] {
-            let bad = with(numbers);
-            let (mut segments, mut raws, mut out) = ([9], [9.0], [9.0; 4]);
-            assert_eq!(bad.flight(half).map_err(|refusal| refusal.reason()), Err(Reason::BadPath));
-            assert_eq!(bad.rotation_deg(half).map_err(|refusal| refusal.reason()), Err(Reason::BadPath));
-            let places = bad.places(&[half], &mut segments, &mut raws);
-            assert_eq!(places.map_err(|refusal| refusal.reason()), Err(Reason::BadPath));
-            let flights = bad.flights(&[half], &mut segments, &mut raws, &mut out);
-            assert_eq!(flights.map_err(|refusal| refusal.reason()), Err(Reason::BadPath));
-            assert_eq!((segments, raws, out), ([9], [9.0], [9.0; 4]));
-        }
-        for numbers in [[1, 1], [0, 0], [7, u32::MAX]] {
-            assert_eq!(with(&numbers).flight(half), path.flight(half));
-        }
-    }
-
-    #[test]
-    fn a_batch_is_its_single_queries() {
-        let path = Path::from_text(b"M0 0L3 4Q6 4 6 8C6 12 9 12 9 8A2 2 0 0 1 13 8A0 1 0 0 1 14 8").expect("it builds");
-        let mut progresses: Vec<Progress> = (0..=100).map(|k| Progress(k as f32 / 100.0)).collect();
-        progresses.extend([f32::NAN, 0.7, -1.0, 0.3, f32::INFINITY, 0.0, 1.0, 0.5].map(Progress));
-        let count = progresses.len();
-        let (mut segments, mut raws, mut out) = (vec![9; count + 1], vec![9.0; count + 1], vec![9.0; 4 * count + 1]);
-        assert_eq!(path.flights(&progresses, &mut segments, &mut raws, &mut out), Ok(count));
-        for (k, progress) in progresses.iter().enumerate() {
-            let point = |from: usize| [out[4 * k + from], out[4 * k + from + 1]].map(f32::to_bits);
-            let segment = Some(segments[k] as usize);
-            let there = Flight { position: point(0), tangent: point(2), segment, raw: RawParameter(raws[k]) };
-            assert_eq!(path.flight(*progress), Ok(there));
-        }
-        assert_eq!((segments[count], raws[count], out[4 * count]), (9, 9.0, 9.0));
-        let (mut columns, mut others) = (vec![9; count + 1], vec![9.0; count + 1]);
-        assert_eq!(path.places(&progresses, &mut columns, &mut others), Ok(count));
-        assert_eq!((columns, others), (segments, raws));
-    }
-
-    #[test]
-    fn a_batch_without_room_or_without_segments() {
-        let path = Path::from_text(b"M0 0L3 4").expect("it builds");
-        let (mut segments, mut raws, mut out) = ([9; 2], [9.0; 3], [9.0; 11]);
-        let three = [0.0, 0.5, 1.0].map(Progress);
-        let refusal = path.places(&three, &mut segments, &mut raws).expect_err("a place too few");
-        assert_eq!(refusal.reason(), Reason::NoRoom { needed: [3, 3, 0, 0, 0] });
-        let refusal = path.flights(&three, &mut [9; 3], &mut raws, &mut out).expect_err("a place too few");
-        assert_eq!(refusal.reason(), Reason::NoRoom { needed: [3, 3, 12, 0, 0] });
-        assert_eq!((segments, raws, out), ([9; 2], [9.0; 3], [9.0; 11]));
-        let empty = Path::default();
-        assert_eq!(empty.flights(&three[1..2], &mut segments, &mut raws, &mut out), Ok(1));
-        assert_eq!((segments, raws), ([crate::NO_SEGMENT, 9], [0.0, 9.0, 9.0]));
-        assert_eq!(&out[..5], &[0.0, 0.0, 0.0, 0.0, 9.0]);
-        assert_eq!(empty.places(&three[..2], &mut segments, &mut raws), Ok(2));
-        assert_eq!((segments, raws), ([crate::NO_SEGMENT; 2], [0.0, 0.0, 9.0]));
+        self.stored().flights(progresses, segments, raws, out)
     }
 }

@@ -12,7 +12,7 @@ use core::fmt;
 /// assert_eq!(refusal.to_string(), "the exponent at byte 1 has no digit; give it one or remove the e");
 /// ```
 ///
-/// ```compile_fail,E0451
+/// ```compile_fail,E0624
 /// let refusal = kihavute::Refusal::answered(77, [0; 8]);
 /// ```
 #[derive(Clone, Copy, Debug, PartialEq, Eq)]
@@ -89,8 +89,15 @@ impl Refusal {
 
     /// The refusal's name with its values.
     pub fn reason(&self) -> Reason {
-        let [first, second, third, fourth, fifth, ..] = self.carried;
-        match self.number {
+        Reason::of(self.number, self.carried)
+    }
+}
+
+impl Reason {
+    /// The name that a refusal of this number has, with its values: also of one that C told, or that a log keeps.
+    pub fn of(number: u32, carried: [u64; 8]) -> Self {
+        let [first, second, third, fourth, fifth, ..] = carried;
+        match number {
             1 => Reason::TooLong { length: first },
             2 => Reason::UnexpectedEnd { offset: first },
             3 => Reason::ExpectedNumber { offset: first },
@@ -163,37 +170,5 @@ impl fmt::Display for Reason {
                 write!(f, "the library refuses with {number}, which is not known here; use both of one version")
             }
         }
-    }
-}
-
-#[cfg(test)]
-mod tests {
-    use super::*;
-
-    fn refusal(number: u32, carried: &[u64]) -> Refusal {
-        let mut all = [0; 8];
-        all[..carried.len()].copy_from_slice(carried);
-        Refusal::answered(number, all)
-    }
-
-    #[test]
-    fn every_refusal_says_what_to_do() {
-        for number in (1..=13).chain([255, 77]) {
-            assert!(refusal(number, &[7, 9]).to_string().contains(';'), "refusal {number}");
-        }
-        assert!(refusal(6, &[82, 4]).to_string().contains("command R at byte 4"));
-        assert!(refusal(8, &[2, 4]).to_string().ends_with("2, 4"));
-        assert!(refusal(8, &[0]).to_string().ends_with(": 0"));
-        assert!(refusal(8, &[2, 8, 0, 2, 2]).to_string().ends_with(": 2, 8, 0, 2, 2"));
-        assert_eq!(refusal(8, &[2, 8, 0, 2, 2]).reason(), Reason::NoRoom { needed: [2, 8, 0, 2, 2] });
-    }
-
-    #[test]
-    fn a_number_that_is_not_known_is_not_another_one() {
-        for number in [14, 77, 254, 256, u32::MAX] {
-            assert_eq!(refusal(number, &[]).reason(), Reason::Unknown { number });
-        }
-        assert_eq!(refusal(255, &[]).reason(), Reason::ShortAnswer);
-        assert!(refusal(77, &[]).to_string().contains("refuses with 77, which is not known"));
     }
 }

@@ -2,3 +2,4 @@
 pub mod Cases
 pub mod Steady
 mod Readings
+pub mod Rows

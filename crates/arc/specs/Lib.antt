@@ -1,3 +1,4 @@
 -- What lines and arcs give.
 pub mod Lines
 pub mod Arcs
+pub mod Rows

@@ -4,6 +4,10 @@ use crate::lines::LineSegment;
 use crate::lines::line_length;
 use crate::lines::line_position;
 use crate::lines::line_tangent;
+use crate::samples::put_angles;
+use crate::samples::put_differences;
+use crate::samples::put_points;
+use crate::samples::put_sines;
 use angles::rotation_deg;
 use answers::Refusal;
 use bezier::verdict_of;
@@ -12,7 +16,6 @@ use ellipse::Chord;
 use ellipse::direction;
 use ellipse::from_ends;
 use ellipse::point;
-use ellipse::point_turned;
 use ellipse::size;
 use ellipse::turn_of;
 use flight::Placed;
@@ -28,7 +31,6 @@ use math::tidy_point;
 use table::Progress;
 use table::RawParameter;
 use table::Table;
-use table::inner::mark;
 use table::table_is_sound;
 use table::table_of;
 use trig::SinCos;
@@ -86,17 +88,13 @@ pub fn arc_heading(shape: Arc, raw: RawParameter) -> Point
 fn arc_steps(shape: Arc, turn: SinCos) -> [f32; 31]
     ensures { λ r. ⌜ r ≡ stepsOf (pointTurned shape turn) 31 ⌝ }
 {
-    let mut x = [1.0f32; 32];
-    let mut y = [1.0f32; 32];
-    let mut previous = point_turned(shape, turn, mark(0, 31));
-    let mut k = 0usize;
-    while k < 31 {
-        let current = point_turned(shape, turn, mark(k + 1, 31));
-        x[k] = current.x - previous.x;
-        y[k] = current.y - previous.y;
-        previous = current;
-        k += 1;
-    }
+    let mut x = [0.0f32; 32];
+    let mut y = [0.0f32; 32];
+    put_angles(shape, &mut x);
+    put_sines(&mut x, &mut y);
+    put_points(shape.center, shape.radii, turn, &mut x, &mut y);
+    put_differences(&mut x);
+    put_differences(&mut y);
     let mut steps = [0.0f32; 31];
     lengths(&x, &y, &mut steps);
     steps

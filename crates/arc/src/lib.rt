@@ -4,6 +4,7 @@ mod arcs;
 pub mod inner;
 mod lines;
 mod lookups;
+mod samples;
 
 pub use arcs::EllipticalArc;
 pub use arcs::MadeArc;

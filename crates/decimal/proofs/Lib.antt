@@ -1,6 +1,7 @@
 -- The laws of a decimal value, way by way, and what the document says of it.
 pub mod Quotients
 pub mod Narrowed
+pub mod Ranged
 pub mod Capped
 pub mod Sided
 pub mod Scaled

@@ -44,7 +44,7 @@ sized-lt c b l h = go (below-or-not (powerOf c) (powerOf b))
         subst (λ (k : ℕ). digitsOf c * 2 ^ powerOf c < digitsOf b * 2 ^ k) (sym same) (mul-lt-mul-of-pos-right less (pow-pos (powerOf c)))
 
 -- a pattern's own value is not rounded
-own : (c : ℕ) → c < 0x7FF0000000000000 → HasValue (round binary64 false (sized c) (2 ^ 1074)) false (sized c) (2 ^ 1074)
+pub own : (c : ℕ) → c < 0x7FF0000000000000 → HasValue (round binary64 false (sized c) (2 ^ 1074)) false (sized c) (2 ^ 1074)
 own c h =
     let few : digitsOf c < 2 ^ 53 = omega arith in
     let fits : 53 + powerOf c ≤ 2098 = omega arith in

@@ -4,7 +4,8 @@
 ghost use mathlib.Core.Path.{_≡_};
 ghost use mathlib.Core.Logic.{_⊎_};
 ghost use mathlib.Core.Bool.{false, true, cond};
-ghost use Prim.Native.Nat.{ℕ, _+_, _-_, _*_, _^_, _≤_, _<_};
+ghost use Prim.Native.Nat.{ℕ, _+_, _-_, _*_, _%_, _^_, _≤_, _<_};
+ghost use lib.Dec.{eqb};
 ghost use lib.Ieee.{binary32, binary64, round, ofBits, toBits};
 ghost use lib.Ieee.Exact.{HasValue};
 ghost use Rattle.decimal_digits.specs.Digits.{digitsAmong};
@@ -49,18 +50,22 @@ pub fn pattern(w: u64, places: u64) -> u64
     f64::to_bits(quotient(w, places))
 }
 
-// Whether a quotient's bits tell the nearest f32: from 2^-31 to 2^65, and no middle of two f32.
+// Whether a quotient's bits tell the nearest f32: they are no middle of two.
 pub fn tells(b: u64) -> bool
-    ensures { λ r. ⌜ (r ≡ true → Tells b) ⌝ }
+    ensures { λ r. ⌜ (r ≡ true → b % 536870912 ≡ 268435456 → ⊥) ⌝ }
 {
-    (0x3E00_0000_0000_0000 <= b) & (b < 0x4400_0000_0000_0000) & (b % 536870912 != 268435456)
+    b % 536870912 != 268435456
 }
 
-// The bits of the f32: the last 29 digits are rounded off.
-pub fn narrow(b: u64) -> u64
-    requires { ⌜ Tells b ⌝ }
-    ensures { λ r. ⌜ r ≡ narrowedOf b ⌝ }
+// The bits of the f32: the last 29 digits are rounded off. Where w is 0 they are no pattern's of an f32;
+// nothing foretells that, so that it is no branch.
+pub fn narrow(w: u64, b: u64) -> u64
+    requires { ⌜ (0 < w → Tells b) ⌝ }
+    ensures { λ r. ⌜ r ≡ cond (eqb w 0) 0 (narrowedOf b) ⌝ }
 {
+    if w == 0 {
+        return 0;
+    }
     (b + 268435456) / 536870912 - 7516192768
 }
 

@@ -120,7 +120,7 @@ fn value(text: &[u8], parts: Parts) -> f32
     if (w < 9007199254740992) & (rise == 0) & (fall == 0) & (places <= 8) {
         let b = pattern(w, places);
         if tells(b) {
-            return signed(narrow(b), negative);
+            return signed(narrow(w, b), negative);
         }
     }
     let from = p.whole;

@@ -10,6 +10,7 @@ use Rattle.math.specs.Math.{piF, pointOf, scaleOf}
 use Rattle.angles.specs.Angles.{minusOneF, angleBetweenOf}
 use Rattle.ellipse.specs.declared.ends.Chord.{Chord}
 use Rattle.ellipse.specs.declared.ends.Arc.{Arc}
+use Rattle.ellipse.specs.declared.ends.Way.{Way}
 use Rattle.ellipse.specs.Turn.{turnOf}
 
 -- 0.5 and 2
@@ -141,6 +142,10 @@ module _ (chord : Chord) where
 
   abbrev pub away : Point
   away = awayOf primed middle fitted
+
+-- what is known before the angles
+abbrev pub wayOf : Chord → Way
+wayOf chord = record { turn = turn chord; radii = fitted chord; middle = middle chord; towards = towards chord; away = away chord }
 
 unfoldable pub fromEndsOf : Chord → Arc
 unfolding zeroF oneF

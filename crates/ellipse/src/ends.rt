@@ -1,9 +1,10 @@
 // From the ends of an arc to its centre and angles.
 ghost use mathlib.Core.Path.{_≡_};
 ghost use mathlib.Core.Bool.{Bool·beq};
-ghost use Rattle.ellipse.specs.Ends.{sizeOf, sizesOf, primedOf, lambdaOf, fittedOf, facingOf, coefOf, middleOf, centerOf, towardsOf, awayOf, turnedOf, fromEndsOf};
+ghost use Rattle.ellipse.specs.Ends.{sizeOf, sizesOf, primedOf, lambdaOf, fittedOf, facingOf, coefOf, middleOf, centerOf, towardsOf, awayOf, turnedOf, wayOf, fromEndsOf};
 use crate::turn::turn_of;
 use math::Point;
+use trig::SinCos;
 
 // What the text of an arc gives: its ends, its radii as written, its rotation in degrees, its flags.
 pub struct Chord {
@@ -25,6 +26,19 @@ pub struct Arc {
     pub x_axis_rotation: f32,
     pub start_angle: f32,
     pub delta_angle: f32,
+}
+
+// What is worked out of an arc before its angles.
+pub struct Way {
+    // Sine and cosine of the rotation.
+    pub turn: SinCos,
+    // The radii, grown until they reach both ends.
+    pub radii: Point,
+    // The centre before it is turned and moved.
+    pub middle: Point,
+    // From the centre to the start and to the end, in radii.
+    pub towards: Point,
+    pub away: Point,
 }
 
 // A number without its sign. -0 stays, which a radius never shows: it is too small for an ellipse.
@@ -160,6 +174,29 @@ fn alike(a: bool, b: bool) -> bool
     if a { b } else { !b }
 }
 
+// The way from both ends to the centre, F.6.5.
+pub fn way_of(chord: Chord) -> Way
+    ensures { λ r. ⌜ r ≡ wayOf chord ⌝ }
+{
+    let turn = turn_of(chord.x_axis_rotation);
+    let p = primed(turn.sin, turn.cos, chord.start, chord.end);
+    let radii = fitted(sizes(chord.radii), p);
+    let middle = middle(
+        coef(radii, p, alike(chord.large_arc, chord.sweep)),
+        radii,
+        p,
+    );
+    let towards = towards(p, middle, radii);
+    let away = away(p, middle, radii);
+    Way {
+        turn,
+        radii,
+        middle,
+        towards,
+        away,
+    }
+}
+
 // The arc through both ends, F.6.5. The rotation turns the ellipse by any number of degrees and is kept as it is given, full turns
 // too; a radius is taken without its sign.
 pub fn from_ends(chord: Chord) -> Arc
@@ -167,21 +204,17 @@ pub fn from_ends(chord: Chord) -> Arc
 {
     let start = chord.start;
     let end = chord.end;
-    let sweep = chord.sweep;
-    let turn = turn_of(chord.x_axis_rotation);
-    let p = primed(turn.sin, turn.cos, start, end);
-    let radii = fitted(sizes(chord.radii), p);
-    let m = middle(coef(radii, p, alike(chord.large_arc, sweep)), radii, p);
-    let v1 = towards(p, m, radii);
-    let v2 = away(p, m, radii);
-    let center = center(turn.sin, turn.cos, m, start, end);
+    let way = way_of(chord);
+    let turn = way.turn;
+    let radii = way.radii;
+    let center = center(turn.sin, turn.cos, way.middle, start, end);
     Arc {
         start,
         end,
         center,
         radii,
         x_axis_rotation: chord.x_axis_rotation,
-        start_angle: angles::angle_between(Point { x: 1.0, y: 0.0 }, v1),
-        delta_angle: turned(angles::angle_between(v1, v2), sweep),
+        start_angle: angles::angle_between(Point { x: 1.0, y: 0.0 }, way.towards),
+        delta_angle: turned(angles::angle_between(way.towards, way.away), chord.sweep),
     }
 }

@@ -7,9 +7,13 @@ mod turn;
 
 pub use ends::Arc;
 pub use ends::Chord;
+pub use ends::Way;
 pub use ends::from_ends;
 pub use ends::size;
+pub use ends::way_of;
+pub use shape::angle_at;
 pub use shape::direction;
+pub use shape::on_ellipse;
 pub use shape::point;
 pub use shape::point_turned;
 pub use turn::turn_of;

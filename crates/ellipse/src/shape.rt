@@ -1,6 +1,7 @@
 // Points and directions on the ellipse of an arc.
 ghost use mathlib.Core.Path.{_≡_};
-ghost use Rattle.ellipse.specs.Shape.{onEllipse, slopeOf, pointTurned, pointOn, directionOn};
+ghost use Rattle.floats.specs.Floats.{clamp01Of};
+ghost use Rattle.ellipse.specs.Shape.{onEllipse, slopeOf, angleAt, pointTurned, pointOn, directionOn};
 use crate::ends::Arc;
 use crate::turn::turn_of;
 use math::Point;
@@ -9,7 +10,7 @@ use table::number_of;
 use trig::SinCos;
 
 // The point of the ellipse at an angle, F.6.3, from the sines and cosines of rotation and angle.
-fn on_ellipse(center: Point, radii: Point, turn: SinCos, angle: SinCos) -> Point
+pub fn on_ellipse(center: Point, radii: Point, turn: SinCos, angle: SinCos) -> Point
     ensures { λ r. ⌜ r ≡ onEllipse center radii (turn .sin) (turn .cos) (angle .sin) (angle .cos) ⌝ }
 {
     Point {
@@ -28,14 +29,20 @@ fn slope(delta: f32, radii: Point, turn: SinCos, angle: SinCos) -> Point
     }
 }
 
-// The point where a share t of the turn is done, the raw parameter: at the angle start_angle + delta_angle·t. t is
-// clamped, a NaN is 0. Sine and cosine of the rotation are lent, so that many points of one arc take them once.
+// The angle where a share t of the turn is done, the raw parameter: start_angle + delta_angle·t. t is clamped, a NaN is 0.
+pub fn angle_at(arc: Arc, raw: RawParameter) -> f32
+    ensures { λ r. ⌜ r ≡ angleAt arc (clamp01Of (raw .value)) ⌝ }
+{
+    arc.start_angle + arc.delta_angle * floats::clamp01(number_of(raw))
+}
+
+// The point there. Sine and cosine of the rotation are lent, so that many points of one arc take them once.
 pub fn point_turned(arc: Arc, turn: SinCos, raw: RawParameter) -> Point
     ensures { λ r. ⌜ r ≡ pointTurned arc turn (raw .value) ⌝ }
 {
     let center = arc.center;
     let radii = arc.radii;
-    let angle = trig::sin_cos(arc.start_angle + arc.delta_angle * floats::clamp01(number_of(raw)));
+    let angle = trig::sin_cos(angle_at(arc, raw));
     on_ellipse(center, radii, turn, angle)
 }
 

@@ -16,7 +16,7 @@ use Rattle.decimal.specs.declared.numbers.Read.{Read}
 use Rattle.decimal.specs.declared.numbers.Read.the-variants.{Value, Refused as NotRead}
 use Rattle.decimal_text.proofs.Bare.{number-bare}
 use Rattle.math.specs.declared.points.Point.{Point}
-use Rattle.svg_group.specs.Numbers.{readNumberOf, numberThen, flagAt, readFlagOf, flagThen, readFlagsOf, flagsThen, readPairOf, pairThen}
+use Rattle.svg_group.specs.Numbers.{readNumberOf, numberThen, flagAt, readFlagOf, flagThen, readFlagsOf, flagsThen, Pair, PairTaken, PairRefused, readPairOf, pairThen}
 use Rattle.svg_group.specs.Groups.{readMoveOf, readLineOf, readHorizontalOf, readVerticalOf, readCubicOf, readSmoothCubicOf, readQuadOf, readSmoothQuadOf, readArcOf, readGroupOf}
 use Rattle.svg_group.specs.declared.letters.Kind.{Kind}
 use Rattle.svg_group.specs.declared.letters.Kind.the-variants.{Move, Line, Horizontal, Vertical, Cubic, SmoothCubic, Quad, SmoothQuad, Arc}
@@ -24,8 +24,6 @@ use Rattle.svg_group.specs.declared.numbers.Flag.{Flag}
 use Rattle.svg_group.specs.declared.numbers.Flag.the-variants.{Taken as FlagTaken, Refused as FlagRefused}
 use Rattle.svg_group.specs.declared.numbers.Flags.{Flags}
 use Rattle.svg_group.specs.declared.numbers.Flags.the-variants.{Taken as FlagsTaken, Refused as FlagsRefused}
-use Rattle.svg_group.specs.declared.numbers.Pair.{Pair}
-use Rattle.svg_group.specs.declared.numbers.Pair.the-variants.{Taken as PairTaken, Refused as PairRefused}
 use Rattle.svg_group.specs.declared.groups.Group.{Group}
 use Rattle.svg_group.specs.declared.groups.Group.the-variants.{Taken, Refused}
 use Rattle.invalid_number.specs.Cause.{Caused}

@@ -1,4 +1,4 @@
-// A row of lengths at once.
+// A row of lengths at once, and half of one.
 
 ghost use mathlib.Core.Path.{_≡_};
 ghost use lib.ListN.{length};
@@ -43,4 +43,37 @@ pub fn lengths(x: &[f32; 32], y: &[f32; 32], out: &mut [f32; 31])
     if unsettled {
         settle(x, y, out);
     }
+}
+
+// What a run of 16 did not settle, worked out.
+fn settle_half(x: &[f32; 32], y: &[f32; 32], known: [f32; 16]) -> [f32; 16]
+    requires { ⌜ JudgedRow 16 (now x) (now y) known ⌝ }
+    ensures { λ r. ⌜ r ≡ lengthsOf 16 (now (x .entry)) (now (y .entry)) ⌝ }
+{
+    let mut r = known;
+    let mut j = 0usize;
+    while j < 16 {
+        if r[j] == 0.0 {
+            r[j] = exact::length(x[j], y[j]);
+        }
+        j += 1;
+    }
+    r
+}
+
+// The lengths of the first 16 of 32 vectors: one run.
+pub fn half_lengths(x: &[f32; 32], y: &[f32; 32]) -> [f32; 16]
+    ensures { λ r. ⌜ r ≡ lengthsOf 16 (now (x .entry)) (now (y .entry)) ⌝ }
+{
+    let known = passes::judged_run(x, y, 0);
+    let mut unsettled = false;
+    let mut k = 0usize;
+    while k < 16 {
+        unsettled = unsettled | (known[k] == 0.0);
+        k += 1;
+    }
+    if unsettled {
+        return settle_half(x, y, known);
+    }
+    known
 }

@@ -22,19 +22,22 @@ pub enum Evaluated {
 }
 
 // The numbers of the shape between, two for each point, each NaN in the pattern that the processor
-// gives it. Whether there is one.
+// gives it. Whether there is one. There are as many past the middle as before it: each step puts one
+// of each half, so that one test of two lanes asks for both.
 fn put_numbers(from: &[f32], to: &[f32], along: f32, out: &mut [f32]) -> bool
     requires { ⌜ 2 * sharedOf (now from) (now to) ≤ length (now out) ⌝ }
     ensures answer { λ r. ⌜ r ≡ anyNan (numbersBetween (now (from .entry)) (now (to .entry)) along) ⌝ }
     ensures memory { λ _. ⌜ now (out .exit) ≡ written (numbersBetween (now (from .entry)) (now (to .entry)) along) (now (out .entry)) ⌝ }
 {
-    let count = 2 * shared(from, to);
+    let half = shared(from, to);
     let mut any = false;
     let mut j: usize = 0;
-    while j < count {
-        let number = lerp(from[j], to[j], along);
-        out[j] = number;
-        any = any | (number != number);
+    while j < half {
+        let low = lerp(from[j], to[j], along);
+        let high = lerp(from[half + j], to[half + j], along);
+        out[j] = low;
+        out[half + j] = high;
+        any = any | (low != low) | (high != high);
         j += 1;
     }
     any

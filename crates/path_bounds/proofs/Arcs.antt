@@ -27,11 +27,11 @@ use Rattle.path_bounds.proofs.Lengths.{total-within}
 use Rattle.trig_rule.proofs.Sizes.{within-reach, sine-within, cosine-within}
 
 -- ---- the angles
-wide-is : wideF ≡ fin false 1 (pos 4)
+pub wide-is : wideF ≡ fin false 1 (pos 4)
 unfolding wideF ofBits
 wide-is = refl
 
-wide-back-is : wideBackF ≡ fin true 1 (pos 4)
+pub wide-back-is : wideBackF ≡ fin true 1 (pos 4)
 unfolding wideBackF wideF ofBits neg
 wide-back-is = refl
 

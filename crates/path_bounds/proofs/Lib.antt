@@ -4,3 +4,5 @@ pub mod Roots
 pub mod Lengths
 pub mod Segments
 pub mod Arcs
+pub mod Angles
+pub mod Ways

@@ -21,11 +21,11 @@ pub record Near (k : ℕ) (p : Point) : Type 0 where
   pub across : Within (2 ^ k) (p .x)
   pub along : Within (2 ^ k) (p .y)
 
-far-is : farF ≡ fin false 1 (pos 40)
+pub far-is : farF ≡ fin false 1 (pos 40)
 unfolding farF ofBits
 far-is = refl
 
-back-is : backF ≡ fin true 1 (pos 40)
+pub back-is : backF ≡ fin true 1 (pos 40)
 unfolding backF farF ofBits neg
 back-is = refl
 

@@ -5,6 +5,7 @@ use lib.Ieee.{Float, binary32, ofBits, neg, le}
 use Rattle.math.specs.declared.points.Point.{Point}
 use Rattle.rotation.specs.Rotation.{phiOf}
 use Rattle.ellipse.specs.declared.ends.Arc.{Arc}
+use Rattle.ellipse.specs.declared.ends.Way.{Way}
 
 -- 2^40 and -2^40
 unfoldable pub farF : Float
@@ -40,3 +41,24 @@ unfoldable pub isCalmArc : Arc → Bool
 unfolding isCalm isNarrow
 isCalmArc shape =
     isCalm (shape .center) && isCalm (shape .radii) && isNarrow (shape .«start_angle») && isNarrow (shape .«delta_angle») && isNarrow (phiOf (shape .«x_axis_rotation»))
+
+-- 2^30 and -2^30
+unfoldable pub mildF : Float
+mildF = ofBits binary32 0x4e80_0000
+
+unfoldable pub mildBackF : Float
+unfolding mildF
+mildBackF = neg mildF
+
+unfoldable pub isMild : Float → Bool
+unfolding mildF mildBackF
+isMild x = le x mildF && le mildBackF x
+
+unfoldable pub isMildPoint : Point → Bool
+unfolding isMild
+isMildPoint p = isMild (p .x) && isMild (p .y)
+
+-- what stands before an arc's angles: so mild that the arc is calm, which is a law
+unfoldable pub isMildWay : Way → Bool
+unfolding isMildPoint
+isMildWay way = isMildPoint (way .radii) && isMildPoint (way .middle) && isMildPoint (way .towards) && isMildPoint (way .away)

@@ -1,6 +1,7 @@
 -- Laws of the stored path.
 pub mod Buffers
 pub mod Counting
+pub mod Spans
 pub mod Testing
 pub mod Rule
 pub mod Reading

@@ -8,9 +8,9 @@ use native.Mathlib.Omega.{arith}
 use borrow.Author.Tests.{lt-ltb, le-ltb, eq-eqb, ne-eqb}
 use lib.Dec.{T, leb, ltb, eqb}
 use lib.Ieee.{Float, nan}
-use lib.ListN.{length, getD, take, drop, drop-of-length-le}
-use lib.Seq.{drop-cons, drop-length}
-use Rattle.table.specs.Sound.{tableIsSound}
+use lib.ListN.{length, getD, take, drop, drop-of-length-le, length-take, length-drop}
+use lib.Seq.{drop-cons, drop-length, take-take, getD-take, getD-drop}
+use Rattle.table.specs.Sound.{tableIsSound, rowIsSound}
 use Rattle.path_segment.specs.Segments.{tableAt}
 use Rattle.path_stored.specs.Stored.{areKnown, tablesAreSound, neverFall}
 
@@ -28,22 +28,22 @@ all-six a b c d e f = rw (a, b, c, d, e, f)
 pub ninth : {six g h i r : Bool} → six ≡ true → g ≡ true → h ≡ true → r ≡ i → r ≡ (six && g && h && i)
 ninth s g h e = rw (s, g, h) e
 
+-- nothing is left to test
+none-left : (b : Bool) → b ≡ (b && true)
+none-left true = refl
+none-left false = refl
+
 -- ---- kinds
-module _ (kinds : List ℕ) (i : ℕ) (inside : i < length kinds) where
-  pub known-next : getD kinds i 0 < 5 → areKnown (drop (i + 1) kinds) ≡ areKnown (drop i kinds)
+module _ (kinds : List ℕ) (known : Bool) (i : ℕ) where
+  -- one more test
+  pub known-next : i < length kinds → (known && areKnown (drop i kinds)) ≡ ((known && ltb (getD kinds i 0) 5) && areKnown (drop (i + 1) kinds))
   unfolding areKnown
-  known-next h = rw (add-one, drop-cons kinds i 0 inside, lt-ltb (getD kinds i 0) 5 h)
+  known-next inside = rw (add-one, drop-cons kinds i 0 inside, and-assoc known)
 
-  pub known-stop : 5 ≤ getD kinds i 0 → false ≡ areKnown (drop i kinds)
+  -- no kind is left
+  pub known-end : length kinds ≤ i → known ≡ (known && areKnown (drop i kinds))
   unfolding areKnown
-  known-stop h = rw (drop-cons kinds i 0 inside, le-ltb (getD kinds i 0) 5 h)
-
-pub known-end : (kinds : List ℕ) (i : ℕ) → length kinds ≤ i → true ≡ areKnown (drop i kinds)
-unfolding areKnown
-known-end [] zero h = refl
-known-end [] (suc i) h = refl
-known-end (kind ∷ kinds) zero h = absurd (omega arith)
-known-end (kind ∷ kinds) (suc i) h = known-end kinds i (omega arith)
+  known-end past = rw (drop-of-length-le kinds past) (none-left known)
 
 -- ---- tables
 abbrev pub soundAt : List Float → ℕ → Bool
@@ -66,9 +66,19 @@ unsound-on tables m (suc n) h e = go (native.Mathlib.Decide.decLt n m) (λ g. un
 pub sound-stop : (tables : List Float) (m n : ℕ) → m < n → tablesAreSound tables m ≡ true → soundAt tables m ≡ false → false ≡ tablesAreSound tables n
 sound-stop tables m n h e f = sym (unsound-on tables (suc m) n h (unfold tablesAreSound in rw (e, f)))
 
--- the part of a table's entries
-pub entries-part : (tables : List Float) (n : ℕ) → take (33 * n + 32 - 33 * n) (drop (33 * n) tables) ≡ tableAt tables (33 * n) .entries
-entries-part tables n = let z : 33 * n + 32 - 33 * n ≡ 32 = omega arith in rw z
+-- the row of a table: its entries and its total
+row-of : (row : List Float) → length row ≡ 33 → rowIsSound row ≡ tableIsSound (take 32 row) (getD row 32 nan)
+unfolding rowIsSound
+row-of row e = let z : length row - 1 ≡ 32 = omega arith in rw z refl
+
+pub row-part : (tables : List Float) (n : ℕ) → 33 * n + 33 ≤ length tables → rowIsSound (take (33 * n + 33 - 33 * n) (drop (33 * n) tables)) ≡ soundAt tables n
+row-part tables n room =
+    let z : 33 * n + 33 - 33 * n ≡ 33 = omega arith in
+    let rest = drop (33 * n) tables in
+    let size : length (take 33 rest) ≡ 33 = simp (length-take, length-drop) (omega arith) in
+    ap (λ (k : ℕ). rowIsSound (take k rest)) z ∙ row-of (take 33 rest) size
+    ∙ ap (λ (entries : List Float). tableIsSound entries (getD (take 33 rest) 32 nan)) (take-take 32 33 rest (omega arith))
+    ∙ ap (tableIsSound (take 32 rest)) (getD-take 33 rest 32 nan (omega arith) ∙ getD-drop (33 * n) tables 32 nan)
 
 -- ---- command numbers
 module _ (commands : List ℕ) (rise : Bool) (previous k : ℕ) where
@@ -80,8 +90,4 @@ module _ (commands : List ℕ) (rise : Bool) (previous k : ℕ) where
   -- no number is left
   pub falls-end : length commands ≤ k → rise ≡ (rise && neverFall previous (drop k commands))
   unfolding neverFall
-  falls-end past = rw (drop-of-length-le commands past) (by rise)
-    where
-      by : (b : Bool) → b ≡ (b && true)
-      by true = refl
-      by false = refl
+  falls-end past = rw (drop-of-length-le commands past) (none-left rise)

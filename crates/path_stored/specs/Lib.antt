@@ -2,4 +2,5 @@
 pub mod Buffers
 pub mod Layout
 pub mod Stored
+pub mod Counts
 pub mod Queries

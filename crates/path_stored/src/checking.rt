@@ -1,7 +1,7 @@
 // The stored path check.
 use crate::parts::numbers_before;
 use crate::parts::tables_before;
-use table::entries_are_sound;
+use table::inner::row_is_sound;
 use table::lengths_are_sound;
 ghost use mathlib.Core.Path.{_≡_};
 ghost use Prim.Native.Nat.{_≤_, _*_};
@@ -9,19 +9,17 @@ ghost use lib.ListN.{length};
 ghost use Rattle.path_stored.specs.Buffers.{before};
 ghost use Rattle.path_stored.specs.Stored.{mostSegments, areKnown, tablesAreSound, neverFall, isStored};
 
-// Whether all kinds are known.
+// Whether all kinds are known. The loop goes on past one that is not, as those below.
 fn are_known(kinds: &[u8]) -> bool
     ensures { λ r. ⌜ r ≡ areKnown (now (kinds .entry)) ⌝ }
 {
+    let mut known = true;
     let mut i = 0usize;
     while i < kinds.len() {
-        if kinds[i] < 5 {
-            i += 1;
-        } else {
-            return false;
-        }
+        known = known & (kinds[i] < 5);
+        i += 1;
     }
-    true
+    known
 }
 
 // Whether the n tables that stand one after the other are sound.
@@ -33,8 +31,8 @@ fn tables_are_sound(tables: &[f32], n: usize) -> bool
     let mut j = 0usize;
     while j < n {
         let at = 33 * j;
-        let end = at + 32;
-        if entries_are_sound(&tables[at..end], tables[end]) {
+        let end = at + 33;
+        if row_is_sound(&tables[at..end]) {
             j += 1;
         } else {
             return false;

@@ -1,4 +1,6 @@
 // What asks more of its callers than an entry may: handed on to crates that are proved to meet it.
+pub use crate::counts::numbers_between;
+pub use crate::counts::tables_between;
 pub use crate::parts::numbers_before;
 pub use crate::parts::segment;
 pub use crate::parts::segment_table;

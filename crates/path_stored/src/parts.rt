@@ -1,11 +1,12 @@
 // What is read of a stored path, for callers that know it to be one.
+use crate::counts::numbers_between;
+use crate::counts::tables_between;
 use arc::no_table;
 use floats::tidy;
 use path_segment::PathSegment;
 use path_segment::has_table;
 use path_segment::inner::segment_at;
 use path_segment::inner::table_at;
-use path_segment::width;
 use table::Table;
 use table::inner::length_before;
 ghost use mathlib.Core.Path.{_≡_};
@@ -21,13 +22,7 @@ pub fn numbers_before(kinds: &[u8], i: usize) -> usize
     requires { ⌜ i ≤ length (now kinds) ⌝ }
     ensures { λ r. ⌜ r ≡ before widthOf (now (kinds .entry)) i ⌝ }
 {
-    let mut sum = 0usize;
-    let mut j = 0usize;
-    while j < i {
-        sum += width(kinds[j]);
-        j += 1;
-    }
-    sum
+    numbers_between(kinds, 0, i)
 }
 
 // How many tables stand before that of segment i.
@@ -36,15 +31,7 @@ pub fn tables_before(kinds: &[u8], i: usize) -> usize
     requires { ⌜ i ≤ length (now kinds) ⌝ }
     ensures { λ r. ⌜ r ≡ before tablesOf (now (kinds .entry)) i ⌝ }
 {
-    let mut sum = 0usize;
-    let mut j = 0usize;
-    while j < i {
-        if has_table(kinds[j]) {
-            sum += 1;
-        }
-        j += 1;
-    }
-    sum
+    tables_between(kinds, 0, i)
 }
 
 // Segment i.

@@ -1,12 +1,17 @@
 -- Rows of a record: patterns that stand a step apart, and bytes. Places count from 0. Definitions only.
-use Prim.Native.Nat.{ℕ, zero, suc, _+_}
+use Prim.Native.Nat.{ℕ, zero, suc, _+_, _≤_}
 use mathlib.Core.Bool.{Bool, true, _&&_, cond}
 use mathlib.Core.List.{List, [], _∷_}
+use mathlib.Core.Path.{_≡_}
 use lib.Dec.{ltb, eqb}
-use lib.ListN.{length, getD}
+use lib.ListN.{length, getD, take}
 use lib.Ieee.{Float}
 use Rattle.floats.specs.Floats.{bitsOf}
 use Rattle.replay_records.specs.Records.{patternOf, floatOf}
+
+-- n counts numbers from the first on. The second part follows from the first; a part `&numbers[..n]` asks for both.
+abbrev pub Begins : ℕ → List Float → Type 0
+Begins n numbers = (n ≤ length numbers) × (n ≡ length (take n numbers))
 
 -- a step further, or the same place past the text's end
 abbrev pub onwardOf : List ℕ → ℕ → ℕ → ℕ

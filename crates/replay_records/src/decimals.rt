@@ -1,5 +1,5 @@
-// Numbers of one, two or three decimal digits, and a count that is held to what there is room for.
-ghost use Prim.Native.Nat.{_+_, _≤_, _<_, min};
+// Numbers of one, two or three decimal digits.
+ghost use Prim.Native.Nat.{_+_, _≤_, _<_};
 ghost use mathlib.Core.Path.{_≡_};
 ghost use lib.ListN.{length};
 ghost use Rattle.replay_records.specs.Decimals.{decimalOf, oneOf, twoOf, threeOf};
@@ -44,13 +44,4 @@ pub fn three(text: &[u8], at: usize) -> usize
     ensures { λ r. ⌜ r < 1000 ⌝ }
 {
     two(text, at) * 10 + one(text, at + 2)
-}
-
-// The count, at most this many.
-pub fn held(count: u32, most: usize) -> usize
-    ensures { λ r. ⌜ r ≡ min count most ⌝ }
-    ensures { λ r. ⌜ r ≤ most ⌝ }
-{
-    let wanted = count as usize;
-    if wanted < most { wanted } else { most }
 }

@@ -1,16 +1,21 @@
 // What the programs share that replay recorded answers: patterns of eight hexadecimal digits in the
-// records, numbers of few decimal digits, rows of both, how an answer is held against them, and the line
+// records, numbers of few decimal digits, rows of both, how an answer is held against them, and the counts
 // that the programs print.
+mod counts;
 mod curves;
 mod decimals;
 mod given;
 mod numbers;
 
+pub use counts::Count;
+pub use counts::kind;
+pub use counts::none;
+pub use counts::seen;
+pub use counts::tell;
 pub use curves::number_of;
 pub use curves::placed;
 pub use curves::same_answers;
 pub use curves::turned;
-pub use decimals::held;
 pub use decimals::one;
 pub use decimals::three;
 pub use decimals::two;
@@ -18,6 +23,7 @@ pub use given::first_of;
 pub use given::has_bits;
 pub use given::point;
 pub use given::same_point;
+pub use numbers::lent;
 pub use numbers::read_numbers;
 pub use numbers::same_bytes;
 pub use numbers::same_numbers;
@@ -76,13 +82,4 @@ pub fn float(bits: u32) -> f32
         return 0.0 / 0.0;
     }
     f32::from_bits(bits)
-}
-
-// Prints how many answers were replayed and how many differ.
-pub fn tell(replayed: u64, different: u64) {
-    io::write_all(1, b"replayed ");
-    io::print_decimal(1, replayed);
-    io::write_all(1, b", different ");
-    io::print_decimal(1, different);
-    io::write_all(1, b"\n");
 }

@@ -1,12 +1,13 @@
-// Rows of a record: patterns a step apart as numbers or held against numbers, and bytes held against bytes.
+// Rows of a record: patterns a step apart as numbers or held against numbers, how many of them are lent, and bytes held against
+// bytes.
 use crate::float;
 use crate::pattern;
 use floats::bits;
-ghost use Prim.Native.Nat.{_+_, _≤_};
+ghost use Prim.Native.Nat.{_+_, _≤_, min};
 ghost use mathlib.Core.Path.{_≡_};
 ghost use lib.Dec.{eqb};
 ghost use lib.ListN.{length};
-ghost use Rattle.replay_records.specs.Numbers.{onwardOf, numbersOf, sameNumbers, sameBytes};
+ghost use Rattle.replay_records.specs.Numbers.{Begins, onwardOf, numbersOf, sameNumbers, sameBytes};
 
 // The next place of a row. Past the text's end it stays where it is, for every pattern there is 0.
 fn onward(text: &[u8], place: usize, step: u32) -> usize
@@ -29,6 +30,19 @@ pub fn read_numbers(text: &[u8], at: usize, step: u32, out: &mut [f32])
         out[i] = float(pattern(text, place));
         place = onward(text, place, step);
         i += 1;
+    }
+}
+
+// How many numbers are lent, from the first on: as many as the record says, at most all. `&numbers[..n]` then needs no proof file.
+pub fn lent(count: u32, numbers: &[f32]) -> usize
+    ensures { λ r. ⌜ Begins r (now (numbers .entry)) ⌝ }
+    ensures { λ r. ⌜ r ≡ min count (length (now (numbers .entry))) ⌝ }
+{
+    let wanted = count as usize;
+    if wanted < numbers.len() {
+        wanted
+    } else {
+        numbers.len()
     }
 }
 

@@ -4,7 +4,7 @@ ghost use mathlib.Core.Path.{_≡_};
 ghost use Rattle.spline.specs.Formula.{blendOf, spanOf};
 
 // One coordinate between p1 and p2, at t from 0 to 1 with its square and its cube.
-fn blend(p0: f32, p1: f32, p2: f32, p3: f32, t: f32, t2: f32, t3: f32) -> f32
+pub fn blend(p0: f32, p1: f32, p2: f32, p3: f32, t: f32, t2: f32, t3: f32) -> f32
     ensures { λ r. ⌜ r ≡ blendOf p0 p1 p2 p3 t t2 t3 ⌝ }
 {
     0.5

@@ -26,7 +26,7 @@ fn span_index(segments: usize, scaled: f32) -> usize
 }
 
 // The point before a span; before the first span it is the first point.
-fn before_span(points: &[f32], index: usize) -> Point
+pub fn before_span(points: &[f32], index: usize) -> Point
     requires { ⌜ index < countOf (now points) ⌝ }
     ensures { λ r. ⌜ r ≡ beforeSpan (now (points .entry)) index ⌝ }
 {
@@ -37,7 +37,7 @@ fn before_span(points: &[f32], index: usize) -> Point
 }
 
 // The point after a span; after the last span it is the last point.
-fn after_span(points: &[f32], index: usize) -> Point
+pub fn after_span(points: &[f32], index: usize) -> Point
     requires { ⌜ index + 1 < countOf (now points) ⌝ }
     ensures { λ r. ⌜ r ≡ afterSpan (now (points .entry)) index ⌝ }
 {

@@ -49,8 +49,8 @@ module _ {formula : Float → Point} {n : ℕ} {before : List Float} where
 
   -- a whole row is stored
   pub filling-row : {table after : List Float} {previous : Point} {total : Float} {walk : Walk} {k : ℕ}
-      → Filling formula n before table previous total k → Walking formula n walk (k + 31) → Entered (lengthsOf formula n) before (k + 31) after
-      → Filling formula n before after (walk .previous) (walk .total) (k + 31)
+      → Filling formula n before table previous total k → Walking formula n walk (k + 16) → Entered (lengthsOf formula n) before (k + 16) after
+      → Filling formula n before after (walk .previous) (walk .total) (k + 16)
   filling-row f w e = record { walking = w; room = f .room; filled = e }
 
   pub filling-length : {table : List Float} {previous : Point} {total : Float} {k : ℕ} → Filling formula n before table previous total k → length table ≡ length before

@@ -28,16 +28,16 @@ either : (a b : ℕ) → (a ≤ b) ⊎ (b ≤ a)
 either a b = elim (decide (leb a b)) [ inl t ↦ inl (leb→le a b t) | inr t ↦ inr (le-of-lt (nleb→lt a b t)) ]
 
 -- ---- the whole part
-record Cut (whole n d : ℕ) : Type 0 where
-  under : whole * d ≤ n
-  over : whole < 2 ^ 64 - 1 → n ≤ suc whole * d
+pub record Cut (whole n d : ℕ) : Type 0 where
+  pub under : whole * d ≤ n
+  pub over : whole < 2 ^ 64 - 1 → n < suc whole * d
 
 capped : (n d : ℕ) → 0 < d → Cut (min (n / d) (2 ^ 64 - 1)) n d
 capped n d some =
     record {
       under = le-trans (mul-le-mul-right d (min-le-left (n / d) (2 ^ 64 - 1))) (div-mul-le-self n d);
       over = λ h. elim (either (n / d) (2 ^ 64 - 1)) [
-        | inl l ↦ subst (λ (w : ℕ). n ≤ suc w * d) (sym (min-eq-left l)) (next (n / d))
+        | inl l ↦ subst (λ (w : ℕ). n < suc w * d) (sym (min-eq-left l)) (next (n / d))
         | inr l ↦ absurd (past (min (n / d) (2 ^ 64 - 1)) (2 ^ 64 - 1) (min-eq-right l) h)
       ];
     }
@@ -45,15 +45,18 @@ capped n d some =
     past : (w top : ℕ) → w ≡ top → w < top → ⊥
     past w top e h = omega arith
 
-    next : (w : ℕ) → n ≤ suc (n / d) * d
-    next w = le-trans (le-of-lt (lt-div-mul-add some)) (le-of-eq (let e : n / d * d + d ≡ suc (n / d) * d = omega arith in e))
+    next : (w : ℕ) → n < suc (n / d) * d
+    next w = subst (λ (m : ℕ). n < m) (let e : n / d * d + d ≡ suc (n / d) * d = omega arith in e) (lt-div-mul-add some)
 
-cut : (x : Float) → T (nonneg x) → Cut (toUnsigned 64 x) (num x) (den x)
+pub cut : (x : Float) → T (nonneg x) → Cut (toUnsigned 64 x) (num x) (den x)
 unfolding toUnsigned
 cut nan h = absurd h
 cut (inf s) h = absurd h
 cut (fin false m e) h = capped (m * up e) (down e) (down-pos e)
-cut (fin true m e) h = record { under = le-trans (le-of-eq (zero-mul (down e))) zero-le; over = λ l. le-trans (le-of-eq (ap (λ (k : ℕ). k * up e) (eqb→eq m 0 h) ∙ zero-mul (up e))) zero-le }
+cut (fin true m e) h = record { under = le-trans (le-of-eq (zero-mul (down e))) zero-le; over = λ l. none (m * up e) (down e) (ap (λ (k : ℕ). k * up e) (eqb→eq m 0 h) ∙ zero-mul (up e)) (down-pos e) }
+  where
+    none : (n d : ℕ) → n ≡ 0 → 0 < d → n < suc 0 * d
+    none n d q p = omega arith
 
 -- ---- in its span
 module _ (segments : ℕ) (x : Float) (i : InSpans segments x) where
@@ -79,7 +82,7 @@ module _ (segments : ℕ) (x : Float) (i : InSpans segments x) where
   index-over : num x ≤ suc (indexOf segments x) * den x
   unfolding indexOf
   index-over = elim (either (toUnsigned 64 x) (segments - 1)) [
-    | inl l ↦ subst (λ (w : ℕ). num x ≤ suc w * den x) (sym (min-eq-left l)) (cut x scaled-nonneg .over (few (toUnsigned 64 x) segments l (i .few)))
+    | inl l ↦ subst (λ (w : ℕ). num x ≤ suc w * den x) (sym (min-eq-left l)) (le-of-lt (cut x scaled-nonneg .over (few (toUnsigned 64 x) segments l (i .few))))
     | inr l ↦ subst (λ (w : ℕ). num x ≤ suc w * den x) (sym (min-eq-right l)) (subst (λ (w : ℕ). num x ≤ w * den x) (sym (whole segments (i .some))) at-most)
   ]
     where

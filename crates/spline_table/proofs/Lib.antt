@@ -5,6 +5,9 @@ pub mod Filling
 pub mod RowLaws
 pub mod Near
 pub mod Left
+pub mod Index
+pub mod Formulas
+pub mod Laying
 pub mod Samples
 pub mod Calm
 pub mod Answering

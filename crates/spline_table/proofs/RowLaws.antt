@@ -1,4 +1,4 @@
--- A row of 31 entries: its differences, what their lengths are, and the loop that stores the running lengths. Assumes nothing.
+-- A row of 16 entries: its differences, what their lengths are, and the loop that stores the running lengths. Assumes nothing.
 use mathlib.Core.Path.{_≡_, refl, sym, ap, _∙_, subst}
 use mathlib.Core.List.{List}
 use Prim.Native.Nat.{ℕ, suc, _+_, _≤_, _<_, zero-le}
@@ -22,26 +22,26 @@ use Rattle.spline_table.proofs.Passing.{lengths-next}
 use Rattle.spline_table.proofs.Filling.{more-written}
 
 -- ---- the differences are all in
-pub row-done : {formula : Float → Point} {n k : ℕ} {x y : List Float} {previous : Point} {i : ℕ} → Crossing formula n k x y previous i → 31 ≤ i → Differences formula n k (record { x = x; y = y; next = previous })
+pub row-done : {formula : Float → Point} {n k : ℕ} {x y : List Float} {previous : Point} {i : ℕ} → Crossing formula n k x y previous i → i ≡ 16 → Differences formula n k (record { x = x; y = y; next = previous })
 row-done {formula} {n} {k} {x} {y} {previous} {i} c past =
     record {
       across = λ j h. c .across .done j (omega arith);
       along = λ j h. c .along .done j (omega arith);
-      next = c .here ∙ ap (λ (m : ℕ). sampleAt formula n (k + m)) (let u = c .upto in let g : i ≡ 31 = omega arith in g);
+      next = c .here ∙ ap (λ (m : ℕ). sampleAt formula n (k + m)) (let u = c .upto in let g : i ≡ 16 = omega arith in g);
     }
 
 -- ---- the lengths of the differences are the steps
-pub row-step : {formula : Float → Point} {n k : ℕ} {row : Row} → Differences formula n k row → (steps : List Float) → steps ≡ lengths.lengthsOf 31 (row .x) (row .y) → (i : ℕ) → i < 31
+pub row-step : {formula : Float → Point} {n k : ℕ} {row : Row} → Differences formula n k row → (steps : List Float) → steps ≡ lengths.lengthsOf 16 (row .x) (row .y) → (i : ℕ) → i < 16
     → at steps i ≡ distanceOf (sampleAt formula n (k + i)) (sampleAt formula n (suc (k + i)))
 unfolding distanceOf lengthOf subOf
 row-step {formula} {n} {k} {row} d steps e i inside =
-    ap (λ (xs : List Float). at xs i) e ∙ lengths-at 31 (row .x) (row .y) i inside
+    ap (λ (xs : List Float). at xs i) e ∙ lengths-at 16 (row .x) (row .y) i inside
     ∙ ap (λ (z : Float). lengths.lengthOf z (getD (row .y) i nan)) (d .across i inside)
     ∙ ap (lengths.lengthOf (sub binary32 (sampleAt formula n (suc (k + i)) .x) (sampleAt formula n (k + i) .x))) (d .along i inside)
 
 -- ---- the entries of the row before i are stored, and `total` is the next one
 pub record Storing (formula : Float → Point) (n k : ℕ) (table₀ : List Float) (total : Float) (table : List Float) (i : ℕ) : Type 0 where
-  pub upto : i ≤ 31
+  pub upto : i ≤ 16
   pub sum : total ≡ at (lengthsOf formula n) (k + i)
   pub size : length table ≡ length table₀
   pub entered : (before : List Float) → Entered (lengthsOf formula n) before k table₀ → Entered (lengthsOf formula n) before (k + i) table
@@ -56,7 +56,7 @@ module _ {formula : Float → Point} {n k : ℕ} {table₀ : List Float} where
         entered = λ before e. e ∙ ap (λ (m : ℕ). written (take m (lengthsOf formula n)) before) (sym (add-zero k));
       }
 
-  module _ {total : Float} {table : List Float} {i : ℕ} (s : Storing formula n k table₀ total table i) (inside : i < 31) (whole : k + 31 ≤ n) (room : n < length table₀) where
+  module _ {total : Float} {table : List Float} {i : ℕ} (s : Storing formula n k table₀ total table i) (inside : i < 16) (whole : k + 16 ≤ n) (room : n < length table₀) where
     reaches : (before : List Float) → Entered (lengthsOf formula n) before k table₀ → k + i < length before
     reaches before e =
         let size = simp (length-append, length-drop, length-take) at (ap length e) in
@@ -75,5 +75,5 @@ module _ {formula : Float → Point} {n k : ℕ} {table₀ : List Float} where
               ∙ ap (λ (m : ℕ). written (take m (lengthsOf formula n)) before) (sym next);
         }
 
-  pub storing-ends : {total : Float} {table : List Float} {i : ℕ} → Storing formula n k table₀ total table i → 31 ≤ i → Storing formula n k table₀ total table 31
-  storing-ends {total} {table} {i} s past = subst (Storing formula n k table₀ total table) (let u = s .upto in let g : i ≡ 31 = omega arith in g) s
+  pub storing-ends : {total : Float} {table : List Float} {i : ℕ} → Storing formula n k table₀ total table i → 16 ≤ i → Storing formula n k table₀ total table 16
+  storing-ends {total} {table} {i} s past = subst (Storing formula n k table₀ total table) (let u = s .upto in let g : i ≡ 16 = omega arith in g) s

@@ -17,6 +17,7 @@ use Rattle.math.specs.declared.points.Point.{Point}
 use Rattle.math.specs.Math.{originF, lerpPointOf}
 use Rattle.table.specs.Lookup.{at}
 use Rattle.floats.proofs.Within.{Within, within-le, Holds, neg-within, mul-within}
+use Rattle.path_bounds.specs.Calm.{isNear}
 use Rattle.path_bounds.proofs.Tested.{Near, near-within, clamped-within}
 use Rattle.path_bounds.proofs.Roots.{holds-power, add-power, sub-power}
 use Rattle.path_bounds.proofs.Lengths.{lerp-near}
@@ -25,7 +26,7 @@ use Rattle.spline.specs.Formula.{halfF, twoF, threeF, fourF, fiveF, blendOf, sp
 use Rattle.spline.proofs.Spans.{in-spans, index-lt}
 use Rattle.spline.proofs.Counts.{sample-none, sample-one, sample-two, sample-more}
 use Rattle.spline_table.specs.Near.{allNear}
-use Rattle.spline_table.proofs.Near.{near-at}
+use Rattle.spline_table.proofs.Near.{every-at}
 use Rattle.spline_table.proofs.Left.{left-within}
 
 -- ---- numbers within a power of 2
@@ -112,8 +113,8 @@ module _ (points : List Float) (near : T (allNear points)) where
   unfolding pointAt
   point-near i inside =
       record {
-        across = near-within (at points (2 * i)) (near-at points near (2 * i) (lower (length points) i inside));
-        along = near-within (at points (2 * i + 1)) (near-at points near (2 * i + 1) (upper (length points) i inside));
+        across = near-within (at points (2 * i)) (every-at isNear points near (2 * i) (lower (length points) i inside));
+        along = near-within (at points (2 * i + 1)) (every-at isNear points near (2 * i + 1) (upper (length points) i inside));
       }
     where
       lower : (n i : ℕ) → i < n / 2 → 2 * i < n

@@ -12,7 +12,6 @@ use Rattle.answers.specs.Report.{written}
 use Rattle.answers.specs.declared.refusals.Values.the-variants.{One}
 use Rattle.answers.specs.declared.refusals.Refusal.{Refusal}
 use Rattle.answers.specs.declared.refusals.Refusal.the-variants.{BadList, Range, NotFinite, NoRoom}
-use Rattle.table.specs.Sound.{countable}
 use Rattle.table_samples.specs.Samples.{lengthsOf}
 use Rattle.polyline.specs.Points.{countOf}
 use Rattle.polyline.specs.Lengths.{firstNotFinite}
@@ -58,10 +57,10 @@ splineTableOf points room =
     (cond (ltb mostPoints (countOf points)) (refusal (Range (countOf points)))
     (roomed room (measured (splineLengthsOf points))))
 
--- ---- what the two passes ask: points that were judged, and each entry's number an f32; the second one, room for the entries
+-- ---- what the two passes ask: points that were judged, and the number of their last entry; the second one, room for the entries
 pub record Sampled (points : List Float) (last : ℕ) : Type 0 where
   pub few : countOf points ≤ mostPoints
-  pub counted : last < countable
+  pub counted : last ≡ lastEntryOf (countOf points)
 
 pub record Roomy (points : List Float) (last : ℕ) (table : List Float) : Type 0 where
   pub sampled : Sampled points last

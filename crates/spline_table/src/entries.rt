@@ -31,15 +31,13 @@ pub fn last_entry(count: usize) -> usize
 fn all_near(numbers: &[f32]) -> bool
     ensures { λ r. ⌜ r ≡ allNear (now (numbers .entry)) ⌝ }
 {
+    let mut near = true;
     let mut i = 0usize;
     while i < numbers.len() {
-        if is_near(numbers[i]) {
-            i += 1;
-        } else {
-            return false;
-        }
+        near = near & is_near(numbers[i]);
+        i += 1;
     }
-    true
+    near
 }
 
 // The number of the first entry that is infinite or a NaN, or how many entries there are where none is. Points near the origin
@@ -75,7 +73,7 @@ fn first_measured(points: &[f32], last: usize) -> usize
     k + 1
 }
 
-// Stores the running lengths of the samples from the start of `table`: rows of 31, and the rest one by one.
+// Stores the running lengths of the samples from the start of `table`: a row of 16 for each span, and the last.
 pub fn fill(points: &[f32], last: usize, table: &mut [f32])
     requires { ⌜ Roomy (now points) last (now table) ⌝ }
     ensures { λ _. ⌜ now (table .exit) ≡ written (lengthsOf (splineSampleOf (now (points .entry))) last) (now (table .entry)) ⌝ }
@@ -85,18 +83,9 @@ pub fn fill(points: &[f32], last: usize, table: &mut [f32])
         total: 0.0,
     };
     let mut k = 0usize;
-    while k + 31 <= last {
-        walk = fill_row(points, last, k, walk, table);
-        k += 31;
-    }
-    let mut previous = walk.previous;
-    let mut total = walk.total;
     while k < last {
-        table[k] = total;
-        let next = sample(points, mark(k + 1, last));
-        total = total + distance(previous, next);
-        previous = next;
-        k += 1;
+        walk = fill_row(points, last, k, walk, table);
+        k += 16;
     }
-    table[k] = total;
+    table[k] = walk.total;
 }

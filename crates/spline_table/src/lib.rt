@@ -1,6 +1,7 @@
 // The table of running lengths of a Catmull-Rom spline through lent points (bezier.rs, `build_table`), stored in a lent slice.
 mod entries;
 pub mod inner;
+mod lanes;
 mod rows;
 mod tables;
 

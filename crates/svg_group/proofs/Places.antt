@@ -20,15 +20,13 @@ use Rattle.math.specs.declared.points.Point.{Point}
 use Rattle.commands.specs.Stored.{argumentsOf}
 use Rattle.commands.specs.declared.command.PathCommand.{PathCommand}
 use Rattle.commands.specs.declared.command.PathCommand.the-variants.{MoveTo, LineTo, QuadTo, CubicTo, ArcTo}
-use Rattle.svg_group.specs.Numbers.{readNumberOf, numberThen, readFlagsOf, flagsThen, readPairOf, pairThen}
+use Rattle.svg_group.specs.Numbers.{readNumberOf, numberThen, readFlagsOf, flagsThen, Pair, PairTaken, PairRefused, readPairOf, pairThen}
 use Rattle.svg_group.specs.Groups.{readMoveOf, readLineOf, readHorizontalOf, readVerticalOf, readCubicOf, readSmoothCubicOf, readQuadOf, readSmoothQuadOf, readArcOf, readGroupOf}
 use Rattle.svg_group.specs.Passing.{ended, passNumberOf, passThen, passPairOf, passQuadOf, passCubicOf, passArcOf, passGroupOf}
 use Rattle.svg_group.specs.declared.letters.Kind.{Kind}
 use Rattle.svg_group.specs.declared.letters.Kind.the-variants.{Move, Line, Horizontal, Vertical, Cubic, SmoothCubic, Quad, SmoothQuad, Arc}
 use Rattle.svg_group.specs.declared.numbers.Flags.{Flags}
 use Rattle.svg_group.specs.declared.numbers.Flags.the-variants.{Taken as FlagsTaken, Refused as FlagsRefused}
-use Rattle.svg_group.specs.declared.numbers.Pair.{Pair}
-use Rattle.svg_group.specs.declared.numbers.Pair.the-variants.{Taken as PairTaken, Refused as PairRefused}
 use Rattle.svg_group.specs.declared.groups.Group.{Group}
 use Rattle.svg_group.specs.declared.groups.Group.the-variants.{Taken, Refused}
 use Rattle.svg_group.specs.declared.passing.Passed.{Passed}

@@ -17,8 +17,8 @@ use Rattle.svg_group.specs.declared.numbers.Flag.{Flag}
 use Rattle.svg_group.specs.declared.numbers.Flag.the-variants.{Taken as FlagTaken, Refused as FlagRefused}
 use Rattle.svg_group.specs.declared.numbers.Flags.{Flags}
 use Rattle.svg_group.specs.declared.numbers.Flags.the-variants.{Taken as FlagsTaken, Refused as FlagsRefused}
-use Rattle.svg_group.specs.declared.numbers.Pair.{Pair}
-use Rattle.svg_group.specs.declared.numbers.Pair.the-variants.{Taken as PairTaken, Refused as PairRefused}
+use Rattle.svg_group.specs.declared.numbers.Coordinates.{Coordinates}
+use Rattle.svg_group.specs.declared.numbers.Coordinates.the-variants.{Taken as CoordinatesTaken, Refused as CoordinatesRefused}
 
 -- ---- a number
 
@@ -61,6 +61,11 @@ flagsThen (FlagsRefused refusal) refuse go = refuse refusal
 
 -- ---- a pair
 
+-- a point and the place past it
+pub data Pair : Type 0 where
+  PairTaken : Point → ℕ → Pair
+  PairRefused : Refusal → Pair
+
 -- "Lower case adds to the current point"
 unfoldable pub movedOf : Bool → Point → Point → Point
 movedOf true current point = addOf current point
@@ -75,3 +80,8 @@ readPairOf text at relative current =
 abbrev pub pairThen : {A : Type 0} → Pair → (Refusal → A) → (Point → ℕ → A) → A
 pairThen (PairTaken point next) refuse go = go point next
 pairThen (PairRefused refusal) refuse go = refuse refusal
+
+-- the pair of what is read by coordinates
+abbrev pub pairOf : Coordinates → Pair
+pairOf (CoordinatesTaken x y next) = PairTaken (record { x = x; y = y }) next
+pairOf (CoordinatesRefused refusal) = PairRefused refusal

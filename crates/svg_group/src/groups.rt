@@ -2,8 +2,8 @@
 ghost use mathlib.Core.Path.{_≡_};
 ghost use Rattle.svg_group.specs.Groups.{readMoveOf, readLineOf, readHorizontalOf, readVerticalOf, readCubicOf, readSmoothCubicOf, readQuadOf, readSmoothQuadOf, readArcOf, readGroupOf};
 use crate::letters::Kind;
+use crate::numbers::Coordinates;
 use crate::numbers::Flags;
-use crate::numbers::Pair;
 use crate::numbers::read_flags;
 use crate::numbers::read_number;
 use crate::numbers::read_pair;
@@ -22,11 +22,14 @@ fn read_move(text: &[u8], at: usize, relative: bool, current: Point) -> Group
     ensures { λ r. ⌜ r ≡ readMoveOf (now (text .entry)) at relative current ⌝ }
 {
     match read_pair(text, at, relative, current) {
-        Pair::Refused(refusal) => Group::Refused(refusal),
-        Pair::Taken { point, next } => Group::Taken {
-            command: PathCommand::MoveTo(point),
-            next,
-        },
+        Coordinates::Refused(refusal) => Group::Refused(refusal),
+        Coordinates::Taken { x, y, next } => {
+            let end = Point { x, y };
+            Group::Taken {
+                command: PathCommand::MoveTo(end),
+                next,
+            }
+        }
     }
 }
 
@@ -34,11 +37,14 @@ fn read_line(text: &[u8], at: usize, relative: bool, current: Point) -> Group
     ensures { λ r. ⌜ r ≡ readLineOf (now (text .entry)) at relative current ⌝ }
 {
     match read_pair(text, at, relative, current) {
-        Pair::Refused(refusal) => Group::Refused(refusal),
-        Pair::Taken { point, next } => Group::Taken {
-            command: PathCommand::LineTo(point),
-            next,
-        },
+        Coordinates::Refused(refusal) => Group::Refused(refusal),
+        Coordinates::Taken { x, y, next } => {
+            let end = Point { x, y };
+            Group::Taken {
+                command: PathCommand::LineTo(end),
+                next,
+            }
+        }
     }
 }
 
@@ -98,25 +104,35 @@ fn read_cubic(text: &[u8], at: usize, relative: bool, current: Point) -> Group
     ensures { λ r. ⌜ r ≡ readCubicOf (now (text .entry)) at relative current ⌝ }
 {
     match read_pair(text, at, relative, current) {
-        Pair::Refused(refusal) => Group::Refused(refusal),
-        Pair::Taken { point, next } => match read_pair(text, next, relative, current) {
-            Pair::Refused(refusal) => Group::Refused(refusal),
-            Pair::Taken {
-                point: second,
+        Coordinates::Refused(refusal) => Group::Refused(refusal),
+        Coordinates::Taken { x, y, next } => match read_pair(text, next, relative, current) {
+            Coordinates::Refused(refusal) => Group::Refused(refusal),
+            Coordinates::Taken {
+                x: second_x,
+                y: second_y,
                 next: third,
             } => match read_pair(text, third, relative, current) {
-                Pair::Refused(refusal) => Group::Refused(refusal),
-                Pair::Taken {
-                    point: end,
+                Coordinates::Refused(refusal) => Group::Refused(refusal),
+                Coordinates::Taken {
+                    x: end_x,
+                    y: end_y,
                     next: past,
-                } => Group::Taken {
-                    command: PathCommand::CubicTo {
-                        control1: point,
-                        control2: second,
-                        end,
-                    },
-                    next: past,
-                },
+                } => {
+                    let control1 = Point { x, y };
+                    let control2 = Point {
+                        x: second_x,
+                        y: second_y,
+                    };
+                    let end = Point { x: end_x, y: end_y };
+                    Group::Taken {
+                        command: PathCommand::CubicTo {
+                            control1,
+                            control2,
+                            end,
+                        },
+                        next: past,
+                    }
+                }
             },
         },
     }
@@ -126,19 +142,21 @@ fn read_quad(text: &[u8], at: usize, relative: bool, current: Point) -> Group
     ensures { λ r. ⌜ r ≡ readQuadOf (now (text .entry)) at relative current ⌝ }
 {
     match read_pair(text, at, relative, current) {
-        Pair::Refused(refusal) => Group::Refused(refusal),
-        Pair::Taken { point, next } => match read_pair(text, next, relative, current) {
-            Pair::Refused(refusal) => Group::Refused(refusal),
-            Pair::Taken {
-                point: end,
+        Coordinates::Refused(refusal) => Group::Refused(refusal),
+        Coordinates::Taken { x, y, next } => match read_pair(text, next, relative, current) {
+            Coordinates::Refused(refusal) => Group::Refused(refusal),
+            Coordinates::Taken {
+                x: end_x,
+                y: end_y,
                 next: past,
-            } => Group::Taken {
-                command: PathCommand::QuadTo {
-                    control: point,
-                    end,
-                },
-                next: past,
-            },
+            } => {
+                let control = Point { x, y };
+                let end = Point { x: end_x, y: end_y };
+                Group::Taken {
+                    command: PathCommand::QuadTo { control, end },
+                    next: past,
+                }
+            }
         },
     }
 }
@@ -148,20 +166,25 @@ fn read_smooth_cubic(text: &[u8], at: usize, relative: bool, current: Point, fir
     ensures { λ r. ⌜ r ≡ readSmoothCubicOf (now (text .entry)) at relative current first ⌝ }
 {
     match read_pair(text, at, relative, current) {
-        Pair::Refused(refusal) => Group::Refused(refusal),
-        Pair::Taken { point, next } => match read_pair(text, next, relative, current) {
-            Pair::Refused(refusal) => Group::Refused(refusal),
-            Pair::Taken {
-                point: end,
+        Coordinates::Refused(refusal) => Group::Refused(refusal),
+        Coordinates::Taken { x, y, next } => match read_pair(text, next, relative, current) {
+            Coordinates::Refused(refusal) => Group::Refused(refusal),
+            Coordinates::Taken {
+                x: end_x,
+                y: end_y,
                 next: past,
-            } => Group::Taken {
-                command: PathCommand::CubicTo {
-                    control1: first,
-                    control2: point,
-                    end,
-                },
-                next: past,
-            },
+            } => {
+                let control2 = Point { x, y };
+                let end = Point { x: end_x, y: end_y };
+                Group::Taken {
+                    command: PathCommand::CubicTo {
+                        control1: first,
+                        control2,
+                        end,
+                    },
+                    next: past,
+                }
+            }
         },
     }
 }
@@ -171,14 +194,17 @@ fn read_smooth_quad(text: &[u8], at: usize, relative: bool, current: Point, firs
     ensures { λ r. ⌜ r ≡ readSmoothQuadOf (now (text .entry)) at relative current first ⌝ }
 {
     match read_pair(text, at, relative, current) {
-        Pair::Refused(refusal) => Group::Refused(refusal),
-        Pair::Taken { point, next } => Group::Taken {
-            command: PathCommand::QuadTo {
-                control: first,
-                end: point,
-            },
-            next,
-        },
+        Coordinates::Refused(refusal) => Group::Refused(refusal),
+        Coordinates::Taken { x, y, next } => {
+            let end = Point { x, y };
+            Group::Taken {
+                command: PathCommand::QuadTo {
+                    control: first,
+                    end,
+                },
+                next,
+            }
+        }
     }
 }
 
@@ -187,9 +213,10 @@ fn read_arc(text: &[u8], at: usize, relative: bool, current: Point) -> Group
     ensures { λ r. ⌜ r ≡ readArcOf (now (text .entry)) at relative current ⌝ }
 {
     match read_pair(text, at, false, current) {
-        Pair::Refused(refusal) => Group::Refused(refusal),
-        Pair::Taken {
-            point: radii,
+        Coordinates::Refused(refusal) => Group::Refused(refusal),
+        Coordinates::Taken {
+            x: radii_x,
+            y: radii_y,
             next: second,
         } => match read_number(text, second) {
             Read::Refused(refusal) => Group::Refused(refusal),
@@ -197,20 +224,28 @@ fn read_arc(text: &[u8], at: usize, relative: bool, current: Point) -> Group
                 Flags::Refused(refusal) => Group::Refused(refusal),
                 Flags::Taken { large, sweep, next } => {
                     match read_pair(text, next, relative, current) {
-                        Pair::Refused(refusal) => Group::Refused(refusal),
-                        Pair::Taken {
-                            point: end,
+                        Coordinates::Refused(refusal) => Group::Refused(refusal),
+                        Coordinates::Taken {
+                            x: end_x,
+                            y: end_y,
                             next: past,
-                        } => Group::Taken {
-                            command: PathCommand::ArcTo {
-                                radii,
-                                rotation,
-                                large_arc: large,
-                                sweep,
-                                end,
-                            },
-                            next: past,
-                        },
+                        } => {
+                            let radii = Point {
+                                x: radii_x,
+                                y: radii_y,
+                            };
+                            let end = Point { x: end_x, y: end_y };
+                            Group::Taken {
+                                command: PathCommand::ArcTo {
+                                    radii,
+                                    rotation,
+                                    large_arc: large,
+                                    sweep,
+                                    end,
+                                },
+                                next: past,
+                            }
+                        }
                     }
                 }
             },

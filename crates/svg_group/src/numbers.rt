@@ -1,6 +1,6 @@
 // Numbers, flags and pairs where one is due. Each passes the separators before it.
 ghost use mathlib.Core.Path.{_≡_};
-ghost use Rattle.svg_group.specs.Numbers.{readNumberOf, readFlagOf, readFlagsOf, movedOf, readPairOf};
+ghost use Rattle.svg_group.specs.Numbers.{readNumberOf, readFlagOf, readFlagsOf, movedOf, readPairOf, pairOf};
 use answers::Refusal;
 use decimal::Read;
 use math::Point;
@@ -21,8 +21,10 @@ pub enum Flags {
     Refused(Refusal),
 }
 
-pub enum Pair {
-    Taken { point: Point, next: usize },
+// A point by its coordinates: kept as one value it is written in two parts and read back as one, which
+// waits for both.
+pub enum Coordinates {
+    Taken { x: f32, y: f32, next: usize },
     Refused(Refusal),
 }
 
@@ -92,17 +94,18 @@ fn moved(relative: bool, current: Point, point: Point) -> Point
     point
 }
 
-pub fn read_pair(text: &[u8], at: usize, relative: bool, current: Point) -> Pair
-    ensures { λ r. ⌜ r ≡ readPairOf (now (text .entry)) at relative current ⌝ }
+pub fn read_pair(text: &[u8], at: usize, relative: bool, current: Point) -> Coordinates
+    ensures { λ r. ⌜ pairOf r ≡ readPairOf (now (text .entry)) at relative current ⌝ }
 {
     match read_number(text, at) {
-        Read::Refused(refusal) => Pair::Refused(refusal),
+        Read::Refused(refusal) => Coordinates::Refused(refusal),
         Read::Value(x, next) => match read_number(text, next) {
-            Read::Refused(refusal) => Pair::Refused(refusal),
+            Read::Refused(refusal) => Coordinates::Refused(refusal),
             Read::Value(y, end) => {
-                let point = Point { x, y };
-                Pair::Taken {
-                    point: moved(relative, current, point),
+                let point = moved(relative, current, Point { x, y });
+                Coordinates::Taken {
+                    x: point.x,
+                    y: point.y,
                     next: end,
                 }
             }

@@ -1,4 +1,4 @@
-//! The list that the program replay_arc runs through the proved crates.
+//! The list of lines and arcs, a, that the program replay_curves runs through the proved crates.
 //!
 //! A block is a segment and six progresses. Its first line has a letter (a or l), the refusal's number or 0, start, radii,
 //! rotation and end, the flags and whether the arc fell back to a line, each 0 or 1, then the arc's 11 numbers (a line's
@@ -80,7 +80,7 @@ fn arc_first(arc: &Arc) -> String {
     };
     let flags = [arc.large, arc.sweep, fell_back].map(|flag| if flag { '1' } else { '0' });
     let given = patterns([number].into_iter().chain(arc.numbers));
-    format!("a{given}{}{}\n", String::from_iter(flags), patterns(shape.into_iter().chain(table)))
+    format!("aa{given}{}{}\n", String::from_iter(flags), patterns(shape.into_iter().chain(table)))
 }
 
 fn line_first(own: &Line) -> String {
@@ -90,7 +90,7 @@ fn line_first(own: &Line) -> String {
     };
     let [[sx, sy], [ex, ey]] = own.ends;
     let given = patterns([number, sx, sy, 0, 0, 0, ex, ey]);
-    format!("l{given}000{}{}\n", patterns([length]), patterns([0; 43]))
+    format!("al{given}000{}{}\n", patterns([length]), patterns([0; 43]))
 }
 
 fn line(progress: u32, given: [u32; 5]) -> String {

@@ -1,4 +1,4 @@
-//! The list that the program replay_bezier runs through the proved crates.
+//! The list of quads and cubics, b, that the program replay_curves runs through the proved crates.
 //!
 //! A block is a curve and five progresses. Its first line has a letter (q or c), the refusal's number or 0, the
 //! coordinates of four points (zeros for a quad's second control), 32 entries and the total; each further line has a
@@ -55,7 +55,7 @@ fn first_line(asked: &Asked) -> String {
         Answer::Known { table, .. } => (0, table),
         Answer::Refused(number, _) => (number, [0; 33]),
     };
-    format!("{letter}{}\n", patterns([number].into_iter().chain(points.concat()).chain(table)))
+    format!("b{letter}{}\n", patterns([number].into_iter().chain(points.concat()).chain(table)))
 }
 
 fn line(asked: &Asked) -> String {

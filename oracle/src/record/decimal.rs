@@ -1,4 +1,4 @@
-//! The list of recorded numbers that the program replay_decimal runs through the proved crates.
+//! The list of recorded decimal numbers, d, that the program replay_numbers runs through the proved crates.
 //!
 //! A record is 131 bytes: v and the value's pattern or r and the refusal's number, as eight hexadecimal digits; the count
 //! of bytes taken or the refusal's place, and the text's length, as three digits each; the text, blanks up to 115 bytes,
@@ -38,9 +38,9 @@ fn line(text: &[u8], answer: Answer) -> Vec<u8> {
         Answer::Value(bits, taken) => ('v', bits, taken as u64),
         Answer::Refused(number, at) => ('r', number, at),
     };
-    let mut line = format!("{letter}{pattern:08X}{place:03}{:03}", text.len()).into_bytes();
+    let mut line = format!("d{letter}{pattern:08X}{place:03}{:03}", text.len()).into_bytes();
     line.extend(text);
-    line.resize(LONGEST + 15, b' ');
+    line.resize(LONGEST + 16, b' ');
     line.push(b'\n');
     line
 }

@@ -1,4 +1,4 @@
-//! The lists of recorded answers that the programs replay_math and replay_trig run through the proved crates.
+//! The lists of recorded helpers, m, and angles, t, that the program replay_numbers runs through the proved crates.
 //!
 //! A record is a line of 65 bytes: the helper's letter, then five operands and two answers as eight hexadecimal
 //! digits each, a space before each. Places that a helper does not use hold zeros.
@@ -25,12 +25,13 @@ const CASES: [fn(&[f32], &[f32]) -> bool; 10] = [
 ];
 
 /// The lines, with the Rust's answers, and how many there are; the proved library is to give the same.
-pub fn list(report: &mut Report, family: &Family, seed: u64) -> (Vec<u8>, u64) {
+pub fn list(report: &mut Report, family: &Family, kind: char, seed: u64) -> (Vec<u8>, u64) {
     let mut lines = String::new();
     let mut count = 0;
     for helper in family.helpers {
         let inputs = chosen(family, helper, seed);
         for operands in &inputs {
+            lines.push(kind);
             lines.push_str(&line(helper, operands, (helper.theirs)(&operands.floats())));
         }
         let ours = |operands: &Operands| (helper.ours)(&operands.floats());

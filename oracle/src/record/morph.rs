@@ -1,4 +1,4 @@
-//! The list that the program replay_morph runs through the proved crates.
+//! The list of shapes, m and d, that the program replay_curves runs through the proved crates.
 //!
 //! A line has a letter (r: resample, m: a morph with a resolution, e: evaluate, b: bounds) and patterns of eight
 //! hexadecimal digits: the counts of the two lists' numbers, the count, the progress, the lists (16 numbers each, zeros
@@ -88,7 +88,7 @@ fn line(letter: char, call: &Asked, answer: &Answer) -> String {
     all.push(answer.number);
     all.extend(answer.values.map(|value| value as u32));
     all.extend(answer.outputs.iter().flatten());
-    written(letter, &all)
+    written('m', letter, &all)
 }
 
 fn wide_line(call: &Asked, answer: &Answer) -> String {
@@ -96,11 +96,11 @@ fn wide_line(call: &Asked, answer: &Answer) -> String {
     all.extend(padded(&call.from, WIDE).chain(padded(&call.to, WIDE)));
     all.extend([answer.number, answer.values[0] as u32, answer.values[1] as u32]);
     all.extend(answer.outputs.iter().flatten());
-    written('d', &all)
+    written('d', 'd', &all)
 }
 
-fn written(letter: char, all: &[u32]) -> String {
-    let mut line = String::from(letter);
+fn written(kind: char, letter: char, all: &[u32]) -> String {
+    let mut line = String::from_iter([kind, letter]);
     all.iter().for_each(|bits| write!(line, " {bits:08X}").expect("a string takes it"));
     line.push('\n');
     line

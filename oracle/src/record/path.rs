@@ -1,4 +1,4 @@
-//! The list of recorded buildings that the program replay_path runs through the proved crates.
+//! The list of recorded buildings, b, that the program replay_paths runs through the proved crates.
 //!
 //! A record is 128 bytes: the text's length as two digits; the text and blanks up to 90 bytes; the refusal's number or 0 as two
 //! digits, and three values as three digits each, the counts of kinds, fields and tables where the path is built; the total
@@ -108,8 +108,8 @@ fn line(text: &str) -> Vec<u8> {
     let floats = |sum, (numbers, places): (&Vec<u32>, usize)| mixed(sum, numbers, places, 77.0f32.to_bits());
     let pattern = mixed(due.numbers.iter().zip(NUMBERS).fold(0, floats), &due.commands, KINDS, 77);
     let answer = format!("{:02}{:03}{:03}{:03}", due.number, value(0), value(1), value(2));
-    let line = format!("{:02}{text:90}{answer}{:08X}{kinds}{pattern:08X}\n", text.len(), due.total).into_bytes();
-    assert_eq!(line.len(), 128, "a record's size");
+    let line = format!("b{:02}{text:90}{answer}{:08X}{kinds}{pattern:08X}\n", text.len(), due.total).into_bytes();
+    assert_eq!(line.len(), 1 + 128, "a record's size");
     line
 }
 

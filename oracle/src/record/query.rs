@@ -1,4 +1,4 @@
-//! The list of recorded queries that the program replay_query runs through the proved crates.
+//! The list of recorded queries, q, that the program replay_paths runs through the proved crates.
 //!
 //! A block is a path and six progresses. Its first line has the text's length as two digits, and the text and blanks up to 90
 //! bytes; each further line has a progress, the segment there, or FFFFFFFF where the path has none, its raw parameter, the
@@ -70,7 +70,7 @@ pub fn list(report: &mut Report, seed: u64) -> (Vec<u8>, u64) {
         let commands = smooth::try_parse(&text).expect("the text is read");
         let progresses = progresses(&mut stream, &commands, BEYOND[number % BEYOND.len()]);
         let asked = Asked { commands, progresses };
-        blocks.push_str(&format!("{:02}{text:90}\n", text.len()));
+        blocks.push_str(&format!("q{:02}{text:90}\n", text.len()));
         blocks.push_str(&lines(&asked));
         count += asked.progresses.len() as u64;
         report.group("queries, recorded", std::iter::once(asked), Asked::ours, Asked::theirs);

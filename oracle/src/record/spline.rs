@@ -1,6 +1,6 @@
-//! The list that the program replay_spline runs through the proved crates.
+//! The list of splines, s, that the program replay_curves runs through the proved crates.
 //!
-//! A block has points and five answers, as crates/replay_spline says: a table that is made in so many places, and four
+//! A block has points and five answers, as crates/replay_curves says: a table that is made in so many places, and four
 //! queries of it, often after one place was damaged. All numbers are patterns of eight hexadecimal digits.
 
 use crate::compare::Report;
@@ -95,7 +95,7 @@ fn one(report: &mut Report, kind: Kind, block: usize, stream: &mut Stream) -> St
         lines.push(line);
         report.group("splines, recorded", [stored].into_iter(), |one| Answer(one.ours()), |one| Answer(one.theirs()));
     }
-    lines.iter().map(|line| words(line)).collect()
+    std::iter::once("s".to_string()).chain(lines.iter().map(|line| words(line))).collect()
 }
 
 fn words(patterns: &[u32]) -> String {

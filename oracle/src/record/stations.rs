@@ -1,4 +1,4 @@
-//! The plans that the program replay_stations runs through the station tool's work, and the listings that it is to print.
+//! The plans, p, that the program replay_reading runs through the station tool's work, and the listings that it is to print.
 //!
 //! A plan stands after its count of bytes, four digits, and the listings one after another.
 
@@ -126,8 +126,9 @@ pub fn list(report: &mut Report, seed: u64) -> (Vec<u8>, Vec<u8>, u64) {
     let telling = TELLING.iter().map(|plan| plan.as_bytes().to_vec()).chain([b"3\nM0 0\xFFL1 1".to_vec()]);
     let random = plans(seed, 4 * RANDOM).map(|plan| plan.0).filter(|plan| plan.len() < 200 && due(plan).len() < 2000);
     let all: Vec<Vec<u8>> = telling.chain(limits()).chain(random.take(RANDOM as usize)).collect();
-    let stdin: Vec<u8> = all.iter().flat_map(|plan| [format!("{:04}", plan.len()).as_bytes(), plan].concat()).collect();
-    assert!(stdin.len() <= 65_536, "the program takes one buffer of plans, not {} bytes", stdin.len());
+    let stdin: Vec<u8> =
+        all.iter().flat_map(|plan| [format!("p{:04}", plan.len()).as_bytes(), plan].concat()).collect();
+    assert!(all.iter().all(|plan| plan.len() <= 9999), "a plan's count of bytes has four digits");
     let listings = all.iter().flat_map(|plan| due(plan)).collect();
     let count = all.len() as u64;
     compare_plans(report, "plans, recorded", all.into_iter().map(Text).collect());

@@ -1,4 +1,4 @@
-//! The list of recorded verdicts that the program replay_strict runs through strict reading.
+//! The list of recorded verdicts, s, that the program replay_reading runs through strict reading.
 //!
 //! A record is 64 bytes: the edition's number, y or n, the text's length as two digits, the text, blanks up to 59 bytes, and a line's
 //! end.
@@ -134,9 +134,9 @@ pub fn list(report: &mut Report, seed: u64) -> (Vec<u8>, u64) {
 
 fn line(text: &[u8], edition: Edition, said: Said) -> Vec<u8> {
     let said = if said.0 { 'y' } else { 'n' };
-    let mut line = format!("{}{said}{:02}", edition as u32, text.len()).into_bytes();
+    let mut line = format!("s{}{said}{:02}", edition as u32, text.len()).into_bytes();
     line.extend(text);
-    line.resize(LONGEST + 4, b' ');
+    line.resize(LONGEST + 5, b' ');
     line.push(b'\n');
     line
 }

@@ -1,4 +1,4 @@
-//! The list of recorded readings that the program replay_svg runs through the permissive reader.
+//! The list of recorded readings, r, that the program replay_reading runs through the permissive reader.
 //!
 //! A record is 128 bytes: the text's length as two digits; the text and blanks up to 32 bytes; the refusal's number or 0,
 //! and three values as three digits each; what buffers of 6 blanks, 6 times 77 and 8 times 77 hold afterwards, the letters, the
@@ -165,15 +165,15 @@ fn line(text: &[u8]) -> Vec<u8> {
     letters.resize(LETTERS, b' ');
     offsets.resize(LETTERS, 77);
     numbers.resize(NUMBERS, 77.0f32.to_bits());
-    let mut line = format!("{:02}", text.len()).into_bytes();
+    let mut line = format!("r{:02}", text.len()).into_bytes();
     line.extend(text);
-    line.resize(2 + LONGEST, b' ');
+    line.resize(3 + LONGEST, b' ');
     line.extend(format!("{number}{:03}{:03}{:03}", values[0], values[1], values[2]).into_bytes());
     line.extend(letters);
     line.extend(offsets.iter().flat_map(|offset| format!("{offset:02}").into_bytes()));
     line.extend(numbers.iter().flat_map(|bits| format!("{bits:08X}").into_bytes()));
     line.extend(b" \n");
-    assert_eq!(line.len(), 128, "a record's size");
+    assert_eq!(line.len(), 1 + 128, "a record's size");
     line
 }
 

@@ -1,4 +1,4 @@
-//! The list that the program replay_table runs through the proved crates.
+//! The list of lookups, t, that the program replay_curves runs through the proved crates.
 //!
 //! A block has running lengths and 16 lookups. Its first line has a letter (t: a table by value, e: a table's entries,
 //! p: a path), the count of lengths, 32 lengths (zeros past the count) and the total; each further line has a progress,
@@ -72,7 +72,7 @@ fn first_line(letter: char, lengths: &[f32], total: f32) -> String {
     let mut floats = [0.0; LENGTHS];
     floats[..lengths.len()].copy_from_slice(lengths);
     let words: Vec<String> = floats.iter().chain([&total]).map(|float| format!("{:08X}", float.to_bits())).collect();
-    format!("{letter} {:08X} {}\n", lengths.len(), words.join(" "))
+    format!("t{letter} {:08X} {}\n", lengths.len(), words.join(" "))
 }
 
 fn line(progress: u32, answer: Answer) -> String {

@@ -1,37 +1,24 @@
--- The invariant: the differences before k are in, and `previous` is sample k of those with this turn (`Crossing`). The measure is the places left. Assumes nothing.
+-- The rows go from angles to sines, points and differences, whose lengths are the steps (`rows-steps`). Assumes nothing.
 use borrow.Author.Needs.{needs}
-use mathlib.Core.Path.{_≡_, refl, ap, _∙_}
-use Prim.Native.Nat.{_+_, _-_}
-use native.Mathlib.Omega.{arith}
-use Rattle.table_samples.specs.Samples.{sampleAt}
-use Rattle.ellipse.specs.Shape.{pointTurned}
-use Rattle.table_samples.proofs.Crossing.{Crossing, crossing-start, crossing-more, crossing-steps}
+use mathlib.Core.Path.{refl}
+use Rattle.arc.proofs.Rows.{rows-steps}
 use Rattle.arc.proofs.arcs.arc_steps.Statement.{statement}
 use Rattle.arc.proofs.arcs.arc_steps.Tie as tie
 
-abbrev Inv-loop : tie.InvT-loop
-Inv-loop shape turn x₀ y₀ previous₀ k₀ x y previous k = Crossing (pointTurned shape turn) 31 0 x y previous k
+put-points-requires : tie.Need-put-points-requires
+put-points-requires c κs = let sines = c .before .before .put-sines .ensures in (sines .0 .size, sines .1 .size)
 
-abbrev μ-loop : tie.MeasureT-loop
-μ-loop shape turn x₀ y₀ previous₀ k₀ x y previous k = 31 - k
-
-loop-holds : tie.Need-loop-holds Inv-loop μ-loop
-unfolding sampleAt
-loop-holds c = crossing-start _ refl refl (c .point-turned .ensures ∙ ap (pointTurned _ _) (c .before .mark .ensures))
-
-loop-again : tie.Need-loop-again Inv-loop μ-loop
-unfolding sampleAt
-loop-again c =
-    let at-loop = c .before .before .before .before .before .before .before in
-    crossing-more (at-loop .loop .inv) (c .before .before .before .before .before .before .loop-test .taken) _ (at-loop .loop .k + 1) (omega arith)
-    (c .before .before .before .before .point-turned2 .ensures ∙ ap (pointTurned _ _) (c .before .before .before .before .before .mark2 .ensures))
-
-returns : tie.Need-returns Inv-loop μ-loop
-returns c = crossing-steps (c .before .before .before .before .before .loop .inv) (c .before .before .before .before .loop-test .left) _ (c .lengths .ensures)
+returns : tie.Need-returns
+returns c =
+    let along = c .before .before .before .before in
+    let across = along .before .before in
+    let points = across .before .before in
+    let sines = points .before .before .before in
+    let angles = sines .before .before .before in
+    rows-steps _ _ (angles .put-angles .ensures) (sines .put-sines .ensures .0) (sines .put-sines .ensures .1) (points .put-points .ensures .0) (points .put-points .ensures .1)
+    (across .put-differences .ensures) (along .put-differences2 .ensures) _ (c .lengths .ensures)
 
 pub arc-steps-spec : {M : Type 1} → statement M
 arc-steps-spec =
     tie.close
-    (tie.spec Inv-loop μ-loop (λ c κs. search needs) (λ c κs. search needs) loop-holds (λ c. search needs)
-    (λ c κs. search needs) (λ c κs. search needs) (λ c. search needs) (λ c. search needs) (λ c. search needs)
-    (λ c. search needs) (λ c. search needs) (λ c. search needs) loop-again (λ c κs. refl) returns)
+    (tie.spec (λ c κs. search needs) (λ c κs. search needs) put-points-requires (λ c κs. search needs) (λ c κs. search needs) (λ c κs. search needs) returns)

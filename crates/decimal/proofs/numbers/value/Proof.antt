@@ -2,7 +2,7 @@
 use mathlib.Core.Path.{ap, sym, _∙_, subst}
 use mathlib.Core.Bool.{true, false}
 use Prim.Native.Nat.{ℕ, _^_}
-use native.Mathlib.Nat.{add-comm, zero-add, le-of-lt}
+use native.Mathlib.Nat.{add-comm, zero-add, le-of-lt, pow-le-pow-right, zero-lt-suc}
 use native.Mathlib.Omega.{arith}
 use lib.Dec.{eqb}
 use lib.Ieee.{binary32, ofBits}
@@ -11,7 +11,7 @@ use borrow.Author.Tests.{leb-true, ltb-true, eqb-true}
 use Rattle.decimal_digits.proofs.Values.{ten-pos}
 use Rattle.decimal.specs.Decimal.{minus, numerator, denominator, placesOf}
 use Rattle.decimal.specs.Bits.{Nearest}
-use Rattle.decimal.proofs.Narrowed.{quotient-nearest}
+use Rattle.decimal.proofs.Ranged.{quotient-tells, quotient-bits}
 use Rattle.decimal.proofs.Valued.{all-four, plain-bits, plain-negative, one-way, gathered, short-is, value-signed}
 use Rattle.decimal.proofs.numbers.value.Statement.{statement}
 use Rattle.decimal.proofs.numbers.value.Tie as tie
@@ -22,7 +22,9 @@ pattern-requires c κs =
     (le-of-lt (ltb-true _ _ (t .0)), leb-true _ _ (t .3))
 
 narrow-requires : tie.Need-narrow-requires
-narrow-requires c κs = c .before .tells .ensures (c .if2 .taken)
+narrow-requires c κs some =
+    let t = all-four _ _ _ _ (c .before .before .before .if1 .taken) in
+    quotient-tells _ _ some (ltb-true _ _ (t .0)) (ten-pos _) (pow-le-pow-right (zero-lt-suc 9) (leb-true _ _ (t .3))) _ (c .before .before .pattern .ensures) (c .before .tells .ensures (c .if2 .taken))
 
 -- the bits of the quotient are those of the number's size
 short-near : (c : tie.After-narrow)
@@ -30,7 +32,9 @@ short-near : (c : tie.After-narrow)
     (10 ^ placesOf (c .before .before .before .before .before .before .before .before .before .args .parts .places)) (c .narrow .result)
 short-near c =
     subst (λ (n : ℕ). Nearest (c .before .before .before .before .before .before .before .before .before .args .parts .w) (10 ^ placesOf (c .before .before .before .before .before .before .before .before .before .args .parts .places)) n)
-    (sym (c .narrow .ensures)) (quotient-nearest _ _ _ (ten-pos _) (c .before .before .before .pattern .ensures) (c .before .before .tells .ensures (c .before .if2 .taken)))
+    (sym (c .narrow .ensures))
+    (let t = all-four _ _ _ _ (c .before .before .before .before .if1 .taken) in
+    quotient-bits _ _ (ten-pos _) (pow-le-pow-right (zero-lt-suc 9) (leb-true _ _ (t .3))) (c .before .before .tells .ensures (c .before .if2 .taken)) _ (ltb-true _ _ (t .0)) (c .before .before .before .pattern .ensures))
 
 signed-requires : tie.Need-signed-requires
 signed-requires c κs = short-near c .finite-or-infinite

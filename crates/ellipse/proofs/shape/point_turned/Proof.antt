@@ -8,8 +8,7 @@ returns : tie.Need-returns
 unfolding pointTurned
 returns c =
     let angled = c .before in
-    let clamped = angled .before .before .before in
-    rw (c .on-ellipse .ensures, angled .sin-cos .ensures .0, angled .sin-cos .ensures .1, clamped .clamp01 .ensures, clamped .before .number-of .ensures)
+    rw (c .on-ellipse .ensures, angled .sin-cos .ensures .0, angled .sin-cos .ensures .1, angled .before .angle-at .ensures)
 
 pub point-turned-spec : {M : Type 1} → statement M
-point-turned-spec = tie.close (tie.spec (λ c κs. search needs) (λ c κs. search needs) (λ c κs. search needs) (λ c κs. search needs) returns)
+point-turned-spec = tie.close (tie.spec (λ c κs. search needs) (λ c κs. search needs) (λ c κs. search needs) returns)

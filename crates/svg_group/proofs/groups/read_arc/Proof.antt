@@ -1,29 +1,30 @@
 -- `svg_group::groups::read_arc` meets its contract: each way out is a case of its definition. Assumes nothing.
 use borrow.Author.Needs.{needs}
-use mathlib.Core.Path.{sym, _∙_}
+use mathlib.Core.Path.{sym, ap, _∙_}
+use Rattle.svg_group.specs.Numbers.{pairOf}
 use Rattle.svg_group.specs.Groups.{readArcOf}
 use Rattle.svg_group.proofs.groups.read_arc.Statement.{statement}
 use Rattle.svg_group.proofs.groups.read_arc.Tie as tie
 
 returns : tie.Need-returns
 unfolding readArcOf
-returns c = rw (sym (c .before .before .before .read-pair .ensures) ∙ c .before .refusal .given .1)
+returns c = rw (sym (c .before .before .before .read-pair .ensures) ∙ ap pairOf (c .before .refusal .given .1))
 
 returns-2 : tie.Need-returns-2
 unfolding readArcOf
-returns-2 c = rw (sym (c .before .before .before .before .before .before .before .read-pair .ensures) ∙ c .before .before .before .before .before .radii .given .1, sym (c .before .before .before .read-number .ensures) ∙ c .before .refusal2 .given .1)
+returns-2 c = rw (sym (c .before .before .before .before .before .before .before .read-pair .ensures) ∙ ap pairOf (c .before .before .before .before .before .radii-x .given .1), sym (c .before .before .before .read-number .ensures) ∙ c .before .refusal2 .given .1)
 
 returns-3 : tie.Need-returns-3
 unfolding readArcOf
-returns-3 c = rw (sym (c .before .before .before .before .before .before .before .before .before .before .before .read-pair .ensures) ∙ c .before .before .before .before .before .before .before .before .before .radii .given .1, sym (c .before .before .before .before .before .before .before .read-number .ensures) ∙ c .before .before .before .before .before .rotation .given .1, sym (c .before .before .before .read-flags .ensures) ∙ c .before .refusal3 .given .1)
+returns-3 c = rw (sym (c .before .before .before .before .before .before .before .before .before .before .before .read-pair .ensures) ∙ ap pairOf (c .before .before .before .before .before .before .before .before .before .radii-x .given .1), sym (c .before .before .before .before .before .before .before .read-number .ensures) ∙ c .before .before .before .before .before .rotation .given .1, sym (c .before .before .before .read-flags .ensures) ∙ c .before .refusal3 .given .1)
 
 returns-4 : tie.Need-returns-4
 unfolding readArcOf
-returns-4 c = rw (sym (c .before .before .before .before .before .before .before .before .before .before .before .before .before .before .before .read-pair .ensures) ∙ c .before .before .before .before .before .before .before .before .before .before .before .before .before .radii .given .1, sym (c .before .before .before .before .before .before .before .before .before .before .before .read-number .ensures) ∙ c .before .before .before .before .before .before .before .before .before .rotation .given .1, sym (c .before .before .before .before .before .before .before .read-flags .ensures) ∙ c .before .before .before .before .before .large .given .1, sym (c .before .before .before .read-pair2 .ensures) ∙ c .before .refusal4 .given .1)
+returns-4 c = rw (sym (c .before .before .before .before .before .before .before .before .before .before .before .before .before .before .before .read-pair .ensures) ∙ ap pairOf (c .before .before .before .before .before .before .before .before .before .before .before .before .before .radii-x .given .1), sym (c .before .before .before .before .before .before .before .before .before .before .before .read-number .ensures) ∙ c .before .before .before .before .before .before .before .before .before .rotation .given .1, sym (c .before .before .before .before .before .before .before .read-flags .ensures) ∙ c .before .before .before .before .before .large .given .1, sym (c .before .before .before .read-pair2 .ensures) ∙ ap pairOf (c .before .refusal4 .given .1))
 
 returns-5 : tie.Need-returns-5
 unfolding readArcOf
-returns-5 c = rw (sym (c .before .before .before .before .before .before .before .before .before .before .before .before .before .before .before .read-pair .ensures) ∙ c .before .before .before .before .before .before .before .before .before .before .before .before .before .radii .given .1, sym (c .before .before .before .before .before .before .before .before .before .before .before .read-number .ensures) ∙ c .before .before .before .before .before .before .before .before .before .rotation .given .1, sym (c .before .before .before .before .before .before .before .read-flags .ensures) ∙ c .before .before .before .before .before .large .given .1, sym (c .before .before .before .read-pair2 .ensures) ∙ c .before .end .given .1)
+returns-5 c = rw (sym (c .before .before .before .before .before .before .before .before .before .before .before .before .before .before .before .read-pair .ensures) ∙ ap pairOf (c .before .before .before .before .before .before .before .before .before .before .before .before .before .radii-x .given .1), sym (c .before .before .before .before .before .before .before .before .before .before .before .read-number .ensures) ∙ c .before .before .before .before .before .before .before .before .before .rotation .given .1, sym (c .before .before .before .before .before .before .before .read-flags .ensures) ∙ c .before .before .before .before .before .large .given .1, sym (c .before .before .before .read-pair2 .ensures) ∙ ap pairOf (c .before .end-x .given .1))
 
 pub read-arc-spec : {M : Type 1} → statement M
 read-arc-spec =

@@ -1,25 +1,26 @@
 -- `svg_group::groups::read_cubic` meets its contract: each way out is a case of its definition. Assumes nothing.
 use borrow.Author.Needs.{needs}
-use mathlib.Core.Path.{sym, _∙_}
+use mathlib.Core.Path.{sym, ap, _∙_}
+use Rattle.svg_group.specs.Numbers.{pairOf}
 use Rattle.svg_group.specs.Groups.{readCubicOf}
 use Rattle.svg_group.proofs.groups.read_cubic.Statement.{statement}
 use Rattle.svg_group.proofs.groups.read_cubic.Tie as tie
 
 returns : tie.Need-returns
 unfolding readCubicOf
-returns c = rw (sym (c .before .before .before .read-pair .ensures) ∙ c .before .refusal .given .1)
+returns c = rw (sym (c .before .before .before .read-pair .ensures) ∙ ap pairOf (c .before .refusal .given .1))
 
 returns-2 : tie.Need-returns-2
 unfolding readCubicOf
-returns-2 c = rw (sym (c .before .before .before .before .before .before .before .read-pair .ensures) ∙ c .before .before .before .before .before .point .given .1, sym (c .before .before .before .read-pair2 .ensures) ∙ c .before .refusal2 .given .1)
+returns-2 c = rw (sym (c .before .before .before .before .before .before .before .read-pair .ensures) ∙ ap pairOf (c .before .before .before .before .before .x .given .1), sym (c .before .before .before .read-pair2 .ensures) ∙ ap pairOf (c .before .refusal2 .given .1))
 
 returns-3 : tie.Need-returns-3
 unfolding readCubicOf
-returns-3 c = rw (sym (c .before .before .before .before .before .before .before .before .before .before .before .read-pair .ensures) ∙ c .before .before .before .before .before .before .before .before .before .point .given .1, sym (c .before .before .before .before .before .before .before .read-pair2 .ensures) ∙ c .before .before .before .before .before .second .given .1, sym (c .before .before .before .read-pair3 .ensures) ∙ c .before .refusal3 .given .1)
+returns-3 c = rw (sym (c .before .before .before .before .before .before .before .before .before .before .before .read-pair .ensures) ∙ ap pairOf (c .before .before .before .before .before .before .before .before .before .x .given .1), sym (c .before .before .before .before .before .before .before .read-pair2 .ensures) ∙ ap pairOf (c .before .before .before .before .before .second-x .given .1), sym (c .before .before .before .read-pair3 .ensures) ∙ ap pairOf (c .before .refusal3 .given .1))
 
 returns-4 : tie.Need-returns-4
 unfolding readCubicOf
-returns-4 c = rw (sym (c .before .before .before .before .before .before .before .before .before .before .before .read-pair .ensures) ∙ c .before .before .before .before .before .before .before .before .before .point .given .1, sym (c .before .before .before .before .before .before .before .read-pair2 .ensures) ∙ c .before .before .before .before .before .second .given .1, sym (c .before .before .before .read-pair3 .ensures) ∙ c .before .end .given .1)
+returns-4 c = rw (sym (c .before .before .before .before .before .before .before .before .before .before .before .read-pair .ensures) ∙ ap pairOf (c .before .before .before .before .before .before .before .before .before .x .given .1), sym (c .before .before .before .before .before .before .before .read-pair2 .ensures) ∙ ap pairOf (c .before .before .before .before .before .second-x .given .1), sym (c .before .before .before .read-pair3 .ensures) ∙ ap pairOf (c .before .end-x .given .1))
 
 pub read-cubic-spec : {M : Type 1} → statement M
 read-cubic-spec =

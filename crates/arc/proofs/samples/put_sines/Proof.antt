@@ -1,0 +1,37 @@
+-- The invariant: each place before i has its sine and its cosine, and the others their angles. The measure is the places left. Assumes nothing.
+use borrow.Author.Needs.{needs}
+use mathlib.Core.Path.{_≡_, ap, _∙_}
+use Prim.Native.Nat.{_-_}
+use Rattle.trig_rule.specs.Steps.{sineOf, cosineOf}
+use Rattle.arc.specs.Rows.{sineFor, cosineFor}
+use Rattle.arc.proofs.Rows.{Replacing, replacing-start, replacing-here, replacing-more, replacing-row}
+use Rattle.arc.proofs.samples.put_sines.Statement.{statement}
+use Rattle.arc.proofs.samples.put_sines.Tie as tie
+
+abbrev Inv-loop : tie.InvT-loop
+Inv-loop x₀ y₀ i₀ x y i = Replacing (sineFor x₀) x₀ x i × Replacing (cosineFor x₀) y₀ y i
+
+abbrev μ-loop : tie.MeasureT-loop
+μ-loop x₀ y₀ i₀ x y i = 32 - i
+
+loop-holds : tie.Need-loop-holds Inv-loop μ-loop
+loop-holds c = (replacing-start (c .pre .0), replacing-start (c .pre .1))
+
+loop-again : tie.Need-loop-again Inv-loop μ-loop
+loop-again c =
+    let in-loop = c .before .before in
+    let inv = in-loop .before .loop .inv in
+    let same = replacing-here (inv .0) in (
+      replacing-more (inv .0) (in-loop .loop-test .taken) _ (c .sin-cos .ensures .0 ∙ ap sineOf same),
+      replacing-more (inv .1) (in-loop .loop-test .taken) _ (c .sin-cos .ensures .1 ∙ ap cosineOf same),
+    )
+
+returns : tie.Need-returns Inv-loop μ-loop
+returns c = let inv = c .before .loop .inv in (replacing-row (inv .0) (c .loop-test .left), replacing-row (inv .1) (c .loop-test .left))
+
+pub put-sines-spec : {M : Type 1} → statement M
+put-sines-spec =
+    tie.close
+    (tie.spec Inv-loop μ-loop loop-holds (λ c. search needs) (λ c. search needs) (λ c κs. search needs)
+    (λ c. search needs) (λ c. search needs) (λ c. search needs) (λ c. search needs) (λ c. search needs)
+    (λ c. search needs) loop-again returns)

@@ -1,0 +1,115 @@
+-- The f64 nearest to a quotient of whole numbers, one below 2 ^ 53 and one up to 10 ^ 8, lies from 2 ^ -31 to 2 ^ 53, and so does its pattern. Assumes nothing.
+use Prim.Native.Nat.{ℕ, zero, suc, _+_, _-_, _*_, _/_, _%_, _^_, _≤_, _<_, zero-le}
+use mathlib.Core.Path.{_≡_, sym, subst, _∙_}
+use mathlib.Core.Bool.{Bool, true, false, cond}
+use native.Mathlib.Nat.{le-trans, le-of-eq, le-of-lt, lt-of-le-of-lt, lt-of-lt-of-le, lt-of-not-le, not-le-of-lt, le-div-iff-mul-le, div-lt-iff-lt-mul, mul-le-mul-left, mul-le-mul-right, mul-lt-mul-of-pos-right, zero-add, zero-mul}
+use native.Mathlib.Omega.{arith}
+use borrow.Author.Tests.{ne-eqb}
+use lib.Dec.{T, eqb, lit≤, lit<}
+use lib.Pow.{pow-add, pow-pos, pow-mono}
+use lib.Ieee.{Float, nan, inf, fin, binary64, round, toBits, le, size}
+use lib.Ieee.Digits.{size-lt, size-le, size-reaches}
+use lib.Ieee.Exact.{HasValue}
+use lib.Ieee.Fits.{kept-lt}
+use lib.Ieee.Order.{round-mono}
+use lib.Ieee.Positive.{num, den, positive, den-pos, own-value, positive-of-value, values-of-le, between}
+use Rattle.decimal_rounding.proofs.Limits.{zero-to}
+use Rattle.decimal_rounding.proofs.Pattern.{zero-bits}
+use Rattle.decimal.specs.Bits.{Nearest, Tells, narrowedOf}
+use Rattle.decimal.proofs.Narrowed.{own, quotient-nearest}
+
+-- ---- the pattern of n units of 2 ^ -1074
+
+abbrev units : Float → ℕ
+units x = num x * 2 ^ 1074 / den x
+
+bits-of : (x : Float) → T (positive x) → toBits binary64 x ≡ (size (units x) - 53) * 0x10000000000000 + units x / 2 ^ (size (units x) - 53)
+unfolding toBits
+bits-of nan p = absurd p
+bits-of (inf s) p = absurd p
+bits-of (fin true m e) p = absurd p
+bits-of (fin false m e) p = simp zero-add
+
+module _ (n a b : ℕ) (normal : 53 ≤ a) (low : 2 ^ a ≤ n) (high : n < 2 ^ b) where
+  long : a < size n
+  long = lt-of-not-le (λ (g : size n ≤ a). not-le-of-lt (lt-of-lt-of-le (size-lt n) (pow-mono g)) low)
+
+  first-digit : 0x10000000000000 ≤ n / 2 ^ (size n - 53)
+  first-digit =
+      let k = size n - 53 in
+      let e : 52 + k < size n = omega (arith, long) in
+      le-div-iff-mul-le (pow-pos k) .1 (le-trans (le-of-eq (sym (pow-add 2 52 k))) (size-reaches n (52 + k) e))
+
+  bits-low : (a - 51) * 0x10000000000000 ≤ (size n - 53) * 0x10000000000000 + n / 2 ^ (size n - 53)
+  bits-low = omega (arith, long, first-digit)
+
+  bits-high : (size n - 53) * 0x10000000000000 + n / 2 ^ (size n - 53) < (b - 51) * 0x10000000000000
+  bits-high = omega (arith, long, size-le n b high, kept-lt 53 n)
+
+-- ---- the quotient between two powers of two
+
+abbrev least : Float
+least = round binary64 false (2 ^ 1043) (2 ^ 1074)
+
+abbrev most : Float
+most = round binary64 false (2 ^ 1127) (2 ^ 1074)
+
+least-value : HasValue least false (2 ^ 1043) (2 ^ 1074)
+least-value = own 0x3E00000000000000 (lit< tt)
+
+most-value : HasValue most false (2 ^ 1127) (2 ^ 1074)
+most-value = own 0x4340000000000000 (lit< tt)
+
+module _ (w d : ℕ) (some : 0 < w) (few : w < 2 ^ 53) (D : 0 < d) (small : d ≤ 10 ^ 8) where
+  abbrev x : Float
+  x = round binary64 false w d
+
+  from-least : T (le least x)
+  from-least =
+      let computed : 2 ^ 1043 * 10 ^ 8 ≤ 1 * 2 ^ 1074 = lit≤ tt in
+      round-mono binary64 (2 ^ 1043) (2 ^ 1074) w d (pow-pos 1074) D (le-trans (mul-le-mul-left (2 ^ 1043) small) (le-trans computed (mul-le-mul-right (2 ^ 1074) some)))
+
+  to-most : T (le x most)
+  to-most =
+      let computed : 2 ^ 53 * 2 ^ 1074 ≤ 2 ^ 1127 * 1 = lit≤ tt in
+      round-mono binary64 w d (2 ^ 1127) (2 ^ 1074) D (pow-pos 1074) (le-trans (mul-le-mul-right (2 ^ 1074) (le-of-lt few)) (le-trans computed (mul-le-mul-left (2 ^ 1127) D)))
+
+  least-positive : T (positive least)
+  least-positive = positive-of-value least (2 ^ 1043) (2 ^ 1074) least-value (pow-pos 1043)
+
+  most-positive : T (positive most)
+  most-positive = positive-of-value most (2 ^ 1127) (2 ^ 1074) most-value (pow-pos 1127)
+
+  above : T (positive x)
+  above = between least x most least-positive most-positive from-least to-most
+
+  units-low : 2 ^ 1043 ≤ units x
+  units-low =
+      le-div-iff-mul-le (den-pos x) .1
+      (values-of-le least x (2 ^ 1043) (2 ^ 1074) (num x) (den x) least-positive above least-value (own-value x above) from-least)
+
+  units-high : units x < 2 ^ 1128
+  units-high =
+      div-lt-iff-lt-mul (den-pos x) .1
+      (lt-of-le-of-lt (values-of-le x most (num x) (den x) (2 ^ 1127) (2 ^ 1074) above most-positive (own-value x above) most-value to-most)
+      (mul-lt-mul-of-pos-right (let computed : 2 ^ 1127 < 2 ^ 1128 = lit< tt in computed) (den-pos x)))
+
+  -- the pattern tells the nearest f32 but for a middle
+  pub quotient-tells : (b : ℕ) → b ≡ toBits binary64 x → (b % 536870912 ≡ 268435456 → ⊥) → Tells b
+  quotient-tells b e n =
+      let l = bits-low (units x) 1043 1128 (lit≤ tt) units-low units-high in
+      let h = bits-high (units x) 1043 1128 (lit≤ tt) units-low units-high in
+      let f = bits-of x above in
+      record { low = omega (arith, e, f, l); high = omega (arith, e, f, h); no-tie = n }
+
+-- ---- the bits of a quotient's f32
+
+zero-nearest : (d : ℕ) → 0 < d → Nearest 0 d 0
+zero-nearest d D = record { finite-or-infinite = lit≤ tt; is = λ s. zero-to s 0 d D (subst (λ (n : ℕ). n ≤ d) (sym (zero-mul (2 ^ 150))) zero-le) ∙ zero-bits s }
+
+module _ (d b : ℕ) (D : 0 < d) (small : d ≤ 10 ^ 8) (no-tie : b % 536870912 ≡ 268435456 → ⊥) where
+  pub quotient-bits : (w : ℕ) → w < 2 ^ 53 → b ≡ toBits binary64 (round binary64 false w d) → Nearest w d (cond (eqb w 0) 0 (narrowedOf b))
+  quotient-bits zero few e = zero-nearest d D
+  quotient-bits (suc w) few e =
+      subst (λ (t : Bool). Nearest (suc w) d (cond t 0 (narrowedOf b))) (sym (ne-eqb (suc w) 0 (λ (z : suc w ≡ 0). omega arith)))
+      (quotient-nearest (suc w) d b D e (quotient-tells (suc w) d (omega arith) few D small b e no-tie))
