@@ -1,6 +1,7 @@
-// The length of a vector, and of a whole row of them at once (`inner`): a pass without a branch, which the compiler lays over two lanes
-// of f64, guesses each root and judges it by two squares; what it does not settle is worked out digit by digit.
+// The length of a vector, and of a row of them at once (`inner`). Each root is guessed and judged by two squares, of a row in passes without
+// a branch, which the compiler lays over two lanes of f64; what is not settled is worked out digit by digit.
 
+mod alone;
 mod exact;
 pub mod inner;
 mod passes;
@@ -13,7 +14,7 @@ ghost use Rattle.lengths.specs.Length.{lengthOf};
 pub fn length(x: f32, y: f32) -> f32
     ensures { λ r. ⌜ r ≡ lengthOf x y ⌝ }
 {
-    let known = passes::judged(x, y);
+    let known = alone::judged(x, y);
     if known == 0.0 {
         return exact::length(x, y);
     }
