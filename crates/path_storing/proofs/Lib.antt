@@ -5,4 +5,5 @@ pub mod Judged
 pub mod Along
 pub mod Filling
 pub mod Tallying
+pub mod ArcTallying
 pub mod Foreseen

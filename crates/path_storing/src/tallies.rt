@@ -5,8 +5,10 @@ ghost use Prim.Native.Nat.{_≤_};
 ghost use Rattle.path_drawing.specs.Drawing.{drawOf};
 ghost use Rattle.path_storing.specs.Sites.{startOf};
 ghost use Rattle.path_storing.specs.Tallies.{Scant, tallyOf, stayedOf, grownOf, strokedOf, isBounded, countedOf, talliedOf};
+use crate::arc_tallies::count_arc;
 use crate::laying::table_width;
 use commands::PathCommand;
+use ellipse::Chord;
 use math::Point;
 use path_bounds::is_calm;
 use path_bounds::is_calm_arc;
@@ -60,7 +62,7 @@ pub fn opening() -> Tally
 }
 
 // The tally after a command that draws no segment.
-fn stayed(so_far: Tally, pen: Pen) -> Tally
+pub(crate) fn stayed(so_far: Tally, pen: Pen) -> Tally
     ensures { λ r. ⌜ r ≡ stayedOf «so_far» pen ⌝ }
 {
     Tally {
@@ -72,7 +74,7 @@ fn stayed(so_far: Tally, pen: Pen) -> Tally
 }
 
 // The tally after a segment of `own` numbers and `more` in its table.
-fn grown(so_far: Tally, pen: Pen, own: usize, more: usize) -> Tally
+pub(crate) fn grown(so_far: Tally, pen: Pen, own: usize, more: usize) -> Tally
     requires { ⌜ Scant «so_far» × (own ≤ 11) × (more ≤ 33) ⌝ }
     ensures { λ r. ⌜ r ≡ grownOf «so_far» pen own more ⌝ }
 {
@@ -167,14 +169,24 @@ pub fn count(so_far: Tally, command: PathCommand) -> Tallied
             stroked(so_far, calm, end, 8, 33)
         }
         PathCommand::ArcTo {
-            radii: _,
-            rotation: _,
-            large_arc: _,
-            sweep: _,
+            radii,
+            rotation,
+            large_arc,
+            sweep,
             end,
         } => {
             if is_calm(end) {
-                return count_any(so_far, command);
+                let pen = so_far.pen;
+                let current = pen.current;
+                let chord = Chord {
+                    start: current,
+                    radii,
+                    x_axis_rotation: rotation,
+                    large_arc,
+                    sweep,
+                    end,
+                };
+                return count_arc(so_far, chord);
             }
             Tallied::Unsure
         }

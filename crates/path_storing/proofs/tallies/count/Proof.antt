@@ -12,8 +12,10 @@ unfolding talliedOf countedOf drawOf
 returns c = rw (c .before .before .before .before .before .command .given .1, sym (c .before .before .before .is-calm .ensures) ∙ c .before .before .if1 .taken, c .stayed .ensures, c .before .moved .ensures)
 
 returns-2 : tie.Need-returns-2
-unfolding talliedOf
-returns-2 c = rw (c .count-any .ensures, c .before .before .before .before .command5 .given .1, sym (c .before .before .is-calm8 .ensures) ∙ c .before .if2 .taken)
+unfolding talliedOf drawOf
+returns-2 c =
+    let calm = c .before .before .before .before in
+    rw (c .count-arc .ensures, calm .before .before .command5 .given .1, sym (calm .is-calm8 .ensures) ∙ c .before .before .before .if2 .taken)
 
 returns-3 : tie.Need-returns-3
 unfolding talliedOf
@@ -34,7 +36,7 @@ returns-7 c = rw (c .before .before .before .command5 .given .1, sym (c .before 
 
 returns-8 : tie.Need-returns-8
 unfolding talliedOf
-returns-8 c = rw (c .count-any2 .ensures, c .before .enum-told .given .1)
+returns-8 c = rw (c .count-any .ensures, c .before .enum-told .given .1)
 
 pub count-spec : {M : Type 1} → statement M
 count-spec =
