@@ -9,22 +9,23 @@ ghost use Rattle.angles.specs.Angles.{rotationDegOf, angleBetweenOf};
 ghost use Rattle.kihavute.specs.Pair.{pairOf};
 ghost use Rattle.kihavute.specs.Kept.{Atan2Kept, CosineKept, SineKept};
 
-// The sine of an angle in radians of at most 64 in size, and NaN for any other.
+// The sine of an angle in radians of at most 64 in size, and NaN for any other: the quotient of two
+// constants, and so tidy.
 #[no_mangle]
 pub extern "C" fn kihavute_sin(angle: f32) -> f32
     ensures { λ r. ⌜ r ≡ sineOf angle ⌝ }
     ensures { λ r. ⌜ SineKept angle r ⌝ }
 {
-    floats::tidy(trig::sin(angle))
+    trig::sin(angle)
 }
 
-// The cosine of an angle in radians of at most 64 in size, and NaN for any other.
+// The cosine of an angle in radians of at most 64 in size, and NaN for any other, tidy too.
 #[no_mangle]
 pub extern "C" fn kihavute_cos(angle: f32) -> f32
     ensures { λ r. ⌜ r ≡ cosineOf angle ⌝ }
     ensures { λ r. ⌜ CosineKept angle r ⌝ }
 {
-    floats::tidy(trig::cos(angle))
+    trig::cos(angle)
 }
 
 // Both at once, as the point of the unit circle: the cosine is x, the sine y.

@@ -1,9 +1,10 @@
 // Sine and cosine of an angle in radians. Each equals its definition by steps in the crate `trig_rule`,
 // whose laws show that it keeps the rule.
 pub mod inner;
+mod near;
 mod sides;
 
-use crate::sides::cosine_at;
+use crate::near::cosine_near;
 use crate::sides::fixed;
 use crate::sides::reduce;
 use crate::sides::sine_at;
@@ -51,7 +52,7 @@ pub fn cos(x: f32) -> f32
         return 1.0;
     }
     let r = reduce(fixed(a));
-    f32::from_bits(cosine_at(r.size))
+    cosine_near(r.size)
 }
 
 // Both at once, with one reduction.
@@ -71,6 +72,6 @@ pub fn sin_cos(x: f32) -> SinCos
     }
     let r = reduce(fixed(a));
     let s = f32::from_bits(sine_at(b / 0x8000_0000 + r.flip, r.size));
-    let c = f32::from_bits(cosine_at(r.size));
+    let c = cosine_near(r.size);
     SinCos { sin: s, cos: c }
 }

@@ -1,0 +1,7 @@
+-- Floats by their values, and their patterns; the f32 that an f64's pattern is rounded to; a difference of whole numbers; their packing.
+pub mod Finite
+pub mod Values
+pub mod Single
+pub mod Taken
+pub mod Packed
+pub mod Near
