@@ -114,21 +114,22 @@ sum-within a b p q = mul-within binary32 (2 ^ 31) 1 (add binary32 a b) halfF (ho
 turned-part : (a b : Float) → Within 64 a → Within (2 ^ 30) b → Within (2 ^ 36) (mul binary32 a b)
 turned-part a b p q = mul-within binary32 64 (2 ^ 30) a b (holds-power 36 (omega arith)) p q
 
-moved : (a b c : Float) → Within (2 ^ 36) a → Within (2 ^ 31) c → Within (2 ^ 37) b → Within (2 ^ 38) (add binary32 b c)
-moved a b c p q r = add-power 37 b c (omega arith) r (within-le c (pow-mono {i = 31} {j = 37} (omega arith)) q)
+-- the turned middle, and half the sum of the ends more
+moved : (b c : Float) → Within (2 ^ 37) b → Within (2 ^ 31) c → Within (2 ^ 38) (add binary32 b c)
+moved b c r q = add-power 37 b c (omega arith) r (within-le c (pow-mono {i = 31} {j = 37} (omega arith)) q)
 
 center-near : (sin-phi cos-phi : Float) (m start end : Point) → Within 64 sin-phi → Within 64 cos-phi → Near 30 m → Near 30 start → Near 30 end → Near 38 (centerOf sin-phi cos-phi m start end)
 unfolding centerOf
 center-near sin-phi cos-phi m start end s c n p q =
     record {
       across =
-          moved (mul binary32 cos-phi (m .x)) (sub binary32 (mul binary32 cos-phi (m .x)) (mul binary32 sin-phi (m .y))) (halfSum (start .x) (end .x))
-          (turned-part cos-phi (m .x) c (n .across)) (sum-within (start .x) (end .x) (p .across) (q .across))
-          (sub-power 36 (mul binary32 cos-phi (m .x)) (mul binary32 sin-phi (m .y)) (omega arith) (turned-part cos-phi (m .x) c (n .across)) (turned-part sin-phi (m .y) s (n .along)));
+          moved (sub binary32 (mul binary32 cos-phi (m .x)) (mul binary32 sin-phi (m .y))) (halfSum (start .x) (end .x))
+          (sub-power 36 (mul binary32 cos-phi (m .x)) (mul binary32 sin-phi (m .y)) (omega arith) (turned-part cos-phi (m .x) c (n .across)) (turned-part sin-phi (m .y) s (n .along)))
+          (sum-within (start .x) (end .x) (p .across) (q .across));
       along =
-          moved (mul binary32 sin-phi (m .x)) (add binary32 (mul binary32 sin-phi (m .x)) (mul binary32 cos-phi (m .y))) (halfSum (start .y) (end .y))
-          (turned-part sin-phi (m .x) s (n .across)) (sum-within (start .y) (end .y) (p .along) (q .along))
-          (add-power 36 (mul binary32 sin-phi (m .x)) (mul binary32 cos-phi (m .y)) (omega arith) (turned-part sin-phi (m .x) s (n .across)) (turned-part cos-phi (m .y) c (n .along)));
+          moved (add binary32 (mul binary32 sin-phi (m .x)) (mul binary32 cos-phi (m .y))) (halfSum (start .y) (end .y))
+          (add-power 36 (mul binary32 sin-phi (m .x)) (mul binary32 cos-phi (m .y)) (omega arith) (turned-part sin-phi (m .x) s (n .across)) (turned-part cos-phi (m .y) c (n .along)))
+          (sum-within (start .y) (end .y) (p .along) (q .along));
     }
 
 -- ---- the arc
@@ -171,7 +172,8 @@ module _ (chord : Chord) (held : T (fits binary32 (chord .«x_axis_rotation»)))
       let phi = phiOf (chord .«x_axis_rotation») in
       let angle : Within 8 phi = phi-within (chord .«x_axis_rotation») held number in
       let reached = within-reach phi (within-le phi (let l : 8 ≤ 32 = omega arith in l) angle) in
-      let center = calm-tested 38 (arc .center) (omega arith) (center-near (sineOf phi) (cosineOf phi) (way .middle) (chord .start) (chord .end) (sine-within phi reached) (cosine-within phi reached) (m .middle) (mild-near (chord .start) s) (mild-near (chord .end) e)) in
+      let near = center-near (sineOf phi) (cosineOf phi) (way .middle) (chord .start) (chord .end) (sine-within phi reached) (cosine-within phi reached) (m .middle) (mild-near (chord .start) s) (mild-near (chord .end) e) in
+      let center = calm-tested 38 (arc .center) (omega arith) near in
       let radii = calm-tested 30 (way .radii) (omega arith) (m .radii) in
       let first = angle-between-within (pointOf oneF zeroF) (way .towards) right-near (m .towards) in
       let start = narrow-tested (arc .«start_angle») (within-le (arc .«start_angle») (let l : 4 ≤ 16 = omega arith in l) first) in
