@@ -1,12 +1,12 @@
 // Shapes: a line with evenly spaced points, two shapes resampled for a morph, the shape between them
 // and its bounds. A short answer is judged first, so that nothing is written then.
 ghost use Rattle.c_answer.specs.Given.{Given};
-ghost use Rattle.kihavute_paths.specs.Morphs.{Put, PutTwo, resampledGiven, evaluatedGiven, morphedGiven, boundsGiven};
+ghost use Rattle.kihavute_paths.specs.Morphs.{Put, PutMorph, resampledGiven, evaluatedGiven, morphedGiven, boundsGiven};
 ghost use lib.ListN.{length};
 ghost use Rattle.resample.specs.Resample.{resampleOf};
 ghost use Rattle.morph.specs.Evaluate.{evaluateOf};
 ghost use Rattle.morph.specs.Bounds.{boundedOf};
-ghost use Rattle.morph.specs.Morph.{morphOf, resolved, defaultOf};
+ghost use Rattle.morph.specs.Morph.{resolved, defaultOf};
 use answers::Values;
 use morph::Bounded;
 use morph::Evaluated;
@@ -60,7 +60,7 @@ pub extern "C" fn kihavute_morph(
     out_to: &mut [f32],
     answer: &mut [u64],
 ) -> u32
-    ensures { λ r. ⌜ PutTwo (morphOf (now (from .entry)) (now (to .entry)) (resolved resolution) (length (now («out_from» .entry))) (length (now («out_to» .entry)))) (now («out_from» .entry)) (now («out_to» .entry)) (now (answer .entry)) r (now («out_from» .exit)) (now («out_to» .exit)) (now (answer .exit)) ⌝ }
+    ensures { λ r. ⌜ PutMorph (now (from .entry)) (now (to .entry)) (resolved resolution) «out_from» «out_to» answer r ⌝ }
 {
     if answer.len() < 8 {
         return 255;
@@ -78,7 +78,7 @@ pub extern "C" fn kihavute_morph_default(
     out_to: &mut [f32],
     answer: &mut [u64],
 ) -> u32
-    ensures { λ r. ⌜ PutTwo (morphOf (now (from .entry)) (now (to .entry)) (defaultOf (now (from .entry)) (now (to .entry))) (length (now («out_from» .entry))) (length (now («out_to» .entry)))) (now («out_from» .entry)) (now («out_to» .entry)) (now (answer .entry)) r (now («out_from» .exit)) (now («out_to» .exit)) (now (answer .exit)) ⌝ }
+    ensures { λ r. ⌜ PutMorph (now (from .entry)) (now (to .entry)) (defaultOf (now (from .entry)) (now (to .entry))) «out_from» «out_to» answer r ⌝ }
 {
     if answer.len() < 8 {
         return 255;

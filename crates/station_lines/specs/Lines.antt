@@ -5,7 +5,8 @@ use lib.ListN.{getD}
 use lib.Ieee.{Float}
 use Rattle.answers.specs.Answers.{numberOf, carriedOf, listed}
 use Rattle.answers.specs.declared.refusals.Refusal.{Refusal}
-use Rattle.answers.specs.declared.refusals.Refusal.the-variants.{TooLong, UnexpectedEnd, ExpectedNumber, InvalidNumber, ExpectedFlag, UnsupportedCommand, MissingMoveTo, NoRoom, BadList, RotationRange, NotFinite, BadPath, Range}
+use Rattle.answers.specs.declared.refusals.Refusal.the-variants.{TooLong, UnexpectedEnd, ExpectedNumber, InvalidNumber, ExpectedFlag}
+use Rattle.answers.specs.declared.refusals.Refusal.the-variants.{UnsupportedCommand, MissingMoveTo, NoRoom, BadList, RotationRange, NotFinite, BadPath, Range}
 use Rattle.math.specs.declared.points.Point.{Point}
 use Rattle.commands.specs.Stored.{letterOf, argumentsOf}
 use Rattle.commands.specs.declared.command.PathCommand.{PathCommand}

@@ -1,7 +1,8 @@
 // One function for each kind of line. Each returns the place past the line.
 ghost use Prim.Native.Nat.{_+_, _≤_, _<_};
 ghost use lib.ListN.{length};
-ghost use Rattle.station_lines.specs.Lines.{pointFields, argumentFields, commandLine, kindName, segmentLine, headerLine, segmentField, FewSegments, stationLine, valueFields, carriedFields, refusalLine};
+ghost use Rattle.station_lines.specs.Lines.{pointFields, argumentFields, commandLine, kindName, segmentLine, headerLine};
+ghost use Rattle.station_lines.specs.Lines.{segmentField, FewSegments, stationLine, valueFields, carriedFields, refusalLine};
 ghost use Rattle.answers.specs.Answers.{listed};
 ghost use Rattle.commands.specs.Stored.{flagOf};
 ghost use Rattle.station_lines.specs.Numbers.{bitsField};

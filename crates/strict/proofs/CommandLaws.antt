@@ -13,7 +13,8 @@ use Rattle.scan.specs.Runs.{stands}
 use Rattle.scan.proofs.ByteLaws.{withinb, clash, either-way}
 use Rattle.scan.proofs.RunLaws.{stands-within}
 use Rattle.strict_grammar.specs.Spans.{Span, Byte, _·_, _∥_, opt, star, none, more, longest, sequence, last, then}
-use Rattle.strict_grammar.specs.Grammar.{whiteOf, wsp, comma-wsp, moveto, moveto-argument-sequence, lineto, horizontal-lineto, vertical-lineto, curveto, smooth-curveto, quadratic-bezier-curveto, smooth-quadratic-bezier-curveto, closepath, elliptical-arc, drawto-command}
+use Rattle.strict_grammar.specs.Grammar.{whiteOf, wsp, comma-wsp, moveto, moveto-argument-sequence, lineto, horizontal-lineto, vertical-lineto, curveto, smooth-curveto}
+use Rattle.strict_grammar.specs.Grammar.{quadratic-bezier-curveto, smooth-quadratic-bezier-curveto, closepath, elliptical-arc, drawto-command}
 use Rattle.strict_grammar.specs.Words.{Past, Lacks, Only, Goes, pastWhiteIn}
 use Rattle.strict_grammar.specs.declared.Edition.{Edition}
 use Rattle.strict_grammar.proofs.SpanLaws.{standing, not-byte, not-both, other, wider, star-le, run-same, run-found}

@@ -13,7 +13,11 @@ use Rattle.scan.specs.Runs.{stands}
 use Rattle.scan.proofs.ByteLaws.{apartb, clash, alone-is}
 use Rattle.scan.proofs.RunLaws.{stands-inside}
 use Rattle.strict_grammar.specs.Spans.{Span, Byte, _·_, _∥_, opt, star, none, more, plus, longest, sequence, last, then, editions, never}
-use Rattle.strict_grammar.specs.Grammar.{whiteOf, wsp, digit, flag, letter, digit-sequence, exponent, fractional-constant, floating-point-constant, nonnegative-number, number, comma-wsp, coordinate-pair, rotation, elliptical-arc-argument, moveto-argument-sequence, moveto, closepath, lineto, horizontal-lineto, vertical-lineto, curveto, smooth-curveto, quadratic-bezier-curveto, smooth-quadratic-bezier-curveto, elliptical-arc, drawto-command, gap, drawto-commands, moveto-drawto-command-group, moveto-drawto-command-groups, svg-path, Matches}
+use Rattle.strict_grammar.specs.Grammar.{whiteOf, wsp, digit, flag, letter, digit-sequence, exponent, fractional-constant, floating-point-constant}
+use Rattle.strict_grammar.specs.Grammar.{nonnegative-number, number, comma-wsp, coordinate-pair, rotation, elliptical-arc-argument, moveto-argument-sequence}
+use Rattle.strict_grammar.specs.Grammar.{moveto, closepath, lineto, horizontal-lineto, vertical-lineto, curveto, smooth-curveto, quadratic-bezier-curveto}
+use Rattle.strict_grammar.specs.Grammar.{smooth-quadratic-bezier-curveto, elliptical-arc, drawto-command, gap, drawto-commands, moveto-drawto-command-group}
+use Rattle.strict_grammar.specs.Grammar.{moveto-drawto-command-groups, svg-path, Matches}
 use Rattle.strict_grammar.specs.declared.Edition.{Edition}
 use Rattle.strict_grammar.specs.declared.Edition.the-variants.{Svg11, Svg2}
 use Rattle.strict_grammar.proofs.SpanLaws.{standing, not-both, wider, run-between}

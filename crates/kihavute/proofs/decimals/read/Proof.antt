@@ -7,7 +7,12 @@ use Rattle.kihavute.proofs.decimals.read.Statement.{statement}
 use Rattle.kihavute.proofs.decimals.read.Tie as tie
 
 returns : tie.Need-returns
-returns c = given-same _ _ (read-given _ _ _ _ (c .before .before .before .before .bits .ensures) (sym (c .before .before .before .before .before .before .found .given .1) ∙ c .before .before .before .before .before .before .before .before .number .ensures)) (c .before .before .accept .ensures)
+returns c =
+    let at-accept = c .before .before in
+    let at-bits = at-accept .before .before in
+    let at-found = at-bits .before .before in
+    let at-number = at-found .before .before in
+    given-same _ _ (read-given _ _ _ _ (at-bits .bits .ensures) (sym (at-found .found .given .1) ∙ at-number .number .ensures)) (at-accept .accept .ensures)
 
 returns-2 : tie.Need-returns-2
 returns-2 c = given-same _ _ (read-refused _ _ (sym (c .before .before .before .before .before .found2 .given .1) ∙ c .before .before .before .before .before .before .before .number .ensures)) (c .before .before .refuse .ensures)

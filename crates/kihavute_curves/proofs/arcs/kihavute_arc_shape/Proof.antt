@@ -17,7 +17,8 @@ returns c =
     let tested = filled .before .before .before .before in
     let listed = tested .before in
     let made = listed .before .before in
-    filled-made (λ (m : MadeArc). m .verdict) (λ (m : MadeArc). fellBack m ∷ []) (λ (m : MadeArc). arcNumbers (m .arc .shape)) (made .made .ensures) (ap (λ (b : Bool). cond b 1 0 ∷ []) (sym (tested .if1 .taken))) (listed .arc-numbers .ensures) (filled .fill .ensures)
+    filled-made (λ (m : MadeArc). m .verdict) (λ (m : MadeArc). fellBack m ∷ []) (λ (m : MadeArc). arcNumbers (m .arc .shape)) (made .made .ensures)
+    (ap (λ (b : Bool). cond b 1 0 ∷ []) (sym (tested .if1 .taken))) (listed .arc-numbers .ensures) (filled .fill .ensures)
 
 returns-2 : tie.Need-returns-2
 returns-2 c =
@@ -25,7 +26,8 @@ returns-2 c =
     let tested = filled .before .before .before .before in
     let listed = tested .before in
     let made = listed .before .before in
-    filled-made (λ (m : MadeArc). m .verdict) (λ (m : MadeArc). fellBack m ∷ []) (λ (m : MadeArc). arcNumbers (m .arc .shape)) (made .made .ensures) (ap (λ (b : Bool). cond b 1 0 ∷ []) (sym (tested .if1 .left))) (listed .arc-numbers .ensures) (filled .fill2 .ensures)
+    filled-made (λ (m : MadeArc). m .verdict) (λ (m : MadeArc). fellBack m ∷ []) (λ (m : MadeArc). arcNumbers (m .arc .shape)) (made .made .ensures)
+    (ap (λ (b : Bool). cond b 1 0 ∷ []) (sym (tested .if1 .left))) (listed .arc-numbers .ensures) (filled .fill2 .ensures)
 
 pub kihavute-arc-shape-spec : {M : Type 1} → statement M
 kihavute-arc-shape-spec =

@@ -17,7 +17,9 @@ returns c =
     let tested = filled .before .before .before .before in
     let listed = tested .before in
     let made = listed .before .before in
-    filled-made (λ (m : MadeArc). m .verdict) (λ (m : MadeArc). fellBack m ∷ []) heldTable (made .made .ensures) (ap (λ (b : Bool). cond b 1 0 ∷ []) (sym (tested .if1 .taken))) (ap (λ (b : Bool). cond b [] (tableNumbers (made .made .result .arc .table))) (sym (tested .if1 .taken))) (filled .fill .ensures)
+    filled-made (λ (m : MadeArc). m .verdict) (λ (m : MadeArc). fellBack m ∷ []) heldTable (made .made .ensures)
+    (ap (λ (b : Bool). cond b 1 0 ∷ []) (sym (tested .if1 .taken)))
+    (ap (λ (b : Bool). cond b [] (tableNumbers (made .made .result .arc .table))) (sym (tested .if1 .taken))) (filled .fill .ensures)
 
 returns-2 : tie.Need-returns-2
 returns-2 c =
@@ -25,7 +27,9 @@ returns-2 c =
     let tested = filled .before .before .before .before in
     let listed = tested .before in
     let made = listed .before .before in
-    filled-made (λ (m : MadeArc). m .verdict) (λ (m : MadeArc). fellBack m ∷ []) heldTable (made .made .ensures) (ap (λ (b : Bool). cond b 1 0 ∷ []) (sym (tested .if1 .left))) (listed .table-numbers .ensures ∙ ap (λ (b : Bool). cond b [] (tableNumbers (made .made .result .arc .table))) (sym (tested .if1 .left))) (filled .fill2 .ensures)
+    filled-made (λ (m : MadeArc). m .verdict) (λ (m : MadeArc). fellBack m ∷ []) heldTable (made .made .ensures)
+    (ap (λ (b : Bool). cond b 1 0 ∷ []) (sym (tested .if1 .left)))
+    (listed .table-numbers .ensures ∙ ap (λ (b : Bool). cond b [] (tableNumbers (made .made .result .arc .table))) (sym (tested .if1 .left))) (filled .fill2 .ensures)
 
 pub kihavute-arc-table-spec : {M : Type 1} → statement M
 kihavute-arc-table-spec =

@@ -8,7 +8,12 @@ returns : tie.Need-returns
 returns c = put-short _ _ _ (c .if1 .taken)
 
 returns-2 : tie.Need-returns-2
-returns-2 c = put-evaluated (c .before .before .before .before .before .before .before .before .before .before .before .before .before .args .answer .now) _ _ (c .before .before .before .before .before .before .before .before .if1 .left) _ _ _ (c .before .before .before .before .before .before .before .before .before .before .before .before .before .args .out .now) _ _ (c .before .before .before .before .before .before .evaluate .ensures) (c .before .before .give-evaluated .ensures)
+returns-2 c =
+    let at-give-evaluated = c .before .before in
+    let at-evaluate = at-give-evaluated .before .before .before .before in
+    let at-if1 = at-evaluate .before .before in
+    let start = at-if1 .before .before .before .before .before in
+    put-evaluated (start .args .answer .now) _ _ (at-if1 .if1 .left) _ _ _ (start .args .out .now) _ _ (at-evaluate .evaluate .ensures) (at-give-evaluated .give-evaluated .ensures)
 
 pub kihavute-evaluate-spec : {M : Type 1} → statement M
 kihavute-evaluate-spec =

@@ -8,7 +8,13 @@ returns : tie.Need-returns
 returns c = put-two-short _ _ _ _ (c .if1 .taken)
 
 returns-2 : tie.Need-returns-2
-returns-2 c = put-morphed (c .before .before .before .before .before .before .before .before .before .before .before .before .before .before .before .before .before .args .answer .now) _ _ (c .before .before .before .before .before .before .before .before .before .before .before .if1 .left) _ _ _ (c .before .before .before .before .before .before .before .before .before .before .before .before .before .before .before .before .before .args .out-from .now) (c .before .before .before .before .before .before .before .before .before .before .before .before .before .before .before .before .before .args .out-to .now) _ _ _ (c .before .before .before .before .before .before .before .before .morph-default .ensures) (c .before .before .give-morphed .ensures)
+returns-2 c =
+    let at-give-morphed = c .before .before in
+    let at-morph-default = at-give-morphed .before .before .before .before .before .before in
+    let at-if1 = at-morph-default .before .before .before in
+    let start = at-if1 .before .before .before .before .before .before in
+    put-morphed (start .args .answer .now) _ _ (at-if1 .if1 .left) _ _ _ (start .args .out-from .now) (start .args .out-to .now) _ _ _
+    (at-morph-default .morph-default .ensures) (at-give-morphed .give-morphed .ensures)
 
 pub kihavute-morph-default-spec : {M : Type 1} → statement M
 kihavute-morph-default-spec =

@@ -8,7 +8,12 @@ returns : tie.Need-returns
 returns c = put-short _ _ _ (c .if1 .taken)
 
 returns-2 : tie.Need-returns-2
-returns-2 c = put-resampled (c .before .before .before .before .before .before .before .before .before .before .before .before .args .answer .now) _ _ (c .before .before .before .before .before .before .before .before .if1 .left) _ _ (c .before .before .before .before .before .before .before .before .before .before .before .before .args .out .now) _ _ (c .before .before .before .before .before .before .resample .ensures) (c .before .before .give-resampled .ensures)
+returns-2 c =
+    let at-give-resampled = c .before .before in
+    let at-resample = at-give-resampled .before .before .before .before in
+    let at-if1 = at-resample .before .before in
+    let start = at-if1 .before .before .before .before in
+    put-resampled (start .args .answer .now) _ _ (at-if1 .if1 .left) _ _ (start .args .out .now) _ _ (at-resample .resample .ensures) (at-give-resampled .give-resampled .ensures)
 
 pub kihavute-resample-spec : {M : Type 1} → statement M
 kihavute-resample-spec =

@@ -12,16 +12,48 @@ returns-2 : tie.Need-returns-2
 returns-2 c = count-long _ _ _ (sym (c .before .before .before .judge .ensures) ∙ c .before .enum-told .given .1) (c .if1 .taken)
 
 returns-3 : tie.Need-returns-3
-returns-3 c = plan-refused _ _ _ (sym (c .before .before .before .before .before .before .before .judge .ensures) ∙ c .before .before .before .before .before .enum-told .given .1) (c .before .before .before .before .if1 .left) _ (sym (c .before .before .before .plan-for .ensures) ∙ c .before .refusal2 .given .1)
+returns-3 c =
+    let at-plan-for = c .before .before .before in
+    let at-if1 = at-plan-for .before in
+    let at-enum-told = at-if1 .before in
+    let at-judge = at-enum-told .before .before in
+    plan-refused _ _ _ (sym (at-judge .judge .ensures) ∙ at-enum-told .enum-told .given .1) (at-if1 .if1 .left) _ (sym (at-plan-for .plan-for .ensures) ∙ c .before .refusal2 .given .1)
 
 returns-4 : tie.Need-returns-4
-returns-4 c = no-room _ _ _ (sym (c .before .before .before .before .before .before .before .before .before .judge .ensures) ∙ c .before .before .before .before .before .before .before .enum-told .given .1) (c .before .before .before .before .before .before .if1 .left) _ (sym (c .before .before .before .before .before .plan-for .ensures) ∙ c .before .before .before .way .given .1) _ (c .before .needed .ensures) (c .if2 .taken)
+returns-4 c =
+    let at-way = c .before .before .before in
+    let at-plan-for = at-way .before .before in
+    let at-if1 = at-plan-for .before in
+    let at-enum-told = at-if1 .before in
+    let at-judge = at-enum-told .before .before in
+    no-room _ _ _ (sym (at-judge .judge .ensures) ∙ at-enum-told .enum-told .given .1) (at-if1 .if1 .left) _
+    (sym (at-plan-for .plan-for .ensures) ∙ at-way .way .given .1) _ (c .before .needed .ensures) (c .if2 .taken)
 
 fill-requires : tie.Need-fill-requires
-fill-requires c κs = has-room _ _ (c .before .before .before .before .before .before .before .before .before .before .before .before .before .args .out .now) (sym (c .before .before .before .before .before .before .before .before .before .before .judge .ensures) ∙ c .before .before .before .before .before .before .before .before .enum-told .given .1) (c .before .before .before .before .before .before .before .if1 .left) _ (sym (c .before .before .before .before .before .before .plan-for .ensures) ∙ c .before .before .before .before .way .given .1) _ (c .before .before .needed .ensures) (c .before .if2 .left)
+fill-requires c κs =
+    let at-needed = c .before .before in
+    let at-way = at-needed .before .before in
+    let at-plan-for = at-way .before .before in
+    let at-if1 = at-plan-for .before in
+    let at-enum-told = at-if1 .before in
+    let at-judge = at-enum-told .before .before in
+    let start = at-judge .before .before .before in
+    has-room _ _ (start .args .out .now) (sym (at-judge .judge .ensures) ∙ at-enum-told .enum-told .given .1) (at-if1 .if1 .left) _
+    (sym (at-plan-for .plan-for .ensures) ∙ at-way .way .given .1) _ (at-needed .needed .ensures) (c .before .if2 .left)
 
 returns-5 : tie.Need-returns-5
-returns-5 c = filled _ _ (c .before .before .before .before .before .before .before .before .before .before .before .before .before .before .before .before .args .out .now) (sym (c .before .before .before .before .before .before .before .before .before .before .before .before .before .judge .ensures) ∙ c .before .before .before .before .before .before .before .before .before .before .before .enum-told .given .1) (c .before .before .before .before .before .before .before .before .before .before .if1 .left) _ (sym (c .before .before .before .before .before .before .before .before .before .plan-for .ensures) ∙ c .before .before .before .before .before .before .before .way .given .1) _ (c .before .before .before .before .before .needed .ensures) _ (c .before .before .before .before .if2 .left) (c .before .before .fill .ensures)
+returns-5 c =
+    let at-fill = c .before .before in
+    let at-if2 = at-fill .before .before in
+    let at-needed = at-if2 .before in
+    let at-way = at-needed .before .before in
+    let at-plan-for = at-way .before .before in
+    let at-if1 = at-plan-for .before in
+    let at-enum-told = at-if1 .before in
+    let at-judge = at-enum-told .before .before in
+    let start = at-judge .before .before .before in
+    filled _ _ (start .args .out .now) (sym (at-judge .judge .ensures) ∙ at-enum-told .enum-told .given .1) (at-if1 .if1 .left) _
+    (sym (at-plan-for .plan-for .ensures) ∙ at-way .way .given .1) _ (at-needed .needed .ensures) _ (at-if2 .if2 .left) (at-fill .fill .ensures)
 
 pub resample-spec : {M : Type 1} → statement M
 resample-spec =

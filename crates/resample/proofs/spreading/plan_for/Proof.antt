@@ -19,15 +19,35 @@ returns-4 : tie.Need-returns-4
 returns-4 c = plan-one-count _ _ (c .before .before .before .if1 .left) (c .before .before .if2 .left) (c .before .if3 .left) (c .if4 .taken)
 
 returns-5 : tie.Need-returns-5
-returns-5 c = plan-broken _ _ (c .before .before .before .before .before .before .before .if1 .left) (c .before .before .before .before .before .before .if2 .left) (c .before .before .before .before .before .if3 .left) (c .before .before .before .before .if4 .left) _ (sym (c .before .before .before .measure .ensures) ∙ c .before .place .given .1)
+returns-5 c =
+    let at-measure = c .before .before .before in
+    let at-if4 = at-measure .before in
+    let at-if3 = at-if4 .before in
+    let at-if2 = at-if3 .before in
+    let at-if1 = at-if2 .before in
+    plan-broken _ _ (at-if1 .if1 .left) (at-if2 .if2 .left) (at-if3 .if3 .left) (at-if4 .if4 .left) _ (sym (at-measure .measure .ensures) ∙ c .before .place .given .1)
 
 returns-6 : tie.Need-returns-6
 unfolding epsilonF
-returns-6 c = plan-short _ _ (c .before .before .before .before .before .before .before .before .if1 .left) (c .before .before .before .before .before .before .before .if2 .left) (c .before .before .before .before .before .before .if3 .left) (c .before .before .before .before .before .if4 .left) _ (sym (c .before .before .before .before .measure .ensures) ∙ c .before .before .total .given .1) (c .if5 .taken)
+returns-6 c =
+    let at-total = c .before .before in
+    let at-measure = at-total .before .before in
+    let at-if4 = at-measure .before in
+    let at-if3 = at-if4 .before in
+    let at-if2 = at-if3 .before in
+    let at-if1 = at-if2 .before in
+    plan-short _ _ (at-if1 .if1 .left) (at-if2 .if2 .left) (at-if3 .if3 .left) (at-if4 .if4 .left) _ (sym (at-measure .measure .ensures) ∙ at-total .total .given .1) (c .if5 .taken)
 
 returns-7 : tie.Need-returns-7
 unfolding epsilonF
-returns-7 c = plan-spread _ _ (c .before .before .before .before .before .before .before .before .if1 .left) (c .before .before .before .before .before .before .before .if2 .left) (c .before .before .before .before .before .before .if3 .left) (c .before .before .before .before .before .if4 .left) _ (sym (c .before .before .before .before .measure .ensures) ∙ c .before .before .total .given .1) (c .if5 .left)
+returns-7 c =
+    let at-total = c .before .before in
+    let at-measure = at-total .before .before in
+    let at-if4 = at-measure .before in
+    let at-if3 = at-if4 .before in
+    let at-if2 = at-if3 .before in
+    let at-if1 = at-if2 .before in
+    plan-spread _ _ (at-if1 .if1 .left) (at-if2 .if2 .left) (at-if3 .if3 .left) (at-if4 .if4 .left) _ (sym (at-measure .measure .ensures) ∙ at-total .total .given .1) (c .if5 .left)
 
 pub plan-for-spec : {M : Type 1} → statement M
 plan-for-spec =

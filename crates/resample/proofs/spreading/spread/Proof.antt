@@ -26,7 +26,11 @@ sub-last c = omega (arith, c .before .before .before .before .before .before .be
 
 loop-holds : tie.Need-loop-holds Inv-loop μ-loop
 unfolding zeroF
-loop-holds c = spreading-start _ _ _ (c .before .before .before .before .before .before .before .args .out .now) _ _ (c .before .before .before .before .before .before .before .pre) (c .before .before .before .point-at .ensures) (c .before .before .put-point .ensures)
+loop-holds c =
+    let at-put-point = c .before .before in
+    let at-point-at = at-put-point .before in
+    let start = at-point-at .before .before .before .before in
+    spreading-start _ _ _ (start .args .out .now) _ _ (start .pre) (at-point-at .point-at .ensures) (at-put-point .put-point .ensures)
 
 target-at-requires : tie.Need-target-at-requires Inv-loop μ-loop
 target-at-requires c κs = spreading-evenly _ _ _ _ (c .before .loop .out) (c .before .loop .place) (c .before .loop .i) (c .before .loop .inv) (c .loop-test .taken)
@@ -38,10 +42,20 @@ between-requires : tie.Need-between-requires Inv-loop μ-loop
 between-requires c κs = pick-point _ _ _ (omega (arith, c .before .before .before .before .loop .inv .asked .two)) (c .before .advance .ensures)
 
 put-point-requires-2 : tie.Need-put-point-requires-2 Inv-loop μ-loop
-put-point-requires-2 c κs = spreading-room _ _ _ _ (c .before .before .before .before .before .loop .out) (c .before .before .before .before .before .loop .place) (c .before .before .before .before .before .loop .i) (c .before .before .before .before .before .loop .inv) _ (omega (arith, c .before .before .before .before .before .loop .inv .asked .more))
+put-point-requires-2 c κs =
+    let at-loop = c .before .before .before .before .before in
+    spreading-room _ _ _ _ (at-loop .loop .out) (at-loop .loop .place) (at-loop .loop .i) (at-loop .loop .inv) _ (omega (arith, at-loop .loop .inv .asked .more))
 
 loop-again : tie.Need-loop-again Inv-loop μ-loop
-loop-again c = spreading-more _ _ _ _ (c .before .before .before .before .before .before .before .before .loop .out) (c .before .before .before .before .before .before .before .before .loop .place) (c .before .before .before .before .before .before .before .before .loop .i) (c .before .before .before .before .before .before .before .before .loop .inv) _ _ _ _ (c .before .before .before .before .before .before .before .loop-test .taken) (c .before .before .before .before .before .before .target-at .ensures) (c .before .before .before .before .before .advance .ensures) (c .before .before .before .between .ensures) (c .before .before .put-point2 .ensures)
+loop-again c =
+    let at-put-point2 = c .before .before in
+    let at-between = at-put-point2 .before in
+    let at-advance = at-between .before .before in
+    let at-target-at = at-advance .before in
+    let at-test = at-target-at .before in
+    let at-loop = at-test .before in
+    spreading-more _ _ _ _ (at-loop .loop .out) (at-loop .loop .place) (at-loop .loop .i) (at-loop .loop .inv) _ _ _ _ (at-test .loop-test .taken)
+    (at-target-at .target-at .ensures) (at-advance .advance .ensures) (at-between .between .ensures) (at-put-point2 .put-point2 .ensures)
 
 sub-point-at : tie.Need-sub-point-at Inv-loop μ-loop
 sub-point-at c = omega (arith, c .before .before .loop .inv .asked .two)
@@ -50,13 +64,34 @@ point-at-requires-2 : tie.Need-point-at-requires-2 Inv-loop μ-loop
 point-at-requires-2 c κs = omega (arith, c .before .before .loop .inv .asked .two)
 
 put-point-requires-3 : tie.Need-put-point-requires-3 Inv-loop μ-loop
-put-point-requires-3 c κs = spreading-room _ _ _ _ (c .before .before .before .loop .out) (c .before .before .before .loop .place) (c .before .before .before .loop .i) (c .before .before .before .loop .inv) _ (omega (arith, c .before .before .before .loop .inv .asked .more))
+put-point-requires-3 c κs =
+    let at-loop = c .before .before .before in
+    spreading-room _ _ _ _ (at-loop .loop .out) (at-loop .loop .place) (at-loop .loop .i) (at-loop .loop .inv) _ (omega (arith, at-loop .loop .inv .asked .more))
 
 same-length : tie.Need-same-length Inv-loop μ-loop
-same-length c = put-size (c .before .before .before .before .before .before .loop .out) _ (2 * (c .before .before .before .before .before .before .before .before .before .before .before .before .before .before .args .count - 1)) (c .before .before .before .point-at2 .result) (c .before .before .put-point3 .ensures) ∙ spreading-size _ _ _ _ (c .before .before .before .before .before .before .loop .out) (c .before .before .before .before .before .before .loop .place) (c .before .before .before .before .before .before .loop .i) (c .before .before .before .before .before .before .loop .inv) ∙ put-size (c .before .before .before .before .before .before .before .before .before .before .before .before .before .before .args .out .now) _ (2 * 0) (c .before .before .before .before .before .before .before .before .before .before .point-at .result) (c .before .before .before .before .before .before .before .before .before .put-point .ensures)
+same-length c =
+    let at-put-point3 = c .before .before in
+    let at-point-at2 = at-put-point3 .before in
+    let at-loop = at-point-at2 .before .before .before in
+    let at-put-point = at-loop .before .before .before in
+    let at-point-at = at-put-point .before in
+    let start = at-point-at .before .before .before .before in
+    put-size (at-loop .loop .out) _ (2 * (start .args .count - 1)) (at-point-at2 .point-at2 .result) (at-put-point3 .put-point3 .ensures) ∙ spreading-size _ _ _ _
+    (at-loop .loop .out) (at-loop .loop .place) (at-loop .loop .i) (at-loop .loop .inv) ∙ put-size (start .args .out .now) _ (2 * 0) (at-point-at .point-at .result)
+    (at-put-point .put-point .ensures)
 
 returns : tie.Need-returns Inv-loop μ-loop
-returns c = spreading-done _ _ _ _ (c .before .before .before .before .before .before .loop .out) (c .before .before .before .before .before .before .loop .place) (c .before .before .before .before .before .before .loop .i) (c .before .before .before .before .before .before .loop .inv) _ _ (c .before .before .before .before .before .loop-test .left) (c .before .before .before .point-at2 .ensures) (c .before .before .put-point3 .ensures) ∙ first-hidden _ _ _ (c .before .before .before .before .before .before .before .before .before .before .before .before .before .before .args .out .now) _ _ (c .before .before .before .before .before .before .before .before .before .before .before .before .before .before .pre) (c .before .before .before .before .before .before .before .before .before .before .point-at .ensures) (c .before .before .before .before .before .before .before .before .before .put-point .ensures)
+returns c =
+    let at-put-point3 = c .before .before in
+    let at-point-at2 = at-put-point3 .before in
+    let at-test = at-point-at2 .before .before in
+    let at-loop = at-test .before in
+    let at-put-point = at-loop .before .before .before in
+    let at-point-at = at-put-point .before in
+    let start = at-point-at .before .before .before .before in
+    spreading-done _ _ _ _ (at-loop .loop .out) (at-loop .loop .place) (at-loop .loop .i) (at-loop .loop .inv) _ _ (at-test .loop-test .left)
+    (at-point-at2 .point-at2 .ensures) (at-put-point3 .put-point3 .ensures) ∙ first-hidden _ _ _ (start .args .out .now) _ _ (start .pre) (at-point-at .point-at .ensures)
+    (at-put-point .put-point .ensures)
 
 pub spread-spec : {M : Type 1} → statement M
 spread-spec =

@@ -17,7 +17,11 @@ returns-3 : tie.Need-returns-3
 returns-3 c = rw (c .before .before .before .before .before .command3 .given .1) (within-as 63 _ (c .before .before .put-quad .ensures .put) refl (omega arith))
 
 returns-4 : tie.Need-returns-4
-returns-4 c = rw (c .before .before .before .before .before .before .before .before .before .command4 .given .1) (within-as 63 _ (within-then (c .before .before .before .before .before .before .put-quad2 .ensures) (c .before .before .put-point3 .ensures) .put) (cubic-fields _ _ _) (omega arith))
+returns-4 c =
+    let at-put-point3 = c .before .before in
+    let at-put-quad2 = at-put-point3 .before .before .before .before in
+    let at-command4 = at-put-quad2 .before .before .before in
+    rw (at-command4 .command4 .given .1) (within-as 63 _ (within-then (at-put-quad2 .put-quad2 .ensures) (at-put-point3 .put-point3 .ensures) .put) (cubic-fields _ _ _) (omega arith))
 
 returns-5 : tie.Need-returns-5
 returns-5 c = rw (c .before .before .before .before .before .command5 .given .1) (within-as 63 _ (c .before .before .put-arc .ensures .put) refl (omega arith))

@@ -12,11 +12,19 @@ put-small-requires c κs = (rw (c .before .before .found .given .1) at (c .befor
 
 returns : tie.Need-returns
 unfolding segmentField
-returns c = rw (c .before .before .before .before .before .found .given .1) (within-as 4 _ (within-then (one-byte (c .before .before .before .before .before .before .before .before .before .put-byte .ensures)) (c .before .before .put-small .ensures) .put) refl (omega arith))
+returns c =
+    let at-put-small = c .before .before in
+    let at-found = at-put-small .before .before .before in
+    let at-put-byte = at-found .before .before .before .before in
+    rw (at-found .found .given .1) (within-as 4 _ (within-then (one-byte (at-put-byte .put-byte .ensures)) (at-put-small .put-small .ensures) .put) refl (omega arith))
 
 returns-2 : tie.Need-returns-2
 unfolding segmentField
-returns-2 c = rw (c .before .before .before .before .enum-told .given .1) (within-as 4 _ (within-then (one-byte (c .before .before .before .before .before .before .before .before .put-byte .ensures)) (one-byte (c .before .before .put-byte2 .ensures)) .put) refl (omega arith))
+returns-2 c =
+    let at-put-byte2 = c .before .before in
+    let at-enum-told = at-put-byte2 .before .before in
+    let at-put-byte = at-enum-told .before .before .before .before in
+    rw (at-enum-told .enum-told .given .1) (within-as 4 _ (within-then (one-byte (at-put-byte .put-byte .ensures)) (one-byte (at-put-byte2 .put-byte2 .ensures)) .put) refl (omega arith))
 
 pub put-found-spec : {M : Type 1} → statement M
 put-found-spec =

@@ -9,7 +9,12 @@ use Rattle.station_lines.proofs.lines.put_header.Tie as tie
 
 returns : tie.Need-returns
 unfolding headerLine
-returns c = within-as _ _ (put-then (c .before .before .before .before .before .before .before .before .before .before .put-word .ensures) (within-then (c .before .before .before .before .before .before .put-number .ensures) (one-byte (c .before .before .put-byte .ensures)) .put)) refl (omega (arith, c .before .before .before .before .before .before .before .before .before .before .put-word .ensures .past))
+returns c =
+    let at-put-byte = c .before .before in
+    let at-put-number = at-put-byte .before .before .before .before in
+    let at-put-word = at-put-number .before .before .before .before in
+    within-as _ _ (put-then (at-put-word .put-word .ensures) (within-then (at-put-number .put-number .ensures) (one-byte (at-put-byte .put-byte .ensures)) .put)) refl
+    (omega (arith, at-put-word .put-word .ensures .past))
 
 pub put-header-spec : {M : Type 1} → statement M
 put-header-spec =

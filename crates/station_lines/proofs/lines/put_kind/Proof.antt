@@ -25,7 +25,14 @@ unfolding kindName
 returns-4 c = rw (c .before .before .before .before .before .if4 .taken) (within-as 8 _ (c .before .before .put-word4 .ensures) refl (omega (arith, c .before .before .put-word4 .ensures .past)))
 
 returns-5 : tie.Need-returns-5
-returns-5 c = within-as 8 _ (c .before .before .put-word5 .ensures) (kind-last _ (c .before .before .before .before .before .before .before .before .if1 .left) (c .before .before .before .before .before .before .before .if2 .left) (c .before .before .before .before .before .before .if3 .left) (c .before .before .before .before .before .if4 .left)) (omega (arith, c .before .before .put-word5 .ensures .past))
+returns-5 c =
+    let at-put-word5 = c .before .before in
+    let at-if4 = at-put-word5 .before .before .before in
+    let at-if3 = at-if4 .before in
+    let at-if2 = at-if3 .before in
+    let at-if1 = at-if2 .before in
+    within-as 8 _ (at-put-word5 .put-word5 .ensures) (kind-last _ (at-if1 .if1 .left) (at-if2 .if2 .left) (at-if3 .if3 .left) (at-if4 .if4 .left))
+    (omega (arith, at-put-word5 .put-word5 .ensures .past))
 
 pub put-kind-spec : {M : Type 1} → statement M
 put-kind-spec =

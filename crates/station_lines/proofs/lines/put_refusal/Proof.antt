@@ -11,10 +11,17 @@ use Rattle.station_lines.proofs.lines.put_refusal.Tie as tie
 returns : tie.Need-returns
 unfolding refusalLine
 returns c =
+    let at-put-byte = c .before .before in
+    let at-put-carried = at-put-byte .before .before .before .before in
+    let at-put-number = at-put-carried .before .before .before .before in
+    let at-number = at-put-number .before in
+    let at-put-word = at-number .before .before .before .before in
     within-as 134 _
-    (put-then (c .before .before .before .before .before .before .before .before .before .before .before .before .before .before .before .put-word .ensures) (within-then (record { put = put-same (c .before .before .before .before .before .before .before .before .before .before .put-number .ensures .put) _ (ap numberField (c .before .before .before .before .before .before .before .before .before .before .before .number .ensures)); within = c .before .before .before .before .before .before .before .before .before .before .put-number .ensures .within }) (within-then (c .before .before .before .before .before .before .put-carried .ensures) (one-byte (c .before .before .put-byte .ensures))) .put))
-    refl
-    (omega (arith, c .before .before .before .before .before .before .before .before .before .before .before .before .before .before .before .put-word .ensures .past))
+    (put-then (at-put-word .put-word .ensures)
+    (within-then
+    (record { put = put-same (at-put-number .put-number .ensures .put) _ (ap numberField (at-number .number .ensures)); within = at-put-number .put-number .ensures .within })
+    (within-then (at-put-carried .put-carried .ensures) (one-byte (at-put-byte .put-byte .ensures))) .put))
+    refl (omega (arith, at-put-word .put-word .ensures .past))
 
 pub put-refusal-spec : {M : Type 1} → statement M
 put-refusal-spec =

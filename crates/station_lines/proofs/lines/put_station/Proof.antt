@@ -10,10 +10,16 @@ use Rattle.station_lines.proofs.lines.put_station.Tie as tie
 returns : tie.Need-returns
 unfolding stationLine
 returns c =
+    let at-put-byte = c .before .before in
+    let at-put-point2 = at-put-byte .before .before .before .before in
+    let at-put-point = at-put-point2 .before .before .before .before in
+    let at-put-found = at-put-point .before .before .before .before in
+    let at-put-small = at-put-found .before .before .before .before in
     within-as 44 _
-    (within-then (c .before .before .before .before .before .before .before .before .before .before .before .before .before .before .before .before .before .before .put-small .ensures) (within-then (c .before .before .before .before .before .before .before .before .before .before .before .before .before .before .put-found .ensures) (within-then (c .before .before .before .before .before .before .before .before .before .before .put-point .ensures) (within-then (c .before .before .before .before .before .before .put-point2 .ensures) (one-byte (c .before .before .put-byte .ensures))))) .put)
-    refl
-    (omega arith)
+    (within-then (at-put-small .put-small .ensures)
+    (within-then (at-put-found .put-found .ensures) (within-then (at-put-point .put-point .ensures) (within-then (at-put-point2 .put-point2 .ensures) (one-byte (at-put-byte .put-byte .ensures)))))
+    .put)
+    refl (omega arith)
 
 pub put-station-spec : {M : Type 1} → statement M
 put-station-spec =

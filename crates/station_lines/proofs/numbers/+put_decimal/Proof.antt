@@ -70,7 +70,10 @@ put-decimal-put-decimal-requires : (t : ℕ) → put-decimal-lts.Need-put-decima
   put-decimal-below t,
   put-decimal.Post,
 ) (put-decimal-at t) put-decimal.Post
-put-decimal-put-decimal-requires t c κs = let h = high-room (c .before .before .before .args .value) (c .before .before .before .args .at) 69632 (c .before .if1 .left) (omega arith) (c .before .before .before .pre .1) in (omega (arith, c .before .before .before .pre .0), omega arith)
+put-decimal-put-decimal-requires t c κs =
+    let start = c .before .before .before in
+    let h = high-room (start .args .value) (start .args .at) 69632 (c .before .if1 .left) (omega arith) (start .pre .1) in
+    (omega (arith, start .pre .0), omega arith)
 
 put-decimal-add-put-byte-2 : (t : ℕ) → put-decimal-lts.Need-add-put-byte-2 (
   put-byte-reads.Asked,
@@ -94,7 +97,12 @@ put-decimal-put-byte-requires-2 : (t : ℕ) → put-decimal-lts.Need-put-byte-re
   put-decimal-below t,
   put-decimal.Post,
 ) (put-decimal-at t) put-decimal.Post
-put-decimal-put-byte-requires-2 t c κs = let h = high-room (c .before .before .before .before .before .before .before .args .value) (c .before .before .before .before .before .before .before .args .at) 69632 (c .before .before .before .before .before .if1 .left) (omega arith) (c .before .before .before .before .before .before .before .pre .1) in omega (arith, c .before .before .before .put-decimal .ensures .past)
+put-decimal-put-byte-requires-2 t c κs =
+    let at-put-decimal = c .before .before .before in
+    let at-if1 = at-put-decimal .before .before in
+    let start = at-if1 .before .before in
+    let h = high-room (start .args .value) (start .args .at) 69632 (at-if1 .if1 .left) (omega arith) (start .pre .1) in
+    omega (arith, at-put-decimal .put-decimal .ensures .past)
 
 put-decimal-same-length-2 : (t : ℕ) → put-decimal-lts.Need-same-length-2 (
   put-byte-reads.Asked,
@@ -110,7 +118,10 @@ put-decimal-returns-2 : (t : ℕ) → put-decimal-lts.Need-returns-2 (
   put-decimal-below t,
   put-decimal.Post,
 ) (put-decimal-at t) put-decimal.Post
-put-decimal-returns-2 t c = put-same (put-then (c .before .before .before .before .before .before .put-decimal .ensures) (c .before .before .put-byte2 .ensures)) _ (decimal-high _ (c .before .before .before .before .before .before .before .before .if1 .left) (omega arith))
+put-decimal-returns-2 t c =
+    let at-put-decimal = c .before .before .before .before .before .before in
+    let at-if1 = at-put-decimal .before .before in
+    put-same (put-then (at-put-decimal .put-decimal .ensures) (c .before .before .put-byte2 .ensures)) _ (decimal-high _ (at-if1 .if1 .left) (omega arith))
 
 pub +put-decimal-spec : {M : Type 1} → statement M
 +put-decimal-spec = close μ-put-decimal λ t. put-decimal-lts.spec (

@@ -74,7 +74,10 @@ put-hex-put-byte-requires : (t : ℕ) → put-hex-lts.Need-put-byte-requires (
   put-byte-reads.Asked,
   put-byte-reads.Learnt,
 ) (put-hex-at t) put-hex.Post
-put-hex-put-byte-requires t c κs = omega (arith, c .before .before .before .before .put-hex .ensures .past, hex-length (c .before .before .before .before .before .before .before .before .args .count - 1) (c .before .before .before .before .before .before .before .before .args .value / 16), c .before .before .before .before .before .before .before .before .pre)
+put-hex-put-byte-requires t c κs =
+    let at-put-hex = c .before .before .before .before in
+    let start = at-put-hex .before .before .before .before in
+    omega (arith, at-put-hex .put-hex .ensures .past, hex-length (start .args .count - 1) (start .args .value / 16), start .pre)
 
 put-hex-same-length : (t : ℕ) → put-hex-lts.Need-same-length (
   put-hex-below t,
@@ -84,7 +87,10 @@ put-hex-same-length : (t : ℕ) → put-hex-lts.Need-same-length (
   put-byte-reads.Asked,
   put-byte-reads.Learnt,
 ) (put-hex-at t) put-hex.Post
-put-hex-same-length t c = put-length (put-then (c .before .before .before .before .before .before .before .put-hex .ensures) (put-same (c .before .before .put-byte .ensures) _ (ap (λ (b : ℕ). b ∷ []) (c .before .before .before .hex-digit .ensures))))
+put-hex-same-length t c =
+    let at-digit = c .before .before .before in
+    let at-put-hex = at-digit .before .before .before .before in
+    put-length (put-then (at-put-hex .put-hex .ensures) (put-same (c .before .before .put-byte .ensures) _ (ap (λ (b : ℕ). b ∷ []) (at-digit .hex-digit .ensures))))
 
 put-hex-returns-2 : (t : ℕ) → put-hex-lts.Need-returns-2 (
   put-hex-below t,
@@ -94,7 +100,11 @@ put-hex-returns-2 : (t : ℕ) → put-hex-lts.Need-returns-2 (
   put-byte-reads.Asked,
   put-byte-reads.Learnt,
 ) (put-hex-at t) put-hex.Post
-put-hex-returns-2 t c = put-same (put-then (c .before .before .before .before .before .before .before .put-hex .ensures) (put-same (c .before .before .put-byte .ensures) _ (ap (λ (b : ℕ). b ∷ []) (c .before .before .before .hex-digit .ensures)))) _ (hex-step _ _ (c .before .before .before .before .before .before .before .before .before .if1 .left))
+put-hex-returns-2 t c =
+    let at-digit = c .before .before .before in
+    let at-put-hex = at-digit .before .before .before .before in
+    put-same (put-then (at-put-hex .put-hex .ensures) (put-same (c .before .before .put-byte .ensures) _ (ap (λ (b : ℕ). b ∷ []) (at-digit .hex-digit .ensures)))) _
+    (hex-step _ _ (at-put-hex .before .before .if1 .left))
 
 pub +put-hex-spec : {M : Type 1} → statement M
 +put-hex-spec = close μ-put-hex λ t. put-hex-lts.spec (

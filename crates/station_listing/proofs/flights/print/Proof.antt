@@ -59,7 +59,8 @@ put-stations-requires c κs =
     let s = segments h3 in
     let h = header-2 s in
     let l = lines h in
-    (start (header l) .pre .1, omega (arith, listed-within (offsetsOf (text l)) (commandsOf (text l)) _ _ _ _ (l .list .ensures), h3 .put-header3 .ensures .within, s .put-segments .ensures .within, h .put-header2 .ensures .within, header l .put-header .ensures .within))
+    let within = listed-within (offsetsOf (text l)) (commandsOf (text l)) _ _ _ _ (l .list .ensures) in
+    (start (header l) .pre .1, omega (arith, within, h3 .put-header3 .ensures .within, s .put-segments .ensures .within, h .put-header2 .ensures .within, header l .put-header .ensures .within))
 
 returns : tie.Need-returns
 returns c =
