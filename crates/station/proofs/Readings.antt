@@ -62,5 +62,20 @@ pub example-listed :
     -- `2 0 40400000 40800000 3F19999A 3F4CCCCD`
     ∷ 50 ∷ 32 ∷ 48 ∷ 32 ∷ 52 ∷ 48 ∷ 52 ∷ 48 ∷ 48 ∷ 48 ∷ 48 ∷ 48 ∷ 32 ∷ 52 ∷ 48 ∷ 56 ∷ 48 ∷ 48 ∷ 48 ∷ 48 ∷ 48 ∷ 32 ∷ 51 ∷ 70 ∷ 49 ∷ 57 ∷ 57 ∷ 57 ∷ 57 ∷ 65 ∷ 32 ∷ 51 ∷ 70 ∷ 52 ∷ 67 ∷ 67 ∷ 67 ∷ 67 ∷ 68 ∷ 10
     ∷ []
-unfolding among wholeOf pointOf fractionOf markOf-of-scan-numbers exponentOf-of-scan-numbers endOf placesOf noDigit noExponentDigit scanNumberOf stands pastOne pastAll pastMarkOf leading scan digitsAmong val capped exponentOf-of-digits-exponent falls riseOf fallOf valueOf numberOf zeroF oneF epsilonF largestF minOf maxOf clampOf clamp01Of rootDigits rootOf squareSumOf narrowOf lengthOf-of-lengths lerpOf originF addOf subOf scaleOf lengthOf distanceOf normalizeOf lerpPointOf firstNotBelow targetOf shareOf markOf-of-table-lookup rawInPart rawAt rawOf before-of-table-spots pathTotal spotAt spotOf widthOf tablesOf hasTable segmentOf tableFor lengthFor kindsOf fieldsOfAll tableStored tablesOfAll runningOf lengthsOfAll before-of-stored-stored areKnown tablesAreSound isStored segmentIn tableIn lettersOf numbersOf readMoveOf readLineOf readHorizontalOf readVerticalOf readCubicOf readQuadOf readArcOf readGroupOf isLetterOf meaningOf readNumberOf flagAt readFlagOf readFlagsOf movedOf readPairOf isRelativeOf needsPointOf repeatedOf afterOf dueGroupOf dueLetterOf dueAgainOf dueAtOf nextDueOf offsetAt readStepOf readFrom commandsOf offsetsFrom offsetsOf isFallback fallbackShape noTable fallenBack fitted outOfRange madeArcOf arcPositionOf arcTangentOf arcPlacedOf arcHeadingOf arcTurnedOf arcLengthOf lineLengthOf linePointOf linePositionOf lineTangentOf lineRotationDegOf madeLineOf buildFrom buildOf drawersFrom drawersOf freshOf arcOf arcStrokeOf drawOf cursorOf rawIn rawFor tablePlace rawWithin placeIn sampleOf headingOf flownWithin flownOf flightOf judged firstLineOf bitsFields argumentFields commandLine pointFields kindName segmentLine headerLine segmentField stationLine hexDigit hexDigits decimalFrom decimalOf bitsField numberField commandLines linesTo segmentLines progressOf stationOf stationLines sectionsOf readOf planOf stationsOf span climb size odd units round neg sum add sub mul div lt eq le ne ofInt ofFields ofBits toBits isNan fits whole
+unfolding among wholeOf pointOf fractionOf markOf-of-scan-numbers exponentOf-of-scan-numbers endOf placesOf noDigit noExponentDigit
+    scanNumberOf stands pastOne pastAll pastMarkOf leading scan digitsAmong val capped exponentOf-of-digits-exponent falls riseOf fallOf
+    valueOf numberOf zeroF oneF epsilonF largestF minOf maxOf clampOf clamp01Of rootDigits rootOf squareSumOf narrowOf lengthOf-of-lengths
+    lerpOf originF addOf subOf scaleOf lengthOf distanceOf normalizeOf lerpPointOf firstNotBelow targetOf shareOf markOf-of-table-lookup
+    rawInPart rawAt rawOf before-of-table-spots pathTotal spotAt spotOf widthOf tablesOf hasTable segmentOf tableFor lengthFor kindsOf
+    fieldsOfAll tableStored tablesOfAll runningOf lengthsOfAll before-of-stored-stored areKnown tablesAreSound isStored segmentIn tableIn
+    lettersOf numbersOf readMoveOf readLineOf readHorizontalOf readVerticalOf readCubicOf readQuadOf readArcOf readGroupOf isLetterOf
+    meaningOf readNumberOf flagAt readFlagOf readFlagsOf movedOf readPairOf isRelativeOf needsPointOf repeatedOf afterOf dueGroupOf
+    dueLetterOf dueAgainOf dueAtOf nextDueOf offsetAt readStepOf readFrom commandsOf offsetsFrom offsetsOf isFallback fallbackShape noTable
+    fallenBack fitted outOfRange madeArcOf arcPositionOf arcTangentOf arcPlacedOf arcHeadingOf arcTurnedOf arcLengthOf lineLengthOf
+    linePointOf linePositionOf lineTangentOf lineRotationDegOf madeLineOf buildFrom buildOf drawersFrom drawersOf freshOf arcOf arcStrokeOf
+    drawOf cursorOf rawIn rawFor tablePlace rawWithin placeIn sampleOf headingOf flownWithin flownOf flightOf
+    judged firstLineOf bitsFields argumentFields commandLine pointFields kindName segmentLine headerLine segmentField stationLine hexDigit
+    hexDigits decimalFrom decimalOf bitsField numberField commandLines linesTo segmentLines progressOf stationOf stationLines sectionsOf
+    readOf planOf stationsOf span climb size odd units round neg sum add sub mul div lt eq le ne ofInt ofFields ofBits toBits isNan fits
+    whole
 example-listed = refl
