@@ -21,22 +21,38 @@ loop-holds c = let start = c .before in (omega arith, start .pre .span .order, n
 
 -- a byte holds 128 and one more
 add-from1 : tie.Need-add-from1 Inv-loop μ-loop
-add-from1 c = let l = c .before .before .before .loop in let start = c .before .before .before .before .before in omega (arith, l .inv .2 .few1, start .pre .short, one-at-most 1 (getD (start .args .kinds .now) (l .j) 0), c .one-from .ensures)
+add-from1 c =
+    let l = c .before .before .before .loop in
+    let start = c .before .before .before .before .before in
+    omega (arith, l .inv .2 .few1, start .pre .short, one-at-most 1 (getD (start .args .kinds .now) (l .j) 0), c .one-from .ensures)
 
 add-from2 : tie.Need-add-from2 Inv-loop μ-loop
-add-from2 c = let l = c .before .before .before .before .loop in let start = c .before .before .before .before .before .before in omega (arith, l .inv .2 .few2, start .pre .short, one-at-most 2 (getD (start .args .kinds .now) (l .j) 0), c .one-from2 .ensures)
+add-from2 c =
+    let l = c .before .before .before .before .loop in
+    let start = c .before .before .before .before .before .before in
+    omega (arith, l .inv .2 .few2, start .pre .short, one-at-most 2 (getD (start .args .kinds .now) (l .j) 0), c .one-from2 .ensures)
 
 add-from3 : tie.Need-add-from3 Inv-loop μ-loop
-add-from3 c = let l = c .before .before .before .before .before .loop in let start = c .before .before .before .before .before .before .before in omega (arith, l .inv .2 .few3, start .pre .short, one-at-most 3 (getD (start .args .kinds .now) (l .j) 0), c .one-from3 .ensures)
+add-from3 c =
+    let l = c .before .before .before .before .before .loop in
+    let start = c .before .before .before .before .before .before .before in
+    omega (arith, l .inv .2 .few3, start .pre .short, one-at-most 3 (getD (start .args .kinds .now) (l .j) 0), c .one-from3 .ensures)
 
 add-from5 : tie.Need-add-from5 Inv-loop μ-loop
-add-from5 c = let l = c .before .before .before .before .before .before .loop in let start = c .before .before .before .before .before .before .before .before in omega (arith, l .inv .2 .few5, start .pre .short, one-at-most 5 (getD (start .args .kinds .now) (l .j) 0), c .one-from4 .ensures)
+add-from5 c =
+    let l = c .before .before .before .before .before .before .loop in
+    let start = c .before .before .before .before .before .before .before .before in
+    omega (arith, l .inv .2 .few5, start .pre .short, one-at-most 5 (getD (start .args .kinds .now) (l .j) 0), c .one-from4 .ensures)
 
 loop-again : tie.Need-loop-again Inv-loop μ-loop
 loop-again c =
     let l = c .before .before .before .before .before .before .loop in
-    let start = c .before .before .before .before .before .before .before .before in
-    (omega arith, omega arith, numbering-more _ _ _ _ (l .inv .2) (l .inv .0) (omega (arith, start .pre .span .inside)) (c .before .before .before .one-from .ensures) (c .before .before .one-from2 .ensures) (c .before .one-from3 .ensures) (c .one-from4 .ensures))
+    let start = c .before .before .before .before .before .before .before .before in (
+      omega arith,
+      omega arith,
+      numbering-more _ _ _ _ (l .inv .2) (l .inv .0) (omega (arith, start .pre .span .inside))
+          (c .before .before .before .one-from .ensures) (c .before .before .one-from2 .ensures) (c .before .one-from3 .ensures) (c .one-from4 .ensures),
+    )
 
 returns : tie.Need-returns Inv-loop μ-loop
 returns c =
