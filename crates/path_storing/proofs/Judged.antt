@@ -12,13 +12,13 @@ use lib.Seq.{sets}
 use Rattle.answers.specs.declared.refusals.Refusal.the-variants.{NotFinite}
 use Rattle.math.specs.declared.points.Point.{Point}
 use Rattle.commands.specs.declared.command.PathCommand.{PathCommand}
-use Rattle.commands.specs.declared.command.PathCommand.the-variants.{LineTo}
+use Rattle.commands.specs.declared.command.PathCommand.the-variants.{LineTo, QuadTo, CubicTo}
 use Rattle.table.specs.declared.tables.Table.{Table}
 use Rattle.arc.specs.declared.lines.LineSegment.{LineSegment}
 use Rattle.arc.specs.Lines.{lineOf, lineLengthOf}
 use Rattle.path_segment.specs.Segments.{kindOf, hasTable, tablesOf, fieldsOf, tableFor, tableNumbers, lengthFor}
 use Rattle.path_segment.specs.declared.segments.PathSegment.{PathSegment}
-use Rattle.path_segment.specs.declared.segments.PathSegment.the-variants.{Line}
+use Rattle.path_segment.specs.declared.segments.PathSegment.the-variants.{Line, Quad, Cubic}
 use Rattle.path_stored.specs.Buffers.{Buffers, buffers}
 use Rattle.path_stored.proofs.Buffers.{buffers-are}
 use Rattle.path_stored.specs.Layout.{kindsOf, fieldsOfAll, tableStored, tablesOfAll, runningOf}
@@ -27,10 +27,10 @@ use Rattle.path_drawing.specs.Building.{lengthAfter, namedBy}
 use Rattle.path_drawing.specs.declared.pens.Pen.{Pen}
 use Rattle.path_drawing.specs.declared.strokes.Drawn.{Drawn}
 use Rattle.path_drawing.specs.declared.strokes.Drawn.the-variants.{Moved, Segment, OutOfRange}
-use Rattle.path_storing.specs.Sites.{afterOf, movedOf, nextOf, judgedOf, advanceOf, drawnBy, TableLaid, Room, Laid}
+use Rattle.path_storing.specs.Sites.{afterOf, movedOf, nextOf, judgedOf, advanceOf, drawnBy, TableLaid, siteAt, Room, SegmentLaid, Laid}
 use Rattle.path_storing.specs.declared.sites.Site.{Site}
 use Rattle.path_storing.specs.declared.sites.Advanced.the-variants.{To, Refused}
-use Rattle.path_storing.proofs.Counts.{stored-some, table-none, total-is}
+use Rattle.path_storing.proofs.Counts.{stored-some, table-some, table-none, total-is}
 
 -- ---- judged
 
@@ -86,23 +86,36 @@ module _ {site : Site} {segment : PathSegment} {pen : Pen} {b : Buffers} (room :
   unfolding kindsOf
   command-fits = omega (arith, room .commandsFit)
 
-pub segment-laid :
-    {site : Site} {n : ℕ} {segment : PathSegment} {pen : Pen} {b : Buffers} {r : Site} {own : ℕ} {fields′ tables′ : List Float} {l : Float}
+pub segment-stored :
+    {site : Site} {n : ℕ} {segment : PathSegment} {b : Buffers} {own : ℕ} {fields′ tables′ : List Float} {l : Float}
     → own ≡ kindOf segment
     → fields′ ≡ sets (b .fields) (site .fields) (fieldsOf segment)
     → tables′ ≡ sets (b .tables) (site .tables) (tableStored segment)
     → l ≡ lengthAfter (site .length) segment
-    → r ≡ afterOf site segment pen
-    → Laid site n (Segment segment pen) b r
+    → SegmentLaid site n segment b l
     (buffers (set (b .kinds) (site .segments) own) fields′ tables′ (set (b .lengths) (site .segments) l) (set (b .commands) (site .segments) n))
-unfolding kindsOf runningOf nextOf
-segment-laid {site} {n} {segment} {pen} {b} e f g h s =
+unfolding kindsOf runningOf
+segment-stored {site} {n} {segment} {b} e f g h =
     record {
-      siteAfter = s;
+      lengthTold = h;
       after =
           buffers-are (ap (set (b .kinds) (site .segments)) e) (f ∙ ap (sets (b .fields) (site .fields)) (sym (fields-one segment)))
           (g ∙ ap (sets (b .tables) (site .tables)) (sym (tables-one segment))) (ap (set (b .lengths) (site .segments)) h) refl;
     }
+
+-- the counts and the running length of a site are all that storing asks of it
+abbrev pub countsAt : Site → Site
+countsAt site = siteAt (site .length) (site .segments) (site .fields) (site .tables)
+
+pub room-counts : {site : Site} {segment : PathSegment} {pen next : Pen} {b : Buffers} → Room site (Segment segment pen) b → Room (countsAt site) (Segment segment next) b
+room-counts room =
+    record { kindsFit = room .kindsFit; fieldsFit = room .fieldsFit; tablesFit = room .tablesFit; lengthsFit = room .lengthsFit; commandsFit = room .commandsFit }
+
+pub stored-laid :
+    {site : Site} {n : ℕ} {segment : PathSegment} {pen : Pen} {b : Buffers} {r : Site} {l : Float} {b′ : Buffers}
+    → r ≡ afterOf site segment pen → SegmentLaid (countsAt site) n segment b l b′ → Laid site n (Segment segment pen) b r b′
+unfolding nextOf
+stored-laid s k = record { siteAfter = s; after = k .after }
 
 -- ---- a line, whose numbers are known
 
@@ -121,15 +134,55 @@ pub line-laid :
     → Laid site n (Segment (Line line) pen) b (record { pen = next; length = l; segments = site .segments + 1; fields = site .fields + 4; tables = site .tables })
     (buffers (set (b .kinds) (site .segments) 0) fields′ (b .tables) (set (b .lengths) (site .segments) l) (set (b .commands) (site .segments) n))
 unfolding lengthFor afterOf
-line-laid {site} {n} {line} {pen} {b} f h p = segment-laid refl f (ap (sets (b .tables) (site .tables)) (sym (no-table line))) h (rw (p, h, no-table line, add-zero))
+line-laid {site} {n} {line} {pen} {b} f h p = stored-laid (rw (p, h, no-table line, add-zero)) (segment-stored refl f (ap (sets (b .tables) (site .tables)) (sym (no-table line))) h)
 
-pub line-drawn : (pen : Pen) (command : PathCommand) (end : Point) → command ≡ LineTo end → pen .placed ≡ true → drawOf pen command ≡ Segment (Line (lineOf (pen .current) end)) (drawnOf pen end)
-unfolding drawOf
-line-drawn pen command end e p = rw (e, p)
+-- ---- a curve, which has a table
 
-pub line-undrawn : (pen next : Pen) (command : PathCommand) (end : Point) → command ≡ LineTo end → pen .placed ≡ false → next ≡ drawnOf pen end → drawOf pen command ≡ Moved next
-unfolding drawOf
-line-undrawn pen next command end e p n = rw (e, p, n)
+curve-laid :
+    {site : Site} {n : ℕ} {segment : PathSegment} {pen next : Pen} {b : Buffers} {l : Float} {b′ : Buffers} (own more : ℕ)
+    → own ≡ length (fieldsOf segment) → more ≡ length (tableStored segment) → next ≡ pen → SegmentLaid (countsAt site) n segment b l b′
+    → Laid site n (Segment segment pen) b (record { pen = next; length = l; segments = site .segments + 1; fields = site .fields + own; tables = site .tables + more }) b′
+unfolding afterOf
+curve-laid own more f t p k = stored-laid (rw (p, k .lengthTold, f, t)) k
+
+module _ {site : Site} {n : ℕ} {pen next : Pen} {b : Buffers} {l : Float} {b′ : Buffers} (start : Point) (p : next ≡ pen) where
+  pub quad-laid : (control end : Point) → SegmentLaid (countsAt site) n (Quad start control end) b l b′
+      → Laid site n (Segment (Quad start control end) pen) b (record { pen = next; length = l; segments = site .segments + 1; fields = site .fields + 6; tables = site .tables + 33 }) b′
+  unfolding hasTable tablesOf
+  quad-laid control end k = curve-laid 6 33 refl (sym (table-some (Quad start control end) refl)) p k
+
+  pub cubic-laid : (control1 control2 end : Point) → SegmentLaid (countsAt site) n (Cubic start control1 control2 end) b l b′
+      → Laid site n (Segment (Cubic start control1 control2 end) pen) b (record { pen = next; length = l; segments = site .segments + 1; fields = site .fields + 8; tables = site .tables + 33 }) b′
+  unfolding hasTable tablesOf
+  cubic-laid control1 control2 end k = curve-laid 8 33 refl (sym (table-some (Cubic start control1 control2 end) refl)) p k
+
+-- ---- what a command that is known draws
+
+module _ (pen : Pen) (drawn : pen .placed ≡ true) where
+  pub line-drawn : (end : Point) → drawOf pen (LineTo end) ≡ Segment (Line (lineOf (pen .current) end)) (drawnOf pen end)
+  unfolding drawOf
+  line-drawn end = rw drawn
+
+  pub quad-drawn : (control end : Point) → drawOf pen (QuadTo control end) ≡ Segment (Quad (pen .current) control end) (drawnOf pen end)
+  unfolding drawOf
+  quad-drawn control end = rw drawn
+
+  pub cubic-drawn : (control1 control2 end : Point) → drawOf pen (CubicTo control1 control2 end) ≡ Segment (Cubic (pen .current) control1 control2 end) (drawnOf pen end)
+  unfolding drawOf
+  cubic-drawn control1 control2 end = rw drawn
+
+module _ (pen next : Pen) (undrawn : pen .placed ≡ false) where
+  pub line-undrawn : (end : Point) → next ≡ drawnOf pen end → drawOf pen (LineTo end) ≡ Moved next
+  unfolding drawOf
+  line-undrawn end n = rw (undrawn, n)
+
+  pub quad-undrawn : (control end : Point) → next ≡ drawnOf pen end → drawOf pen (QuadTo control end) ≡ Moved next
+  unfolding drawOf
+  quad-undrawn control end n = rw (undrawn, n)
+
+  pub cubic-undrawn : (control1 control2 end : Point) → next ≡ drawnOf pen end → drawOf pen (CubicTo control1 control2 end) ≡ Moved next
+  unfolding drawOf
+  cubic-undrawn control1 control2 end n = rw (undrawn, n)
 
 -- nothing is stored
 pub moved-laid : {site : Site} {n : ℕ} {b : Buffers} {pen : Pen} {drawn : Drawn} {r : Site} → drawn ≡ Moved pen → r ≡ movedOf site pen → Laid site n drawn b r b

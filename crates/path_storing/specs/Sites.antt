@@ -79,6 +79,10 @@ pub record TableLaid (at : ℕ) (segment : PathSegment) (tables : List Float) (r
   pub lengthTold : r ≡ lengthFor segment
   pub tablesAfter : tables′ ≡ sets tables at (tableStored segment)
 
+-- a site of which only the counts and the running length are asked
+abbrev pub siteAt : Float → ℕ → ℕ → ℕ → Site
+siteAt before place own more = record { pen = freshOf; length = before; segments = place; fields = own; tables = more }
+
 -- ---- in the buffers
 
 -- a list of segments and the numbers of their commands in place of what stood at each buffer's start
@@ -108,6 +112,11 @@ pub record Room (site : Site) (drawn : Drawn) (b : Buffers) : Type 0 where
   pub tablesFit : site .tables + length (tablesOfAll (drawnBy drawn)) ≤ length (b .tables)
   pub lengthsFit : site .segments + length (kindsOf (drawnBy drawn)) ≤ length (b .lengths)
   pub commandsFit : site .segments + length (kindsOf (drawnBy drawn)) ≤ length (b .commands)
+
+-- a segment of the command numbered n is stored at a site, no other place is touched, and the running length up to its end is told
+pub record SegmentLaid (site : Site) (n : ℕ) (segment : PathSegment) (b : Buffers) (r : Float) (b′ : Buffers) : Type 0 where
+  pub lengthTold : r ≡ lengthAfter (site .length) segment
+  pub after : b′ ≡ laidAt site (segment ∷ []) (n ∷ []) b
 
 -- what the command numbered n draws at a site is stored, no other place is touched, and the next site is told
 pub record Laid (site : Site) (n : ℕ) (drawn : Drawn) (b : Buffers) (r : Site) (b′ : Buffers) : Type 0 where

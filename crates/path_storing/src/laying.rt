@@ -4,26 +4,20 @@ ghost use Prim.Native.Nat.{_+_, _≤_};
 ghost use lib.ListN.{length};
 ghost use Rattle.path_stored.specs.Buffers.{after, before, lent};
 ghost use Rattle.path_stored.specs.Layout.{tableStored};
-ghost use Rattle.arc.specs.Lines.{lineOf};
-ghost use Rattle.path_segment.specs.declared.segments.PathSegment.the-variants.{Line};
-ghost use Rattle.path_drawing.specs.Drawing.{drawnOf, drawOf};
+ghost use Rattle.path_drawing.specs.Drawing.{freshOf, drawOf};
 ghost use Rattle.path_drawing.specs.Building.{lengthAfter};
 ghost use Rattle.path_drawing.specs.declared.strokes.Drawn.the-variants.{Segment};
-ghost use Rattle.path_storing.specs.Sites.{Few, TableLaid, Room, Laid, afterOf, movedOf, advanceOf};
+ghost use Rattle.path_storing.specs.Sites.{Few, TableLaid, siteAt, Room, SegmentLaid, Laid, afterOf, movedOf, advanceOf};
+use crate::direct::line_to;
 use crate::sites::Advanced;
 use crate::sites::Site;
 use answers::Refusal;
-use arc::LineSegment;
-use arc::line_length;
 use commands::PathCommand;
-use commands::inner::put_two;
 use floats::is_finite;
 use floats::tidy;
-use math::Point;
 use path_drawing::Drawn;
 use path_drawing::Pen;
 use path_drawing::draw;
-use path_drawing::drawn;
 use path_segment::PathSegment;
 use path_segment::has_table;
 use path_segment::inner::put_segment;
@@ -60,7 +54,7 @@ fn after(site: Site, segment: PathSegment, length: f32, pen: Pen) -> Site
 }
 
 // The site after a command that draws no segment.
-fn moved(site: Site, pen: Pen) -> Site
+pub(crate) fn moved(site: Site, pen: Pen) -> Site
     ensures { λ r. ⌜ r ≡ movedOf site pen ⌝ }
 {
     Site {
@@ -104,7 +98,33 @@ fn lay_table(tables: &mut [f32], at: usize, segment: PathSegment) -> f32
     segment_length(segment)
 }
 
-// Stores a segment of the command with this number at a site, after which the pen is `pen`.
+// Stores a segment of the command with this number at places of its buffers, after the running length `passed`, and gives the running
+// length up to its end. No site is passed, so that callers keep theirs in registers.
+pub(crate) fn store_segment(
+    passed: f32,
+    place: usize,
+    own: usize,
+    more: usize,
+    number: u32,
+    segment: PathSegment,
+    kinds: &mut [u8],
+    fields: &mut [f32],
+    tables: &mut [f32],
+    lengths: &mut [f32],
+    commands: &mut [u32],
+) -> f32
+    requires { ⌜ Room (siteAt passed place own more) (Segment segment freshOf) (lent kinds fields tables lengths commands) ⌝ }
+    ensures { λ r. ⌜ SegmentLaid (siteAt passed place own more) number segment (before kinds fields tables lengths commands) r (after kinds fields tables lengths commands) ⌝ }
+{
+    kinds[place] = kind(segment);
+    put_segment(fields, own, segment);
+    let length = tidy(passed + lay_table(tables, more, segment));
+    lengths[place] = length;
+    commands[place] = number;
+    length
+}
+
+// The same at a site, after which the pen is `pen`.
 fn lay_segment(
     site: Site,
     number: u32,
@@ -119,51 +139,24 @@ fn lay_segment(
     requires { ⌜ Few site × Room site (Segment segment pen) (lent kinds fields tables lengths commands) ⌝ }
     ensures { λ r. ⌜ Laid site number (Segment segment pen) (before kinds fields tables lengths commands) r (after kinds fields tables lengths commands) ⌝ }
 {
-    let place = site.segments;
-    kinds[place] = kind(segment);
-    put_segment(fields, site.fields, segment);
-    let length = tidy(site.length + lay_table(tables, site.tables, segment));
-    lengths[place] = length;
-    commands[place] = number;
+    let length = store_segment(
+        site.length,
+        site.segments,
+        site.fields,
+        site.tables,
+        number,
+        segment,
+        kinds,
+        fields,
+        tables,
+        lengths,
+        commands,
+    );
     after(site, segment, length, pen)
 }
 
-// Stores the line from the current point to an end: what `lay_segment` does, with a line known.
-fn lay_line(
-    site: Site,
-    number: u32,
-    end: Point,
-    kinds: &mut [u8],
-    fields: &mut [f32],
-    tables: &mut [f32],
-    lengths: &mut [f32],
-    commands: &mut [u32],
-) -> Site
-    requires { ⌜ Few site × Room site (Segment (Line (lineOf (site .pen .current) end)) (drawnOf (site .pen) end)) (lent kinds fields tables lengths commands) ⌝ }
-    ensures { λ r. ⌜ Laid site number (Segment (Line (lineOf (site .pen .current) end)) (drawnOf (site .pen) end))
-        (before kinds fields tables lengths commands) r (after kinds fields tables lengths commands) ⌝ }
-{
-    let pen = site.pen;
-    let start = pen.current;
-    let place = site.segments;
-    let at = site.fields;
-    kinds[place] = 0;
-    put_two(fields, at, start.x, start.y);
-    put_two(fields, at + 2, end.x, end.y);
-    let length = tidy(site.length + line_length(LineSegment { start, end }));
-    lengths[place] = length;
-    commands[place] = number;
-    Site {
-        pen: drawn(pen, end),
-        length,
-        segments: place + 1,
-        fields: at + 4,
-        tables: site.tables,
-    }
-}
-
 // Stores what any command draws at a site. A rotation out of range draws nothing here: `advance` refuses it.
-fn lay_any(
+pub fn lay_any(
     site: Site,
     number: u32,
     command: PathCommand,
@@ -212,11 +205,7 @@ pub fn lay(
     ensures { λ r. ⌜ Laid site number (drawOf (site .pen) command) (before kinds fields tables lengths commands) r (after kinds fields tables lengths commands) ⌝ }
 {
     if let PathCommand::LineTo(end) = command {
-        let pen = site.pen;
-        if pen.placed {
-            return lay_line(site, number, end, kinds, fields, tables, lengths, commands);
-        }
-        return moved(site, drawn(pen, end));
+        return line_to(site, number, end, kinds, fields, tables, lengths, commands);
     }
     lay_any(
         site,

@@ -1,54 +1,21 @@
--- `path_storing::laying::lay_segment` meets its contract: five stores, each in its buffer. Assumes nothing.
+-- `path_storing::laying::lay_segment` meets its contract: the segment is stored, and the site told. Assumes nothing.
 use borrow.Author.Needs.{needs}
-use mathlib.Core.Path.{_≡_, ap, _∙_}
-use lib.Ieee.{binary32, add}
-use Rattle.path_drawing.specs.Building.{lengthAfter}
-use Rattle.path_storing.proofs.Judged.{kind-fits, fields-fit, table-fits, length-fits, command-fits, segment-laid}
+use Rattle.path_storing.proofs.Judged.{room-counts, stored-laid}
 use Rattle.path_storing.proofs.laying.lay_segment.Statement.{statement}
 use Rattle.path_storing.proofs.laying.lay_segment.Tie as tie
 
--- ---- the points
-abbrev start : tie.After-put-segment → tie.Start
-start p = p .before .before .before .before .before .before .before .before
-
-abbrev put : tie.After-lay-table → tie.After-put-segment
-put p = p .before .before .before .before
-
-abbrev table : tie.After-tidy → tie.After-lay-table
-table p = p .before .before .before .before
-
--- the running length that is stored
-running : (p : tie.After-tidy) → let a = start (put (table p)) .args in p .tidy .result ≡ lengthAfter (a .site .length) (a .segment)
-running p = p .tidy .ensures ∙ ap (add binary32 _) (table p .lay-table .ensures .lengthTold)
-
--- ---- the answers
-slice-write-kinds : tie.Need-slice-write-kinds
-slice-write-kinds c = kind-fits (c .before .before .before .before .before .before .pre .1)
-
-put-segment-requires : tie.Need-put-segment-requires
-put-segment-requires c κs = fields-fit (c .before .before .before .before .before .before .before .pre .1)
-
-lay-table-requires : tie.Need-lay-table-requires
-lay-table-requires c κs = table-fits (start (c .before .before .before) .pre .1)
-
-slice-write-lengths : tie.Need-slice-write-lengths
-slice-write-lengths c = length-fits (start (put (table c)) .pre .1)
-
-slice-write-commands : tie.Need-slice-write-commands
-slice-write-commands c = command-fits (start (put (table c)) .pre .1)
+store-segment-requires : tie.Need-store-segment-requires
+store-segment-requires c κs = room-counts (c .before .before .before .before .before .before .before .before .before .before .pre .1)
 
 after-requires : tie.Need-after-requires
-after-requires c κs = (start (put (table c)) .pre .0, running c)
+after-requires c κs =
+    let stored = c .before .before .before .before .before .before .before .before .before .before in
+    (stored .before .before .before .before .before .before .before .before .before .before .before .pre .0, stored .store-segment .ensures .lengthTold)
 
 returns : tie.Need-returns
-returns c =
-    let t = table (c .before) in
-    let p = put t in
-    segment-laid (p .before .before .kind .ensures) (p .put-segment .ensures) (t .lay-table .ensures .tablesAfter) (running (c .before)) (c .after .ensures)
+returns c = stored-laid (c .after .ensures) (c .before .before .before .before .before .before .before .before .before .before .before .store-segment .ensures)
 
 pub lay-segment-spec : {M : Type 1} → statement M
 lay-segment-spec =
     tie.close
-    (tie.spec (λ c κs. search needs) slice-write-kinds put-segment-requires lay-table-requires (λ c κs. search needs)
-    (λ c. search needs) slice-write-lengths (λ c. search needs) slice-write-commands after-requires (λ c. search needs) (λ c. search needs) (λ c. search needs) (λ c. search needs)
-    (λ c. search needs) returns)
+    (tie.spec store-segment-requires after-requires (λ c. search needs) (λ c. search needs) (λ c. search needs) (λ c. search needs) (λ c. search needs) returns)
