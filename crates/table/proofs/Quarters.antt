@@ -16,7 +16,7 @@ use lib.Ieee.Scale.{finite}
 use Rattle.floats.specs.Floats.{zeroF}
 use Rattle.floats.proofs.Tests.{decide, clashing, passed, failed}
 use Rattle.floats.proofs.Order.{le-lt-trans, le-le-trans}
-use Rattle.table.specs.Lookup.{at, firstNotBelow}
+use Rattle.table.specs.Lookup.{at, firstNotBelow, quartersBelow}
 use Rattle.table.specs.Sound.{allFinite, climbs, lengthsAreSound}
 use Rattle.table.proofs.Lengths.{entries-le, path-sound}
 use Rattle.table.proofs.Search.{IsFirst, first-is, first-unique, first-upto, nan-not-below, Bracket}
@@ -87,10 +87,9 @@ module _ {xs : List Float} {t : Float} {base size : ℕ} (part : ℕ) (sound : T
   by-tests p false true e f g = let u : base + size ≤ length xs = b .upto in falls (base + 2 * part) (base + 3 * part) (omega arith) (omega arith) (passed g) (failed f)
 
   -- how many of the three are below
-  pub quartered : (first second third : ℕ) → first ≡ cond (lt (at xs (base + part)) t) 1 0 → second ≡ cond (lt (at xs (base + 2 * part)) t) 1 0 → third ≡ cond (lt (at xs (base + 3 * part)) t) 1 0
-      → Quarter xs t base size part (first + second + third)
-  quartered first second third e f g =
-      rw (e, f, g) (by-tests (lt (at xs (base + part)) t) (lt (at xs (base + 2 * part)) t) (lt (at xs (base + 3 * part)) t) refl refl refl)
+  pub quartered : (n : ℕ) → n ≡ quartersBelow xs t base part → Quarter xs t base size part n
+  unfolding quartersBelow
+  quartered n e = rw e (by-tests (lt (at xs (base + part)) t) (lt (at xs (base + 2 * part)) t) (lt (at xs (base + 3 * part)) t) refl refl refl)
 
 -- ---- a part of sound lengths is sound
 finite-take : (n : ℕ) (xs : List Float) → T (allFinite xs) → T (allFinite (take n xs))

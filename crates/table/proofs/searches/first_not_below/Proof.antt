@@ -23,31 +23,16 @@ loop-holds c =
     let e : length xs ≡ 0 + length xs = omega arith in
     subst (λ (k : ℕ). Bracket xs (c .before .args .target) 0 k) e (bracket-start xs (c .before .args .target))
 
--- the next bracket, from the three lengths
-abbrev looping : tie.After-step-below3 Inv-loop μ-loop → tie.At-loop Inv-loop μ-loop
-looping c = c .before .before .before .before .before .before .before
-
-step : (c : tie.After-step-below3 Inv-loop μ-loop) → let l = looping c .loop in let start = looping c .before .before in
-    Quarter (now (start .args .lengths)) (start .args .target) (l .base) (l .size) (l .size / 4) (c .before .before .before .before .step-below .result + c .before .before .step-below2 .result + c .step-below3 .result)
-step c =
-    let l = looping c .loop in
-    let start = looping c .before .before in
-    quartered (l .size / 4) (start .pre) (l .inv) (omega arith) (omega arith) _ _ _ (c .before .before .before .before .step-below .ensures) (c .before .before .step-below2 .ensures) (c .step-below3 .ensures)
-
-ones : (c : tie.After-step-below3 Inv-loop μ-loop) → (c .before .before .before .before .step-below .result ≤ 1) × (c .before .before .step-below2 .result ≤ 1) × (c .step-below3 .result ≤ 1)
-ones c = (at-most-one _ _ (c .before .before .before .before .step-below .ensures), at-most-one _ _ (c .before .before .step-below2 .ensures), at-most-one _ _ (c .step-below3 .ensures))
-
-add-base : tie.Need-add-base Inv-loop μ-loop
-add-base c = omega (arith, ones c .0, ones c .1)
-
-add-base-2 : tie.Need-add-base-2 Inv-loop μ-loop
-add-base-2 c = omega (arith, ones c .0, ones c .1, ones c .2)
+-- the next bracket
+step : (c : tie.After-quarters-below Inv-loop μ-loop) → let l = c .before .before .loop in let start = c .before .before .before .before in
+    Quarter (now (start .args .lengths)) (start .args .target) (l .base) (l .size) (l .size / 4) (c .quarters-below .result)
+step c = let l = c .before .before .loop in quartered (l .size / 4) (c .before .before .before .before .pre) (l .inv) (omega arith) (omega arith) _ (c .quarters-below .ensures)
 
 mul-base : tie.Need-mul-base Inv-loop μ-loop
 mul-base c = omega (arith, step c .upto, step c .order)
 
-add-base-3 : tie.Need-add-base-3 Inv-loop μ-loop
-add-base-3 c = omega (arith, step c .upto, step c .order)
+add-base : tie.Need-add-base Inv-loop μ-loop
+add-base c = omega (arith, step c .upto, step c .order)
 
 loop-again : tie.Need-loop-again Inv-loop μ-loop
 loop-again c = step c
@@ -73,9 +58,6 @@ add-result c =
 pub first-not-below-spec : {M : Type 1} → statement M
 first-not-below-spec =
     tie.close
-    (tie.spec Inv-loop μ-loop loop-holds (λ c. omega arith) (λ c. search needs) (λ c. omega arith) (λ c κs. search needs)
-    (λ c. omega arith) (λ c. omega arith) (λ c. search needs) (λ c. omega arith) (λ c κs. search needs)
-    (λ c. omega arith) (λ c. omega arith) (λ c. search needs) (λ c. omega arith) (λ c κs. search needs)
-    add-base add-base-2 mul-base add-base-3 (λ c. omega arith) (λ c. omega arith) (λ c. omega arith) loop-again
-    (λ c. omega arith) (λ c. search needs) (λ c. search needs) (λ c. search needs) (λ c. search needs)
-    count-below-requires add-result returns)
+    (tie.spec Inv-loop μ-loop loop-holds (λ c κs. search needs) mul-base add-base (λ c. search needs) (λ c. search needs)
+    (λ c. search needs) loop-again (λ c. search needs) (λ c. search needs) (λ c. search needs) (λ c. search needs)
+    (λ c. search needs) count-below-requires add-result returns)
