@@ -2,6 +2,7 @@
 use borrow.Author.Needs.{needs}
 use Prim.Native.Nat.{ℕ, _+_, _*_, _≤_}
 use native.Mathlib.Omega.{arith}
+use mathlib.Core.Bool.{Bool}
 use denote.Ref.{now}
 use lib.Ieee.{lt}
 use Rattle.table.specs.Lookup.{at, quartersBelow}
@@ -13,7 +14,7 @@ use Rattle.table.proofs.searches.quarters_below.Tie as tie
 ones : (c : tie.After-step-below3) → (c .before .before .before .before .step-below .result ≤ 1) × (c .before .before .step-below2 .result ≤ 1) × (c .step-below3 .result ≤ 1)
 ones c =
     let a = c .before .before .before .before .before .before .before .args in
-    let below = λ (k : ℕ). lt (at (now (a .lengths)) k) (a .target) in (
+    let below : ℕ → Bool = λ k. lt (at (now (a .lengths)) k) (a .target) in (
       at-most-one (below (a .base + a .part)) _ (c .before .before .before .before .step-below .ensures),
       at-most-one (below (a .base + 2 * a .part)) _ (c .before .before .step-below2 .ensures),
       at-most-one (below (a .base + 3 * a .part)) _ (c .step-below3 .ensures),
