@@ -11,6 +11,7 @@ use Rattle.commands.specs.Stored.{argumentsOf}
 use Rattle.commands.specs.Listed.{commandOf, wellFormed, listed}
 use Rattle.commands.specs.Checked.{checkCommandsOf}
 use Rattle.commands.specs.declared.command.PathCommand.{PathCommand}
+use Rattle.commands.specs.declared.encoding.Decoded.{Decoded}
 use Rattle.commands.specs.declared.encoding.Decoded.the-variants.{Command, Bad}
 use Rattle.path_segment.specs.declared.segments.PathSegment.{PathSegment}
 use Rattle.path_stored.specs.Layout.{kindsOf, fieldsOfAll, tablesOfAll}
@@ -24,12 +25,15 @@ use Rattle.path_storing.specs.declared.sites.Advanced.the-variants.{To, Refused
 use Rattle.path_storing.specs.declared.tallies.Tally.{Tally}
 use Rattle.path_storing.specs.declared.tallies.Tallied.the-variants as Tallied
 use Rattle.path_storing.proofs.Along.{At, at-none, at-few, at-all, at-next, at-refused}
+use Rattle.path_storing.proofs.Judged.{room-at, laid-at}
 use Rattle.path_storing.proofs.Filling.{Filling, filling-none, filling-more, roomed, same-kinds, same-fields, same-tables, same-lengths, same-commands}
 use Rattle.path_storing.proofs.Foreseen.{Calm, calm-start, foreseen}
 use Rattle.path_build.specs.Answers.{measureOf, Holding, Filled}
 use Rattle.path_build.specs.Paths.{builtBy, drawersBy}
+use Rattle.path_build.specs.Places.{strideOf, drawnAt}
 use Rattle.path_build.specs.declared.sizes.Size.{Size}
 use Rattle.path_build.specs.declared.sizes.Size.the-variants as Size
+use Rattle.path_build.proofs.Letters.{stride-is, drawn-command}
 use Rattle.path_build.proofs.Lists.{Formed, formed, Passed, passed-none, passed-end, passed-bad, passed-fits, passed-next}
 
 -- ---- the counts of what is built
@@ -230,3 +234,29 @@ module _
               filling = filling-more (k .filling) (h .holds) command (n .0) (sym (ap builtBy (n .1 .whole)) ∙ h .is)
                   (subst (λ m. Laid site m (drawOf (site .pen) command) b next b′) (sym (k .passed .count)) laid);
             }
+
+      -- the same by its letter
+      decoded : (command : PathCommand) × (commandOf (getD letters place 0) (drop at numbers) ≡ Command command)
+      decoded = by (commandOf (getD letters place 0) (drop at numbers)) refl
+        where
+          by : (d : Decoded) → commandOf (getD letters place 0) (drop at numbers) ≡ d → (command : PathCommand) × (commandOf (getD letters place 0) (drop at numbers) ≡ Command command)
+          by (Command command) e = (command, e)
+          by Bad e = absurd (storing-bad e)
+
+      -- what `lay_at` asks
+      pub storing-asks :
+          (at + strideOf (getD letters place 0) ≤ length numbers) × Few site × Room site (drawnAt (site .pen) (commandOf (getD letters place 0) (drop at numbers))) b
+      storing-asks =
+          let d = decoded in
+          let r = storing-room (d .0) (d .1) in (
+            omega (arith, storing-fits (d .0) (d .1), stride-is (drop at numbers) (getD letters place 0) (d .0) (d .1)),
+            r .0,
+            room-at (sym (drawn-command (site .pen) (d .1))) (r .1),
+          )
+
+      pub storing-next : (width : ℕ) {next : Site} {b′ : Buffers} → width ≡ strideOf (getD letters place 0)
+          → Laid site place (drawnAt (site .pen) (commandOf (getD letters place 0) (drop at numbers))) b next b′
+          → Storing letters numbers next (place + 1) (at + width) b₀ b′
+      storing-next width w laid =
+          let d = decoded in
+          storing-more (d .0) (d .1) width (w ∙ stride-is (drop at numbers) (getD letters place 0) (d .0) (d .1)) (laid-at (sym (drawn-command (site .pen) (d .1))) laid)

@@ -17,12 +17,14 @@ use Rattle.commands.specs.declared.checking.Checked.{Checked}
 use Rattle.commands.specs.declared.checking.Checked.the-variants as Checked
 use Rattle.path_stored.specs.Buffers.{Buffers}
 use Rattle.path_drawing.specs.Building.{refusal}
-use Rattle.path_build.specs.Answers.{roomed}
-use Rattle.path_build.specs.Paths.{builtBy, buildPathOf, BuildPath}
+use Rattle.path_build.specs.Answers.{roomed, measureOf}
+use Rattle.path_build.specs.Paths.{builtBy, lentOf, buildPathOf, BuildPath, Sized}
 use Rattle.path_build.specs.declared.sizes.Building.the-variants as Building
+use Rattle.path_build.specs.declared.sizes.Size.{Size}
+use Rattle.path_build.specs.declared.sizes.Size.the-variants as Size
 use Rattle.path_build.specs.declared.sizes.Counts.{Counts}
 use Rattle.path_build.proofs.Lists.{formed}
-use Rattle.path_build.proofs.Answering.{refuses}
+use Rattle.path_build.proofs.Answering.{refuses, answers-at, unbuilt}
 
 module _ (letters : List ℕ) (numbers : List Float) where
   -- a list that passes the check
@@ -46,3 +48,8 @@ module _ (letters : List ℕ) (numbers : List Float) where
           → BuildPath letters numbers b (Building.Refused reason) b
       by-count true g h = refuses reason (Range (length letters)) (rw g) h
       by-count false g h = by-listing g (listed 0 letters numbers) refl h
+
+  -- what measuring a well-formed list tells
+  pub measured-sized : (r : Size) → checkCommandsOf letters numbers ≡ accepted [] → r ≡ measureOf (builtBy (listed 0 letters numbers)) → Sized letters numbers r
+  measured-sized (Size.Counted segments fields tables) e m = (e, m)
+  measured-sized (Size.Refused reason) e m = λ b. answers-at (entered (lentOf b) e) (unbuilt b (builtBy (listed 0 letters numbers)) reason m)

@@ -1,6 +1,8 @@
 -- Laws of the definitions of `specs/`.
 pub mod Lists
+pub mod Letters
 pub mod Along
+pub mod Counting
 pub mod Answering
 pub mod Entering
 pub mod Numbering

@@ -1,16 +1,22 @@
 -- What a stored command list builds (document 01, "The answers"; document 02, L5). Definitions only.
 use Prim.Native.Nat.{ℕ}
+use mathlib.Core.Path.{_≡_}
 use mathlib.Core.Bool.{cond}
 use mathlib.Core.List.{List, []}
 use lib.Dec.{ltb}
 use lib.Ieee.{Float}
 use lib.ListN.{length}
 use Rattle.answers.specs.declared.refusals.Refusal.the-variants.{BadList, Range}
+use Rattle.answers.specs.Answers.{accepted}
+use Rattle.commands.specs.Checked.{checkCommandsOf}
 use Rattle.commands.specs.Listed.{Listing, wellFormed, malformed, listed}
 use Rattle.path_stored.specs.Buffers.{Buffers}
 use Rattle.path_drawing.specs.Building.{Built, refusal, buildOf, drawersOf}
-use Rattle.path_build.specs.Answers.{roomed, Answers}
+use Rattle.path_build.specs.Answers.{roomed, Answers, measureOf}
 use Rattle.path_build.specs.declared.sizes.Building.{Building}
+use Rattle.path_build.specs.declared.sizes.Building.the-variants as Building
+use Rattle.path_build.specs.declared.sizes.Size.{Size}
+use Rattle.path_build.specs.declared.sizes.Size.the-variants as Size
 use Rattle.path_build.specs.declared.sizes.Counts.{Counts}
 
 -- "9 over the whole list, then segment by segment 10 before 11"
@@ -38,3 +44,9 @@ drawersPathOf letters numbers = drawersBy (listed 0 letters numbers)
 -- the entry's one record of equations
 abbrev pub BuildPath : List ℕ → List Float → Buffers → Building → Buffers → Type 0
 BuildPath letters numbers b r b′ = Answers (buildPathOf letters numbers (lentOf b)) (drawersPathOf letters numbers) b r b′
+
+-- what a first pass over a list tells: the places of a well-formed list that builds, or the refusal, with nothing written
+abbrev pub Sized : List ℕ → List Float → Size → Type 0
+Sized letters numbers (Size.Counted segments fields tables) =
+    (checkCommandsOf letters numbers ≡ accepted []) × (Size.Counted segments fields tables ≡ measureOf (builtBy (listed 0 letters numbers)))
+Sized letters numbers (Size.Refused reason) = (b : Buffers) → BuildPath letters numbers b (Building.Refused reason) b

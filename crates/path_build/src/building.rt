@@ -1,10 +1,10 @@
 // The entry over a command list.
 ghost use Rattle.path_stored.specs.Buffers.{after, before};
 ghost use Rattle.path_build.specs.Paths.{BuildPath};
-use crate::listed::build_listed;
+use crate::listed::store_counted;
+use crate::passes::sized;
 use crate::sizes::Building;
-use commands::Checked;
-use commands::check_commands;
+use crate::sizes::Size;
 
 // Builds the stored path of a command list: a kind, a running length and the number of its command for each segment, its numbers and
 // its table, each from its buffer's start. A refusal writes nothing, and what stands past the counted places is left as it was.
@@ -19,12 +19,27 @@ pub fn build_path(
 ) -> Building
     ensures { λ r. ⌜ BuildPath (now (letters .entry)) (now (numbers .entry)) (before kinds fields tables lengths commands) r (after kinds fields tables lengths commands) ⌝ }
 {
-    match check_commands(letters, numbers) {
-        Checked::Refused(refusal) => {
+    match sized(letters, numbers) {
+        Size::Refused(refusal) => {
             return Building::Refused(refusal);
         }
-        Checked::WellFormed => {
-            return build_listed(letters, numbers, kinds, fields, tables, lengths, commands);
+        Size::Counted {
+            segments,
+            fields: own,
+            tables: more,
+        } => {
+            return store_counted(
+                letters,
+                numbers,
+                segments,
+                own,
+                more,
+                kinds,
+                fields,
+                tables,
+                lengths,
+                commands,
+            );
         }
     }
 }

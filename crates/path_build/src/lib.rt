@@ -4,6 +4,8 @@ mod building;
 pub mod inner;
 mod listed;
 mod passes;
+mod places;
+mod plain;
 mod sizes;
 
 pub use building::build_path;

@@ -6,9 +6,14 @@ ghost use Rattle.commands.specs.Listed.{listed};
 ghost use Rattle.commands.specs.Checked.{checkCommandsOf};
 ghost use Rattle.path_stored.specs.Buffers.{after, before, lent};
 ghost use Rattle.path_build.specs.Answers.{measureOf, Foretells, Holding, Filled};
-ghost use Rattle.path_build.specs.Paths.{builtBy, drawersPathOf};
+ghost use Rattle.path_build.specs.Paths.{builtBy, drawersPathOf, Sized};
+use crate::places::lay_at;
+use crate::places::stride;
+use crate::plain::foretell;
 use crate::sizes::Size;
 use answers::Refusal;
+use commands::Checked;
+use commands::check_commands;
 use commands::inner::Decoded;
 use commands::inner::decode;
 use commands::width;
@@ -17,7 +22,6 @@ use path_storing::Outlook;
 use path_storing::Tallied;
 use path_storing::inner::advance;
 use path_storing::inner::count;
-use path_storing::inner::lay;
 use path_storing::opening;
 use path_storing::start;
 
@@ -88,7 +92,7 @@ fn judge(letters: &[u8], numbers: &[f32]) -> Size
 }
 
 // What a well-formed list builds: the places needed, or its first refusal.
-pub(crate) fn measure(letters: &[u8], numbers: &[f32]) -> Size
+fn measure(letters: &[u8], numbers: &[f32]) -> Size
     requires { ⌜ checkCommandsOf (now letters) (now numbers) ≡ accepted [] ⌝ }
     ensures { λ r. ⌜ r ≡ measureOf (builtBy (listed 0 (now (letters .entry)) (now (numbers .entry)))) ⌝ }
 {
@@ -106,6 +110,31 @@ pub(crate) fn measure(letters: &[u8], numbers: &[f32]) -> Size
         }
         Outlook::Unsure => {
             return judge(letters, numbers);
+        }
+    }
+}
+
+// The same of any list. A plain one is counted by its letters; any other is checked before it is measured.
+pub(crate) fn sized(letters: &[u8], numbers: &[f32]) -> Size
+    ensures { λ r. ⌜ Sized (now (letters .entry)) (now (numbers .entry)) r ⌝ }
+{
+    if let Outlook::Counted {
+        segments,
+        fields,
+        tables,
+    } = foretell(letters, numbers) {
+        return Size::Counted {
+            segments,
+            fields,
+            tables,
+        };
+    }
+    match check_commands(letters, numbers) {
+        Checked::Refused(refusal) => {
+            return Size::Refused(refusal);
+        }
+        Checked::WellFormed => {
+            return measure(letters, numbers);
         }
     }
 }
@@ -129,25 +158,21 @@ pub(crate) fn fill(
     let mut place: usize = 0;
     let mut at: usize = 0;
     while place < count {
-        match decode(letters[place], numbers, at) {
-            Decoded::Bad => {
-                return;
-            }
-            Decoded::Command(command) => {
-                let number = place as u32;
-                site = lay(
-                    site,
-                    number,
-                    command,
-                    kinds,
-                    fields,
-                    tables,
-                    lengths,
-                    commands,
-                );
-                at += width(command);
-                place += 1;
-            }
-        }
+        let number = place as u32;
+        let letter = letters[place];
+        site = lay_at(
+            site,
+            number,
+            letter,
+            numbers,
+            at,
+            kinds,
+            fields,
+            tables,
+            lengths,
+            commands,
+        );
+        at += stride(letter);
+        place += 1;
     }
 }

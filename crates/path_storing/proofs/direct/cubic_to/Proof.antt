@@ -19,10 +19,10 @@ add-t27 : tie.Need-add-t27
 add-t27 c = omega (arith, start (c .before .before .before .before .before .before .before .before .before .before .before .before) .pre .0 .segments)
 
 add-t28 : tie.Need-add-t28
-add-t28 c = omega (arith, start (c .before .before .before .before .before .before .before .before .before .before .before .before .before) .pre .0 .segments, start (c .before .before .before .before .before .before .before .before .before .before .before .before .before) .pre .0 .fields)
+add-t28 c = let few = start (c .before .before .before .before .before .before .before .before .before .before .before .before .before) .pre .0 in omega (arith, few .segments, few .fields)
 
 add-t29 : tie.Need-add-t29
-add-t29 c = omega (arith, start (c .before .before .before .before .before .before .before .before .before .before .before .before .before .before) .pre .0 .segments, start (c .before .before .before .before .before .before .before .before .before .before .before .before .before .before) .pre .0 .tables)
+add-t29 c = let few = start (c .before .before .before .before .before .before .before .before .before .before .before .before .before .before) .pre .0 in omega (arith, few .segments, few .tables)
 
 returns : tie.Need-returns
 returns c =
