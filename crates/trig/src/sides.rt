@@ -2,7 +2,7 @@
 // asks that its own is small enough.
 ghost use mathlib.Core.Path.{_≡_};
 ghost use Prim.Native.Nat.{_+_, _-_, _*_, _/_, _%_, _^_, _≤_, _<_};
-ghost use Rattle.trig_rule.specs.Steps.{half, fixedOf, restOf, flipOf, squareOf, fourthOf, risen, sinePlus, sineMinus, cosinePlus, cosineMinus, gapOf, overOf, dropOf, packOf, sineAt, cosineAt};
+ghost use Rattle.trig_rule.specs.Steps.{half, fixedOf, restOf, flipOf, squareOf, fourthOf, risen, sinePlus, sineMinus, cosinePlus, cosineMinus, gapOf, overOf, dropOf, packOf, sineAt};
 
 // The size of a float, from its bits without the sign.
 pub fn fixed(a: u32) -> u64
@@ -160,14 +160,4 @@ pub fn sine_at(turned: u32, r: u64) -> u32
     let s = dropped(r);
     let m = pack((r >> s) * gap(sides.plus, sides.minus), s);
     (turned + over(sides.plus, sides.minus)) % 2 * 0x8000_0000 + m
-}
-
-// The bits of the cosine at r.
-pub fn cosine_at(r: u64) -> u32
-    requires { ⌜ r ≤ half ⌝ }
-    ensures { λ b. ⌜ (b ≡ cosineAt r) × (b % 2147483648 ≤ 1400000000) ⌝ }
-{
-    let sides = cosine_sides(r);
-    let m = pack(gap(sides.plus, sides.minus), 58);
-    over(sides.plus, sides.minus) * 0x8000_0000 + m
 }
