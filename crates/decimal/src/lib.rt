@@ -6,3 +6,4 @@ pub mod numbers;
 
 pub use numbers::Read;
 pub use numbers::number;
+pub use numbers::number_within;

@@ -5,3 +5,4 @@ pub mod Holding
 pub mod Capping
 pub mod Lanes
 pub mod Taking
+pub mod Tails

@@ -20,7 +20,7 @@ use Rattle.decimal_digits.specs.declared.gathering.Leading.{Leading}
 use Rattle.decimal_digits.proofs.Values.{ten-pos, digit-lt}
 use Rattle.decimal_digits.proofs.Holding.{leads-digit, leads-run}
 
-ten-mono : (i j : ℕ) → i ≤ j → 10 ^ i ≤ 10 ^ j
+pub ten-mono : (i j : ℕ) → i ≤ j → 10 ^ i ≤ 10 ^ j
 ten-mono i j h =
     let e : i + (j - i) ≡ j = omega arith in
     subst (λ (z : ℕ). 10 ^ i ≤ z) (sym (pow-add 10 i (j - i)) ∙ ap (λ (k : ℕ). 10 ^ k) e) (subst (λ (z : ℕ). z ≤ 10 ^ i * 10 ^ (j - i)) (mul-one (10 ^ i)) (mul-le-mul-left (10 ^ i) (ten-pos (j - i))))
@@ -48,7 +48,7 @@ module _ (text : List ℕ) where
 
   -- ---- bytes that stand from a place on
 
-  abbrev Standing : ℕ → List ℕ → Type 0
+  abbrev pub Standing : ℕ → List ℕ → Type 0
   Standing at [] = Unit
   Standing at (b ∷ bs) = (getD text at 0 ≡ b) × Standing (at + 1) bs
 
@@ -59,7 +59,7 @@ module _ (text : List ℕ) where
       let f : w * 1 + 0 ≡ w = omega arith in
       rw (e, f) (takes-none at w)
 
-  takes-begun : (bs : List ℕ) (at w : ℕ) → Standing at bs → at + length bs ≤ length text → length bs ≤ 19 → w < 10 ^ (19 - length bs)
+  pub takes-begun : (bs : List ℕ) (at w : ℕ) → Standing at bs → at + length bs ≤ length text → length bs ≤ 19 → w < 10 ^ (19 - length bs)
       → Takes text at w (at + length (begun bs)) (w * 10 ^ length (begun bs) + val (begun bs))
   unfolding begun val
   takes-begun [] at w s h n l = takes-nothing at w
@@ -83,7 +83,7 @@ module _ (text : List ℕ) where
       go false e rest = takes-nothing at w
 
   -- fewer digits than bytes: the run ends with them
-  ends-begun : (bs : List ℕ) (at : ℕ) → Standing at bs → at + length bs ≤ length text → length (begun bs) < length bs → pastDigitsOf text (at + length (begun bs)) ≡ at + length (begun bs)
+  pub ends-begun : (bs : List ℕ) (at : ℕ) → Standing at bs → at + length bs ≤ length text → length (begun bs) < length bs → pastDigitsOf text (at + length (begun bs)) ≡ at + length (begun bs)
   unfolding begun
   ends-begun [] at s h l = absurd (omega arith)
   ends-begun (b ∷ bs) at s h l = go (among b digits) refl l (λ m. ends-begun bs (at + 1) (s .1) (omega arith) m)
@@ -148,7 +148,7 @@ module _ (text : List ℕ) where
 
 -- ---- how large the number of a run is
 
-begun-le : (bs : List ℕ) → length (begun bs) ≤ length bs
+pub begun-le : (bs : List ℕ) → length (begun bs) ≤ length bs
 unfolding begun
 begun-le [] = omega arith
 begun-le (b ∷ bs) = go (among b digits) (begun-le bs)
@@ -157,7 +157,7 @@ begun-le (b ∷ bs) = go (among b digits) (begun-le bs)
     go true h = omega arith
     go false h = omega arith
 
-begun-lt : (bs : List ℕ) → val (begun bs) < 10 ^ length (begun bs)
+pub begun-lt : (bs : List ℕ) → val (begun bs) < 10 ^ length (begun bs)
 unfolding begun val
 begun-lt [] = omega arith
 begun-lt (b ∷ bs) = go (among b digits) refl (begun-lt bs)

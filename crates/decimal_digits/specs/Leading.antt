@@ -2,8 +2,9 @@
 use Prim.Native.Nat.{ℕ, _+_, _*_, _^_, _≤_, _<_}
 use mathlib.Core.Path.{_≡_}
 use mathlib.Core.List.{List}
-use Rattle.scan.specs.Runs.{pastDigitsOf}
+use Rattle.scan.specs.Runs.{pastDigitsOf, pastPointOf}
 use Rattle.decimal_digits.specs.Digits.{digitsIn, val}
+use Rattle.decimal_digits.specs.declared.gathering.Fraction.{Fraction}
 use Rattle.decimal_digits.specs.declared.gathering.Leading.{Leading}
 use Rattle.decimal_digits.specs.declared.gathering.Taken.{Taken}
 
@@ -30,3 +31,11 @@ pub record Gathers (text : List ℕ) (from w dropped : ℕ) (r : Leading) : Type
   pub passed : r .at ≡ pastDigitsOf text from
   pub held : (start : ℕ) → start ≤ from → Leads (digitsIn text start from) w dropped → Leads (digitsIn text start (r .at)) (r .w) (r .dropped)
   pub few : r .dropped ≤ r .at
+
+-- the digits with those past a point that may stand at a place
+abbrev pub allOf : Fraction → Leading
+allOf r = record { at = r .at; w = r .w; dropped = r .dropped }
+
+pub record Fractions (text : List ℕ) (point w dropped : ℕ) (r : Fraction) : Type 0 where
+  pub starts : r .from ≡ pastPointOf text point
+  pub gathers : Gathers text (r .from) w dropped (allOf r)

@@ -36,7 +36,7 @@ pub fn read_number(text: &[u8], at: usize) -> Read
         return Read::Refused(Refusal::UnexpectedEnd(text.len()));
     }
     // taken apart and put together again: else it is copied as a whole, which is slower
-    match decimal::number(text, start) {
+    match decimal::number_within(text, start) {
         Read::Value(value, next) => Read::Value(value, next),
         Read::Refused(refusal) => Read::Refused(refusal),
     }

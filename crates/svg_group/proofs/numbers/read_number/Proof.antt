@@ -12,11 +12,15 @@ returns c = simp (sym (c .before .past-separators .ensures), le-ltb _ _ (c .if1 
 
 returns-2 : tie.Need-returns-2
 unfolding readNumberOf
-returns-2 c = simp (sym (c .before .before .before .before .before .past-separators .ensures), lt-ltb _ _ (c .before .before .before .before .if1 .left)) (sym (c .before .value .given .1) ∙ c .before .before .before .number .ensures)
+returns-2 c =
+    let found = c .before .before .before in
+    simp (sym (found .before .before .past-separators .ensures), lt-ltb _ _ (found .before .if1 .left)) (sym (c .before .value .given .1) ∙ found .number-within .ensures)
 
 returns-3 : tie.Need-returns-3
 unfolding readNumberOf
-returns-3 c = simp (sym (c .before .before .before .before .before .past-separators .ensures), lt-ltb _ _ (c .before .before .before .before .if1 .left)) (sym (c .before .refusal .given .1) ∙ c .before .before .before .number .ensures)
+returns-3 c =
+    let found = c .before .before .before in
+    simp (sym (found .before .before .past-separators .ensures), lt-ltb _ _ (found .before .if1 .left)) (sym (c .before .refusal .given .1) ∙ found .number-within .ensures)
 
 pub read-number-spec : {M : Type 1} → statement M
 read-number-spec =
