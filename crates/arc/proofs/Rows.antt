@@ -1,11 +1,14 @@
 -- The loop that puts numbers in place, and the passes from the angles of an arc's samples to its steps. Assumes nothing.
-use mathlib.Core.Path.{_≡_, refl, sym, ap, _∙_}
-use Prim.Native.Nat.{ℕ, suc, _+_, _≤_, _<_}
+use mathlib.Core.Path.{_≡_, refl, sym, ap, subst, _∙_}
+use mathlib.Core.Logic.{_⊎_, inl, inr}
+use Prim.Native.Nat.{ℕ, suc, _+_, _-_, _≤_, _<_}
+use native.Mathlib.Nat.{eq-or-lt-of-le, not-suc-le-zero, lt-of-not-le}
+use native.Mathlib.Decide.{decLe}
 use native.Mathlib.Numerals.{add-one}
 use native.Mathlib.Omega.{arith}
 use mathlib.Core.List.{List}
-use lib.ListN.{length, getD, set}
-use lib.Seq.{getD-set-other}
+use lib.ListN.{length, getD, set, length-set}
+use lib.Seq.{getD-set-same, getD-set-other}
 use lib.Ieee.{Float, nan, binary32, sub}
 use Rattle.lengths.specs.Length as lengths
 use Rattle.lengths.proofs.Lists.{Passing, passing-start, passing-more, lengths-count, lengths-at}
@@ -15,7 +18,7 @@ use Rattle.table_samples.specs.Samples.{sampleAt, stepsOf}
 use Rattle.table_samples.proofs.Steps.{steps-are}
 use Rattle.ellipse.specs.declared.ends.Arc.{Arc}
 use Rattle.ellipse.specs.Shape.{onEllipse, pointTurned}
-use Rattle.arc.specs.Rows.{Row, angleFor, sineFor, cosineFor, pointFor, acrossFor, alongFor, stepFor}
+use Rattle.arc.specs.Rows.{Row, Run, angleFor, sineFor, cosineFor, pointFor, acrossFor, alongFor, stepFor}
 
 -- ---- each place before k has its number, and each from k on what it had
 pub record Replacing (numbers : ℕ → Float) (old row : List Float) (k : ℕ) : Type 0 where
@@ -39,6 +42,64 @@ module _ {numbers : ℕ → Float} {old row : List Float} {k : ℕ} where
 
   pub replacing-row : {n : ℕ} → Replacing numbers old row k → n ≤ k → Row numbers n row
   replacing-row r past = record { size = r .passing .size; each = λ j l. r .passing .done j (omega arith) }
+
+-- ---- a run of 8 from `at` on, of which k are put
+pub record Running (f : Float → Float) (at : ℕ) (angles old row : List Float) (k : ℕ) : Type 0 where
+  pub size : length row ≡ 32
+  pub own : (j : ℕ) → j < k → getD row (at + j) nan ≡ f (getD angles (at + j) nan)
+  pub rest : (j : ℕ) → (j < at) ⊎ (at + k ≤ j) → getD row j nan ≡ getD old j nan
+
+pub running-start : {f : Float → Float} {at : ℕ} {angles old : List Float} → length old ≡ 32 → Running f at angles old old 0
+running-start h = record { size = h; own = λ j l. absurd (not-suc-le-zero l); rest = λ j l. refl }
+
+module _ {f : Float → Float} {at : ℕ} {angles old row : List Float} {k : ℕ} where
+  pub running-more : Running f at angles old row k → at + k < 32 → (v : Float) → v ≡ f (getD angles (at + k) nan) → Running f at angles old (set row (at + k) v) (k + 1)
+  running-more r inside v e =
+      record {
+        size = length-set row (at + k) v ∙ r .size;
+        own = λ j l. put j (eq-or-lt-of-le (let m : j ≤ k = omega arith in m));
+        rest = λ j g. getD-set-other row (at + k) j v nan (apart j g) ∙ r .rest j (before j g);
+      }
+    where
+      put : (j : ℕ) → (j ≡ k) ⊎ (j < k) → getD (set row (at + k) v) (at + j) nan ≡ f (getD angles (at + j) nan)
+      put j (inl q) =
+          subst (λ (i : ℕ). getD (set row (at + k) v) (at + i) nan ≡ f (getD angles (at + i) nan)) (sym q) (getD-set-same row (at + k) v nan (omega (arith, r .size)) ∙ e)
+      put j (inr q) = getD-set-other row (at + k) (at + j) v nan (λ (x : at + j ≡ at + k). omega arith) ∙ r .own j q
+
+      apart : (j : ℕ) → (j < at) ⊎ (at + (k + 1) ≤ j) → j ≡ at + k → ⊥
+      apart j (inl l) x = omega arith
+      apart j (inr l) x = omega arith
+
+      before : (j : ℕ) → (j < at) ⊎ (at + (k + 1) ≤ j) → (j < at) ⊎ (at + k ≤ j)
+      before j (inl l) = inl l
+      before j (inr l) = inr (omega arith)
+
+  pub running-run : Running f at angles old row k → 8 ≤ k → k ≤ 8 → Run f at angles old row
+  running-run r past upto =
+      record { size = r .size; own = λ j l. r .own j (omega arith); rest = λ j g. r .rest j (wider j g) }
+    where
+      wider : (j : ℕ) → (j < at) ⊎ (at + 8 ≤ j) → (j < at) ⊎ (at + k ≤ j)
+      wider j (inl l) = inl l
+      wider j (inr l) = inr (omega arith)
+
+-- a run after those before it: `angles` has from `at` on what the first row had
+module _ (f : Float → Float) (first : List Float) {at : ℕ} {angles old row new : List Float} where
+  pub run-more : Replacing (λ (j : ℕ). f (getD first j nan)) old row at → Run f at angles row new → ((j : ℕ) → at ≤ j → getD angles j nan ≡ getD first j nan)
+      → at ≤ 24 → Replacing (λ (j : ℕ). f (getD first j nan)) old new (at + 8)
+  run-more r n same low =
+      record {
+        passing = record { size = n .size; upto = omega arith; done = λ j l. put j (decLe at j) l };
+        rest = λ j g. n .rest j (inr g) ∙ r .rest j (omega arith);
+      }
+    where
+      at-place : (j : ℕ) → at ≤ j → j < at + 8 → getD new j nan ≡ f (getD first j nan)
+      at-place j l h =
+          let e : at + (j - at) ≡ j = omega arith in
+          subst (λ (i : ℕ). getD new i nan ≡ f (getD first i nan)) e (n .own (j - at) (omega arith) ∙ ap f (same (at + (j - at)) (omega arith)))
+
+      put : (j : ℕ) → Dec (at ≤ j) → j < at + 8 → getD new j nan ≡ f (getD first j nan)
+      put j (yes l) h = at-place j l h
+      put j (no g) h = n .rest j (inl (lt-of-not-le g)) ∙ r .passing .done j (lt-of-not-le g)
 
 -- ---- from angles to steps
 module _

@@ -1,5 +1,6 @@
 -- Rows of numbers, one for each of an arc's 32 samples: what each pass over them gives (F.6.3). Definitions only.
-use Prim.Native.Nat.{ℕ, _+_, _<_}
+use Prim.Native.Nat.{ℕ, _+_, _≤_, _<_}
+use mathlib.Core.Logic.{_⊎_}
 use mathlib.Core.Path.{_≡_}
 use mathlib.Core.List.{List}
 use lib.ListN.{getD, length}
@@ -16,6 +17,12 @@ use Rattle.ellipse.specs.Shape.{onEllipse, angleAt}
 pub record Row (numbers : ℕ → Float) (n : ℕ) (row : List Float) : Type 0 where
   pub size : length row ≡ 32
   pub each : (k : ℕ) → k < n → getD row k nan ≡ numbers k
+
+-- the 8 places from `at` on have what f gives of the angles there, and the others what they had
+pub record Run (f : Float → Float) (at : ℕ) (angles old row : List Float) : Type 0 where
+  pub size : length row ≡ 32
+  pub own : (k : ℕ) → k < 8 → getD row (at + k) nan ≡ f (getD angles (at + k) nan)
+  pub rest : (j : ℕ) → (j < at) ⊎ (at + 8 ≤ j) → getD row j nan ≡ getD old j nan
 
 -- the angle of sample k, at k/31 of the turn
 abbrev pub angleFor : Arc → ℕ → Float

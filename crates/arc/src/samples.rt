@@ -2,15 +2,17 @@
 // lanes. Two rows of 32 hold what a pass gives, and the next puts its own in place. The functions ask that a row has 32 places, which its
 // type says and the logic does not know.
 ghost use mathlib.Core.Path.{_≡_};
+ghost use Prim.Native.Nat.{_≤_};
 ghost use lib.ListN.{length};
-ghost use Rattle.arc.specs.Rows.{Row, angleFor, sineFor, cosineFor, acrossFor, alongFor, stepFor};
+ghost use Rattle.trig_rule.specs.Steps.{sineOf, cosineOf};
+ghost use Rattle.arc.specs.Rows.{Row, Run, angleFor, sineFor, cosineFor, acrossFor, alongFor, stepFor};
 use ellipse::Arc;
 use ellipse::angle_at;
 use ellipse::on_ellipse;
 use math::Point;
 use table::inner::mark;
 use trig::SinCos;
-use trig::sin_cos;
+use trig_all::inner::sin_cos_all;
 
 // Puts the angle of each sample.
 pub(crate) fn put_angles(shape: Arc, x: &mut [f32; 32])
@@ -24,19 +26,39 @@ pub(crate) fn put_angles(shape: Arc, x: &mut [f32; 32])
     }
 }
 
-// Puts the sine of each angle in its place, and the cosine beside it.
+// Puts the sines of the 8 angles from `at` on in their places, and the cosines beside them.
+fn put_run(x: &mut [f32; 32], y: &mut [f32; 32], at: usize)
+    requires { ⌜ (length (now x) ≡ 32) × (length (now y) ≡ 32) × (at ≤ 24) ⌝ }
+    ensures sines { λ _. ⌜ Run sineOf at (now (x .entry)) (now (x .entry)) (now (x .exit)) ⌝ }
+    ensures cosines { λ _. ⌜ Run cosineOf at (now (x .entry)) (now (y .entry)) (now (y .exit)) ⌝ }
+{
+    let mut angles = [0.0f32; 8];
+    let mut i = 0usize;
+    while i < 8 {
+        angles[i] = x[at + i];
+        i += 1;
+    }
+    let mut sines = [0.0f32; 8];
+    let mut cosines = [0.0f32; 8];
+    sin_cos_all(&angles, &mut sines, &mut cosines);
+    let mut k = 0usize;
+    while k < 8 {
+        x[at + k] = sines[k];
+        y[at + k] = cosines[k];
+        k += 1;
+    }
+}
+
+// Puts the sine of each angle in its place, and the cosine beside it. Four calls, not a loop: so the rows of a run stand in a frame of their own.
 pub(crate) fn put_sines(x: &mut [f32; 32], y: &mut [f32; 32])
     requires { ⌜ (length (now x) ≡ 32) × (length (now y) ≡ 32) ⌝ }
     ensures sines { λ _. ⌜ Row (sineFor (now (x .entry))) 32 (now (x .exit)) ⌝ }
     ensures cosines { λ _. ⌜ Row (cosineFor (now (x .entry))) 32 (now (y .exit)) ⌝ }
 {
-    let mut i = 0usize;
-    while i < 32 {
-        let angle = sin_cos(x[i]);
-        x[i] = angle.sin;
-        y[i] = angle.cos;
-        i += 1;
-    }
+    put_run(x, y, 0);
+    put_run(x, y, 8);
+    put_run(x, y, 16);
+    put_run(x, y, 24);
 }
 
 // Puts the point of each sine and cosine in their places.
