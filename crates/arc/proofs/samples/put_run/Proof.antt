@@ -47,8 +47,7 @@ loop2-again c =
     let l = c .loop2-test .taken in
     let same = copied .before .loop .inv .done (at .k) (omega (arith, l, copied .loop-test .left)) in
     let inside : start .args .at + at .k < 32 = omega (arith, start .pre .2, l) in
-    let both = called .sin-cos-all .ensures .2 (at .k) l in
-    (
+    let both = called .sin-cos-all .ensures .2 (at .k) l in (
       running-more (at .inv .0) inside _ (both .0 ∙ ap sineOf same),
       running-more (at .inv .1) inside _ (both .1 ∙ ap cosineOf same),
       omega (arith, l),
