@@ -32,7 +32,7 @@ module _ {b : ℕ} {s : Bool} {n k : ℕ} (h : Packed b s n k) where
   pub packed-range : InRange b
   packed-range = (subst (λ (i : ℕ). 897 * 2 ^ 52 ≤ i) (sym (both .1)) (h .low), subst (λ (i : ℕ). i < 1149 * 2 ^ 52) (sym (both .1)) (h .high))
 
-in-range-number : (x : Float) → T (fits binary64 x) → InRange (toBits binary64 x) → T (not (isNan x))
+pub in-range-number : (x : Float) → T (fits binary64 x) → InRange (toBits binary64 x) → T (not (isNan x))
 in-range-number x f r =
     subst (λ (y : Float). T (not (isNan y))) (ofBits-toBits binary64 x f)
     (subst (λ (t : Bool). T (not t)) (nanBits-is binary64 (toBits binary64 x)) (finite-bits (toBits binary64 x) (omega (arith, r .1))))
@@ -40,7 +40,7 @@ in-range-number x f r =
 -- ---- the float x, of the size n / 2 ^ u with the sign s
 pub record Near (x : Float) (s : Bool) (n k : ℕ) : Type 0 where
   pub number : T (not (isNan x))
-  pub range : (toBits binary64 x ≡ 0) ⊎ InRange (toBits binary64 x)
+  pub range : (toBits binary64 x % 2 ^ 63 ≡ 0) ⊎ InRange (toBits binary64 x)
   pub answer : toBits binary64 x / 2 ^ 63 * 2 ^ 31 + singleOf (toBits binary64 x % 2 ^ 63) ≡ cond s (2 ^ 31) 0 + packOf n k
 
 zero-near : (k : ℕ) → Near (round binary64 false 0 (2 ^ 28)) false 0 k

@@ -89,24 +89,37 @@ module _ (b : ℕ) (fit : b < 2 ^ 64) where
           ∙ rounded-single true p (r .0) (r .1)
           ∙ ap (ofBits binary32) (let g : 2147483648 + singleOf p ≡ b / 2 ^ 63 * 2 ^ 31 + singleOf p = omega arith in g)
 
-  zero-single : b ≡ 0 → ofBits binary64 (roundedWide b) ≡ ofBits binary32 (b / 2 ^ 63 * 2 ^ 31 + singleOf (b % 2 ^ 63))
+  zero-single : b % 2 ^ 63 ≡ 0 → ofBits binary64 (roundedWide b) ≡ ofBits binary32 (b / 2 ^ 63 * 2 ^ 31 + singleOf (b % 2 ^ 63))
   unfolding ofBits
-  zero-single e = ap (λ (n : ℕ). ofBits binary64 (roundedWide n)) e ∙ sym (ap (λ (n : ℕ). ofBits binary32 (n / 2 ^ 63 * 2 ^ 31 + singleOf (n % 2 ^ 63))) e)
+  zero-single z = go (ltb b 9223372036854775808) refl
+    where
+      none : ofBits binary64 (roundedWide 0) ≡ ofBits binary32 (0 / 2 ^ 63 * 2 ^ 31 + singleOf (0 % 2 ^ 63))
+      none = refl
 
-  pub wide-single : (b ≡ 0) ⊎ InRange b → ofBits binary64 (roundedWide b) ≡ ofBits binary32 (b / 2 ^ 63 * 2 ^ 31 + singleOf (b % 2 ^ 63))
+      minus : ofBits binary64 (roundedWide 9223372036854775808) ≡ ofBits binary32 (9223372036854775808 / 2 ^ 63 * 2 ^ 31 + singleOf (9223372036854775808 % 2 ^ 63))
+      minus = refl
+
+      at : (n : ℕ) → b ≡ n → ofBits binary64 (roundedWide n) ≡ ofBits binary32 (n / 2 ^ 63 * 2 ^ 31 + singleOf (n % 2 ^ 63)) → ofBits binary64 (roundedWide b) ≡ ofBits binary32 (b / 2 ^ 63 * 2 ^ 31 + singleOf (b % 2 ^ 63))
+      at n e p = subst (λ (n : ℕ). ofBits binary64 (roundedWide n) ≡ ofBits binary32 (n / 2 ^ 63 * 2 ^ 31 + singleOf (n % 2 ^ 63))) (sym e) p
+
+      go : (x : Bool) → ltb b 9223372036854775808 ≡ x → ofBits binary64 (roundedWide b) ≡ ofBits binary32 (b / 2 ^ 63 * 2 ^ 31 + singleOf (b % 2 ^ 63))
+      go true e = let h = ltb-true b 9223372036854775808 e in at 0 (omega arith) none
+      go false e = let h = ltb-false b 9223372036854775808 e in at 9223372036854775808 (omega arith) minus
+
+  pub wide-single : (b % 2 ^ 63 ≡ 0) ⊎ InRange b → ofBits binary64 (roundedWide b) ≡ ofBits binary32 (b / 2 ^ 63 * 2 ^ 31 + singleOf (b % 2 ^ 63))
   wide-single = ⊎-elim zero-single signed-single
 
-  pub wide-room : (b ≡ 0) ⊎ InRange b → b + 268435456 < 2 ^ 64
+  pub wide-room : (b % 2 ^ 63 ≡ 0) ⊎ InRange b → b + 268435456 < 2 ^ 64
   wide-room = ⊎-elim (λ e. omega arith) (λ r. omega (arith, r .0, r .1))
 
-  rounded-plain : (b ≡ 0) ⊎ InRange b → roundedWide b % 9223372036854775808 < 9218868437227405312
+  rounded-plain : (b % 2 ^ 63 ≡ 0) ⊎ InRange b → roundedWide b % 9223372036854775808 < 9218868437227405312
   rounded-plain = ⊎-elim (λ e. omega arith) (λ r. omega (arith, r .0, r .1))
 
-  pub wide-finite : (b ≡ 0) ⊎ InRange b → T (not (nanBits binary64 (roundedWide b)))
+  pub wide-finite : (b % 2 ^ 63 ≡ 0) ⊎ InRange b → T (not (nanBits binary64 (roundedWide b)))
   wide-finite r = finite-bits (roundedWide b) (rounded-plain r)
 
   -- the cast loses nothing
-  pub wide-cast : (b ≡ 0) ⊎ InRange b → T (fits binary32 (ofBits binary64 (roundedWide b)) && not (isNan (ofBits binary64 (roundedWide b))))
+  pub wide-cast : (b % 2 ^ 63 ≡ 0) ⊎ InRange b → T (fits binary32 (ofBits binary64 (roundedWide b)) && not (isNan (ofBits binary64 (roundedWide b))))
   wide-cast r =
       let x = ofBits binary64 (roundedWide b) in
       and-i (fits binary32 x) (not (isNan x)) (subst (λ (y : Float). T (fits binary32 y)) (sym (wide-single r)) (ofBits-fits binary32 (b / 2 ^ 63 * 2 ^ 31 + singleOf (b % 2 ^ 63))))
