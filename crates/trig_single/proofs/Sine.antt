@@ -93,3 +93,56 @@ module _ (s : Bool) (r : ℕ) (low : 2 ^ 36 ≤ r) (high : r ≤ half) where
 
   pub head : Head (headBits s digits)
   head = let t = leading-top 64 r (omega arith) (omega arith) in at (t .0) (t .1) (t .2) (t .3)
+
+-- ---- the product: n is the packed number, k its power
+module _ (s : Bool) (r a t : ℕ) (low : 2 ^ 36 ≤ r) (high : r ≤ half) (ha : a < 2 ^ 32) (ht : t < 2 ^ 32) where
+  abbrev pub sineWhole : ℕ
+  sineWhole = r / 2 ^ dropOf r * gapOf a t
+
+  abbrev pub sineProduct : Float
+  sineProduct =
+      mul binary64 (ofBits binary64 (headBits s (toBits binary64 (round binary64 false (r / 32) 1)))) (sub binary64 (ofBits binary64 (carrier 81 + a - t)) (ofBits binary64 (carrier 81)))
+
+  gap-below : (b : Bool) → cond b (a - t) (t - a) < 2 ^ 32
+  gap-below true = omega arith
+  gap-below false = omega arith
+
+  difference-value : HasValue (sub binary64 (ofBits binary64 (carrier 81 + a - t)) (ofBits binary64 (carrier 81))) (ltb a t) (gapOf a t) (2 ^ 81)
+  difference-value =
+      subst (λ (x : Float). HasValue x (ltb a t) (gapOf a t) (2 ^ 81)) (sym (taken 81 a t (omega arith) ha ht))
+      (exact-value (ltb a t) 81 (gapOf a t) (omega arith) (let g = gap-below (leb t a) in omega arith))
+
+  pub product-is : sineProduct ≡ round binary64 (unlike s (ltb a t)) sineWhole (2 ^ (86 - dropOf r))
+  product-is =
+      let h = head s r low high in
+      let j = h .place in
+      let D = r / 2 ^ dropOf r in
+      let g = gapOf a t in
+      let v = 86 - dropOf r in
+      let e : 22 + (1022 + j) + v ≡ 1074 + 81 = omega (arith, h .drop, h .near, h .many) in
+      mul-values binary64 (ofBits binary64 (headBits s (toBits binary64 (round binary64 false (r / 32) 1)))) (sub binary64 (ofBits binary64 (carrier 81 + a - t)) (ofBits binary64 (carrier 81))) s (ltb a t)
+      (D * 4194304 * 2 ^ (1022 + j)) (2 ^ 1074) g (2 ^ 81) (pow-pos 1074) (pow-pos 81) (h .value) difference-value
+      ∙ round-same binary64 (unlike s (ltb a t)) (D * 4194304 * 2 ^ (1022 + j) * g) (2 ^ 1074 * 2 ^ 81) (D * g) (2 ^ v) (mul-pos (pow-pos 1074) (pow-pos 81)) (pow-pos v)
+      (ap (λ (x : ℕ). x * g * 2 ^ v) (mul-assoc D (2 ^ 22) (2 ^ (1022 + j)) ∙ ap (λ (x : ℕ). D * x) (sym (pow-add 2 22 (1022 + j))))
+      ∙ ap (λ (x : ℕ). x * 2 ^ v) (mul-right-comm D (2 ^ (22 + (1022 + j))) g)
+      ∙ mul-assoc (D * g) (2 ^ (22 + (1022 + j))) (2 ^ v)
+      ∙ ap (λ (x : ℕ). D * g * x) (sym (pow-add 2 (22 + (1022 + j)) v) ∙ ap (λ (x : ℕ). 2 ^ x) e ∙ pow-add 2 1074 81))
+
+  whole-below : sineWhole < 2 ^ 63
+  whole-below =
+      let h = head s r low high in
+      let g = gap-below (leb t a) in
+      lt-of-le-of-lt (mul-le-mul-left (r / 2 ^ dropOf r) (let k : gapOf a t ≤ 2 ^ 32 = omega arith in k)) (mul-lt-mul-of-pos-right (h .small) (pow-pos 32))
+
+  -- what is not 0, away from the middles
+  pub product-near :
+      0 < gapOf a t → (toBits binary64 sineProduct % 536870912 ≡ 268435456 → ⊥) → Near sineProduct (unlike s (ltb a t)) sineWhole (dropOf r)
+  product-near some apart =
+      let h = head s r low high in
+      let sign = unlike s (ltb a t) in
+      let u = 86 - dropOf r in
+      let x = round binary64 sign sineWhole (2 ^ u) in
+      let e : u + dropOf r ≡ 86 = omega (arith, h .drop, h .near) in
+      let p = product-packed sign u (dropOf r) sineWhole e (mul-pos (h .some) some) whole-below (λ m. apart (ap (λ (y : Float). toBits binary64 y % 536870912) product-is ∙ m)) in
+      subst (λ (y : Float). Near y sign sineWhole (dropOf r)) (sym product-is)
+      (record { number = in-range-number x (round-fits binary64 sign sineWhole (2 ^ u)) (packed-range p); range = inr (packed-range p); answer = packed-answer p })
