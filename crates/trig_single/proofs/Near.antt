@@ -10,6 +10,7 @@ use lib.Dec.{T, leb, ltb}
 use lib.Ieee.{Float, binary64, sub, round, toBits, ofBits, isNan, fits, units, odd, size}
 use lib.Ieee.Bits.{ofBits-toBits, nanBits-is}
 use lib.Ieee.Fits.{round-fits}
+use lib.Ieee.Scale.{round-same}
 use Rattle.trig_rule.specs.Steps.{gapOf, overOf, packOf}
 use Rattle.trig_single.specs.Single.{singleOf}
 use Rattle.trig_single.proofs.Finite.{finite-bits}
@@ -47,13 +48,22 @@ zero-near : (k : ℕ) → Near (round binary64 false 0 (2 ^ 28)) false 0 k
 unfolding round units odd size toBits isNan
 zero-near k = record { number = tt; range = inl refl; answer = refl }
 
+zero-one : (s : Bool) (k : ℕ) → Near (round binary64 s 0 1) s 0 k
+unfolding round units odd size toBits isNan
+zero-one true k = record { number = tt; range = inl refl; answer = refl }
+zero-one false k = record { number = tt; range = inl refl; answer = refl }
+
+-- of either sign, over any denominator
+pub zero-over : (s : Bool) (c k : ℕ) → 0 < c → Near (round binary64 s 0 c) s 0 k
+zero-over s c k p = subst (λ (x : Float). Near x s 0 k) (round-same binary64 s 0 1 0 c (omega arith) p (let e : 0 * c ≡ 0 * 1 = omega arith in e)) (zero-one s k)
+
 module _ (a t : ℕ) (ha : a < 2 ^ 32) (ht : t < 2 ^ 32) where
   gap-below : (b : Bool) → cond b (a - t) (t - a) < 2 ^ 53
   gap-below true = omega arith
   gap-below false = omega arith
 
   -- the sign of a difference of 0 is not negative
-  level : gapOf a t ≡ 0 → ltb a t ≡ false
+  pub level : gapOf a t ≡ 0 → ltb a t ≡ false
   level e = le-ltb a t (go (leb t a) refl e)
     where
       go : (b : Bool) → leb t a ≡ b → cond b (a - t) (t - a) ≡ 0 → t ≤ a

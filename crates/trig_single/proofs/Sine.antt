@@ -18,7 +18,7 @@ use Rattle.trig_single.proofs.Taken.{carrier, taken}
 use Rattle.trig_single.proofs.Head.{exact-value, number-bits, cut-bits, lead-low, lead-high, head-value}
 use Rattle.trig_single.proofs.Packed.{Packed}
 use Rattle.trig_single.proofs.Product.{product-packed}
-use Rattle.trig_single.proofs.Near.{Near, packed-answer, packed-range, in-range-number}
+use Rattle.trig_single.proofs.Near.{Near, packed-answer, packed-range, in-range-number, zero-over}
 
 -- ---- what the code makes of an angle r: the f64 of its leading digits, with the sign s
 abbrev pub headBits : Bool → ℕ → ℕ
@@ -146,3 +146,14 @@ module _ (s : Bool) (r a t : ℕ) (low : 2 ^ 36 ≤ r) (high : r ≤ half) (ha :
       let p = product-packed sign u (dropOf r) sineWhole e (mul-pos (h .some) some) whole-below (λ m. apart (ap (λ (y : Float). toBits binary64 y % 536870912) product-is ∙ m)) in
       subst (λ (y : Float). Near y sign sineWhole (dropOf r)) (sym product-is)
       (record { number = in-range-number x (round-fits binary64 sign sineWhole (2 ^ u)) (packed-range p); range = inr (packed-range p); answer = packed-answer p })
+
+  none-near : gapOf a t ≡ 0 → Near sineProduct (unlike s (ltb a t)) sineWhole (dropOf r)
+  none-near e =
+      let sign = unlike s (ltb a t) in
+      let u = 86 - dropOf r in
+      let z : sineWhole ≡ 0 = ap (λ (g : ℕ). r / 2 ^ dropOf r * g) e ∙ mul-zero (r / 2 ^ dropOf r) in
+      subst (λ (y : Float). Near y sign sineWhole (dropOf r)) (sym product-is)
+      (subst (λ (n : ℕ). Near (round binary64 sign n (2 ^ u)) sign n (dropOf r)) (sym z) (zero-over sign (2 ^ u) (dropOf r) (pow-pos u)))
+
+  pub sine-near : (toBits binary64 sineProduct % 536870912 ≡ 268435456 → ⊥) → Near sineProduct (unlike s (ltb a t)) sineWhole (dropOf r)
+  sine-near apart = ⊎-elim none-near (λ some. product-near some apart) (eq-zero-or-pos (gapOf a t))
