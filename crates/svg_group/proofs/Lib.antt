@@ -2,4 +2,5 @@
 pub mod Ahead
 pub mod Ends
 pub mod Places
+pub mod RowLaws
 pub mod Widths

@@ -1,5 +1,6 @@
 -- What the contracts of this crate cite. Definitions only.
 pub mod Letters
 pub mod Numbers
+pub mod Rows
 pub mod Groups
 pub mod Passing

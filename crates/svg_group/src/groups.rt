@@ -1,12 +1,16 @@
 // One group of each kind, read into a command.
 ghost use mathlib.Core.Path.{_≡_};
+ghost use Rattle.svg_group.specs.Numbers.{movedOf};
 ghost use Rattle.svg_group.specs.Groups.{readMoveOf, readLineOf, readHorizontalOf, readVerticalOf, readCubicOf, readSmoothCubicOf, readQuadOf, readSmoothQuadOf, readArcOf, readGroupOf};
 use crate::letters::Kind;
 use crate::numbers::Flags;
 use crate::numbers::Pair;
+use crate::numbers::moved;
 use crate::numbers::read_flags;
 use crate::numbers::read_number;
 use crate::numbers::read_pair;
+use crate::passing::Passed;
+use crate::rows::read_row;
 use answers::Refusal;
 use commands::PathCommand;
 use decimal::Read;
@@ -18,27 +22,42 @@ pub enum Group {
     Refused(Refusal),
 }
 
+// A point of two numbers, as they are written or added to the current one.
+fn point_of(relative: bool, current: Point, x: f32, y: f32) -> Point
+    ensures { λ r. ⌜ r ≡ movedOf relative current (record { x = x; y = y }) ⌝ }
+{
+    moved(relative, current, Point { x, y })
+}
+
 fn read_move(text: &[u8], at: usize, relative: bool, current: Point) -> Group
     ensures { λ r. ⌜ r ≡ readMoveOf (now (text .entry)) at relative current ⌝ }
 {
-    match read_pair(text, at, relative, current) {
-        Pair::Refused(refusal) => Group::Refused(refusal),
-        Pair::Taken { point, next } => Group::Taken {
-            command: PathCommand::MoveTo(point),
-            next,
-        },
+    let mut values = [0.0f32; 6];
+    match read_row(text, at, 2, &mut values) {
+        Passed::Refused(refusal) => Group::Refused(refusal),
+        Passed::To(next) => {
+            let end = point_of(relative, current, values[0], values[1]);
+            Group::Taken {
+                command: PathCommand::MoveTo(end),
+                next,
+            }
+        }
     }
 }
 
 fn read_line(text: &[u8], at: usize, relative: bool, current: Point) -> Group
     ensures { λ r. ⌜ r ≡ readLineOf (now (text .entry)) at relative current ⌝ }
 {
-    match read_pair(text, at, relative, current) {
-        Pair::Refused(refusal) => Group::Refused(refusal),
-        Pair::Taken { point, next } => Group::Taken {
-            command: PathCommand::LineTo(point),
-            next,
-        },
+    let mut values = [0.0f32; 6];
+    match read_row(text, at, 2, &mut values) {
+        Passed::Refused(refusal) => Group::Refused(refusal),
+        Passed::To(next) => {
+            let end = point_of(relative, current, values[0], values[1]);
+            Group::Taken {
+                command: PathCommand::LineTo(end),
+                next,
+            }
+        }
     }
 }
 
@@ -97,49 +116,39 @@ fn read_vertical(text: &[u8], at: usize, relative: bool, current: Point) -> Grou
 fn read_cubic(text: &[u8], at: usize, relative: bool, current: Point) -> Group
     ensures { λ r. ⌜ r ≡ readCubicOf (now (text .entry)) at relative current ⌝ }
 {
-    match read_pair(text, at, relative, current) {
-        Pair::Refused(refusal) => Group::Refused(refusal),
-        Pair::Taken { point, next } => match read_pair(text, next, relative, current) {
-            Pair::Refused(refusal) => Group::Refused(refusal),
-            Pair::Taken {
-                point: second,
-                next: third,
-            } => match read_pair(text, third, relative, current) {
-                Pair::Refused(refusal) => Group::Refused(refusal),
-                Pair::Taken {
-                    point: end,
-                    next: past,
-                } => Group::Taken {
-                    command: PathCommand::CubicTo {
-                        control1: point,
-                        control2: second,
-                        end,
-                    },
-                    next: past,
+    let mut values = [0.0f32; 6];
+    match read_row(text, at, 6, &mut values) {
+        Passed::Refused(refusal) => Group::Refused(refusal),
+        Passed::To(next) => {
+            let control1 = point_of(relative, current, values[0], values[1]);
+            let control2 = point_of(relative, current, values[2], values[3]);
+            let end = point_of(relative, current, values[4], values[5]);
+            Group::Taken {
+                command: PathCommand::CubicTo {
+                    control1,
+                    control2,
+                    end,
                 },
-            },
-        },
+                next,
+            }
+        }
     }
 }
 
 fn read_quad(text: &[u8], at: usize, relative: bool, current: Point) -> Group
     ensures { λ r. ⌜ r ≡ readQuadOf (now (text .entry)) at relative current ⌝ }
 {
-    match read_pair(text, at, relative, current) {
-        Pair::Refused(refusal) => Group::Refused(refusal),
-        Pair::Taken { point, next } => match read_pair(text, next, relative, current) {
-            Pair::Refused(refusal) => Group::Refused(refusal),
-            Pair::Taken {
-                point: end,
-                next: past,
-            } => Group::Taken {
-                command: PathCommand::QuadTo {
-                    control: point,
-                    end,
-                },
-                next: past,
-            },
-        },
+    let mut values = [0.0f32; 6];
+    match read_row(text, at, 4, &mut values) {
+        Passed::Refused(refusal) => Group::Refused(refusal),
+        Passed::To(next) => {
+            let control = point_of(relative, current, values[0], values[1]);
+            let end = point_of(relative, current, values[2], values[3]);
+            Group::Taken {
+                command: PathCommand::QuadTo { control, end },
+                next,
+            }
+        }
     }
 }
 
@@ -147,22 +156,21 @@ fn read_quad(text: &[u8], at: usize, relative: bool, current: Point) -> Group
 fn read_smooth_cubic(text: &[u8], at: usize, relative: bool, current: Point, first: Point) -> Group
     ensures { λ r. ⌜ r ≡ readSmoothCubicOf (now (text .entry)) at relative current first ⌝ }
 {
-    match read_pair(text, at, relative, current) {
-        Pair::Refused(refusal) => Group::Refused(refusal),
-        Pair::Taken { point, next } => match read_pair(text, next, relative, current) {
-            Pair::Refused(refusal) => Group::Refused(refusal),
-            Pair::Taken {
-                point: end,
-                next: past,
-            } => Group::Taken {
+    let mut values = [0.0f32; 6];
+    match read_row(text, at, 4, &mut values) {
+        Passed::Refused(refusal) => Group::Refused(refusal),
+        Passed::To(next) => {
+            let control2 = point_of(relative, current, values[0], values[1]);
+            let end = point_of(relative, current, values[2], values[3]);
+            Group::Taken {
                 command: PathCommand::CubicTo {
                     control1: first,
-                    control2: point,
+                    control2,
                     end,
                 },
-                next: past,
-            },
-        },
+                next,
+            }
+        }
     }
 }
 
@@ -170,15 +178,19 @@ fn read_smooth_cubic(text: &[u8], at: usize, relative: bool, current: Point, fir
 fn read_smooth_quad(text: &[u8], at: usize, relative: bool, current: Point, first: Point) -> Group
     ensures { λ r. ⌜ r ≡ readSmoothQuadOf (now (text .entry)) at relative current first ⌝ }
 {
-    match read_pair(text, at, relative, current) {
-        Pair::Refused(refusal) => Group::Refused(refusal),
-        Pair::Taken { point, next } => Group::Taken {
-            command: PathCommand::QuadTo {
-                control: first,
-                end: point,
-            },
-            next,
-        },
+    let mut values = [0.0f32; 6];
+    match read_row(text, at, 2, &mut values) {
+        Passed::Refused(refusal) => Group::Refused(refusal),
+        Passed::To(next) => {
+            let end = point_of(relative, current, values[0], values[1]);
+            Group::Taken {
+                command: PathCommand::QuadTo {
+                    control: first,
+                    end,
+                },
+                next,
+            }
+        }
     }
 }
 

@@ -4,6 +4,7 @@ mod groups;
 mod letters;
 mod numbers;
 mod passing;
+mod rows;
 
 pub use groups::Group;
 pub use groups::read_group;

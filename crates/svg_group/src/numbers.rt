@@ -83,7 +83,7 @@ pub fn read_flags(text: &[u8], at: usize) -> Flags
 }
 
 // A point as it is written, or added to the current one.
-fn moved(relative: bool, current: Point, point: Point) -> Point
+pub fn moved(relative: bool, current: Point, point: Point) -> Point
     ensures { λ r. ⌜ r ≡ movedOf relative current point ⌝ }
 {
     if relative {
