@@ -50,8 +50,8 @@ module _ {b : Buffers} {progresses : List Float} {at : Cursor} {k : ℕ} (f : Fl
   looking-moves p e = let h = among p e in let few = f .path .few in let stood = l .inside in record { few = few; is = l .is; stood = omega arith; inside = omega arith }
 
   -- from the cursor or a mark
-  pub looking-leaps : {shift : ℕ} {numbers tables : List ℕ} → Marks (b .kinds) shift numbers tables → (p : Float) {spot : Spot} → spot ≡ spotOf (b .lengths) p
-      → Leap (b .kinds) shift numbers tables at (spot .segment)
+  pub looking-leaps : {shift : ℕ} {fields tables : List ℕ} → Marks (b .kinds) shift fields tables → (p : Float) {spot : Spot} → spot ≡ spotOf (b .lengths) p
+      → Leap (b .kinds) shift fields tables at (spot .segment)
   looking-leaps m p e = record { marks = m; move = looking-moves p e; inside = among p e }
 
 -- ---- one element for each progress

@@ -16,16 +16,16 @@ ghost use Rattle.path_place.specs.Places.{TableThere, rawIn};
 ghost use Rattle.path_heading.specs.Headings.{headingOf};
 
 // Where a segment heads at a local progress, with the length 1, or (0, 0) where nothing tells. `raw` is the raw parameter of the local
-// progress, and `place` that of the segment's table, if it has one.
+// progress, and the segment's table starts at `first`, if it has one.
 pub fn heading(
     segment: PathSegment,
     tables: &[f32],
-    place: usize,
+    first: usize,
     along: Progress,
     raw: RawParameter,
 ) -> Point
-    requires { ⌜ (T (hasTable (kindOf segment)) → TableThere (now tables) place) ⌝ }
-    ensures { λ r. ⌜ r ≡ headingOf segment (raw .value) (rawIn (now (tables .entry)) place (aheadOf (along .value))) ⌝ }
+    requires { ⌜ (T (hasTable (kindOf segment)) → TableThere (now tables) first) ⌝ }
+    ensures { λ r. ⌜ r ≡ headingOf segment (raw .value) (rawIn (now (tables .entry)) first (aheadOf (along .value))) ⌝ }
 {
     match segment {
         PathSegment::Line(line) => line_tangent(line),
@@ -33,13 +33,13 @@ pub fn heading(
             start,
             control,
             end,
-        } => quad_heading(start, control, end, tables, place, along, raw),
+        } => quad_heading(start, control, end, tables, first, along, raw),
         PathSegment::Cubic {
             start,
             control1,
             control2,
             end,
-        } => cubic_heading(start, control1, control2, end, tables, place, along, raw),
+        } => cubic_heading(start, control1, control2, end, tables, first, along, raw),
         PathSegment::Arc(shape) => arc_heading(shape, raw),
         PathSegment::Fallback(shape) => line_tangent(chord_line(shape)),
     }

@@ -1,4 +1,4 @@
-// The directions of quads and cubics whose table starts at a place of the tables.
+// The directions of quads and cubics whose table starts at `first` of the tables.
 use bezier::inner::cubic_direction;
 use bezier::inner::quad_direction;
 use math::Point;
@@ -15,16 +15,16 @@ pub(crate) fn quad_heading(
     control: Point,
     end: Point,
     tables: &[f32],
-    place: usize,
+    first: usize,
     along: Progress,
     raw: RawParameter,
 ) -> Point
-    requires { ⌜ TableThere (now tables) place ⌝ }
-    ensures { λ r. ⌜ r ≡ quadDirection start control end (raw .value) (rawIn (now (tables .entry)) place (aheadOf (along .value))) ⌝ }
+    requires { ⌜ TableThere (now tables) first ⌝ }
+    ensures { λ r. ⌜ r ≡ quadDirection start control end (raw .value) (rawIn (now (tables .entry)) first (aheadOf (along .value))) ⌝ }
 {
-    let last = place + 32;
+    let last = first + 32;
     let total = tables[last];
-    quad_direction(start, control, end, raw, &tables[place..last], total, along)
+    quad_direction(start, control, end, raw, &tables[first..last], total, along)
 }
 
 pub(crate) fn cubic_heading(
@@ -33,14 +33,14 @@ pub(crate) fn cubic_heading(
     control2: Point,
     end: Point,
     tables: &[f32],
-    place: usize,
+    first: usize,
     along: Progress,
     raw: RawParameter,
 ) -> Point
-    requires { ⌜ TableThere (now tables) place ⌝ }
-    ensures { λ r. ⌜ r ≡ cubicDirection start control1 control2 end (raw .value) (rawIn (now (tables .entry)) place (aheadOf (along .value))) ⌝ }
+    requires { ⌜ TableThere (now tables) first ⌝ }
+    ensures { λ r. ⌜ r ≡ cubicDirection start control1 control2 end (raw .value) (rawIn (now (tables .entry)) first (aheadOf (along .value))) ⌝ }
 {
-    let last = place + 32;
+    let last = first + 32;
     let total = tables[last];
     cubic_direction(
         start,
@@ -48,7 +48,7 @@ pub(crate) fn cubic_heading(
         control2,
         end,
         raw,
-        &tables[place..last],
+        &tables[first..last],
         total,
         along,
     )

@@ -12,7 +12,7 @@ segmentOf shift k = k * 2 ^ shift
 
 -- the cursor that the mark k keeps
 abbrev pub markOf : ℕ → List ℕ → List ℕ → ℕ → Cursor
-markOf shift numbers tables k = record { segment = segmentOf shift k; numbers = getD numbers k 0; tables = getD tables k 0 }
+markOf shift fields tables k = record { segment = segmentOf shift k; fields = getD fields k 0; tables = getD tables k 0 }
 
 -- 256 marks reach over so many segments
 pub record Reach (count shift : ℕ) : Type 0 where
@@ -20,24 +20,24 @@ pub record Reach (count shift : ℕ) : Type 0 where
   pub small : shift ≤ 16
 
 -- a place for each mark
-pub record Sized (numbers tables : List ℕ) : Type 0 where
-  pub numbersAre : length numbers ≡ 256
+pub record Sized (fields tables : List ℕ) : Type 0 where
+  pub fieldsAre : length fields ≡ 256
   pub tablesAre : length tables ≡ 256
 
 -- each mark that stands on the path is the cursor of its segment
-pub record Marks (kinds : List ℕ) (shift : ℕ) (numbers tables : List ℕ) : Type 0 where
-  pub sized : Sized numbers tables
+pub record Marks (kinds : List ℕ) (shift : ℕ) (fields tables : List ℕ) : Type 0 where
+  pub sized : Sized fields tables
   pub reach : Reach (length kinds) shift
-  pub are : (k : ℕ) → segmentOf shift k < length kinds → markOf shift numbers tables k ≡ cursorOf kinds (segmentOf shift k)
+  pub are : (k : ℕ) → segmentOf shift k < length kinds → markOf shift fields tables k ≡ cursorOf kinds (segmentOf shift k)
 
 -- a path that marks can be set on
-pub record Markable (kinds numbers tables : List ℕ) : Type 0 where
-  pub sized : Sized numbers tables
+pub record Markable (kinds fields tables : List ℕ) : Type 0 where
+  pub sized : Sized fields tables
   pub some : 0 < length kinds
   pub few : length kinds ≤ 65536
 
 -- a way to a segment of a path with marks
-pub record Leap (kinds : List ℕ) (shift : ℕ) (numbers tables : List ℕ) (from : Cursor) (segment : ℕ) : Type 0 where
-  pub marks : Marks kinds shift numbers tables
+pub record Leap (kinds : List ℕ) (shift : ℕ) (fields tables : List ℕ) (from : Cursor) (segment : ℕ) : Type 0 where
+  pub marks : Marks kinds shift fields tables
   pub move : Moving kinds from segment
   pub inside : segment < length kinds

@@ -1,4 +1,4 @@
-// Marks: how many numbers and table entries stand before every so many segments, at 256 places at most. They are a power of two of
+// Marks: how many fields and table entries stand before every so many segments, at 256 places at most. They are a power of two of
 // segments apart, which is kept as its exponent, the shift.
 use path_place::Cursor;
 use path_place::first_cursor;
@@ -26,9 +26,9 @@ fn shift_for(count: usize) -> usize
 }
 
 // Sets the marks of a path, as near to each other as 256 allow, and gives their shift.
-fn set_marks(kinds: &[u8], numbers: &mut [u32; 256], tables: &mut [u32; 256]) -> usize
-    requires { ⌜ Markable (now kinds) (now numbers) (now tables) ⌝ }
-    ensures { λ r. ⌜ Marks (now (kinds .entry)) r (now (numbers .exit)) (now (tables .exit)) ⌝ }
+fn set_marks(kinds: &[u8], fields: &mut [u32; 256], tables: &mut [u32; 256]) -> usize
+    requires { ⌜ Markable (now kinds) (now fields) (now tables) ⌝ }
+    ensures { λ r. ⌜ Marks (now (kinds .entry)) r (now (fields .exit)) (now (tables .exit)) ⌝ }
 {
     let count = kinds.len();
     let shift = shift_for(count);
@@ -36,7 +36,7 @@ fn set_marks(kinds: &[u8], numbers: &mut [u32; 256], tables: &mut [u32; 256]) ->
     let mut at = first_cursor(kinds);
     let mut k = 0usize;
     loop {
-        numbers[k] = at.numbers as u32;
+        fields[k] = at.fields as u32;
         tables[k] = at.tables as u32;
         if count - at.segment <= apart {
             return shift;
@@ -50,13 +50,13 @@ fn set_marks(kinds: &[u8], numbers: &mut [u32; 256], tables: &mut [u32; 256]) ->
 pub fn marked(
     kinds: &[u8],
     shift: usize,
-    numbers: &mut [u32; 256],
+    fields: &mut [u32; 256],
     tables: &mut [u32; 256],
     from: Cursor,
     segment: usize,
 ) -> usize
-    requires { ⌜ Leap (now kinds) shift (now numbers) (now tables) from segment ⌝ }
-    ensures { λ r. ⌜ Marks (now (kinds .entry)) r (now (numbers .exit)) (now (tables .exit)) ⌝ }
+    requires { ⌜ Leap (now kinds) shift (now fields) (now tables) from segment ⌝ }
+    ensures { λ r. ⌜ Marks (now (kinds .entry)) r (now (fields .exit)) (now (tables .exit)) ⌝ }
 {
     if shift < UNSET {
         return shift;
@@ -64,7 +64,7 @@ pub fn marked(
     if from.segment <= segment + 16 {
         return shift;
     }
-    set_marks(kinds, numbers, tables)
+    set_marks(kinds, fields, tables)
 }
 
 // How far two segments are apart.
@@ -83,12 +83,12 @@ fn wide(x: u32) -> usize
 pub fn nearest(
     kinds: &[u8],
     shift: usize,
-    numbers: &[u32; 256],
+    fields: &[u32; 256],
     tables: &[u32; 256],
     from: Cursor,
     segment: usize,
 ) -> Cursor
-    requires { ⌜ Leap (now kinds) shift (now numbers) (now tables) from segment ⌝ }
+    requires { ⌜ Leap (now kinds) shift (now fields) (now tables) from segment ⌝ }
     ensures { λ r. ⌜ Moving (now (kinds .entry)) r segment ⌝ }
 {
     let k = segment >> shift;
@@ -98,7 +98,7 @@ pub fn nearest(
     }
     Cursor {
         segment: start,
-        numbers: wide(numbers[k]),
+        fields: wide(fields[k]),
         tables: wide(tables[k]),
     }
 }

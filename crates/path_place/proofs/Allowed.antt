@@ -22,7 +22,7 @@ use Rattle.table_order.proofs.Theorems.{path-order, path-starts, path-ends, car
 use Rattle.path_segment.specs.Segments.{hasTable}
 use Rattle.path_stored.specs.Buffers.{Buffers}
 use Rattle.path_place.specs.declared.places.Place.{Place}
-use Rattle.path_place.specs.Places.{placed, tablePlace, rawIn, rawFor, rawWithin, placeIn, placeOf}
+use Rattle.path_place.specs.Places.{placed, tableStart, rawIn, rawFor, rawWithin, placeIn, placeOf}
 use Rattle.path_place.specs.Demand.{Demand3, tableOn}
 use Rattle.path_place.proofs.AnyLookup.{F32Stored, WaySteady, spot-counts, path-held, withWay, steady-meets}
 use Rattle.path_place.proofs.Demand3.{demand-3}
@@ -45,7 +45,7 @@ short-is-unchanged b short p = ap (placed (spot .segment)) (by-kind (hasTable (g
     along = spot .progress .value
 
     own : Float
-    own = rawIn (b .tables) (tablePlace (b .kinds) (spot .segment)) along
+    own = rawIn (b .tables) (tableStart (b .kinds) (spot .segment)) along
 
     total : Float
     total = tableOn b (spot .segment) .total

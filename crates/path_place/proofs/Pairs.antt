@@ -28,12 +28,12 @@ take-fits (suc n) (x ∷ xs) values zero = values 0
 take-fits (suc n) (x ∷ xs) values (suc k) = take-fits n xs (λ i. values (suc i)) k
 
 module _ {tables : List Float} (values : F32s tables) where
-  pub table-held : {place : ℕ} → TableThere tables place → F32Table (tableAt tables place .entries) (tableAt tables place .total)
-  table-held {place} there =
+  pub table-held : {first : ℕ} → TableThere tables first → F32Table (tableAt tables first .entries) (tableAt tables first .total)
+  table-held {first} there =
       record {
         table = there-sound there;
-        values = take-fits 32 (drop place tables) (λ k. rw (getD-drop place tables k nan) (values (place + k)));
-        total-value = values (place + 32);
+        values = take-fits 32 (drop first tables) (λ k. rw (getD-drop first tables k nan) (values (first + k)));
+        total-value = values (first + 32);
       }
 
 -- ---- the pick

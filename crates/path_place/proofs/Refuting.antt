@@ -27,7 +27,7 @@ use Rattle.path_stored.proofs.Rule.{stored-rule}
 use Rattle.path_stored.proofs.Values.{F32s}
 use Rattle.path_stored.specs.Buffers.{Buffers}
 use Rattle.path_place.specs.declared.places.Place.{Place}
-use Rattle.path_place.specs.Places.{tablePlace, rawIn, rawFor, rawWithin, placeIn, placeOf}
+use Rattle.path_place.specs.Places.{tableStart, rawIn, rawFor, rawWithin, placeIn, placeOf}
 use Rattle.path_place.specs.Demand.{Demand3, tableOn, targetAlong, localOf}
 use Rattle.path_place.proofs.Demand3.{demand-3}
 
@@ -60,7 +60,7 @@ unfolding fits sum round ofBits ofInt le lt eq ne mul sub div add neg fusedOf ze
 numbers = Unit {0}
 
 unfoldable pub check : Type 0
-unfolding allFit isStored areKnown tablesAreSound neverFall tablePlace hasTable tablesOf widthOf Stored.before tableIsSound startsAtZero lengthsAreSound allFinite climbs
+unfolding allFit isStored areKnown tablesAreSound neverFall tableStart hasTable tablesOf widthOf Stored.before tableIsSound startsAtZero lengthsAreSound allFinite climbs
 check = Unit {0}
 
 unfoldable pub lookups : Type 0

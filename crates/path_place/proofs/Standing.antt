@@ -18,7 +18,7 @@ use Rattle.table.proofs.Lengths.{path-sound, total-nonneg}
 use Rattle.table.proofs.Target.{target-real}
 use Rattle.path_place.specs.declared.cursors.Cursor.{Cursor}
 use Rattle.path_place.specs.Cursors.{cursorOf, Onward, Moving}
-use Rattle.path_place.specs.Places.{tablePlace, rawWithin, placed, placeAt, placeIn, SomePlace, Standing}
+use Rattle.path_place.specs.Places.{tableStart, rawWithin, placed, placeAt, placeIn, SomePlace, Standing}
 
 -- ---- the segment of a spot
 
@@ -49,8 +49,8 @@ pub cursor-own : (kinds : List ℕ) (i : ℕ) {at : Cursor} → at ≡ cursorOf 
 unfolding cursorOf
 cursor-own kinds i e = let own = ap (λ (cursor : Cursor). cursor .segment) e in (own, e ∙ ap (cursorOf kinds) (sym own))
 
-pub cursor-tables : (kinds : List ℕ) (i : ℕ) {at : Cursor} → at ≡ cursorOf kinds i → at .tables ≡ tablePlace kinds i
-unfolding cursorOf tablePlace
+pub cursor-tables : (kinds : List ℕ) (i : ℕ) {at : Cursor} → at ≡ cursorOf kinds i → at .tables ≡ tableStart kinds i
+unfolding cursorOf tableStart
 cursor-tables kinds i e = ap (λ (cursor : Cursor). cursor .tables) e
 
 -- ---- a path that can be looked up

@@ -14,20 +14,20 @@ use Rattle.path_segment.proofs.Widths.{one-table}
 use Rattle.path_stored.specs.Buffers.{Buffers}
 use Rattle.path_stored.specs.Stored.{before, Stored}
 use Rattle.path_stored.proofs.Counting.{before-fits}
-use Rattle.path_place.specs.Places.{tablePlace, TableThere, Findable}
+use Rattle.path_place.specs.Places.{tableStart, TableThere, Findable}
 
 -- the part of the tables that a lookup is lent is 32 long
-pub part-size : (place : ℕ) → place + 32 - place ≡ 32
-part-size place = omega arith
+pub part-size : (first : ℕ) → first + 32 - first ≡ 32
+part-size first = omega arith
 
-module _ {tables : List Float} {place : ℕ} (there : TableThere tables place) where
-  entries-count : length (tableAt tables place .entries) ≡ 32
+module _ {tables : List Float} {first : ℕ} (there : TableThere tables first) where
+  entries-count : length (tableAt tables first .entries) ≡ 32
   entries-count = let h = there .room in simp (length-take, length-drop) (omega arith)
 
-  pub entries-last : lastOf (tableAt tables place .entries) ≡ 31
+  pub entries-last : lastOf (tableAt tables first .entries) ≡ 31
   entries-last = let h = entries-count in omega arith
 
-  pub there-sound : SoundTable (tableAt tables place .entries) (tableAt tables place .total)
+  pub there-sound : SoundTable (tableAt tables first .entries) (tableAt tables first .total)
   there-sound = record { sound = there .sound; counted = let h = entries-last in omega arith }
 
 -- ---- the tables of a stored path
@@ -47,8 +47,8 @@ table-counted kinds i inside has =
     omega arith
 
 module _ {b : Buffers} (s : Stored b) where
-  pub table-there : (i : ℕ) → i < length (b .kinds) → T (hasTable (getD (b .kinds) i 0)) → TableThere (b .tables) (tablePlace (b .kinds) i)
-  unfolding tablePlace
+  pub table-there : (i : ℕ) → i < length (b .kinds) → T (hasTable (getD (b .kinds) i 0)) → TableThere (b .tables) (tableStart (b .kinds) i)
+  unfolding tableStart
   table-there i inside has =
       let counted = table-counted (b .kinds) i inside has in
       record { room = let all = s .counted in omega arith; sound = s .each (before tablesOf (b .kinds) i) counted }

@@ -1,4 +1,4 @@
--- The walk over the kinds of a path: the numbers and tables of the segments passed, one segment on or back. Assumes nothing.
+-- The walk over the kinds of a path: the fields and tables of the segments passed, one segment on or back. Assumes nothing.
 use mathlib.Core.Path.{_≡_, refl, sym, ap}
 use Prim.Native.Nat.{ℕ, _+_, _*_, _-_, _≤_, _<_}
 use native.Mathlib.Omega.{arith}
@@ -11,46 +11,46 @@ use Rattle.path_stored.proofs.Counting.{sum-more, before-most, tables-at-most}
 use Rattle.path_place.specs.declared.cursors.Cursor.{Cursor}
 use Rattle.path_place.specs.Cursors.{cursorOf}
 
--- at a segment, with the numbers and tables of those before it
-pub record Walked (kinds : List ℕ) (at numbers tables : ℕ) : Type 0 where
-  pub numbersAre : numbers ≡ before widthOf kinds at
+-- at a segment, with the fields and tables of those before it
+pub record Walked (kinds : List ℕ) (at fields tables : ℕ) : Type 0 where
+  pub fieldsAre : fields ≡ before widthOf kinds at
   pub tablesAre : tables ≡ 33 * before tablesOf kinds at
 
-pub walked-from : {kinds : List ℕ} {from : Cursor} → from ≡ cursorOf kinds (from .segment) → Walked kinds (from .segment) (from .numbers) (from .tables)
+pub walked-from : {kinds : List ℕ} {from : Cursor} → from ≡ cursorOf kinds (from .segment) → Walked kinds (from .segment) (from .fields) (from .tables)
 unfolding cursorOf
-walked-from e = record { numbersAre = ap (λ (cursor : Cursor). cursor .numbers) e; tablesAre = ap (λ (cursor : Cursor). cursor .tables) e }
+walked-from e = record { fieldsAre = ap (λ (cursor : Cursor). cursor .fields) e; tablesAre = ap (λ (cursor : Cursor). cursor .tables) e }
 
-pub walked-is : {kinds : List ℕ} {at numbers tables : ℕ} (segment : ℕ) → Walked kinds at numbers tables → at ≡ segment
-    → record { segment = segment; numbers = numbers; tables = tables } ≡ cursorOf kinds segment
+pub walked-is : {kinds : List ℕ} {at fields tables : ℕ} (segment : ℕ) → Walked kinds at fields tables → at ≡ segment
+    → record { segment = segment; fields = fields; tables = tables } ≡ cursorOf kinds segment
 unfolding cursorOf
-walked-is segment w e = rw (← e, w .numbersAre, w .tablesAre)
+walked-is segment w e = rw (← e, w .fieldsAre, w .tablesAre)
 
-pub walked-next : {kinds : List ℕ} {at numbers tables : ℕ} (width table : ℕ) → Walked kinds at numbers tables → at < length kinds
-    → width ≡ widthOf (getD kinds at 0) → table ≡ 33 * tablesOf (getD kinds at 0) → Walked kinds (at + 1) (numbers + width) (tables + table)
+pub walked-next : {kinds : List ℕ} {at fields tables : ℕ} (width table : ℕ) → Walked kinds at fields tables → at < length kinds
+    → width ≡ widthOf (getD kinds at 0) → table ≡ 33 * tablesOf (getD kinds at 0) → Walked kinds (at + 1) (fields + width) (tables + table)
 walked-next {kinds} {at} width table w inside e k =
     record {
-      numbersAre = sum-more widthOf kinds at inside (w .numbersAre) e;
+      fieldsAre = sum-more widthOf kinds at inside (w .fieldsAre) e;
       tablesAre = let h = sum-more tablesOf kinds at inside refl refl in let n = w .tablesAre in omega arith;
     }
 
--- the segment before, whose numbers and table are among those passed
-module _ {kinds : List ℕ} {at numbers tables : ℕ} (w : Walked kinds at numbers tables) (some : 0 < at) (inside : at ≤ length kinds) where
+-- the segment before, whose fields and table are among those passed
+module _ {kinds : List ℕ} {at fields tables : ℕ} (w : Walked kinds at fields tables) (some : 0 < at) (inside : at ≤ length kinds) where
   last-of : (f : ℕ → ℕ) → before f kinds at ≡ before f kinds (at - 1) + f (getD kinds (at - 1) 0)
   last-of f =
       let e : at - 1 + 1 ≡ at = omega arith in
       let l : at - 1 < length kinds = omega arith in
       rw e at (sym (sum-more f kinds (at - 1) l refl refl))
 
-  pub width-passed : (width : ℕ) → width ≡ widthOf (getD kinds (at - 1) 0) → width ≤ numbers
-  width-passed width e = let h = last-of widthOf in let n = w .numbersAre in omega arith
+  pub width-passed : (width : ℕ) → width ≡ widthOf (getD kinds (at - 1) 0) → width ≤ fields
+  width-passed width e = let h = last-of widthOf in let n = w .fieldsAre in omega arith
 
   pub table-passed : (table : ℕ) → table ≡ 33 * tablesOf (getD kinds (at - 1) 0) → table ≤ tables
   table-passed table e = let h = last-of tablesOf in let n = w .tablesAre in omega arith
 
-  pub walked-back : (width table : ℕ) → width ≡ widthOf (getD kinds (at - 1) 0) → table ≡ 33 * tablesOf (getD kinds (at - 1) 0) → Walked kinds (at - 1) (numbers - width) (tables - table)
+  pub walked-back : (width table : ℕ) → width ≡ widthOf (getD kinds (at - 1) 0) → table ≡ 33 * tablesOf (getD kinds (at - 1) 0) → Walked kinds (at - 1) (fields - width) (tables - table)
   walked-back width table e k =
       record {
-        numbersAre = let h = last-of widthOf in let n = w .numbersAre in omega arith;
+        fieldsAre = let h = last-of widthOf in let n = w .fieldsAre in omega arith;
         tablesAre = let h = last-of tablesOf in let n = w .tablesAre in omega arith;
       }
 
@@ -60,9 +60,9 @@ width-at-most kind width e = omega (arith, width-most kind)
 pub table-at-most : (kind table : ℕ) → table ≡ 33 * tablesOf kind → table ≤ 33
 table-at-most kind table e = omega (arith, tables-most kind)
 
--- nothing overflows: a segment has at most 11 numbers and a table
-pub walked-numbers : {kinds : List ℕ} {at numbers tables : ℕ} → Walked kinds at numbers tables → at ≤ 65536 → numbers ≤ 720896
-walked-numbers {kinds} {at} w few = let h = before-most widthOf 11 width-most kinds at in let n = w .numbersAre in omega arith
+-- nothing overflows: a segment has at most 11 fields and a table
+pub walked-fields : {kinds : List ℕ} {at fields tables : ℕ} → Walked kinds at fields tables → at ≤ 65536 → fields ≤ 720896
+walked-fields {kinds} {at} w few = let h = before-most widthOf 11 width-most kinds at in let n = w .fieldsAre in omega arith
 
-pub walked-tables : {kinds : List ℕ} {at numbers tables : ℕ} → Walked kinds at numbers tables → at ≤ 65536 → tables ≤ 2162688
+pub walked-tables : {kinds : List ℕ} {at fields tables : ℕ} → Walked kinds at fields tables → at ≤ 65536 → tables ≤ 2162688
 walked-tables {kinds} {at} w few = let h = tables-at-most kinds at in let n = w .tablesAre in omega arith

@@ -1,4 +1,4 @@
--- Where a segment's numbers and its table stand in the buffers of a stored path. Definitions only.
+-- Where a segment's fields and its table stand in the buffers of a stored path. Definitions only.
 use Prim.Native.Nat.{ℕ, _*_, _≤_}
 use mathlib.Core.Path.{_≡_}
 use mathlib.Core.List.{List}
@@ -7,10 +7,10 @@ use Rattle.path_segment.specs.Segments.{widthOf, tablesOf}
 use Rattle.path_stored.specs.Stored.{before}
 use Rattle.path_place.specs.declared.cursors.Cursor.{Cursor}
 
--- the numbers and the tables of the segments before it, 33 numbers to a table
+-- the fields and the tables of the segments before it, 33 numbers to a table
 unfoldable pub cursorOf : List ℕ → ℕ → Cursor
 unfolding before
-cursorOf kinds segment = record { segment = segment; numbers = before widthOf kinds segment; tables = 33 * before tablesOf kinds segment }
+cursorOf kinds segment = record { segment = segment; fields = before widthOf kinds segment; tables = 33 * before tablesOf kinds segment }
 
 -- a walk to a later segment of at most 65,536, and one to an earlier
 pub record Onward (kinds : List ℕ) (from : Cursor) (segment : ℕ) : Type 0 where

@@ -17,7 +17,7 @@ use Rattle.table_order.specs.Swept.{Inside, Enclose, Swept}
 use Rattle.path_segment.specs.Segments.{hasTable, tableAt}
 use Rattle.path_stored.specs.Buffers.{Buffers}
 use Rattle.path_place.specs.declared.places.Place.{Place}
-use Rattle.path_place.specs.Places.{placed, tablePlace}
+use Rattle.path_place.specs.Places.{placed, tableStart}
 
 -- ---- the words
 
@@ -32,7 +32,7 @@ localOf lengths progress i = shareOf (before lengths i) (at lengths i) (targetAl
 
 -- the table of the segment i, among the tables
 abbrev pub tableOn : Buffers → ℕ → Table
-tableOn b i = tableAt (b .tables) (tablePlace (b .kinds) i)
+tableOn b i = tableAt (b .tables) (tableStart (b .kinds) i)
 
 -- ---- the pair given at a progress
 

@@ -21,24 +21,24 @@ use Rattle.path_place.specs.Cursors.{cursorOf}
 
 -- ---- the segment's own lookup
 
--- the raw parameter of a local progress in the table that stands at a place of the tables
+-- the raw parameter of a local progress in the table that starts at the entry `first` of the tables
 unfoldable pub rawIn : List Float → ℕ → Float → Float
 unfolding rawOf
-rawIn tables place along = rawOf (tableAt tables place .entries) (tableAt tables place .total) along
+rawIn tables first along = rawOf (tableAt tables first .entries) (tableAt tables first .total) along
 
 -- a quad, a cubic and an arc look it up in their table; "The raw parameter of a line or fallback arc is its clamped local progress."
 unfoldable pub rawFor : ℕ → List Float → ℕ → Float → Float
 unfolding hasTable rawIn
-rawFor kind tables place along = cond (hasTable kind) (rawIn tables place along) (clamp01Of along)
+rawFor kind tables first along = cond (hasTable kind) (rawIn tables first along) (clamp01Of along)
 
--- the place of a segment's table: the tables of the segments before it, 33 numbers each
-unfoldable pub tablePlace : List ℕ → ℕ → ℕ
-tablePlace kinds i = 33 * before tablesOf kinds i
+-- where a segment's table starts: after the tables of the segments before it, 33 numbers each
+unfoldable pub tableStart : List ℕ → ℕ → ℕ
+tableStart kinds i = 33 * before tablesOf kinds i
 
 -- the raw parameter of a local progress on the segment i
 unfoldable pub rawWithin : List ℕ → List Float → ℕ → Float → Float
-unfolding rawFor tablePlace
-rawWithin kinds tables i along = rawFor (getD kinds i 0) tables (tablePlace kinds i) along
+unfolding rawFor tableStart
+rawWithin kinds tables i along = rawFor (getD kinds i 0) tables (tableStart kinds i) along
 
 -- ---- the pair
 
@@ -60,17 +60,17 @@ placeOf b progress = placeIn (b .kinds) (b .tables) (b .lengths) progress
 
 -- ---- what the lookups of `inner` ask
 
--- a whole table stands at a place, and it is sound
-pub record TableThere (tables : List Float) (place : ℕ) : Type 0 where
-  pub room : place + 33 ≤ length tables
-  pub sound : T (tableIsSound (tableAt tables place .entries) (tableAt tables place .total))
+-- a whole table starts there, and it is sound
+pub record TableThere (tables : List Float) (first : ℕ) : Type 0 where
+  pub room : first + 33 ≤ length tables
+  pub sound : T (tableIsSound (tableAt tables first .entries) (tableAt tables first .total))
 
 -- at most 65,536 segments, one sound running length each, each table in its place and sound
 pub record Findable (kinds : List ℕ) (tables lengths : List Float) : Type 0 where
   pub few : length kinds ≤ mostSegments
   pub one : length lengths ≡ length kinds
   pub rising : T (lengthsAreSound lengths)
-  pub tabled : (i : ℕ) → i < length kinds → T (hasTable (getD kinds i 0)) → TableThere tables (tablePlace kinds i)
+  pub tabled : (i : ℕ) → i < length kinds → T (hasTable (getD kinds i 0)) → TableThere tables (tableStart kinds i)
 
 -- with a segment
 pub record SomePlace (kinds : List ℕ) (tables lengths : List Float) : Type 0 where
@@ -81,4 +81,4 @@ pub record SomePlace (kinds : List ℕ) (tables lengths : List Float) : Type 0 w
 pub record Standing (kinds : List ℕ) (tables : List Float) (at : Cursor) : Type 0 where
   pub is : at ≡ cursorOf kinds (at .segment)
   pub inside : at .segment < length kinds
-  pub tabled : T (hasTable (getD kinds (at .segment) 0)) → TableThere tables (tablePlace kinds (at .segment))
+  pub tabled : T (hasTable (getD kinds (at .segment) 0)) → TableThere tables (tableStart kinds (at .segment))

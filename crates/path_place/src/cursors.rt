@@ -1,4 +1,4 @@
-// A walk over the kinds of a path, which keeps where the next segment's numbers and table stand.
+// A walk over the kinds of a path, which keeps where the next segment's fields and table stand.
 use path_segment::has_table;
 use path_segment::width;
 ghost use mathlib.Core.Path.{_≡_};
@@ -9,7 +9,7 @@ ghost use Rattle.path_place.specs.Cursors.{Backward, Onward, cursorOf};
 // A segment, counted from 0, and how many numbers the segments before it have in each buffer.
 pub struct Cursor {
     pub segment: usize,
-    pub numbers: usize,
+    pub fields: usize,
     pub tables: usize,
 }
 
@@ -19,7 +19,7 @@ pub fn first_cursor(kinds: &[u8]) -> Cursor
 {
     Cursor {
         segment: 0,
-        numbers: 0,
+        fields: 0,
         tables: 0,
     }
 }
@@ -37,17 +37,17 @@ pub fn forward(kinds: &[u8], from: Cursor, segment: usize) -> Cursor
     ensures { λ r. ⌜ r ≡ cursorOf (now (kinds .entry)) segment ⌝ }
 {
     let mut at = from.segment;
-    let mut numbers = from.numbers;
+    let mut fields = from.fields;
     let mut tables = from.tables;
     while at < segment {
         let kind = kinds[at];
-        numbers += width(kind);
+        fields += width(kind);
         tables += table_numbers(kind);
         at += 1;
     }
     Cursor {
         segment,
-        numbers,
+        fields,
         tables,
     }
 }
@@ -58,17 +58,17 @@ pub fn back(kinds: &[u8], from: Cursor, segment: usize) -> Cursor
     ensures { λ r. ⌜ r ≡ cursorOf (now (kinds .entry)) segment ⌝ }
 {
     let mut at = from.segment;
-    let mut numbers = from.numbers;
+    let mut fields = from.fields;
     let mut tables = from.tables;
     while segment < at {
         at -= 1;
         let kind = kinds[at];
-        numbers -= width(kind);
+        fields -= width(kind);
         tables -= table_numbers(kind);
     }
     Cursor {
         segment,
-        numbers,
+        fields,
         tables,
     }
 }

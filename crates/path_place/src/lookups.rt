@@ -13,24 +13,24 @@ ghost use Rattle.path_segment.specs.Segments.{hasTable};
 ghost use Rattle.path_place.specs.Cursors.{Moving, cursorOf};
 ghost use Rattle.path_place.specs.Places.{Standing, TableThere, rawFor, rawIn, rawWithin};
 
-// The raw parameter of a local progress in the table that starts at a place.
-pub fn raw_in(tables: &[f32], place: usize, along: Progress) -> RawParameter
-    requires { ⌜ TableThere (now tables) place ⌝ }
-    ensures { λ r. ⌜ r .value ≡ rawIn (now (tables .entry)) place (along .value) ⌝ }
+// The raw parameter of a local progress in the table whose first entry is at `first`.
+pub fn raw_in(tables: &[f32], first: usize, along: Progress) -> RawParameter
+    requires { ⌜ TableThere (now tables) first ⌝ }
+    ensures { λ r. ⌜ r .value ≡ rawIn (now (tables .entry)) first (along .value) ⌝ }
 {
-    let end = place + 32;
+    let end = first + 32;
     let total = tables[end];
-    raw_parameter_in(&tables[place..end], total, along)
+    raw_parameter_in(&tables[first..end], total, along)
 }
 
-// The raw parameter of a local progress on a segment of a kind, whose table starts at a place, if it
+// The raw parameter of a local progress on a segment of a kind, whose table starts at `first`, if it
 // has one.
-pub fn raw_for(kind: u8, tables: &[f32], place: usize, along: Progress) -> RawParameter
-    requires { ⌜ (T (hasTable kind) → TableThere (now tables) place) ⌝ }
-    ensures { λ r. ⌜ r .value ≡ rawFor kind (now (tables .entry)) place (along .value) ⌝ }
+pub fn raw_for(kind: u8, tables: &[f32], first: usize, along: Progress) -> RawParameter
+    requires { ⌜ (T (hasTable kind) → TableThere (now tables) first) ⌝ }
+    ensures { λ r. ⌜ r .value ≡ rawFor kind (now (tables .entry)) first (along .value) ⌝ }
 {
     if has_table(kind) {
-        return raw_in(tables, place, along);
+        return raw_in(tables, first, along);
     }
     straight(along)
 }

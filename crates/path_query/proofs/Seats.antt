@@ -1,4 +1,4 @@
--- What a query finds where a cursor stands: the segment's numbers and its table; and that what it works out there is what the definitions say. Assumes nothing.
+-- What a query finds where a cursor stands: the segment's fields and its table; and that what it works out there is what the definitions say. Assumes nothing.
 use mathlib.Core.Path.{_≡_, refl, sym, ap, _∙_, subst}
 use Prim.Native.Nat.{ℕ, zero, suc, _<_}
 use native.Mathlib.Omega.{arith}
@@ -24,21 +24,21 @@ use Rattle.path_place.proofs.Standing.{cursor-own, cursor-tables, standing}
 use Rattle.path_heading.specs.Headings.{sampleOf, headingOf}
 use Rattle.path_query.specs.Flights.{flownWithin, flownOf, Seated, Flyable}
 
--- ---- the numbers of a segment
+-- ---- the fields of a segment
 
-pub cursor-numbers : (kinds : List ℕ) (i : ℕ) {at : Cursor} → at ≡ cursorOf kinds i → at .numbers ≡ before widthOf kinds i
+pub cursor-fields : (kinds : List ℕ) (i : ℕ) {at : Cursor} → at ≡ cursorOf kinds i → at .fields ≡ before widthOf kinds i
 unfolding cursorOf
-cursor-numbers kinds i e = ap (λ (cursor : Cursor). cursor .numbers) e
+cursor-fields kinds i e = ap (λ (cursor : Cursor). cursor .fields) e
 
 -- a known kind reads as itself
-segment-kind : (kind : ℕ) (numbers : List Float) → kind < 5 → kindOf (segmentOf kind numbers) ≡ kind
+segment-kind : (kind : ℕ) (fields : List Float) → kind < 5 → kindOf (segmentOf kind fields) ≡ kind
 unfolding segmentOf
-segment-kind zero numbers known = refl
-segment-kind (suc zero) numbers known = refl
-segment-kind (suc (suc zero)) numbers known = refl
-segment-kind (suc (suc (suc zero))) numbers known = refl
-segment-kind (suc (suc (suc (suc zero)))) numbers known = refl
-segment-kind (suc (suc (suc (suc (suc kind))))) numbers known = absurd (omega arith)
+segment-kind zero fields known = refl
+segment-kind (suc zero) fields known = refl
+segment-kind (suc (suc zero)) fields known = refl
+segment-kind (suc (suc (suc zero))) fields known = refl
+segment-kind (suc (suc (suc (suc zero)))) fields known = refl
+segment-kind (suc (suc (suc (suc (suc kind))))) fields known = absurd (omega arith)
 
 segment-in-kind : (kinds : List ℕ) (fields : List Float) → Numbered kinds fields → (i : ℕ) → i < length kinds → kindOf (segmentIn kinds fields i) ≡ getD kinds i 0
 unfolding segmentIn

@@ -14,7 +14,7 @@ use Rattle.path_stored.specs.Buffers.{Buffers}
 use Rattle.path_stored.specs.Stored.{Numbered, Stored, segmentIn}
 use Rattle.path_place.specs.declared.cursors.Cursor.{Cursor}
 use Rattle.path_place.specs.declared.places.Place.{Place}
-use Rattle.path_place.specs.Places.{placed, placeOf, rawIn, rawWithin, tablePlace, Standing}
+use Rattle.path_place.specs.Places.{placed, placeOf, rawIn, rawWithin, tableStart, Standing}
 use Rattle.path_heading.specs.Headings.{sampleOf, headingOf}
 use Rattle.flight.specs.declared.Found.the-variants.{Segment, Nothing}
 use Rattle.flight.specs.declared.Flight.{Flight}
@@ -24,7 +24,7 @@ abbrev pub flownIn : List ℕ → List Float → List Float → Place → Float 
 flownIn kinds fields tables pair along =
     record {
       position = sampleOf (segmentIn kinds fields (pair .segment)) (pair .raw .value);
-      tangent = headingOf (segmentIn kinds fields (pair .segment)) (pair .raw .value) (rawIn tables (tablePlace kinds (pair .segment)) (aheadOf along));
+      tangent = headingOf (segmentIn kinds fields (pair .segment)) (pair .raw .value) (rawIn tables (tableStart kinds (pair .segment)) (aheadOf along));
       segment = Segment (pair .segment);
       raw = pair .raw;
     }
@@ -50,7 +50,7 @@ flightOf b progress = cond (eqb (length (b .kinds)) 0) nowhereF (flownOf b progr
 
 -- ---- what the functions of `inner` ask
 
--- a cursor at a segment, whose numbers and table are in their places
+-- a cursor at a segment, whose fields and table are in their places
 pub record Seated (kinds : List ℕ) (fields tables : List Float) (at : Cursor) : Type 0 where
   pub standing : Standing kinds tables at
   pub numbered : Numbered kinds fields

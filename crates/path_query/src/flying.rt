@@ -25,7 +25,7 @@ fn segment_here(kinds: &[u8], fields: &[f32], tables: &[f32], at: Cursor) -> Pat
     ensures { λ r. ⌜ r ≡ segmentIn (now (kinds .entry)) (now (fields .entry)) (at .segment) ⌝ }
 {
     let segment = at.segment;
-    segment_at(kinds[segment], fields, at.numbers)
+    segment_at(kinds[segment], fields, at.fields)
 }
 
 // What is flown at a local progress on the segment at which a cursor stands.

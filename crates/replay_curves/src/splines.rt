@@ -123,20 +123,20 @@ fn entries_agree(text: &[u8], at: usize, table: [f32; 64]) -> bool
     true
 }
 
-// Whether there is such a place and it holds these bits.
-fn entry_agrees(table: [f32; 64], place: u32, due: u32) -> bool {
-    if place < 64 {
-        has_bits(table[place as usize], due)
+// Whether there is such an entry and it holds these bits.
+fn entry_agrees(table: [f32; 64], entry: u32, due: u32) -> bool {
+    if entry < 64 {
+        has_bits(table[entry as usize], due)
     } else {
         false
     }
 }
 
-// The table with one place damaged, if there is such a place.
-fn damaged(table: [f32; 64], place: u32, by: f32) -> [f32; 64] {
+// The table with one entry damaged, if there is such an entry.
+fn damaged(table: [f32; 64], entry: u32, by: f32) -> [f32; 64] {
     let mut other = table;
-    if place < 64 {
-        other[place as usize] = by;
+    if entry < 64 {
+        other[entry as usize] = by;
     }
     other
 }

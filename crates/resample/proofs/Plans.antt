@@ -55,9 +55,9 @@ module _ (points : List Float) (count : ℕ) where
           unfolding planOf
           plan-by = rw (ne-eqb (countOf points) 0 some, ne-eqb count 0 any, ne-eqb (countOf points) 1 more, ne-eqb count 1 several) refl
 
-          pub plan-broken : (place : ℕ) → measuredOf points ≡ NotFinite place → Refused (Refusal.NotFinite place) ≡ planOf points count
+          pub plan-broken : (number : ℕ) → measuredOf points ≡ NotFinite number → Refused (Refusal.NotFinite number) ≡ planOf points count
           unfolding byLength
-          plan-broken place m = sym (ap byLength m) ∙ plan-by
+          plan-broken number m = sym (ap byLength m) ∙ plan-by
 
           pub plan-short : (total : Float) → measuredOf points ≡ Total total → le total epsilonF ≡ true → Go Copies ≡ planOf points count
           unfolding byLength
@@ -91,7 +91,7 @@ above-one (suc (suc n)) h g = omega arith
 
 spread-measured : (total : Float) (m : Measured) → byLength m ≡ Go (Spread total) → m ≡ Total total
 unfolding byLength
-spread-measured total (NotFinite place) e = let z : _≡_ {A = ℕ} 0 1 = cc in absurd (omega arith)
+spread-measured total (NotFinite number) e = let z : _≡_ {A = ℕ} 0 1 = cc in absurd (omega arith)
 spread-measured total (Total t) e = go (le t epsilonF) e
   where
     go : (b : Bool) → cond b (Go Copies) (Go (Spread t)) ≡ Go (Spread total) → Total t ≡ Total total

@@ -1,4 +1,4 @@
--- The walk: the place it has come to is at or before the one that the definition picks, and where it stops it is that one. Assumes nothing.
+-- The walk: the stretch it has come to is at or before the one that the definition picks, and where it stops it is that one. Assumes nothing.
 use mathlib.Core.Path.{_≡_, refl, sym, ap, _∙_, subst}
 use mathlib.Core.Logic.{_⊎_, inl, inr}
 use Prim.Native.Nat.{ℕ, suc, _+_, _-_, _≤_, _<_, min}
@@ -17,11 +17,11 @@ use Rattle.table_order.proofs.Division.{first-mono}
 use Rattle.polyline.specs.Points.{countOf}
 use Rattle.polyline.specs.Lengths.{legOf, lengthsOf}
 use Rattle.polyline.proofs.Legs.{lengths-first, lengths-next}
-use Rattle.resample.specs.Spacing.{pickOf, placeAt, Reached}
-use Rattle.resample.specs.declared.walking.Place.{Place}
+use Rattle.resample.specs.Spacing.{pickOf, stretchAt, Reached}
+use Rattle.resample.specs.declared.walking.Stretch.{Stretch}
 
 -- ---- what is picked
--- the lengths before the pick are below the target, so that a place before it is passed exactly while its length is below
+-- the lengths before the pick are below the target, so that a point before it is passed exactly while its length is below
 past : (xs : List Float) (target : Float) (k : ℕ) → k ≤ firstNotBelow target xs → lt (at xs k) target ≡ true → suc k ≤ firstNotBelow target xs
 past xs target k h e = go (eq-or-lt-of-le h)
   where
@@ -38,7 +38,7 @@ module _ (points : List Float) where
   unfolding pickOf
   pick-first target = (min-le-left _ _)
 
-  -- a target further on picks no place before
+  -- a target further on picks no point before
   pub pick-mono : (t u : Float) → T (le t u) → pickOf points t ≤ pickOf points u
   unfolding pickOf
   pick-mono t u h = le-min (le-trans (min-le-left _ _) (first-mono (lengthsOf points) t u h)) (min-le-right _ _)
@@ -51,18 +51,18 @@ pub record Walking (points : List Float) (target : Float) (upper : ℕ) (low hig
   pub upto : upper ≤ pickOf points target
 
 module _ (points : List Float) (target : Float) where
-  pub walk-start : (place : Place) → Reached points place target → Walking points target (place .upper) (place .low) (place .high)
-  unfolding placeAt
-  walk-start place r = record { some = r .some; before = ap (λ (p : Place). p .low) (r .here); here = ap (λ (p : Place). p .high) (r .here); upto = r .upto }
+  pub walk-start : (stretch : Stretch) → Reached points stretch target → Walking points target (stretch .upper) (stretch .low) (stretch .high)
+  unfolding stretchAt
+  walk-start stretch r = record { some = r .some; before = ap (λ (p : Stretch). p .low) (r .here); here = ap (λ (p : Stretch). p .high) (r .here); upto = r .upto }
 
-  arrived : (upper : ℕ) (low high : Float) → Walking points target upper low high → pickOf points target ≤ upper → _≡_ {A = Place} (record { upper = upper; low = low; high = high }) (placeAt points (pickOf points target))
-  unfolding placeAt
+  arrived : (upper : ℕ) (low high : Float) → Walking points target upper low high → pickOf points target ≤ upper → _≡_ {A = Stretch} (record { upper = upper; low = low; high = high }) (stretchAt points (pickOf points target))
+  unfolding stretchAt
   arrived upper low high w p =
       let u = w .upto in
       let e : upper ≡ pickOf points target = omega arith in
       joined e (w .before ∙ ap (λ (i : ℕ). at (lengthsOf points) (i - 1)) e) (w .here ∙ ap (at (lengthsOf points)) e)
     where
-      joined : {a b : ℕ} {x y v z : Float} → a ≡ b → x ≡ y → v ≡ z → _≡_ {A = Place} (record { upper = a; low = x; high = v }) (record { upper = b; low = y; high = z })
+      joined : {a b : ℕ} {x y v z : Float} → a ≡ b → x ≡ y → v ≡ z → _≡_ {A = Stretch} (record { upper = a; low = x; high = v }) (record { upper = b; low = y; high = z })
       joined p q r = cc
 
   module _ (upper : ℕ) (low high : Float) (w : Walking points target upper low high) where
@@ -77,10 +77,10 @@ module _ (points : List Float) (target : Float) where
           (omega arith);
     }
 
-    pub walk-stop : lt high target ≡ false → _≡_ {A = Place} (record { upper = upper; low = low; high = high }) (placeAt points (pickOf points target))
+    pub walk-stop : lt high target ≡ false → _≡_ {A = Stretch} (record { upper = upper; low = low; high = high }) (stretchAt points (pickOf points target))
     walk-stop e =
         arrived upper low high w
         (le-trans (pick-first points target) (first-upto (lengthsOf points) target upper (failed (ap (λ (x : Float). lt x target) (sym (w .here)) ∙ e))))
 
-    pub walk-done : countOf points - 1 ≤ upper → _≡_ {A = Place} (record { upper = upper; low = low; high = high }) (placeAt points (pickOf points target))
+    pub walk-done : countOf points - 1 ≤ upper → _≡_ {A = Stretch} (record { upper = upper; low = low; high = high }) (stretchAt points (pickOf points target))
     walk-done h = arrived upper low high w (le-trans (pick-inside points target) h)

@@ -20,7 +20,7 @@ use Rattle.resample.specs.declared.spreading.Plan.the-variants.{Go, Refu
 
 -- "a total of at most 2^-23 gives copies too"; 11 carries the "first such .. polyline point"
 unfoldable pub byLength : Measured → Plan
-byLength (NotFinite place) = Refused (Refusal.NotFinite place)
+byLength (NotFinite number) = Refused (Refusal.NotFinite number)
 byLength (Total total) = cond (le total epsilonF) (Go Copies) (Go (Spread total))
 
 -- "no points or count 0 gives nothing, one point or count 1 copies of the first (no lengths summed, so no 11)"

@@ -13,7 +13,7 @@ use Rattle.math.specs.Math.{lerpPointOf}
 use Rattle.table.specs.Lookup.{at, firstNotBelow, shareOf}
 use Rattle.polyline.specs.Points.{countOf, pointAt}
 use Rattle.polyline.specs.Lengths.{lengthsOf, totalOf}
-use Rattle.resample.specs.declared.walking.Place.{Place}
+use Rattle.resample.specs.declared.walking.Stretch.{Stretch}
 
 -- `total * i as f32 / (count - 1) as f32`: the product first
 unfoldable pub targetAt : Float → ℕ → ℕ → Float
@@ -24,17 +24,17 @@ unfoldable pub pickOf : List Float → Float → ℕ
 pickOf points target = min (firstNotBelow target (lengthsOf points)) (countOf points - 1)
 
 -- the leg that ends at a point: `cumulative[lower]`, `cumulative[upper]`, where lower is one less, but not below 0
-unfoldable pub placeAt : List Float → ℕ → Place
-placeAt points upper = record { upper = upper; low = at (lengthsOf points) (upper - 1); high = at (lengthsOf points) upper }
+unfoldable pub stretchAt : List Float → ℕ → Stretch
+stretchAt points upper = record { upper = upper; low = at (lengthsOf points) (upper - 1); high = at (lengthsOf points) upper }
 
 -- `if lower == upper` the point itself, else the point at the share of the leg that lies before the target
-unfoldable pub betweenOf : List Float → Place → Float → Point
-betweenOf points place target =
-    cond (eqb (place .upper) 0) (pointAt points 0)
-    (lerpPointOf (pointAt points (place .upper - 1)) (pointAt points (place .upper)) (shareOf (place .low) (place .high) target))
+unfoldable pub betweenOf : List Float → Stretch → Float → Point
+betweenOf points stretch target =
+    cond (eqb (stretch .upper) 0) (pointAt points 0)
+    (lerpPointOf (pointAt points (stretch .upper - 1)) (pointAt points (stretch .upper)) (shareOf (stretch .low) (stretch .high) target))
 
 unfoldable pub alongOf : List Float → Float → Point
-alongOf points target = betweenOf points (placeAt points (pickOf points target)) target
+alongOf points target = betweenOf points (stretchAt points (pickOf points target)) target
 
 -- the first and the last are copied
 unfoldable pub spreadAt : List Float → Float → ℕ → ℕ → Point
@@ -48,11 +48,11 @@ pub record Evenly (i last : ℕ) : Type 0 where
   pub inside : i ≤ last
   pub few : last ≤ 4095
 
--- a place on the way to a target: no length before it is at or above the target
-pub record Reached (points : List Float) (place : Place) (target : Float) : Type 0 where
+-- a stretch on the way to a target: no length before it is at or above the target
+pub record Reached (points : List Float) (stretch : Stretch) (target : Float) : Type 0 where
   pub some : 0 < countOf points
-  pub here : place ≡ placeAt points (place .upper)
-  pub upto : place .upper ≤ pickOf points target
+  pub here : stretch ≡ stretchAt points (stretch .upper)
+  pub upto : stretch .upper ≤ pickOf points target
 
 -- at least two of each, the total, and room
 pub record Spread (points : List Float) (count : ℕ) (total : Float) (room : ℕ) : Type 0 where

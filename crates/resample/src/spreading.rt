@@ -1,5 +1,5 @@
 // The parts of `resample`, which a morph takes for each of its shapes: what to give, and giving it.
-use crate::walking::Place;
+use crate::walking::Stretch;
 use crate::walking::advance;
 use crate::walking::between;
 use crate::walking::target_at;
@@ -47,8 +47,8 @@ pub fn plan_for(points: &[f32], count: usize) -> Plan
         return Plan::Go(Way::Copies);
     }
     match measure(points) {
-        Measured::NotFinite(place) => {
-            return Plan::Refused(Refusal::NotFinite(place));
+        Measured::NotFinite(number) => {
+            return Plan::Refused(Refusal::NotFinite(number));
         }
         Measured::Total(total) => {
             if total <= EPSILON {
@@ -92,7 +92,7 @@ fn spread(points: &[f32], count: usize, total: f32, out: &mut [f32])
 {
     put_point(out, 0, point_at(points, 0));
     let last = count - 1;
-    let mut place = Place {
+    let mut stretch = Stretch {
         upper: 0,
         low: 0.0,
         high: 0.0,
@@ -100,8 +100,8 @@ fn spread(points: &[f32], count: usize, total: f32, out: &mut [f32])
     let mut i: usize = 1;
     while i < last {
         let at = target_at(total, i, last);
-        place = advance(points, place, at);
-        put_point(out, i, between(points, place, at));
+        stretch = advance(points, stretch, at);
+        put_point(out, i, between(points, stretch, at));
         i += 1;
     }
     put_point(out, last, point_at(points, points.len() / 2 - 1));

@@ -8,11 +8,11 @@ use table::inner::share;
 ghost use mathlib.Core.Path.{_≡_};
 ghost use Prim.Native.Nat.{_≤_, _<_};
 ghost use Rattle.polyline.specs.Points.{countOf};
-ghost use Rattle.resample.specs.Spacing.{targetAt, pickOf, placeAt, betweenOf, Evenly, Reached};
+ghost use Rattle.resample.specs.Spacing.{targetAt, pickOf, stretchAt, betweenOf, Evenly, Reached};
 
 // The leg that ends at the point number `upper`, and the running lengths at its two ends. At the
 // first point no leg ends: both lengths are 0.
-pub struct Place {
+pub struct Stretch {
     pub upper: usize,
     pub low: f32,
     pub high: f32,
@@ -27,9 +27,9 @@ pub fn target_at(total: f32, i: usize, last: usize) -> f32
 }
 
 // Walks on to the first running length that is not below the target, or to the last point.
-pub fn advance(points: &[f32], from: Place, target: f32) -> Place
+pub fn advance(points: &[f32], from: Stretch, target: f32) -> Stretch
     requires { ⌜ Reached (now points) from target ⌝ }
-    ensures { λ r. ⌜ r ≡ placeAt (now (points .entry)) (pickOf (now (points .entry)) target) ⌝ }
+    ensures { λ r. ⌜ r ≡ stretchAt (now (points .entry)) (pickOf (now (points .entry)) target) ⌝ }
 {
     let last = points.len() / 2 - 1;
     let mut upper = from.upper;
@@ -41,22 +41,22 @@ pub fn advance(points: &[f32], from: Place, target: f32) -> Place
             high = high + leg(points, upper);
             upper += 1;
         } else {
-            return Place { upper, low, high };
+            return Stretch { upper, low, high };
         }
     }
-    Place { upper, low, high }
+    Stretch { upper, low, high }
 }
 
-// The point at a target on the leg that ends at a place.
-pub fn between(points: &[f32], place: Place, target: f32) -> Point
-    requires { ⌜ place .upper < countOf (now points) ⌝ }
-    ensures { λ r. ⌜ r ≡ betweenOf (now (points .entry)) place target ⌝ }
+// The point at a target on a stretch.
+pub fn between(points: &[f32], stretch: Stretch, target: f32) -> Point
+    requires { ⌜ stretch .upper < countOf (now points) ⌝ }
+    ensures { λ r. ⌜ r ≡ betweenOf (now (points .entry)) stretch target ⌝ }
 {
-    let upper = place.upper;
+    let upper = stretch.upper;
     if upper == 0 {
         return point_at(points, 0);
     }
-    let local = share(place.low, place.high, target);
+    let local = share(stretch.low, stretch.high, target);
     let lower = point_at(points, upper - 1);
     lerp_point(lower, point_at(points, upper), local)
 }

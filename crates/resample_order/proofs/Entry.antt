@@ -130,7 +130,7 @@ module _ (points : List Float) (count n : ℕ) (before now : List Float) (call :
       broken e = let z : _≡_ {A = ℕ} 0 1 = cc in omega arith
 
       go : (m : Measured) → measuredOf points ≡ m → (way ≡ Way.Spread total) × T (finite total)
-      go (Measured.NotFinite place) e = absurd (broken (plan-broken points count none asked one single place e ∙ planned))
+      go (Measured.NotFinite number) e = absurd (broken (plan-broken points count none asked one single number e ∙ planned))
       go (Measured.Total sum) e =
           let w = measured-whole points sum e in
           let short : le sum epsilonF ≡ false = unlike (le sum epsilonF) (lt→not-le sum epsilonF (subst (λ (x : Float). T (lt epsilonF x)) (sym (w .sum)) long)) in

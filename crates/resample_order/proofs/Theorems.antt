@@ -33,7 +33,7 @@ use Rattle.table_order.proofs.Spots.{no-step-back}
 use Rattle.polyline.specs.Points.{countOf, pointAt}
 use Rattle.polyline.specs.Lengths.{lengthsOf, totalOf}
 use Rattle.polyline.proofs.Legs.{lengths-count, lengths-first, lengths-next, lengths-sound}
-use Rattle.resample.specs.Spacing.{targetAt, pickOf, placeAt, betweenOf, alongOf, spreadAt}
+use Rattle.resample.specs.Spacing.{targetAt, pickOf, stretchAt, betweenOf, alongOf, spreadAt}
 use Rattle.resample.proofs.Targets.{target-mono}
 use Rattle.resample.proofs.Walk.{pick-inside, pick-mono}
 use Rattle.resample_order.specs.Ordered.{shareIn, chosenOf, shareAt, OnLeg, InOrder}
@@ -148,7 +148,7 @@ module _ (points : List Float) (total : Float) (count : ℕ) (asked : Asked poin
     share-inner = rw (ne-eqb i 0 (λ z. omega arith), ne-eqb i last (λ z. omega arith)) refl
 
     output-inner : spreadAt points total count i ≡ lerpPointOf (pointAt points (pick i - 1)) (pointAt points (pick i)) (shareIn points (pick i) (target i))
-    unfolding spreadAt alongOf betweenOf placeAt shareIn
+    unfolding spreadAt alongOf betweenOf stretchAt shareIn
     output-inner = let s = pick-some in rw (ne-eqb i 0 (λ z. omega arith), ne-eqb i last (λ z. omega arith), ne-eqb (pick i) 0 (λ z. omega arith)) refl
 
     on-leg : OnLeg points (chosenOf points total count i) (shareAt points total count i) (spreadAt points total count i)

@@ -30,7 +30,7 @@ use Rattle.arc.specs.Lines.{lineLengthOf, linePointOf, linePositionOf, lineTang
 use Rattle.path_drawing.specs.Building.{buildFrom, buildOf, drawersFrom, drawersOf}
 use Rattle.path_drawing.specs.Drawing.{freshOf, arcOf, arcStrokeOf, drawOf}
 use Rattle.path_place.specs.Cursors.{cursorOf}
-use Rattle.path_place.specs.Places.{rawIn, rawFor, tablePlace, rawWithin, placeIn}
+use Rattle.path_place.specs.Places.{rawIn, rawFor, tableStart, rawWithin, placeIn}
 use Rattle.path_heading.specs.Headings.{sampleOf, headingOf}
 use Rattle.path_query.specs.Flights.{flownWithin, flownOf, flightOf}
 use Rattle.text_reader.specs.Plans.{judged, firstLineOf}
@@ -73,7 +73,7 @@ unfolding among wholeOf pointOf fractionOf markOf-of-scan-numbers exponentOf-of-
     dueLetterOf dueAgainOf dueAtOf nextDueOf offsetAt readStepOf readFrom commandsOf offsetsFrom offsetsOf isFallback fallbackShape noTable
     fallenBack fitted outOfRange madeArcOf arcPositionOf arcTangentOf arcPlacedOf arcHeadingOf arcTurnedOf arcLengthOf lineLengthOf
     linePointOf linePositionOf lineTangentOf lineRotationDegOf madeLineOf buildFrom buildOf drawersFrom drawersOf freshOf arcOf arcStrokeOf
-    drawOf cursorOf rawIn rawFor tablePlace rawWithin placeIn sampleOf headingOf flownWithin flownOf flightOf
+    drawOf cursorOf rawIn rawFor tableStart rawWithin placeIn sampleOf headingOf flownWithin flownOf flightOf
     judged firstLineOf bitsFields argumentFields commandLine pointFields kindName segmentLine headerLine segmentField stationLine hexDigit
     hexDigits decimalFrom decimalOf bitsField numberField commandLines linesTo segmentLines progressOf stationOf stationLines sectionsOf
     readOf planOf stationsOf span climb size odd units round neg sum add sub mul div lt eq le ne ofInt ofFields ofBits toBits isNan fits

@@ -95,7 +95,7 @@ carried-other (MissingMoveTo at) k = refl
 carried-other (NoRoom needs) k = refl
 carried-other (BadList command) k = refl
 carried-other (RotationRange segment) k = refl
-carried-other (NotFinite place) k = refl
+carried-other (NotFinite number) k = refl
 carried-other BadPath k = refl
 carried-other (Range found) k = refl
 

@@ -47,22 +47,22 @@ module _ {xs : List ℕ} {at : ℕ} {before after : List ℕ} {next : ℕ} (p : 
 
 -- one more byte of a word
 pub put-next :
-    (word : List ℕ) (i at place : ℕ) (before now after : List ℕ) (next : ℕ)
+    (word : List ℕ) (i at past : ℕ) (before now after : List ℕ) (next : ℕ)
     → i < length word
-    → Put (take i word) at before now place
-    → Put (getD word i 0 ∷ []) place now after next
+    → Put (take i word) at before now past
+    → Put (getD word i 0 ∷ []) past now after next
     → Put (take (i + 1) word) at before after next
-put-next word i at place before now after next h p q =
+put-next word i at past before now after next h p q =
     put-same (put-then p q) (take (i + 1) word) (sym (rw add-one (take-suc word i 0 h)))
 
 -- a word that is put whole
-pub put-all : {word : List ℕ} {i at place : ℕ} {before now : List ℕ} → i ≤ length word → length word ≤ i → Put (take i word) at before now place → Put word at before now place
+pub put-all : {word : List ℕ} {i at past : ℕ} {before now : List ℕ} → i ≤ length word → length word ≤ i → Put (take i word) at before now past → Put word at before now past
 put-all {word} {i} g h p = put-same p word (take-all i word h)
 
 pub word-room :
-    (word : List ℕ) (i at place : ℕ) (before now : List ℕ)
-    → i < length word → Put (take i word) at before now place → at + length word ≤ 69632 → place < 69632
-word-room word i at place before now h p fits =
+    (word : List ℕ) (i at past : ℕ) (before now : List ℕ)
+    → i < length word → Put (take i word) at before now past → at + length word ≤ 69632 → past < 69632
+word-room word i at past before now h p fits =
     let l : length (take i word) ≡ i = length-take-le i word (omega arith) in
     omega (arith, p .past)
 

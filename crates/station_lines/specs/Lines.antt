@@ -85,7 +85,7 @@ carriedFields (MissingMoveTo at) = valueFields (listed (carriedOf (MissingMoveTo
 carriedFields (NoRoom needs) = valueFields (listed (carriedOf (NoRoom needs)))
 carriedFields (BadList command) = valueFields (listed (carriedOf (BadList command)))
 carriedFields (RotationRange segment) = valueFields (listed (carriedOf (RotationRange segment)))
-carriedFields (NotFinite place) = valueFields (listed (carriedOf (NotFinite place)))
+carriedFields (NotFinite number) = valueFields (listed (carriedOf (NotFinite number)))
 carriedFields BadPath = valueFields (listed (carriedOf BadPath))
 carriedFields (Range found) = valueFields (listed (carriedOf (Range found)))
 

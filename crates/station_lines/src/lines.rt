@@ -23,8 +23,8 @@ fn put_point(out: &mut [u8], at: usize, point: Point) -> usize
     requires { ⌜ at + 18 ≤ 69632 ⌝ }
     ensures { λ r. ⌜ PutWithin 18 (pointFields point) at (now (out .entry)) (now (out .exit)) r ⌝ }
 {
-    let place = put_bits(out, at, point.x);
-    put_bits(out, place, point.y)
+    let past_x = put_bits(out, at, point.x);
+    put_bits(out, past_x, point.y)
 }
 
 fn put_flag(out: &mut [u8], at: usize, flag: bool) -> usize
@@ -41,8 +41,8 @@ fn put_quad(out: &mut [u8], at: usize, control: Point, end: Point) -> usize
     requires { ⌜ at + 36 ≤ 69632 ⌝ }
     ensures { λ r. ⌜ PutWithin 36 (argumentFields (PathCommand.QuadTo control end)) at (now (out .entry)) (now (out .exit)) r ⌝ }
 {
-    let place = put_point(out, at, control);
-    put_point(out, place, end)
+    let past_control = put_point(out, at, control);
+    put_point(out, past_control, end)
 }
 
 fn put_arc(
@@ -84,8 +84,8 @@ fn put_arguments(out: &mut [u8], at: usize, command: PathCommand) -> usize
             control2,
             end,
         } => {
-            let place = put_quad(out, at, control1, control2);
-            return put_point(out, place, end);
+            let past_controls = put_quad(out, at, control1, control2);
+            return put_point(out, past_controls, end);
         }
         PathCommand::ArcTo {
             radii,
@@ -160,13 +160,13 @@ fn put_found(out: &mut [u8], at: usize, found: Found) -> usize
     requires { ⌜ FewSegments found × (at + 4 ≤ 69632) ⌝ }
     ensures { λ r. ⌜ PutWithin 4 (segmentField found) at (now (out .entry)) (now (out .exit)) r ⌝ }
 {
-    let place = put_byte(out, at, b' ');
+    let past_space = put_byte(out, at, b' ');
     match found {
         Found::Segment(number) => {
-            return put_small(out, place, number);
+            return put_small(out, past_space, number);
         }
         Found::Nothing => {
-            return put_byte(out, place, b'-');
+            return put_byte(out, past_space, b'-');
         }
     }
 }
@@ -231,10 +231,10 @@ fn put_carried(out: &mut [u8], at: usize, refusal: Refusal) -> usize
     requires { ⌜ at + 105 ≤ 69632 ⌝ }
     ensures { λ r. ⌜ PutWithin 105 (carriedFields refusal) at (now (out .entry)) (now (out .exit)) r ⌝ }
 {
-    if let Refusal::UnsupportedCommand(letter, place) = refusal {
+    if let Refusal::UnsupportedCommand(letter, offset) = refusal {
         let past_space = put_byte(out, at, b' ');
         let past_letter = put_byte(out, past_space, letter);
-        return put_number(out, past_letter, place);
+        return put_number(out, past_letter, offset);
     }
     put_values(out, at, answers::carried(refusal))
 }

@@ -22,13 +22,13 @@ pub(crate) fn put_word(out: &mut [u8], at: usize, word: &[u8]) -> usize
     requires { ⌜ at + length (now word) ≤ 69632 ⌝ }
     ensures { λ r. ⌜ Put (now (word .entry)) at (now (out .entry)) (now (out .exit)) r ⌝ }
 {
-    let mut place = at;
+    let mut past = at;
     let mut i = 0;
     while i < word.len() {
-        place = put_byte(out, place, word[i]);
+        past = put_byte(out, past, word[i]);
         i += 1;
     }
-    place
+    past
 }
 
 // A digit of a number to the base 16, in upper case.
@@ -50,8 +50,8 @@ fn put_hex(out: &mut [u8], at: usize, count: usize, value: u32) -> usize
     if count == 0 {
         return at;
     }
-    let place = put_hex(out, at, count - 1, value / 16);
-    put_byte(out, place, hex_digit(value % 16))
+    let past = put_hex(out, at, count - 1, value / 16);
+    put_byte(out, past, hex_digit(value % 16))
 }
 
 // A number to the base 10.
@@ -62,8 +62,8 @@ fn put_decimal(out: &mut [u8], at: usize, value: usize) -> usize
     if value < 10 {
         return put_byte(out, at, (48 + value) as u8);
     }
-    let place = put_decimal(out, at, value / 10);
-    put_byte(out, place, (48 + value % 10) as u8)
+    let past = put_decimal(out, at, value / 10);
+    put_byte(out, past, (48 + value % 10) as u8)
 }
 
 // A number below 1,000 to the base 10.
@@ -79,8 +79,8 @@ pub(crate) fn put_offset(out: &mut [u8], at: usize, value: usize) -> usize
     requires { ⌜ (value < 10000) × (at + 5 ≤ 69632) ⌝ }
     ensures { λ r. ⌜ PutWithin 5 (numberField value) at (now (out .entry)) (now (out .exit)) r ⌝ }
 {
-    let place = put_byte(out, at, b' ');
-    put_decimal(out, place, value)
+    let past_space = put_byte(out, at, b' ');
+    put_decimal(out, past_space, value)
 }
 
 // A space and a number to the base 10.
@@ -88,8 +88,8 @@ pub(crate) fn put_number(out: &mut [u8], at: usize, value: usize) -> usize
     requires { ⌜ at + 21 ≤ 69632 ⌝ }
     ensures { λ r. ⌜ PutWithin 21 (numberField value) at (now (out .entry)) (now (out .exit)) r ⌝ }
 {
-    let place = put_byte(out, at, b' ');
-    put_decimal(out, place, value)
+    let past_space = put_byte(out, at, b' ');
+    put_decimal(out, past_space, value)
 }
 
 // A space and the bits of a number, in eight digits to the base 16.
@@ -97,6 +97,6 @@ pub(crate) fn put_bits(out: &mut [u8], at: usize, value: f32) -> usize
     requires { ⌜ at + 9 ≤ 69632 ⌝ }
     ensures { λ r. ⌜ PutWithin 9 (bitsField value) at (now (out .entry)) (now (out .exit)) r ⌝ }
 {
-    let place = put_byte(out, at, b' ');
-    put_hex(out, place, 8, floats::bits(value))
+    let past_space = put_byte(out, at, b' ');
+    put_hex(out, past_space, 8, floats::bits(value))
 }

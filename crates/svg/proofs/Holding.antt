@@ -53,7 +53,7 @@ holding-none text before =
       known = known-none text;
       places = refl;
       count = refl;
-      place-le = omega arith;
+      letter-le = omega arith;
       at-le = omega arith;
       lettersNow = refl;
       numbersNow = refl;
@@ -66,11 +66,11 @@ holding-none text before =
 -- at the start nothing is held
 pub begun-none : (text : List ℕ) → Begun text noList freshOf
 unfolding lettersOf numbersOf known-none
-begun-none text = record { done = []; known = known-none text; letters = refl; numbers = refl; offsets = refl; place-le = omega arith; at-le = omega arith }
+begun-none text = record { done = []; known = known-none text; letters = refl; numbers = refl; offsets = refl; letter-le = omega arith; at-le = omega arith }
 
-module _ {text : List ℕ} {before after : CommandList} {reader : Reader} {place at : ℕ} (k : Holding text before after reader place at) where
-  counting : Counting text reader place at
-  counting = record { done = k .done; known = k .known; letters = k .places; numbers = k .count; place-le = k .place-le; at-le = k .at-le }
+module _ {text : List ℕ} {before after : CommandList} {reader : Reader} {letter-at at : ℕ} (k : Holding text before after reader letter-at at) where
+  counting : Counting text reader letter-at at
+  counting = record { done = k .done; known = k .known; letters = k .places; numbers = k .count; letter-le = k .letter-le; at-le = k .at-le }
 
   pub held-letters : length (after .letters) ≡ length (before .letters)
   held-letters = ap length (k .lettersNow) ∙ length-written (lettersOf (k .done)) (before .letters) (omega (arith, k .lettersIn, k .places))
@@ -81,23 +81,23 @@ module _ {text : List ℕ} {before after : CommandList} {reader : Reader} {place
   pub held-offsets : length (after .offsets) ≡ length (before .offsets)
   held-offsets = ap length (k .offsetsNow) ∙ length-written (k .known .marks) (before .offsets) (omega (arith, k .offsetsIn, k .places, k .known .many))
 
-  pub held-within : (place ≤ length (after .letters)) × (at ≤ length (after .numbers)) × (place ≤ length (after .offsets))
+  pub held-within : (letter-at ≤ length (after .letters)) × (at ≤ length (after .numbers)) × (letter-at ≤ length (after .offsets))
   held-within = (omega (arith, held-letters, k .lettersIn), omega (arith, held-numbers, k .numbersIn), omega (arith, held-offsets, k .offsetsIn))
 
-  pub held-whole : readStepOf text reader ≡ Done → Stores text before after (Whole place at)
+  pub held-whole : readStepOf text reader ≡ Done → Stores text before after (Whole letter-at at)
   held-whole e =
       let all : commandsOf text ≡ commands (k .done) = known-all text reader (k .done) (k .known) e in
       let offsets : offsetsOf text ≡ k .known .marks = known-offsets text reader (k .done) (k .known) e in
       record {
         said = (
-          counted text reader place at counting e,
+          counted text reader letter-at at counting e,
           rw (all, offsets) ((omega (arith, k .lettersIn, k .places), omega (arith, k .numbersIn, k .count)), omega (arith, k .offsetsIn, k .places, k .known .many)),
           rw (all, offsets) ((k .lettersNow, k .numbersNow), k .offsetsNow),
         );
       }
 
   pub held-refused : (reason : Refusal) → readStepOf text reader ≡ Refused reason → Stores text before after (Unstored reason)
-  held-refused reason e = record { said = uncounted text reader place at counting reason e }
+  held-refused reason e = record { said = uncounted text reader letter-at at counting reason e }
 
   module _ (command : PathCommand) (next : Reader) (e : readStepOf text reader ≡ Command command next) where
     more : Known text next (k .done ++ (command ∷ []))
@@ -114,13 +114,13 @@ module _ {text : List ℕ} {before after : CommandList} {reader : Reader} {place
     held-offset = known-offset text reader (k .done) (k .known) command next e
 
     -- the counts are small
-    pub held-small : (place < length text) × (at ≤ 7 * place) × (length (argumentsOf command) ≤ 7)
-    held-small = counting-within text reader place at counting command next e
+    pub held-small : (letter-at < length text) × (at ≤ 7 * letter-at) × (length (argumentsOf command) ≤ 7)
+    held-small = counting-within text reader letter-at at counting command next e
 
     -- room for the text is room for the command
     roomed :
         Roomed (offsetsOf text) (commandsOf text) before
-        → (place + 1 ≤ length (after .letters)) × (at + length (argumentsOf command) ≤ length (after .numbers)) × (place + 1 ≤ length (after .offsets))
+        → (letter-at + 1 ≤ length (after .letters)) × (at + length (argumentsOf command) ≤ length (after .numbers)) × (letter-at + 1 ≤ length (after .offsets))
     roomed room =
         let r = room-of (length (before .letters)) (length (before .numbers)) (k .done ++ (command ∷ [])) (commandsOf text) (readFrom (more .steps) text next) (room .0) (more .whole) in (
           omega (arith, r .0, one-letter, k .places, held-letters),
@@ -128,22 +128,22 @@ module _ {text : List ℕ} {before after : CommandList} {reader : Reader} {place
           omega (arith, room .1, known-many text next (k .done ++ (command ∷ [])) more, more .many, one-letter, k .places, held-offsets),
         )
 
-    pub full-of-letters : length (after .letters) ≤ place → Stores text before after (Full reader place at)
+    pub full-of-letters : length (after .letters) ≤ letter-at → Stores text before after (Full reader letter-at at)
     full-of-letters h = record { said = (k, λ room. omega (arith, roomed room .0)) }
 
-    pub full-of-numbers : (width : ℕ) → width ≡ length (argumentsOf command) → length (after .numbers) < at + width → Stores text before after (Full reader place at)
+    pub full-of-numbers : (width : ℕ) → width ≡ length (argumentsOf command) → length (after .numbers) < at + width → Stores text before after (Full reader letter-at at)
     full-of-numbers width w h = record { said = (k, λ room. omega (arith, roomed room .1, w)) }
 
-    pub full-of-offsets : length (after .offsets) ≤ place → Stores text before after (Full reader place at)
+    pub full-of-offsets : length (after .offsets) ≤ letter-at → Stores text before after (Full reader letter-at at)
     full-of-offsets h = record { said = (k, λ room. omega (arith, roomed room .2)) }
 
     pub holding-more :
         {letters′ : List ℕ} {numbers′ : List Float} (width : ℕ) → width ≡ length (argumentsOf command)
-        → place < length (after .letters)
+        → letter-at < length (after .letters)
         → at + width ≤ length (after .numbers)
-        → place < length (after .offsets)
-        → Store place at command (after .letters) (after .numbers) letters′ numbers′
-        → Holding text before (commandList letters′ numbers′ (set (after .offsets) place (next .offset))) next (place + 1) (at + width)
+        → letter-at < length (after .offsets)
+        → Store letter-at at command (after .letters) (after .numbers) letters′ numbers′
+        → Holding text before (commandList letters′ numbers′ (set (after .offsets) letter-at (next .offset))) next (letter-at + 1) (at + width)
     unfolding more known-more
     holding-more width w inside enough free s =
         let l : lettersOf (k .done ++ (command ∷ [])) ≡ lettersOf (k .done) ++ (letterOf command ∷ []) = letters-more (k .done) command in
@@ -153,12 +153,12 @@ module _ {text : List ℕ} {before after : CommandList} {reader : Reader} {place
           known = more;
           places = omega (arith, one-letter, k .places);
           count = omega (arith, its-numbers, k .count, w);
-          place-le = omega (arith, step-ahead text reader next command e, k .place-le);
+          letter-le = omega (arith, step-ahead text reader next command e, k .letter-le);
           at-le = omega (arith, few-arguments command, w, k .at-le);
           lettersNow =
               rw l
               (s .letter
-              ∙ ap (λ x. set x place (letterOf command)) (k .lettersNow)
+              ∙ ap (λ x. set x letter-at (letterOf command)) (k .lettersNow)
               ∙ ap (λ i. set (written (lettersOf (k .done)) (before .letters)) i (letterOf command)) (k .places)
               ∙ written-more (lettersOf (k .done)) (letterOf command ∷ []) (before .letters) (omega (arith, inside, held-letters, k .places)));
           numbersNow =
@@ -168,7 +168,7 @@ module _ {text : List ℕ} {before after : CommandList} {reader : Reader} {place
               ∙ ap (λ i. sets (written (numbersOf (k .done)) (before .numbers)) i (argumentsOf command)) (k .count)
               ∙ written-more (numbersOf (k .done)) (argumentsOf command) (before .numbers) (omega (arith, enough, held-numbers, k .count, w)));
           offsetsNow =
-              ap (λ x. set x place (next .offset)) (k .offsetsNow)
+              ap (λ x. set x letter-at (next .offset)) (k .offsetsNow)
               ∙ ap (λ i. set (written (k .known .marks) (before .offsets)) i (next .offset)) (k .places ∙ sym (k .known .many))
               ∙ written-more (k .known .marks) (next .offset ∷ []) (before .offsets) (omega (arith, free, held-offsets, k .places, k .known .many));
           lettersIn = omega (arith, inside, held-letters);
@@ -177,19 +177,19 @@ module _ {text : List ℕ} {before after : CommandList} {reader : Reader} {place
         }
 
   -- what is held, as three lists
-  begun : Begun text (commandList (take place (after .letters)) (take at (after .numbers)) (take place (after .offsets))) reader
+  begun : Begun text (commandList (take letter-at (after .letters)) (take at (after .numbers)) (take letter-at (after .offsets))) reader
   begun =
-      let l : take place (after .letters) ≡ lettersOf (k .done) = ap (take place) (k .lettersNow) ∙ take-written (lettersOf (k .done)) (before .letters) place (k .places) in
+      let l : take letter-at (after .letters) ≡ lettersOf (k .done) = ap (take letter-at) (k .lettersNow) ∙ take-written (lettersOf (k .done)) (before .letters) letter-at (k .places) in
       let n : take at (after .numbers) ≡ numbersOf (k .done) = ap (take at) (k .numbersNow) ∙ take-written (numbersOf (k .done)) (before .numbers) at (k .count) in
-      let o : take place (after .offsets) ≡ k .known .marks =
-      ap (take place) (k .offsetsNow) ∙ take-written (k .known .marks) (before .offsets) place (k .places ∙ sym (k .known .many)) in
+      let o : take letter-at (after .offsets) ≡ k .known .marks =
+      ap (take letter-at) (k .offsetsNow) ∙ take-written (k .known .marks) (before .offsets) letter-at (k .places ∙ sym (k .known .many)) in
       record {
         done = k .done;
         known = k .known;
         letters = l;
         numbers = n;
         offsets = o;
-        place-le = omega (arith, ap length l, k .places, k .place-le);
+        letter-le = omega (arith, ap length l, k .places, k .letter-le);
         at-le = omega (arith, ap length l, ap length n, k .places, k .count, k .at-le);
       }
 
@@ -279,7 +279,7 @@ filled-over letters letters₁ letters′ numbers numbers₁ numbers′ done (re
 
 module _ {text : List ℕ} {held : CommandList} {reader : Reader} (k : Begun text held reader) where
   pub begun-counting : Counting text reader (length (held .letters)) (length (held .numbers))
-  begun-counting = record { done = k .done; known = k .known; letters = ap length (k .letters); numbers = ap length (k .numbers); place-le = k .place-le; at-le = k .at-le }
+  begun-counting = record { done = k .done; known = k .known; letters = ap length (k .letters); numbers = ap length (k .numbers); letter-le = k .letter-le; at-le = k .at-le }
 
   -- a letter and an offset for each command
   many : length (held .offsets) ≡ length (held .letters)
@@ -322,7 +322,7 @@ module _ {text : List ℕ} {held : CommandList} {reader : Reader} (k : Begun tex
               known = k .known;
               places = ap length (k .letters);
               count = ap length (k .numbers);
-              place-le = k .place-le;
+              letter-le = k .letter-le;
               at-le = k .at-le;
               lettersNow = again (held .letters) (copied .letters) (before .letters) (lettersOf (k .done)) l (k .letters);
               numbersNow = again (held .numbers) (copied .numbers) (before .numbers) (numbersOf (k .done)) n (k .numbers);

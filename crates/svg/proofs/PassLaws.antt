@@ -1,19 +1,15 @@
--- The two passes over a text: what each knows between two commands, and what a step does to that. Assumes nothing.
-use Prim.Native.Nat.{ℕ, zero, suc, _+_, _*_, _≤_, _<_}
+-- What a pass over a text knows between two commands, and what a step does to that. Assumes nothing.
+use Prim.Native.Nat.{ℕ, suc, _+_, _*_, _≤_, _<_}
 use mathlib.Core.Path.{_≡_, refl, sym, ap, _∙_}
 use mathlib.Core.List.{List, [], _∷_, _++_, append-assoc, append-nil}
 use native.Mathlib.Omega.{arith}
-use lib.Ieee.{Float}
-use lib.ListN.{length, set, length-append}
-use lib.Seq.{sets}
-use Rattle.answers.specs.Report.{written}
+use lib.ListN.{length, length-append}
 use Rattle.answers.specs.declared.refusals.Refusal.{Refusal}
-use Rattle.answers.proofs.Writing.{written-more, length-written}
-use Rattle.commands.specs.Stored.{letterOf, argumentsOf, lettersOf, numbersOf, Store}
+use Rattle.commands.specs.Stored.{letterOf, argumentsOf, lettersOf, numbersOf}
 use Rattle.commands.specs.declared.command.PathCommand.{PathCommand}
 use Rattle.commands.specs.declared.command.PathCommand.the-variants.{MoveTo, LineTo, QuadTo, CubicTo, ArcTo, ClosePath}
 use Rattle.svg_step.specs.Steps.{freshOf, readStepOf}
-use Rattle.svg.specs.Texts.{Outcome, commands, refusal, prepend, readFrom, commandsOf, offsetsFrom, offsetsOf, measureOf, Room, Filled}
+use Rattle.svg.specs.Texts.{Outcome, commands, refusal, prepend, readFrom, commandsOf, offsetsFrom, offsetsOf, measureOf, Room}
 pub use Rattle.svg.specs.Texts.{onto, Known, Counting}
 use Rattle.svg_step.specs.declared.steps.Reader.{Reader}
 use Rattle.svg_step.specs.declared.steps.Step.the-variants.{Command, Done, Refused}
@@ -115,10 +111,10 @@ module _ (text : List ℕ) (reader : Reader) (done : List PathCommand) (k : Know
 
 pub counting-none : (text : List ℕ) → Counting text freshOf 0 0
 unfolding lettersOf numbersOf
-counting-none text = record { done = []; known = known-none text; letters = refl; numbers = refl; place-le = omega arith; at-le = omega arith }
+counting-none text = record { done = []; known = known-none text; letters = refl; numbers = refl; letter-le = omega arith; at-le = omega arith }
 
-module _ (text : List ℕ) (reader : Reader) (place at : ℕ) (k : Counting text reader place at) where
-  pub counted : readStepOf text reader ≡ Done → Counted place at ≡ measureOf (commandsOf text)
+module _ (text : List ℕ) (reader : Reader) (letter-at at : ℕ) (k : Counting text reader letter-at at) where
+  pub counted : readStepOf text reader ≡ Done → Counted letter-at at ≡ measureOf (commandsOf text)
   unfolding measureOf
   counted e =
       rw (known-all text reader (k .done) (k .known) e)
@@ -129,10 +125,10 @@ module _ (text : List ℕ) (reader : Reader) (place at : ℕ) (k : Counting text
   uncounted reason e = rw (known-refused text reader (k .done) (k .known) reason e)
 
   module _ (command : PathCommand) (next : Reader) (e : readStepOf text reader ≡ Command command next) where
-    pub counting-within : (place < length text) × (at ≤ 7 * place) × (length (argumentsOf command) ≤ 7)
-    counting-within = (omega (arith, step-ahead text reader next command e, k .place-le), k .at-le, few-arguments command)
+    pub counting-within : (letter-at < length text) × (at ≤ 7 * letter-at) × (length (argumentsOf command) ≤ 7)
+    counting-within = (omega (arith, step-ahead text reader next command e, k .letter-le), k .at-le, few-arguments command)
 
-    pub counting-more : (width : ℕ) → width ≡ length (argumentsOf command) → Counting text next (place + 1) (at + width)
+    pub counting-more : (width : ℕ) → width ≡ length (argumentsOf command) → Counting text next (letter-at + 1) (at + width)
     counting-more width w =
         let l : length (lettersOf (k .done ++ (command ∷ []))) ≡ length (lettersOf (k .done)) + 1 = ap length (letters-more (k .done) command) ∙ length-append (lettersOf (k .done)) (letterOf command ∷ []) in
         let n : length (numbersOf (k .done ++ (command ∷ []))) ≡ length (numbersOf (k .done)) + length (argumentsOf command) = ap length (numbers-more (k .done) command) ∙ length-append (numbersOf (k .done)) (argumentsOf command) in
@@ -141,24 +137,11 @@ module _ (text : List ℕ) (reader : Reader) (place at : ℕ) (k : Counting text
           known = known-more text reader (k .done) (k .known) command next e;
           letters = omega (arith, l, k .letters);
           numbers = omega (arith, n, k .numbers, w);
-          place-le = omega (arith, step-ahead text reader next command e, k .place-le);
+          letter-le = omega (arith, step-ahead text reader next command e, k .letter-le);
           at-le = omega (arith, few-arguments command, w, k .at-le);
         }
 
--- ---- the second pass
-
-pub record Filling (text : List ℕ) (before letters : List ℕ) (stood numbers : List Float) (reader : Reader) (place at : ℕ) : Type 0 where
-  pub done : List PathCommand
-  pub known : Known text reader done
-  pub places : place ≡ length (lettersOf done)
-  pub count : at ≡ length (numbersOf done)
-  pub lettersNow : letters ≡ written (lettersOf done) before
-  pub numbersNow : numbers ≡ written (numbersOf done) stood
-  pub room : Room (commandsOf text) (length before) (length stood)
-
-pub filling-none : (text before : List ℕ) (stood : List Float) → Room (commandsOf text) (length before) (length stood) → Filling text before before stood stood freshOf 0 0
-unfolding lettersOf numbersOf
-filling-none text before stood room = record { done = []; known = known-none text; places = refl; count = refl; lettersNow = refl; numbersNow = refl; room = room }
+-- ---- room
 
 -- the commands known have room, and those to come
 pub room-of : (l n : ℕ) (done : List PathCommand) (whole rest : Outcome) → Room whole l n → whole ≡ onto done rest → (length (lettersOf done) ≤ l) × (length (numbersOf done) ≤ n)
@@ -169,61 +152,3 @@ room-of l n done (commands list) (commands rest) room e =
       omega (arith, room .0, ap (λ x. length (lettersOf x)) f ∙ ap length (letters-append done rest) ∙ length-append (lettersOf done) (lettersOf rest)),
       omega (arith, room .1, ap (λ x. length (numbersOf x)) f ∙ ap length (numbers-append done rest) ∙ length-append (numbersOf done) (numbersOf rest)),
     )
-
-module _ (text before letters : List ℕ) (stood numbers : List Float) (reader : Reader) (place at : ℕ) (k : Filling text before letters stood numbers reader place at) where
-  roomed : (length (lettersOf (k .done)) ≤ length before) × (length (numbersOf (k .done)) ≤ length stood)
-  roomed = room-of (length before) (length stood) (k .done) (commandsOf text) (readFrom (k .known .steps) text reader) (k .room) (k .known .whole)
-
-  pub same-letters : length letters ≡ length before
-  same-letters = ap length (k .lettersNow) ∙ length-written (lettersOf (k .done)) before (roomed .0)
-
-  pub same-numbers : length numbers ≡ length stood
-  same-numbers = ap length (k .numbersNow) ∙ length-written (numbersOf (k .done)) stood (roomed .1)
-
-  -- a text that has room is not refused
-  pub never-refused : (reason : Refusal) → readStepOf text reader ≡ Refused reason → ⊥
-  never-refused reason e = rw (known-refused text reader (k .done) (k .known) reason e) at (k .room)
-
-  pub filled : readStepOf text reader ≡ Done → Filled (commandsOf text) before stood letters numbers
-  filled e = rw (known-all text reader (k .done) (k .known) e) (k .lettersNow, k .numbersNow)
-
-  module _ (command : PathCommand) (next : Reader) (e : readStepOf text reader ≡ Command command next) where
-    more : Known text next (k .done ++ (command ∷ []))
-    more = known-more text reader (k .done) (k .known) command next e
-
-    fitting : (length (lettersOf (k .done)) + 1 ≤ length before) × (length (numbersOf (k .done)) + length (argumentsOf command) ≤ length stood)
-    fitting =
-        let r = room-of (length before) (length stood) (k .done ++ (command ∷ [])) (commandsOf text) (readFrom (more .steps) text next) (k .room) (more .whole) in (
-          omega (arith, r .0, ap length (letters-more (k .done) command) ∙ length-append (lettersOf (k .done)) (letterOf command ∷ [])),
-          omega (arith, r .1, ap length (numbers-more (k .done) command) ∙ length-append (numbersOf (k .done)) (argumentsOf command)),
-        )
-
-    -- the next command has room
-    pub fits : (place < length letters) × (at + length (argumentsOf command) ≤ length numbers)
-    fits = (omega (arith, fitting, same-letters, k .places), omega (arith, fitting, same-numbers, k .count))
-
-    pub filling-more :
-        (letters′ : List ℕ) (numbers′ : List Float) (width : ℕ) → width ≡ length (argumentsOf command) → Store place at command letters numbers letters′ numbers′
-        → Filling text before letters′ stood numbers′ next (place + 1) (at + width)
-    filling-more letters′ numbers′ width w s =
-        let l : lettersOf (k .done ++ (command ∷ [])) ≡ lettersOf (k .done) ++ (letterOf command ∷ []) = letters-more (k .done) command in
-        let n : numbersOf (k .done ++ (command ∷ [])) ≡ numbersOf (k .done) ++ argumentsOf command = numbers-more (k .done) command in
-        record {
-          done = k .done ++ (command ∷ []);
-          known = more;
-          places = rw l (omega (arith, length-append (lettersOf (k .done)) (letterOf command ∷ []), k .places));
-          count = rw n (omega (arith, length-append (numbersOf (k .done)) (argumentsOf command), k .count, w));
-          lettersNow =
-              rw l
-              (s .letter
-              ∙ ap (λ x. set x place (letterOf command)) (k .lettersNow)
-              ∙ ap (λ i. set (written (lettersOf (k .done)) before) i (letterOf command)) (k .places)
-              ∙ written-more (lettersOf (k .done)) (letterOf command ∷ []) before (fitting .0));
-          numbersNow =
-              rw n
-              (s .arguments
-              ∙ ap (λ x. sets x at (argumentsOf command)) (k .numbersNow)
-              ∙ ap (λ i. sets (written (numbersOf (k .done)) stood) i (argumentsOf command)) (k .count)
-              ∙ written-more (numbersOf (k .done)) (argumentsOf command) stood (fitting .1));
-          room = k .room;
-        }

@@ -104,28 +104,28 @@ pub record Known (text : List ℕ) (reader : Reader) (done : List PathCommand) :
   pub kept : reader .offset ≤ reader .at
 
 -- they are counted
-pub record Counting (text : List ℕ) (reader : Reader) (place at : ℕ) : Type 0 where
+pub record Counting (text : List ℕ) (reader : Reader) (letter-at at : ℕ) : Type 0 where
   pub done : List PathCommand
   pub known : Known text reader done
-  pub letters : place ≡ length (lettersOf done)
+  pub letters : letter-at ≡ length (lettersOf done)
   pub numbers : at ≡ length (numbersOf done)
-  pub place-le : place ≤ reader .at
-  pub at-le : at ≤ 7 * place
+  pub letter-le : letter-at ≤ reader .at
+  pub at-le : at ≤ 7 * letter-at
 
 -- they are stored from the start of three buffers, which held something else before
-pub record Holding (text : List ℕ) (before after : CommandList) (reader : Reader) (place at : ℕ) : Type 0 where
+pub record Holding (text : List ℕ) (before after : CommandList) (reader : Reader) (letter-at at : ℕ) : Type 0 where
   pub done : List PathCommand
   pub known : Known text reader done
-  pub places : place ≡ length (lettersOf done)
+  pub places : letter-at ≡ length (lettersOf done)
   pub count : at ≡ length (numbersOf done)
-  pub place-le : place ≤ reader .at
-  pub at-le : at ≤ 7 * place
+  pub letter-le : letter-at ≤ reader .at
+  pub at-le : at ≤ 7 * letter-at
   pub lettersNow : after .letters ≡ written (lettersOf done) (before .letters)
   pub numbersNow : after .numbers ≡ written (numbersOf done) (before .numbers)
   pub offsetsNow : after .offsets ≡ written (known .marks) (before .offsets)
-  pub lettersIn : place ≤ length (before .letters)
+  pub lettersIn : letter-at ≤ length (before .letters)
   pub numbersIn : at ≤ length (before .numbers)
-  pub offsetsIn : place ≤ length (before .offsets)
+  pub offsetsIn : letter-at ≤ length (before .offsets)
 
 -- they are what three lists hold
 pub record Begun (text : List ℕ) (held : CommandList) (reader : Reader) : Type 0 where
@@ -134,7 +134,7 @@ pub record Begun (text : List ℕ) (held : CommandList) (reader : Reader) : Type
   pub letters : held .letters ≡ lettersOf done
   pub numbers : held .numbers ≡ numbersOf done
   pub offsets : held .offsets ≡ known .marks
-  pub place-le : length (held .letters) ≤ reader .at
+  pub letter-le : length (held .letters) ≤ reader .at
   pub at-le : length (held .numbers) ≤ 7 * length (held .letters)
 
 -- all commands of a text are what three lists hold

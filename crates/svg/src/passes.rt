@@ -29,13 +29,13 @@ pub(crate) fn measure_on(text: &[u8], reader: Reader, letters: usize, numbers: u
     let mut from: usize = reader.at;
     let mut remembered: u8 = reader.letter;
     let mut placed = reader.placed;
-    let mut place: usize = letters;
+    let mut letter_at: usize = letters;
     let mut at: usize = numbers;
     loop {
         match pass_step(text, from, remembered, placed) {
             Pass::Done => {
                 return Size::Counted {
-                    letters: place,
+                    letters: letter_at,
                     numbers: at,
                 };
             }
@@ -51,7 +51,7 @@ pub(crate) fn measure_on(text: &[u8], reader: Reader, letters: usize, numbers: u
                 remembered = letter;
                 placed = true;
                 at += more;
-                place += 1;
+                letter_at += 1;
             }
         }
     }
@@ -88,13 +88,13 @@ pub(crate) fn fill(
     ensures { λ r. ⌜ Stores (now (text .entry)) (before letters numbers offsets) (after letters numbers offsets) r ⌝ }
 {
     let mut reader = from;
-    let mut place: usize = first;
+    let mut letter_at: usize = first;
     let mut at: usize = start;
     loop {
         match read_step(text, reader) {
             Step::Done => {
                 return Stored::Whole {
-                    letters: place,
+                    letters: letter_at,
                     numbers: at,
                 };
             }
@@ -103,31 +103,31 @@ pub(crate) fn fill(
             }
             Step::Command { command, next } => {
                 let more = width(command);
-                if letters.len() <= place {
+                if letters.len() <= letter_at {
                     return Stored::Full {
                         reader,
-                        letters: place,
+                        letters: letter_at,
                         numbers: at,
                     };
                 }
                 if numbers.len() - at < more {
                     return Stored::Full {
                         reader,
-                        letters: place,
+                        letters: letter_at,
                         numbers: at,
                     };
                 }
-                if offsets.len() <= place {
+                if offsets.len() <= letter_at {
                     return Stored::Full {
                         reader,
-                        letters: place,
+                        letters: letter_at,
                         numbers: at,
                     };
                 }
-                store(letters, numbers, place, at, command);
-                offsets[place] = next.offset as u32;
+                store(letters, numbers, letter_at, at, command);
+                offsets[letter_at] = next.offset as u32;
                 at += more;
-                place += 1;
+                letter_at += 1;
                 reader = next;
             }
         }

@@ -26,14 +26,14 @@ use Rattle.path_batch.proofs.batches.fill_flights.Statement.{statement}
 use Rattle.path_batch.proofs.batches.fill_flights.Tie as tie
 
 abbrev Inv-loop : tie.InvT-loop
-Inv-loop kinds fields tables lengths commands progresses segments₀ raws₀ out₀ shift₀ number-marks₀ table-marks₀ at₀ near₀ k₀ segments raws out shift number-marks table-marks at near k =
+Inv-loop kinds fields tables lengths commands progresses segments₀ raws₀ out₀ shift₀ field-marks₀ table-marks₀ at₀ near₀ k₀ segments raws out shift field-marks table-marks at near k =
     let b = buffers kinds fields tables lengths commands in
     Looking kinds progresses at k × (segments ≡ written (segmentsFor b (take k progresses)) segments₀) × (raws ≡ written (rawsFor b (take k progresses)) raws₀)
     × (out ≡ written (numbersFor b (take k progresses)) out₀)
-    × Marks kinds shift number-marks table-marks
+    × Marks kinds shift field-marks table-marks
 
 abbrev μ-loop : tie.MeasureT-loop
-μ-loop kinds fields tables lengths commands progresses segments₀ raws₀ out₀ shift₀ number-marks₀ table-marks₀ at₀ near₀ k₀ segments raws out shift number-marks table-marks at near k = length progresses - k
+μ-loop kinds fields tables lengths commands progresses segments₀ raws₀ out₀ shift₀ field-marks₀ table-marks₀ at₀ near₀ k₀ segments raws out shift field-marks table-marks at near k = length progresses - k
 
 -- ---- the points, and what is known there
 
@@ -115,7 +115,7 @@ few m = let good = start (looked m) .good in omega arith
 
 -- the cursor stands at the spot's segment, and the marks are marks still
 landed : (m : Moved) → let kinds = start (looked m) .args .kinds .now in
-    (m .if1 .here ≡ cursorOf kinds (spotted m .spot-near .result .segment)) × Marks kinds (m .if1 .shift) (m .if1 .number-marks) (m .if1 .table-marks)
+    (m .if1 .here ≡ cursorOf kinds (spotted m .spot-near .result .segment)) × Marks kinds (m .if1 .shift) (m .if1 .field-marks) (m .if1 .table-marks)
 landed m =
     ⊎-elim
     (λ near. (near .6 ∙ near .1 .ensures, marks-same (near .2) (near .3) (near .4) (looked m .loop .inv .4)))

@@ -24,13 +24,13 @@ use Rattle.path_batch.proofs.batches.fill_places.Statement.{statement}
 use Rattle.path_batch.proofs.batches.fill_places.Tie as tie
 
 abbrev Inv-loop : tie.InvT-loop
-Inv-loop kinds fields tables lengths commands progresses segments₀ raws₀ shift₀ number-marks₀ table-marks₀ at₀ near₀ i₀ segments raws shift number-marks table-marks at near i =
+Inv-loop kinds fields tables lengths commands progresses segments₀ raws₀ shift₀ field-marks₀ table-marks₀ at₀ near₀ i₀ segments raws shift field-marks table-marks at near i =
     let b = buffers kinds fields tables lengths commands in
     Looking kinds progresses at i × (segments ≡ written (segmentsFor b (take i progresses)) segments₀) × (raws ≡ written (rawsFor b (take i progresses)) raws₀)
-    × Marks kinds shift number-marks table-marks
+    × Marks kinds shift field-marks table-marks
 
 abbrev μ-loop : tie.MeasureT-loop
-μ-loop kinds fields tables lengths commands progresses segments₀ raws₀ shift₀ number-marks₀ table-marks₀ at₀ near₀ i₀ segments raws shift number-marks table-marks at near i = length progresses - i
+μ-loop kinds fields tables lengths commands progresses segments₀ raws₀ shift₀ field-marks₀ table-marks₀ at₀ near₀ i₀ segments raws shift field-marks table-marks at near i = length progresses - i
 
 -- ---- the points, and what is known there
 
@@ -107,7 +107,7 @@ few m = let good = start (looked m) .good in omega arith
 
 -- the cursor stands at the spot's segment, and the marks are marks still
 landed : (m : Moved) → let kinds = start (looked m) .args .kinds .now in
-    (m .if1 .here ≡ cursorOf kinds (spotted m .spot-near .result .segment)) × Marks kinds (m .if1 .shift) (m .if1 .number-marks) (m .if1 .table-marks)
+    (m .if1 .here ≡ cursorOf kinds (spotted m .spot-near .result .segment)) × Marks kinds (m .if1 .shift) (m .if1 .field-marks) (m .if1 .table-marks)
 landed m =
     ⊎-elim
     (λ near. (near .6 ∙ near .1 .ensures, marks-same (near .2) (near .3) (near .4) (looked m .loop .inv .3)))

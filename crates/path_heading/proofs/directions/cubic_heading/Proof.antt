@@ -6,11 +6,11 @@ use Rattle.path_heading.proofs.directions.cubic_heading.Statement.{stat
 use Rattle.path_heading.proofs.directions.cubic_heading.Tie as tie
 
 cubic-direction-requires : tie.Need-cubic-direction-requires
-cubic-direction-requires c κs = let start = c .before .before .before in rw (part-size (start .args .place)) (there-sound (start .pre))
+cubic-direction-requires c κs = let start = c .before .before .before in rw (part-size (start .args .first)) (there-sound (start .pre))
 
 returns : tie.Need-returns
 unfolding rawIn
-returns c = let start = c .before .before .before .before in rw (part-size (start .args .place)) at (c .cubic-direction .ensures)
+returns c = let start = c .before .before .before .before in rw (part-size (start .args .first)) at (c .cubic-direction .ensures)
 
 pub cubic-heading-spec : {M : Type 1} → statement M
 cubic-heading-spec =

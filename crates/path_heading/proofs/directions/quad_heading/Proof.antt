@@ -6,11 +6,11 @@ use Rattle.path_heading.proofs.directions.quad_heading.Statement.{state
 use Rattle.path_heading.proofs.directions.quad_heading.Tie as tie
 
 quad-direction-requires : tie.Need-quad-direction-requires
-quad-direction-requires c κs = let start = c .before .before .before in rw (part-size (start .args .place)) (there-sound (start .pre))
+quad-direction-requires c κs = let start = c .before .before .before in rw (part-size (start .args .first)) (there-sound (start .pre))
 
 returns : tie.Need-returns
 unfolding rawIn
-returns c = let start = c .before .before .before .before in rw (part-size (start .args .place)) at (c .quad-direction .ensures)
+returns c = let start = c .before .before .before .before in rw (part-size (start .args .first)) at (c .quad-direction .ensures)
 
 pub quad-heading-spec : {M : Type 1} → statement M
 quad-heading-spec =

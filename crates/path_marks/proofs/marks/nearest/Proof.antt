@@ -6,9 +6,9 @@ use Rattle.path_marks.proofs.Marking.{mark-lt, mark-le, mark-whole, mar
 use Rattle.path_marks.proofs.marks.nearest.Statement.{statement}
 use Rattle.path_marks.proofs.marks.nearest.Tie as tie
 
--- the mark's place
-place : (s : tie.Start) → s .args .segment / 2 ^ s .args .shift < 256
-place s = mark-lt (s .pre)
+-- the mark is one of the 256
+among : (s : tie.Start) → s .args .segment / 2 ^ s .args .shift < 256
+among s = mark-lt (s .pre)
 
 sub-if1 : tie.Need-sub-if1
 sub-if1 c = let start = c .before .before in omega (arith, mark-le (start .pre), mark-whole (start .pre))
@@ -17,16 +17,16 @@ returns : tie.Need-returns
 returns c = c .before .before .before .pre .move
 
 mul-wide : tie.Need-mul-wide
-mul-wide c = omega (arith, place (c .before .before .before))
+mul-wide c = omega (arith, among (c .before .before .before))
 
 element-copy-out-wide : tie.Need-element-copy-out-wide
-element-copy-out-wide c = omega (arith, place (c .before .before .before))
+element-copy-out-wide c = omega (arith, among (c .before .before .before))
 
 mul-wide-2 : tie.Need-mul-wide-2
-mul-wide-2 c = omega (arith, place (c .before .before .before .before .before))
+mul-wide-2 c = omega (arith, among (c .before .before .before .before .before))
 
 element-copy-out-wide-2 : tie.Need-element-copy-out-wide-2
-element-copy-out-wide-2 c = omega (arith, place (c .before .before .before .before .before))
+element-copy-out-wide-2 c = omega (arith, among (c .before .before .before .before .before))
 
 returns-2 : tie.Need-returns-2
 returns-2 c =

@@ -6,15 +6,15 @@ use lib.ListN.{length}
 use lib.Pow.{pow-pos}
 use Rattle.path_place.proofs.Standing.{cursor-own}
 use Rattle.path_marks.specs.Marks.{Reach}
-use Rattle.path_marks.proofs.Marking.{Setting, apart-is, setting-first, setting-own, setting-numbers, setting-tables, setting-lt, setting-stored, setting-done, setting-next}
+use Rattle.path_marks.proofs.Marking.{Setting, apart-is, setting-first, setting-own, setting-fields, setting-tables, setting-lt, setting-stored, setting-done, setting-next}
 use Rattle.path_marks.proofs.marks.set_marks.Statement.{statement}
 use Rattle.path_marks.proofs.marks.set_marks.Tie as tie
 
 abbrev Inv-loop : tie.InvT-loop
-Inv-loop kinds numbers₀ tables₀ count shift apart at₀ k₀ numbers tables at k = Setting kinds shift at k numbers tables
+Inv-loop kinds fields₀ tables₀ count shift apart at₀ k₀ fields tables at k = Setting kinds shift at k fields tables
 
 abbrev μ-loop : tie.MeasureT-loop
-μ-loop kinds numbers₀ tables₀ count shift apart at₀ k₀ numbers tables at k = length kinds - at .segment
+μ-loop kinds fields₀ tables₀ count shift apart at₀ k₀ fields tables at k = length kinds - at .segment
 
 -- ---- the points, and what is known there
 
@@ -38,14 +38,14 @@ room l = setting-lt (few l) (l .loop .inv) (reach l)
 loop-holds : tie.Need-loop-holds Inv-loop μ-loop
 loop-holds c = setting-first _ (c .before .before .before .pre) (c .first-cursor .ensures)
 
-cast-numbers : tie.Need-cast-numbers Inv-loop μ-loop
-cast-numbers c = let l = c .before in omega (arith, setting-numbers (few l) (l .loop .inv))
+cast-fields : tie.Need-cast-fields Inv-loop μ-loop
+cast-fields c = let l = c .before in omega (arith, setting-fields (few l) (l .loop .inv))
 
-mul-numbers : tie.Need-mul-numbers Inv-loop μ-loop
-mul-numbers c = omega (arith, room (c .before))
+mul-fields : tie.Need-mul-fields Inv-loop μ-loop
+mul-fields c = omega (arith, room (c .before))
 
-element-write-numbers : tie.Need-element-write-numbers Inv-loop μ-loop
-element-write-numbers c = omega (arith, room (c .before))
+element-write-fields : tie.Need-element-write-fields Inv-loop μ-loop
+element-write-fields c = omega (arith, room (c .before))
 
 cast-tables : tie.Need-cast-tables Inv-loop μ-loop
 cast-tables c = let l = c .before .before in omega (arith, setting-tables (few l) (l .loop .inv))
@@ -96,5 +96,5 @@ pub set-marks-spec : {M : Type 1} → statement M
 set-marks-spec =
     tie.close
     (tie.spec Inv-loop μ-loop (λ c κs. search needs) (λ c. search needs) (λ c κs. search needs) loop-holds
-    cast-numbers mul-numbers element-write-numbers cast-tables mul-tables element-write-tables sub-if1 returns
+    cast-fields mul-fields element-write-fields cast-tables mul-tables element-write-tables sub-if1 returns
     add-forward forward-requires add-k loop-less loop-again)

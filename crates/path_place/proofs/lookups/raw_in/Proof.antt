@@ -6,11 +6,11 @@ use Rattle.path_place.proofs.lookups.raw_in.Statement.{statement}
 use Rattle.path_place.proofs.lookups.raw_in.Tie as tie
 
 raw-parameter-in-requires : tie.Need-raw-parameter-in-requires
-raw-parameter-in-requires c κs = let start = c .before .before .before in rw (part-size (start .args .place)) (there-sound (start .pre))
+raw-parameter-in-requires c κs = let start = c .before .before .before in rw (part-size (start .args .first)) (there-sound (start .pre))
 
 returns : tie.Need-returns
 unfolding rawIn
-returns c = let start = c .before .before .before .before in rw (part-size (start .args .place)) at (c .raw-parameter-in .ensures)
+returns c = let start = c .before .before .before .before in rw (part-size (start .args .first)) at (c .raw-parameter-in .ensures)
 
 pub raw-in-spec : {M : Type 1} → statement M
 raw-in-spec =

@@ -16,7 +16,7 @@ unfolding rawWithin
 returns c =
     let start = c .before .before .before .before in
     let a = start .args in
-    c .raw-for .ensures ∙ ap (λ (place : ℕ). rawFor (getD (a .kinds .now) (a .at .segment) 0) (a .tables .now) place (a .along .value)) (cursor-tables _ _ (start .pre .is))
+    c .raw-for .ensures ∙ ap (λ (first : ℕ). rawFor (getD (a .kinds .now) (a .at .segment) 0) (a .tables .now) first (a .along .value)) (cursor-tables _ _ (start .pre .is))
 
 pub raw-within-spec : {M : Type 1} → statement M
 raw-within-spec =

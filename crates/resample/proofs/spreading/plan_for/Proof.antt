@@ -25,7 +25,7 @@ returns-5 c =
     let at-if3 = at-if4 .before in
     let at-if2 = at-if3 .before in
     let at-if1 = at-if2 .before in
-    plan-broken _ _ (at-if1 .if1 .left) (at-if2 .if2 .left) (at-if3 .if3 .left) (at-if4 .if4 .left) _ (sym (at-measure .measure .ensures) ∙ c .before .place .given .1)
+    plan-broken _ _ (at-if1 .if1 .left) (at-if2 .if2 .left) (at-if3 .if3 .left) (at-if4 .if4 .left) _ (sym (at-measure .measure .ensures) ∙ c .before .number .given .1)
 
 returns-6 : tie.Need-returns-6
 unfolding epsilonF

@@ -1,4 +1,4 @@
--- The loop keeps `Walking`: a place at or before the one that is picked. The measure is the points left. Assumes nothing.
+-- The loop keeps `Walking`: a stretch at or before the one that is picked. The measure is the points left. Assumes nothing.
 use borrow.Author.Needs.{needs}
 use mathlib.Core.Path.{refl, sym, ap, _∙_}
 use Prim.Native.Nat.{_-_}

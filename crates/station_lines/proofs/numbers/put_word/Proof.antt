@@ -9,10 +9,10 @@ use Rattle.station_lines.proofs.numbers.put_word.Statement.{statement}
 use Rattle.station_lines.proofs.numbers.put_word.Tie as tie
 
 abbrev Inv-loop : tie.InvT-loop
-Inv-loop out₀ at word place₀ i₀ out place i = (i ≤ length word) × Put (take i word) at out₀ out place
+Inv-loop out₀ at word past₀ i₀ out past i = (i ≤ length word) × Put (take i word) at out₀ out past
 
 abbrev μ-loop : tie.MeasureT-loop
-μ-loop out₀ at word place₀ i₀ out place i = length word - i
+μ-loop out₀ at word past₀ i₀ out past i = length word - i
 
 loop-holds : tie.Need-loop-holds Inv-loop μ-loop
 loop-holds c = (omega arith, put-none _ _)

@@ -14,11 +14,11 @@ use Rattle.svg.proofs.passes.fill.Statement.{statement}
 use Rattle.svg.proofs.passes.fill.Tie as tie
 
 abbrev Inv-loop : tie.InvT-loop
-Inv-loop text first start letters₀ numbers₀ offsets₀ reader₀ place₀ at₀ letters numbers offsets reader place at =
-    Holding text (commandList letters₀ numbers₀ offsets₀) (commandList letters numbers offsets) reader place at
+Inv-loop text first start letters₀ numbers₀ offsets₀ reader₀ letter-at₀ at₀ letters numbers offsets reader letter-at at =
+    Holding text (commandList letters₀ numbers₀ offsets₀) (commandList letters numbers offsets) reader letter-at at
 
 abbrev μ-loop : tie.MeasureT-loop
-μ-loop text first start letters₀ numbers₀ offsets₀ reader₀ place₀ at₀ letters numbers offsets reader place at = length text - reader .at
+μ-loop text first start letters₀ numbers₀ offsets₀ reader₀ letter-at₀ at₀ letters numbers offsets reader letter-at at = length text - reader .at
 
 -- ---- the points of the code that the answers look back to
 abbrev loop-start : tie.At-loop Inv-loop μ-loop → tie.Start Inv-loop μ-loop
@@ -132,8 +132,8 @@ add-at c =
     let l = looped w in
     omega (arith, held-small (l .loop .inv) _ _ (sym (w .before .before .before .before .read-step .ensures) ∙ w .before .before .command .given .1), w .width .ensures, (loop-start l .pre .0))
 
-add-place : tie.Need-add-place Inv-loop μ-loop
-add-place c =
+add-letter-at : tie.Need-add-letter-at Inv-loop μ-loop
+add-letter-at c =
     let w = sized c in
     let l = looped w in
     omega (arith, held-small (l .loop .inv) _ _ (sym (w .before .before .before .before .read-step .ensures) ∙ w .before .before .command .given .1), (loop-start l .pre .0))
@@ -156,4 +156,4 @@ fill-spec =
     (tie.spec Inv-loop μ-loop loop-holds (λ c κs. search needs) (λ c. search needs) same-length same-length-2 same-length-3 returns
     (λ c. search needs) same-length-4 same-length-5 same-length-6 returns-2 (λ c. search needs) (λ c κs. search needs) same-length-7
     same-length-8 same-length-9 returns-3 sub-if2 same-length-10 same-length-11 same-length-12 returns-4 same-length-13 same-length-14
-    same-length-15 returns-5 store-requires cast-offsets mul-offsets slice-write-offsets add-at add-place loop-less loop-again)
+    same-length-15 returns-5 store-requires cast-offsets mul-offsets slice-write-offsets add-at add-letter-at loop-less loop-again)

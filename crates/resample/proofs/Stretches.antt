@@ -1,4 +1,4 @@
--- The rows of evenly spaced points as the loop makes them: what is written so far, and a place that is not past the next target's. Assumes nothing.
+-- The rows of evenly spaced points as the loop makes them: what is written so far, and a stretch that is not past the next target's. Assumes nothing.
 use mathlib.Core.Path.{_≡_, refl, sym, ap, _∙_, subst}
 use Prim.Native.Nat.{ℕ, suc, _+_, _-_, _*_, _≤_, _<_, zero-le}
 use native.Mathlib.Nat.{le-refl}
@@ -21,18 +21,18 @@ use Rattle.polyline.specs.Points.{countOf, pointAt, twoOf, rowsOf}
 use Rattle.polyline.specs.Lengths.{lengthsOf, totalOf}
 use Rattle.polyline.proofs.Legs.{lengths-first, lengths-sound}
 use Rattle.polyline.proofs.Rows.{rows-none, rows-more, rows-size, rows-length, written-over}
-use Rattle.resample.specs.Spacing.{targetAt, pickOf, placeAt, betweenOf, alongOf, spreadAt, Evenly, Reached, Spread}
-use Rattle.resample.specs.declared.walking.Place.{Place}
+use Rattle.resample.specs.Spacing.{targetAt, pickOf, stretchAt, betweenOf, alongOf, spreadAt, Evenly, Reached, Spread}
+use Rattle.resample.specs.declared.walking.Stretch.{Stretch}
 use Rattle.resample.proofs.Targets.{target-mono}
 use Rattle.resample.proofs.Walk.{pick-inside, pick-mono}
 
-pub record Spreading (points : List Float) (count : ℕ) (total : Float) (before now : List Float) (place : Place) (i : ℕ) : Type 0 where
+pub record Spreading (points : List Float) (count : ℕ) (total : Float) (before now : List Float) (stretch : Stretch) (i : ℕ) : Type 0 where
   pub asked : Spread points count total (length before)
   pub from : 1 ≤ i
   pub upto : i ≤ count - 1
   pub rows : now ≡ written (rowsOf (spreadAt points total count) i) before
-  pub here : place ≡ placeAt points (place .upper)
-  pub reach : place .upper ≤ pickOf points (targetAt total (count - 1) i)
+  pub here : stretch ≡ stretchAt points (stretch .upper)
+  pub reach : stretch .upper ≤ pickOf points (targetAt total (count - 1) i)
 
 module _ (points : List Float) (count : ℕ) (total : Float) where
   abbrev row : ℕ → Point
@@ -80,7 +80,7 @@ module _ (points : List Float) (count : ℕ) (total : Float) where
     again = one-row ∙ sym (written-over (rowsOf row (0 + 1)) (rowsOf row (0 + 1)) before (le-refl (length (rowsOf row (0 + 1))))) ∙ ap (written (rowsOf row (0 + 1))) (sym one-row)
 
     pub spreading-start : Spreading points count total now now (record { upper = 0; low = zeroF; high = zeroF }) 1
-    unfolding placeAt
+    unfolding stretchAt
     spreading-start =
         let m = s .more in
         record {
@@ -92,11 +92,11 @@ module _ (points : List Float) (count : ℕ) (total : Float) where
           reach = zero-le;
         }
       where
-        same : {x : Float} → zeroF ≡ x → _≡_ {A = Place} (record { upper = 0; low = zeroF; high = zeroF }) (record { upper = 0; low = x; high = x })
+        same : {x : Float} → zeroF ≡ x → _≡_ {A = Stretch} (record { upper = 0; low = zeroF; high = zeroF }) (record { upper = 0; low = x; high = x })
         same p = cc
 
   -- ---- the loop
-  module _ (before now : List Float) (place : Place) (i : ℕ) (l : Spreading points count total before now place i) where
+  module _ (before now : List Float) (stretch : Stretch) (i : ℕ) (l : Spreading points count total before now stretch i) where
     pub spreading-size : length now ≡ length before
     spreading-size =
         let m = l .asked .more in
@@ -110,26 +110,26 @@ module _ (points : List Float) (count : ℕ) (total : Float) where
     pub spreading-evenly : i < count - 1 → Evenly i (count - 1)
     spreading-evenly h = let f = l .asked .few in record { inside = omega arith; few = omega arith }
 
-    pub spreading-reached : (t : Float) → t ≡ targetAt total (count - 1) i → Reached points place t
-    spreading-reached t e = record { some = let f = l .asked .two in omega arith; here = l .here; upto = subst (λ (x : Float). place .upper ≤ pickOf points x) (sym e) (l .reach) }
+    pub spreading-reached : (t : Float) → t ≡ targetAt total (count - 1) i → Reached points stretch t
+    spreading-reached t e = record { some = let f = l .asked .two in omega arith; here = l .here; upto = subst (λ (x : Float). stretch .upper ≤ pickOf points x) (sym e) (l .reach) }
 
     pub spreading-more :
-        (t : Float) (next : Place) (p : Point) (after : List Float) → i < count - 1 → t ≡ targetAt total (count - 1) i → next ≡ placeAt points (pickOf points t) → p ≡ betweenOf points next t
+        (t : Float) (next : Stretch) (p : Point) (after : List Float) → i < count - 1 → t ≡ targetAt total (count - 1) i → next ≡ stretchAt points (pickOf points t) → p ≡ betweenOf points next t
         → after ≡ sets now (2 * i) (twoOf p) → Spreading points count total before after next (i + 1)
-    unfolding alongOf placeAt
+    unfolding alongOf stretchAt
     spreading-more t next p after h e f g k =
         let a = l .from in
         let u = l .upto in
         let m = l .asked .few in
         let made : p ≡ row i =
-        g ∙ ap (λ (n : Place). betweenOf points n t) f ∙ ap (λ (x : Float). betweenOf points (placeAt points (pickOf points x)) x) e ∙ inner-point i a h in
-        let same : next .upper ≡ pickOf points t = ap (λ (n : Place). n .upper) f in
+        g ∙ ap (λ (n : Stretch). betweenOf points n t) f ∙ ap (λ (x : Float). betweenOf points (stretchAt points (pickOf points x)) x) e ∙ inner-point i a h in
+        let same : next .upper ≡ pickOf points t = ap (λ (n : Stretch). n .upper) f in
         record {
           asked = l .asked;
           from = omega arith;
           upto = omega arith;
           rows = rows-more row before i now after p (room (length before) (l .asked) i (omega arith)) (l .rows) made k;
-          here = f ∙ ap (placeAt points) (sym same);
+          here = f ∙ ap (stretchAt points) (sym same);
           reach =
               subst (λ (n : ℕ). n ≤ pickOf points (targetAt total (count - 1) (i + 1))) (ap (pickOf points) (sym e) ∙ sym same)
               (pick-mono points (targetAt total (count - 1) i) (targetAt total (count - 1) (i + 1))
@@ -152,10 +152,10 @@ module _ (points : List Float) (count : ℕ) (total : Float) where
 pub put-size : (now after : List Float) (k : ℕ) (p : Point) → after ≡ sets now k (twoOf p) → length after ≡ length now
 put-size now after k p e = ap length e ∙ length-sets now k (twoOf p)
 
--- the place that is picked is a point
-pub pick-point : (points : List Float) (target : Float) (place : Place) → 0 < countOf points → place ≡ placeAt points (pickOf points target) → place .upper < countOf points
-unfolding placeAt
-pick-point points target place h e =
-    let same : place .upper ≡ pickOf points target = ap (λ (n : Place). n .upper) e in
+-- the stretch that is picked ends at a point
+pub pick-point : (points : List Float) (target : Float) (stretch : Stretch) → 0 < countOf points → stretch ≡ stretchAt points (pickOf points target) → stretch .upper < countOf points
+unfolding stretchAt
+pick-point points target stretch h e =
+    let same : stretch .upper ≡ pickOf points target = ap (λ (n : Stretch). n .upper) e in
     let p = pick-inside points target in
     omega arith
