@@ -13,6 +13,7 @@ use lib.Ieee.Fits.{round-fits}
 use lib.Ieee.Exact.{HasValue, round-exact}
 use lib.Ieee.Order.{round-mono}
 use lib.Ieee.Positive.{positive-of-value, values-of-le}
+use Rattle.floats.specs.Patterns.{hidden, signPlace}
 use Rattle.decimal_rounding.proofs.Compares.{below-or-not}
 use Rattle.decimal_rounding.proofs.Halves.{near-down, near-up}
 use Rattle.decimal_rounding.proofs.Pattern.{units-pattern}
@@ -105,14 +106,14 @@ module _ (w d b : ℕ) (D : 0 < d) (is : round binary64 false w d ≡ ofBits bin
 
   module _ (no-tie : b % 536870912 ≡ 268435456 → ⊥) where
     -- past the middle below, and short of the middle above
-    past : (q k : ℕ) → q ≡ ((b + 268435456) / 536870912 - 1) % 8388608 + 8388608 → k ≡ ((b + 268435456) / 536870912 - 1) / 8388608 - 897 → 2 * (q * (d * 2 ^ k)) + d * 2 ^ k < 2 * (w * 2 ^ 149)
+    past : (q k : ℕ) → q ≡ ((b + 268435456) / 536870912 - 1) % hidden + hidden → k ≡ ((b + 268435456) / 536870912 - 1) / hidden - 897 → 2 * (q * (d * 2 ^ k)) + d * 2 ^ k < 2 * (w * 2 ^ 149)
     past q k e f =
         let c = (b + 268435456) / 536870912 * 536870912 - 268435456 in
         let m = middle c q k (omega arith) (omega arith) in
         let a = above c (omega arith) (omega arith) in
         lt-of-mul-lt-mul-right (2 ^ 924) (subst (λ (z : ℕ). (2 * (q * (d * 2 ^ k)) + d * 2 ^ k) * 2 ^ 924 < z) twice (subst (λ (z : ℕ). z < w * 2 ^ 1074) m a))
 
-    short : (q k : ℕ) → q ≡ (b + 268435456) / 536870912 % 8388608 + 8388608 → k ≡ (b + 268435456) / 536870912 / 8388608 - 897 → 2 * (w * 2 ^ 149) < 2 * (q * (d * 2 ^ k)) + d * 2 ^ k
+    short : (q k : ℕ) → q ≡ (b + 268435456) / 536870912 % hidden + hidden → k ≡ (b + 268435456) / 536870912 / hidden - 897 → 2 * (w * 2 ^ 149) < 2 * (q * (d * 2 ^ k)) + d * 2 ^ k
     short q k e f =
         let c = (b + 268435456) / 536870912 * 536870912 + 268435456 in
         let m = middle c q k (omega arith) (omega arith) in
@@ -120,32 +121,32 @@ module _ (w d b : ℕ) (D : 0 < d) (is : round binary64 false w d ≡ ofBits bin
         lt-of-mul-lt-mul-right (2 ^ 924) (subst (λ (z : ℕ). z < (2 * (q * (d * 2 ^ k)) + d * 2 ^ k) * 2 ^ 924) twice (subst (λ (z : ℕ). w * 2 ^ 1074 < z) m a))
 
     -- the next step of the one is the other
-    step : (q k p j : ℕ) → ((p ≡ suc q) × (j ≡ k)) ⊎ ((q ≡ 16777215) × (p ≡ 8388608) × (j ≡ suc k)) → p * (d * 2 ^ j) ≡ q * (d * 2 ^ k) + d * 2 ^ k
+    step : (q k p j : ℕ) → ((p ≡ suc q) × (j ≡ k)) ⊎ ((q ≡ 16777215) × (p ≡ hidden) × (j ≡ suc k)) → p * (d * 2 ^ j) ≡ q * (d * 2 ^ k) + d * 2 ^ k
     step q k p j (inl e) = ap₂ (λ (x : ℕ) (y : ℕ). x * (d * 2 ^ y)) (e .0) (e .1) ∙ suc-mul q (d * 2 ^ k)
     step q k p j (inr e) =
         let u = d * 2 ^ k in
         let v : d * 2 ^ suc k ≡ u * 2 = ap (λ (z : ℕ). d * z) (pow-suc 2 k) ∙ sym (mul-assoc d (2 ^ k) 2) in
-        ap₂ (λ (x : ℕ) (y : ℕ). x * (d * 2 ^ y)) (e .1) (e .2) ∙ ap (λ (z : ℕ). 8388608 * z) v ∙ omega (arith, ap (λ (z : ℕ). z * u) (e .0))
+        ap₂ (λ (x : ℕ) (y : ℕ). x * (d * 2 ^ y)) (e .1) (e .2) ∙ ap (λ (z : ℕ). hidden * z) v ∙ omega (arith, ap (λ (z : ℕ). z * u) (e .0))
 
     narrowed : Nearest w d ((b + 268435456) / 536870912 - 7516192768)
     narrowed =
-        let q = ((b + 268435456) / 536870912 - 1) % 8388608 + 8388608 in
-        let k = ((b + 268435456) / 536870912 - 1) / 8388608 - 897 in
-        let p = (b + 268435456) / 536870912 % 8388608 + 8388608 in
-        let j = (b + 268435456) / 536870912 / 8388608 - 897 in
+        let q = ((b + 268435456) / 536870912 - 1) % hidden + hidden in
+        let k = ((b + 268435456) / 536870912 - 1) / hidden - 897 in
+        let p = (b + 268435456) / 536870912 % hidden + hidden in
+        let j = (b + 268435456) / 536870912 / hidden - 897 in
         record {
           finite-or-infinite = omega arith;
           is = λ s. go s q k p j refl refl refl refl (below-or-not (w * 2 ^ 149) (p * (d * 2 ^ j)));
         }
       where
-        which : (t q k p j : ℕ) → 8128000000 ≤ t → q ≡ (t - 1) % 8388608 + 8388608 → k ≡ (t - 1) / 8388608 - 897 → p ≡ t % 8388608 + 8388608 → j ≡ t / 8388608 - 897
-            → ((p ≡ suc q) × (j ≡ k)) ⊎ ((q ≡ 16777215) × (p ≡ 8388608) × (j ≡ suc k))
-        which t q k p j l a b c e = ⊎-elim (λ (h : 0 < t % 8388608). inl (omega arith, omega arith)) (λ (h : t % 8388608 ≤ 0). inr (omega arith, omega arith, omega arith)) (below-or-not 0 (t % 8388608))
+        which : (t q k p j : ℕ) → 8128000000 ≤ t → q ≡ (t - 1) % hidden + hidden → k ≡ (t - 1) / hidden - 897 → p ≡ t % hidden + hidden → j ≡ t / hidden - 897
+            → ((p ≡ suc q) × (j ≡ k)) ⊎ ((q ≡ 16777215) × (p ≡ hidden) × (j ≡ suc k))
+        which t q k p j l a b c e = ⊎-elim (λ (h : 0 < t % hidden). inl (omega arith, omega arith)) (λ (h : t % hidden ≤ 0). inr (omega arith, omega arith, omega arith)) (below-or-not 0 (t % hidden))
 
-        go : (s : Bool) (q k p j : ℕ) → q ≡ ((b + 268435456) / 536870912 - 1) % 8388608 + 8388608 → k ≡ ((b + 268435456) / 536870912 - 1) / 8388608 - 897
-            → p ≡ (b + 268435456) / 536870912 % 8388608 + 8388608 → j ≡ (b + 268435456) / 536870912 / 8388608 - 897
+        go : (s : Bool) (q k p j : ℕ) → q ≡ ((b + 268435456) / 536870912 - 1) % hidden + hidden → k ≡ ((b + 268435456) / 536870912 - 1) / hidden - 897
+            → p ≡ (b + 268435456) / 536870912 % hidden + hidden → j ≡ (b + 268435456) / 536870912 / hidden - 897
             → (w * 2 ^ 149 < p * (d * 2 ^ j)) ⊎ (p * (d * 2 ^ j) ≤ w * 2 ^ 149)
-            → round binary32 s w d ≡ ofBits binary32 (cond s 2147483648 0 + ((b + 268435456) / 536870912 - 7516192768))
+            → round binary32 s w d ≡ ofBits binary32 (cond s signPlace 0 + ((b + 268435456) / 536870912 - 7516192768))
         go s q k p j eq ek ep ej (inl under) =
             near-up binary32 s w d q k D (omega arith) (inl (omega arith)) (subst (λ (z : ℕ). w * 2 ^ 149 < z) (step q k p j (which ((b + 268435456) / 536870912) q k p j (omega arith) eq ek ep ej)) under) (inl (past q k eq ek))
             ∙ units-pattern s (suc q) k (omega arith) (inl (omega arith)) (omega arith)

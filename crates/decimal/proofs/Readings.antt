@@ -4,6 +4,7 @@ use mathlib.Core.List.{[], _∷_}
 use lib.Count.{trailingZeros}
 use lib.Ieee.{binary32, round, size, units, odd, ofBits, ofFields}
 use Rattle.answers.specs.declared.refusals.Refusal.the-variants.{ExpectedNumber, InvalidNumber}
+use Rattle.floats.specs.Patterns.{signPlace, infinityBits}
 use Rattle.scan.specs.Scan.{leading, scan}
 use Rattle.scan.specs.Bytes.{among}
 use Rattle.scan.specs.Runs.{stands, pastOne, pastAll, pastMarkOf}
@@ -33,12 +34,12 @@ unfolding scanNumberOf placesOf noDigit noExponentDigit endOf exponentOf markOf 
 largest-reads = refl
 
 -- `3.4028236e38`: the last middle is passed, so it is the infinity
-pub infinite-reads : numberOf (51 ∷ 46 ∷ 52 ∷ 48 ∷ 50 ∷ 56 ∷ 50 ∷ 51 ∷ 54 ∷ 101 ∷ 51 ∷ 56 ∷ []) 0 ≡ Value (ofBits binary32 2139095040) 12
+pub infinite-reads : numberOf (51 ∷ 46 ∷ 52 ∷ 48 ∷ 50 ∷ 56 ∷ 50 ∷ 51 ∷ 54 ∷ 101 ∷ 51 ∷ 56 ∷ []) 0 ≡ Value (ofBits binary32 infinityBits) 12
 unfolding scanNumberOf placesOf noDigit noExponentDigit endOf exponentOf markOf fractionOf pointOf wholeOf pastMarkOf pastOne pastAll scan leading stands among digitsAmong val falls riseOf fallOf valueOf numberOf round size units odd trailingZeros ofBits ofFields
 infinite-reads = refl
 
 -- `-0`: the sign of zero
-pub minus-zero-reads : numberOf (45 ∷ 48 ∷ []) 0 ≡ Value (ofBits binary32 2147483648) 2
+pub minus-zero-reads : numberOf (45 ∷ 48 ∷ []) 0 ≡ Value (ofBits binary32 signPlace) 2
 unfolding scanNumberOf placesOf noDigit noExponentDigit endOf exponentOf markOf fractionOf pointOf wholeOf pastMarkOf pastOne pastAll scan leading stands among digitsAmong val falls riseOf fallOf valueOf numberOf round size units odd trailingZeros ofBits ofFields
 minus-zero-reads = refl
 

@@ -9,6 +9,7 @@ use native.Mathlib.Nat.{le-refl, le-trans, le-of-eq, le-of-lt, add-mul, add-zero
 use native.Mathlib.Omega.{arith}
 use lib.Dec.{lit≤, lit<}
 use lib.Pow.{pow-add}
+use Rattle.floats.specs.Patterns.{infinityBits}
 use Rattle.decimal_rounding.proofs.Compares.{below-or-not}
 use Rattle.decimal_rounding.proofs.Limits.{infinite-from, zero-to}
 use Rattle.decimal_rounding.proofs.Pattern.{infinite-bits, zero-bits}
@@ -127,14 +128,14 @@ module _ (w u num below : ℕ) (z : Sized w u num) where
           one : (w m : ℕ) → w < 2 ^ 64 → m ≡ 1 → w + m ≤ 2 ^ 64
           one w m h e = omega arith
 
-  pub too-high : 0 < w → below + 102 < u → Nearest num (10 ^ below) 2139095040
+  pub too-high : 0 < w → below + 102 < u → Nearest num (10 ^ below) infinityBits
   too-high h l =
       let far : below + 103 + (u - (below + 103)) ≡ u = omega arith in
       let power : 10 ^ below * 10 ^ 103 ≤ 10 ^ u = le-trans (le-of-eq (sym (pow-add 10 below 103))) (le-trans (le-trans (le-of-eq (sym (mul-one (10 ^ (below + 103))))) (mul-le-mul-left (10 ^ (below + 103)) (ten-pos (u - (below + 103))))) (le-of-eq (sym (pow-add 10 (below + 103) (u - (below + 103))) ∙ ap (λ (x : ℕ). 10 ^ x) far))) in
       let digits : 10 ^ below * 10 ^ 103 ≤ num * 10 ^ 64 = le-trans power (le-trans (le-trans (le-of-eq (sym (one-mul (10 ^ u)))) (mul-le-mul-right (10 ^ u) h)) (z .at-least)) in
       let large : 10 ^ below * 10 ^ 39 ≤ num = le-of-mul-le-mul-right (le-trans (le-of-eq (mul-assoc (10 ^ below) (10 ^ 39) (10 ^ 64))) digits) (lit< tt) in
       record {
-        finite-or-infinite = le-refl 2139095040;
+        finite-or-infinite = le-refl infinityBits;
         is = λ s. infinite-from s num (10 ^ below) (ten-pos below) (le-trans (le-of-eq (mul-comm (2 ^ 128 - 2 ^ 103) (10 ^ below))) (le-trans (mul-le-mul-left (10 ^ below) (lit≤ tt)) large)) ∙ infinite-bits s;
       }
 

@@ -8,6 +8,7 @@ use mathlib.Core.List.{List}
 use lib.Dec.{T, eqb}
 use lib.ListN.{length, getD}
 use lib.Ieee.{Float, binary32, nan, nanBits, ofBits}
+use Rattle.floats.specs.Patterns.{hidden, signPlace, infinityBits}
 use Rattle.replay_records.specs.Records.{digitOf, halfOf, patternOf, floatOf}
 use Rattle.replay_records.specs.Decimals.{decimalOf}
 
@@ -76,14 +77,14 @@ not-both true u h = subst (λ (v : Bool). T (not (not v))) (sym (h refl)) tt
 not-both false u h = tt
 
 -- a pattern without its sign that is at most 7F800000 has no digits where its exponent field is all ones
-pub no-nan-bits : (bits : ℕ) → bits % 2147483648 ≤ 2139095040 → T (not (nanBits binary32 bits))
+pub no-nan-bits : (bits : ℕ) → bits % signPlace ≤ infinityBits → T (not (nanBits binary32 bits))
 unfolding nanBits
-no-nan-bits b h = not-both _ _ (λ (e : eqb (b % 2147483648 / 8388608) 255 ≡ true). eq-eqb (b % 8388608) 0 (omega (arith, eqb-true (b % 2147483648 / 8388608) 255 e)))
+no-nan-bits b h = not-both _ _ (λ (e : eqb (b % signPlace / hidden) 255 ≡ true). eq-eqb (b % hidden) 0 (omega (arith, eqb-true (b % signPlace / hidden) 255 e)))
 
-pub float-nan : (bits : ℕ) → 2139095040 < bits % 2147483648 → nan ≡ floatOf bits
+pub float-nan : (bits : ℕ) → infinityBits < bits % signPlace → nan ≡ floatOf bits
 unfolding floatOf
-float-nan bits h = simp (lt-ltb 2139095040 (bits % 2147483648) h)
+float-nan bits h = simp (lt-ltb infinityBits (bits % signPlace) h)
 
-pub float-number : (bits : ℕ) → bits % 2147483648 ≤ 2139095040 → ofBits binary32 bits ≡ floatOf bits
+pub float-number : (bits : ℕ) → bits % signPlace ≤ infinityBits → ofBits binary32 bits ≡ floatOf bits
 unfolding floatOf
-float-number bits h = simp (le-ltb 2139095040 (bits % 2147483648) h)
+float-number bits h = simp (le-ltb infinityBits (bits % signPlace) h)

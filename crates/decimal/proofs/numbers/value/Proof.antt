@@ -8,6 +8,7 @@ use lib.Dec.{eqb}
 use lib.Ieee.{binary32, ofBits}
 use borrow.Author.Needs.{needs}
 use borrow.Author.Tests.{leb-true, ltb-true, eqb-true}
+use Rattle.floats.specs.Patterns.{signPlace}
 use Rattle.decimal_digits.proofs.Values.{ten-pos}
 use Rattle.decimal.specs.Decimal.{minus, numerator, denominator, placesOf}
 use Rattle.decimal.specs.Bits.{Nearest}
@@ -74,7 +75,7 @@ returns-2 : tie.Need-returns-2
 returns-2 c =
     let start = c .before .before .before .before .before .before .before .before .before in
     value-signed _ _ _ _ _ _ (start .pre) _ true (sym (ap (λ (n : ℕ). eqb n minus) (sym (c .before .before .before .before .before .before .byte-at .ensures)) ∙ c .if3 .taken))
-    (ap (λ (n : ℕ). ofBits binary32 n) (add-comm (c .before .magnitude .result) 2147483648) ∙ sym (nearest (c .before) .is true))
+    (ap (λ (n : ℕ). ofBits binary32 n) (add-comm (c .before .magnitude .result) signPlace) ∙ sym (nearest (c .before) .is true))
 
 returns-3 : tie.Need-returns-3
 returns-3 c =
