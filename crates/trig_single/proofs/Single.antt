@@ -14,9 +14,10 @@ use lib.Ieee.Exact.{HasValue, units-val}
 use lib.Ieee.Fits.{fits-widens, and-i}
 use Rattle.floats.specs.Patterns.{hidden, signPlace}
 use Rattle.decimal_rounding.proofs.Pattern.{units-bits}
+use Rattle.decimal_rounding.proofs.Values.{value-unique}
 use Rattle.trig_single.specs.Single.{singleOf}
 use Rattle.trig_single.proofs.Finite.{finite-bits}
-use Rattle.trig_single.proofs.Values.{value-unique, value-scaled}
+use Rattle.trig_single.proofs.Values.{value-scaled}
 
 -- ---- m steps of 2 ^ x of the smallest f32, as an f64 of 29 digits more
 module _ (s : Bool) (m x : ℕ) (low : 2 ^ 23 ≤ m) (high : m ≤ 2 ^ 24) (reach : x ≤ 252) where
