@@ -4,7 +4,8 @@ use Prim.Native.Nat.{ℕ, zero, suc, _+_, _-_, _*_, _/_, _%_, _^_, _≤_, _<_}
 use mathlib.Core.Path.{_≡_, refl, ap, sym, _∙_, subst}
 use mathlib.Core.Logic.{_⊎_, inl, inr, ⊎-elim}
 use mathlib.Core.Bool.{Bool, cond}
-use native.Mathlib.Nat.{add-mul, mul-assoc, mul-comm, mul-right-comm, mul-le-mul-right, le-of-mul-le-mul-right, lt-of-mul-lt-mul-right, mod-eq-of-lt, div-add-mod', le-div-iff-mul-le, le-trans, le-of-eq, suc-mul, one-mul, zero-mul, mul-pos, add-assoc, mod-lt, lt-of-le-of-lt, div-mul-le-self}
+use native.Mathlib.Nat.{add-mul, mul-assoc, mul-comm, mul-right-comm, div-add-mod', suc-mul, one-mul, zero-mul, add-assoc}
+use native.Mathlib.Nat.{mul-le-mul-right, le-of-mul-le-mul-right, lt-of-mul-lt-mul-right, mod-eq-of-lt, le-div-iff-mul-le, le-trans, le-of-eq, mul-pos, mod-lt, lt-of-le-of-lt, div-mul-le-self}
 use native.Mathlib.Omega.{arith}
 use lib.Dec.{lit≤}
 use lib.Pow.{pow-pos, pow-lt, pow-mono, pow-add, shr-lt}
