@@ -1,14 +1,12 @@
 -- What a digit of either base, a pattern and its float are, case by case as the code tests. Assumes nothing.
 use native.Mathlib.Omega.{arith}
-use borrow.Author.Tests.{eqb-true, eq-eqb, lt-ltb, le-ltb, le-leb, lt-leb}
+use borrow.Author.Tests.{lt-ltb, le-ltb, le-leb, lt-leb}
 use Prim.Native.Nat.{ℕ, _+_, _-_, _*_, _%_, _/_, _≤_, _<_}
-use mathlib.Core.Path.{_≡_, refl, sym, subst}
-use mathlib.Core.Bool.{Bool, true, false, not, _&&_}
+use mathlib.Core.Path.{_≡_, refl}
 use mathlib.Core.List.{List}
-use lib.Dec.{T, eqb}
 use lib.ListN.{length, getD}
-use lib.Ieee.{Float, binary32, nan, nanBits, ofBits}
-use Rattle.floats.specs.Patterns.{hidden, signPlace, infinityBits}
+use lib.Ieee.{Float, binary32, nan, ofBits}
+use Rattle.floats.specs.Patterns.{signPlace, infinityBits}
 use Rattle.replay_records.specs.Records.{digitOf, halfOf, patternOf, floatOf}
 use Rattle.replay_records.specs.Decimals.{decimalOf}
 
@@ -71,15 +69,6 @@ module _ (text : List ℕ) (at : ℕ) where
   text-goes-on high low h first second = rw (le-ltb (length text) (at + 8) h, first, second) refl
 
 -- ---- its float
-
-not-both : (t u : Bool) → (t ≡ true → u ≡ true) → T (not (t && not u))
-not-both true u h = subst (λ (v : Bool). T (not (not v))) (sym (h refl)) tt
-not-both false u h = tt
-
--- a pattern without its sign that is at most 7F800000 has no digits where its exponent field is all ones
-pub no-nan-bits : (bits : ℕ) → bits % signPlace ≤ infinityBits → T (not (nanBits binary32 bits))
-unfolding nanBits
-no-nan-bits b h = not-both _ _ (λ (e : eqb (b % signPlace / hidden) 255 ≡ true). eq-eqb (b % hidden) 0 (omega (arith, eqb-true (b % signPlace / hidden) 255 e)))
 
 pub float-nan : (bits : ℕ) → infinityBits < bits % signPlace → nan ≡ floatOf bits
 unfolding floatOf
