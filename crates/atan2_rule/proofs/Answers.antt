@@ -221,8 +221,8 @@ against-pi v = ap (λ (n : ℕ). v * n + 0 * sineUp (turn - fixedOf piBits)) (at
 pi-passed : (v : ℕ) → Passed 0 v true true (turn - fixedOf piBits)
 pi-passed v =
     let R = turn - fixedOf piBits in
-    let a = ahead-right 0 v R 5686511060 6760252892 6200181727 6200181607 at-pi in
-    let b = behind-right 0 v R 5686511060 6760252892 6200181727 6200181607 at-pi in
+    let a = ahead-right 0 v at-pi in
+    let b = behind-right 0 v at-pi in
     record {
       above = carry (900 * (0 + v)) a b (omega arith);
       below = carry (900 * (0 + v)) b a (omega arith);

@@ -2,7 +2,8 @@
 -- by less than 1. Together that is 92 · 2^-30 · (u + v), so that the test's 900 keep the rule's 1024. Assumes nothing.
 use mathlib.Core.Path.{_≡_, sym, ap, _∙_}
 use Prim.Native.Nat.{ℕ, suc, _+_, _*_, _/_, _^_, _≤_, _<_}
-use native.Mathlib.Nat.{le-refl, le-trans, le-of-eq, le-of-lt, add-le-add, add-mul, mul-add, mul-comm, mul-assoc, mul-left-comm, mul-right-comm, one-mul, mul-le-mul-left, mul-le-mul-right, le-of-mul-le-mul-left, div-mul-le-self, lt-div-mul-add, mul-pos, lt-of-lt-of-le, lt-of-le-of-lt, lt-of-not-le, not-le-of-lt, mul-lt-mul-of-pos-left}
+use native.Mathlib.Nat.{add-mul, mul-add, mul-comm, mul-assoc, mul-left-comm, mul-right-comm, one-mul, add-le-add, mul-le-mul-left, mul-le-mul-right, div-mul-le-self, mul-pos, mul-lt-mul-of-pos-left}
+use native.Mathlib.Nat.{le-refl, le-trans, le-of-eq, le-of-lt, le-of-mul-le-mul-left, lt-div-mul-add, lt-of-lt-of-le, lt-of-le-of-lt, lt-of-not-le, not-le-of-lt}
 use native.Mathlib.Omega.{arith}
 use lib.Dec.{lit≤}
 use Rattle.trig_rule.specs.Sums.{whole, sineAdded, sineTaken, cosineAdded, cosineTaken}
@@ -151,8 +152,9 @@ module _ (u v n m G H w z : ℕ) (cu : Cut u n G H) (cv : Cut v m G H) where
       mul-add (G * (w * z)) (u * q + v * s) (1024 * (u + v)) ∙ ap (λ (x : ℕ). G * (w * z) * (u * q + v * s) + x) (turn G (w * z) (u + v)) in
       let low = lower q s c d bc bd in
       let cut : w * z * ((u + v) * G) ≤ w * z * ((m + n) * H) = mul-le-mul-left (w * z) whole-cut in
-      le-of-mul-le-mul-left {k = 2 ^ 10 * H} (le-trans (le-of-eq (left L)) (le-trans (last (2 ^ 30 * (H * L)) (2 ^ 30 * (H * Q)) (w * z * ((u + v) * G)) (w * z * ((m + n) * H)) (le-trans up (le-trans (le-of-eq e) (add-le-add low (le-refl (1024 * (w * z * ((u + v) * G))))))) cut) (le-of-eq (right Q))))
-      (mul-pos (lit≤ tt) pos)
+      let sum = le-trans up (le-trans (le-of-eq e) (add-le-add low (le-refl (1024 * (w * z * ((u + v) * G)))))) in
+      let all = last (2 ^ 30 * (H * L)) (2 ^ 30 * (H * Q)) (w * z * ((u + v) * G)) (w * z * ((m + n) * H)) sum cut in
+      le-of-mul-le-mul-left {k = 2 ^ 10 * H} (le-trans (le-of-eq (left L)) (le-trans all (le-of-eq (right Q)))) (mul-pos (lit≤ tt) pos)
     where
       turn : (g x y : ℕ) → g * x * (1024 * y) ≡ 1024 * (x * (y * g))
       turn g x y = simp (mul-assoc, mul-comm, mul-left-comm)

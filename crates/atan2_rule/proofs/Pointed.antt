@@ -29,10 +29,15 @@ unfolding whole factorial
 z-pos = lit≤ tt
 
 -- ---- the sums at r / d, with y's sign taken out: x is negative where q is true, the rest where f is
+
+-- one side's sum: n times a side of the cosine, and m times one of the sine
+abbrev pub sumOf : Bool → Bool → ℕ → ℕ → ℕ → ℕ → ℕ
+sumOf c s n m r d = n * cosineSide c r d * whole 31 d + m * sineSide s r d * whole 30 d
+
 pub record Kept (q f : Bool) (Y X r d : ℕ) : Type 0 where
-  pub above : 2 ^ 20 * (Y * cosineSide true r d * whole 31 d + X * sineSide (unlike f q) r d * whole 30 d) ≤ 2 ^ 20 * (Y * cosineSide false r d * whole 31 d + X * sineSide (not (unlike f q)) r d * whole 30 d) + (X + Y) * (whole 30 d * whole 31 d)
-  pub below : 2 ^ 20 * (Y * cosineSide false r d * whole 31 d + X * sineSide (not (unlike f q)) r d * whole 30 d) ≤ 2 ^ 20 * (Y * cosineSide true r d * whole 31 d + X * sineSide (unlike f q) r d * whole 30 d) + (X + Y) * (whole 30 d * whole 31 d)
-  pub forward : X * cosineSide q r d * whole 31 d + Y * sineSide f r d * whole 30 d < X * cosineSide (not q) r d * whole 31 d + Y * sineSide (not f) r d * whole 30 d
+  pub above : 2 ^ 20 * sumOf true (unlike f q) Y X r d ≤ 2 ^ 20 * sumOf false (not (unlike f q)) Y X r d + (X + Y) * (whole 30 d * whole 31 d)
+  pub below : 2 ^ 20 * sumOf false (not (unlike f q)) Y X r d ≤ 2 ^ 20 * sumOf true (unlike f q) Y X r d + (X + Y) * (whole 30 d * whole 31 d)
+  pub forward : sumOf q f X Y r d < sumOf (not q) (not f) X Y r d
 
 -- the test's three parts, by x's side and the rest's
 pub record Passed (u v : ℕ) (q f : Bool) (R : ℕ) : Type 0 where
@@ -40,7 +45,12 @@ pub record Passed (u v : ℕ) (q f : Bool) (R : ℕ) : Type 0 where
   pub below : behind u v (not (unlike f q)) R ≤ ahead u v (not (unlike f q)) R + 900 * (u + v)
   pub forward : against u v (not q) (not f) R + 900 * (u + v) ≤ along u v (not q) (not f) R
 
-parts : (u v : ℕ) (q f : Bool) (R : ℕ) → T (leb (ahead u v (not (unlike f q)) R) (behind u v (not (unlike f q)) R + 900 * (u + v)) && (leb (behind u v (not (unlike f q)) R) (ahead u v (not (unlike f q)) R + 900 * (u + v)) && leb (against u v (not q) (not f) R + 900 * (u + v)) (along u v (not q) (not f) R))) → Passed u v q f R
+abbrev testOf : ℕ → ℕ → Bool → Bool → ℕ → Bool
+testOf u v q f R =
+    leb (ahead u v (not (unlike f q)) R) (behind u v (not (unlike f q)) R + 900 * (u + v))
+    && (leb (behind u v (not (unlike f q)) R) (ahead u v (not (unlike f q)) R + 900 * (u + v)) && leb (against u v (not q) (not f) R + 900 * (u + v)) (along u v (not q) (not f) R))
+
+parts : (u v : ℕ) (q f : Bool) (R : ℕ) → T (testOf u v q f R) → Passed u v q f R
 parts u v q f R t =
     let s = not (unlike f q) in
     let a = leb (ahead u v s R) (behind u v s R + 900 * (u + v)) in

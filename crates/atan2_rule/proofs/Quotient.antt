@@ -1,7 +1,8 @@
 -- The quotient of y by a positive x, rounded to an f32, where it is at most 2 ^ -13 and a little: it keeps y's sign, subnormal or not, and is off by at most 2 ^ -36. Assumes nothing.
 use mathlib.Core.Path.{_≡_, refl, sym, ap, _∙_, subst}
 use Prim.Native.Nat.{ℕ, suc, _+_, _-_, _*_, _/_, _%_, _^_, _≤_, _<_, compare}
-use native.Mathlib.Nat.{le-refl, le-trans, le-of-eq, le-of-lt, lt-of-lt-of-le, lt-of-le-of-lt, lt-of-not-le, not-le-of-lt, add-le-add, mul-comm, mul-assoc, mul-add, zero-mul, pos-of-ne-zero, mul-pos, mul-le-mul-left, mul-le-mul-right, mul-lt-mul-of-pos-left, div-mul-le-self, lt-div-mul-add, div-lt-iff-lt-mul}
+use native.Mathlib.Nat.{mul-comm, mul-assoc, mul-add, zero-mul, add-le-add, mul-pos, mul-le-mul-left, mul-le-mul-right, mul-lt-mul-of-pos-left, div-mul-le-self, div-lt-iff-lt-mul}
+use native.Mathlib.Nat.{le-refl, le-trans, le-of-eq, le-of-lt, lt-of-lt-of-le, lt-of-le-of-lt, lt-of-not-le, not-le-of-lt, pos-of-ne-zero, lt-div-mul-add}
 use native.Mathlib.Omega.{arith}
 use mathlib.Core.Bool.{Bool, true, false, cond}
 use lib.Dec.{eqb, lit≤, lit<}

@@ -50,7 +50,7 @@ unfolding ladder factorial
 at-most = record { cosine-up = refl; cosine-down = refl; sine-up = refl; sine-down = refl }
 
 -- what is added and taken away at such an end, as sums of the two sizes
-module _ (u v R cu cd su sd : ℕ) (e : Ends R cu cd su sd) where
+module _ (u v : ℕ) {R cu cd su sd : ℕ} (e : Ends R cu cd su sd) where
   pub ahead-right : ahead u v true R ≡ u * cu + v * sd
   unfolding ahead
   ahead-right = ap (λ (n : ℕ). u * n + v * sineDown R) (e .cosine-up) ∙ ap (λ (n : ℕ). u * cu + v * n) (e .sine-down)
@@ -115,8 +115,8 @@ right-inside u v R flat k =
 
 pub right-region : (u v : ℕ) → u ≤ v → v < 8192 * u → Region u v true (fixedOf least) (fixedOf quarter)
 right-region u v flat h = record {
-  low = carry (900 * (u + v)) (behind-right u v (fixedOf least) 1073741824 0 65536 0 at-least) (ahead-right u v (fixedOf least) 1073741824 0 65536 0 at-least) (omega arith);
-  high = carry (900 * (u + v)) (ahead-right u v (fixedOf quarter) 1090769148 331519044 845989256 86739115 at-quarter) (behind-right u v (fixedOf quarter) 1090769148 331519044 845989256 86739115 at-quarter) (omega arith);
+  low = carry (900 * (u + v)) (behind-right u v at-least) (ahead-right u v at-least) (omega arith);
+  high = carry (900 * (u + v)) (ahead-right u v at-quarter) (behind-right u v at-quarter) (omega arith);
   forward = λ R l k s. right-inside u v R flat k;
 }
 
@@ -159,13 +159,13 @@ steep-inside u v false R h l k s =
 
 pub steep-region : (u v : ℕ) (right : Bool) → v < u → Region u v right (fixedOf quarter) (fixedOf threeQuarters)
 steep-region u v true h = record {
-  low = carry (900 * (u + v)) (behind-right u v (fixedOf quarter) 1090769148 331519044 845989256 86739115 at-quarter) (ahead-right u v (fixedOf quarter) 1090769148 331519044 845989256 86739115 at-quarter) (omega arith);
-  high = carry (900 * (u + v)) (ahead-right u v (fixedOf threeQuarters) 2478005748 3237255880 3186371131 2427121009 at-three-quarters) (behind-right u v (fixedOf threeQuarters) 2478005748 3237255880 3186371131 2427121009 at-three-quarters) (omega arith);
+  low = carry (900 * (u + v)) (behind-right u v at-quarter) (ahead-right u v at-quarter) (omega arith);
+  high = carry (900 * (u + v)) (ahead-right u v at-three-quarters) (behind-right u v at-three-quarters) (omega arith);
   forward = λ R l k s. steep-inside u v true R h l k s;
 }
 steep-region u v false h = record {
-  low = carry (900 * (u + v)) (behind-left u v (fixedOf quarter) 1090769148 331519044 845989256 86739115 at-quarter) (ahead-left u v (fixedOf quarter) 1090769148 331519044 845989256 86739115 at-quarter) (omega arith);
-  high = carry (900 * (u + v)) (ahead-left u v (fixedOf threeQuarters) 2478005748 3237255880 3186371131 2427121009 at-three-quarters) (behind-left u v (fixedOf threeQuarters) 2478005748 3237255880 3186371131 2427121009 at-three-quarters) (omega arith);
+  low = carry (900 * (u + v)) (behind-left u v at-quarter) (ahead-left u v at-quarter) (omega arith);
+  high = carry (900 * (u + v)) (ahead-left u v at-three-quarters) (behind-left u v at-three-quarters) (omega arith);
   forward = λ R l k s. steep-inside u v false R h l k s;
 }
 
@@ -201,7 +201,7 @@ left-inside u v R flat pos l k s = left-forward u v (cosineUp R) (cosineDown R) 
 
 pub left-region : (u v : ℕ) → u ≤ v → 0 < v → Region u v false (fixedOf threeQuarters) (fixedOf most)
 left-region u v flat pos = record {
-  low = carry (900 * (u + v)) (behind-left u v (fixedOf threeQuarters) 2478005748 3237255880 3186371131 2427121009 at-three-quarters) (ahead-left u v (fixedOf threeQuarters) 2478005748 3237255880 3186371131 2427121009 at-three-quarters) (omega arith);
-  high = carry (900 * (u + v)) (ahead-left u v (fixedOf most) 5686510668 6760252496 6200181366 6200181181 at-most) (behind-left u v (fixedOf most) 5686510668 6760252496 6200181366 6200181181 at-most) (omega arith);
+  low = carry (900 * (u + v)) (behind-left u v at-three-quarters) (ahead-left u v at-three-quarters) (omega arith);
+  high = carry (900 * (u + v)) (ahead-left u v at-most) (behind-left u v at-most) (omega arith);
   forward = λ R l k s. left-inside u v R flat pos l k s;
 }

@@ -32,17 +32,26 @@ fourth-mono : {R S : ℕ} → R ≤ S → fourthOf R ≤ fourthOf S
 fourth-mono h = div-mono (mul-le-mul (square-mono h) (square-mono h))
 
 module _ (R S : ℕ) (h : R ≤ S) where
+  -- a side that begins with r ^ 4, and one that begins with r ^ 2
+  fourth-side-mono : (U : ℕ) (js : List ℕ) → risen U (fourthOf R) (ladder U (fourthOf R) js) ≤ risen U (fourthOf S) (ladder U (fourthOf S) js)
+  fourth-side-mono U js =
+      risen-mono U (fourthOf R) (fourthOf S) (ladder U (fourthOf R) js) (ladder U (fourthOf S) js) (fourth-mono h) (ladder-mono U (fourthOf R) (fourthOf S) js (fourth-mono h))
+
+  square-side-mono : (U : ℕ) (js : List ℕ) → risen 0 (squareOf R) (ladder U (fourthOf R) js) ≤ risen 0 (squareOf S) (ladder U (fourthOf S) js)
+  square-side-mono U js =
+      risen-mono 0 (squareOf R) (squareOf S) (ladder U (fourthOf R) js) (ladder U (fourthOf S) js) (square-mono h) (ladder-mono U (fourthOf R) (fourthOf S) js (fourth-mono h))
+
   pub sine-plus-mono : sinePlus R ≤ sinePlus S
-  sine-plus-mono = risen-mono (2 ^ 30) (fourthOf R) (fourthOf S) (ladder (2 ^ 30) (fourthOf R) (5 ∷ 9 ∷ 13 ∷ 17 ∷ [])) (ladder (2 ^ 30) (fourthOf S) (5 ∷ 9 ∷ 13 ∷ 17 ∷ [])) (fourth-mono h) (ladder-mono (2 ^ 30) (fourthOf R) (fourthOf S) (5 ∷ 9 ∷ 13 ∷ 17 ∷ []) (fourth-mono h))
+  sine-plus-mono = fourth-side-mono (2 ^ 30) (5 ∷ 9 ∷ 13 ∷ 17 ∷ [])
 
   pub sine-minus-mono : sineMinus R ≤ sineMinus S
-  sine-minus-mono = risen-mono 0 (squareOf R) (squareOf S) (ladder (2 ^ 30) (fourthOf R) (3 ∷ 7 ∷ 11 ∷ 15 ∷ [])) (ladder (2 ^ 30) (fourthOf S) (3 ∷ 7 ∷ 11 ∷ 15 ∷ [])) (square-mono h) (ladder-mono (2 ^ 30) (fourthOf R) (fourthOf S) (3 ∷ 7 ∷ 11 ∷ 15 ∷ []) (fourth-mono h))
+  sine-minus-mono = square-side-mono (2 ^ 30) (3 ∷ 7 ∷ 11 ∷ 15 ∷ [])
 
   cosine-plus-mono : cosinePlus R ≤ cosinePlus S
-  cosine-plus-mono = risen-mono (2 ^ 28) (fourthOf R) (fourthOf S) (ladder (2 ^ 28) (fourthOf R) (4 ∷ 8 ∷ 12 ∷ 16 ∷ [])) (ladder (2 ^ 28) (fourthOf S) (4 ∷ 8 ∷ 12 ∷ 16 ∷ [])) (fourth-mono h) (ladder-mono (2 ^ 28) (fourthOf R) (fourthOf S) (4 ∷ 8 ∷ 12 ∷ 16 ∷ []) (fourth-mono h))
+  cosine-plus-mono = fourth-side-mono (2 ^ 28) (4 ∷ 8 ∷ 12 ∷ 16 ∷ [])
 
   cosine-minus-mono : cosineMinus R ≤ cosineMinus S
-  cosine-minus-mono = risen-mono 0 (squareOf R) (squareOf S) (ladder (2 ^ 28) (fourthOf R) (2 ∷ 6 ∷ 10 ∷ 14 ∷ 18 ∷ [])) (ladder (2 ^ 28) (fourthOf S) (2 ∷ 6 ∷ 10 ∷ 14 ∷ 18 ∷ [])) (square-mono h) (ladder-mono (2 ^ 28) (fourthOf R) (fourthOf S) (2 ∷ 6 ∷ 10 ∷ 14 ∷ 18 ∷ []) (fourth-mono h))
+  cosine-minus-mono = square-side-mono (2 ^ 28) (2 ∷ 6 ∷ 10 ∷ 14 ∷ 18 ∷ [])
 
   pub cosine-up-mono : cosineUp R ≤ cosineUp S
   cosine-up-mono = mul-le-mul-left 4 cosine-plus-mono
@@ -158,11 +167,13 @@ module _ (R S : ℕ) (most : S ≤ half) (up : R ≤ S) (near : S ≤ R + 2 ^ 34
   -- a side that begins with r ^ 4, and one that begins with r ^ 2
   fourth-side : (U : ℕ) (js : List ℕ) → risen U (fourthOf S) (ladder U (fourthOf S) js) ≤ risen U (fourthOf R) (ladder U (fourthOf R) js) + lift mostFourth (ladder U mostFourth js) 498 (rise U 498 js)
   fourth-side U js =
-      risen-rise U (fourthOf R) (fourthOf S) (ladder U (fourthOf R) js) (ladder U (fourthOf S) js) mostFourth (ladder U mostFourth js) 498 (rise U 498 js) (fourth-most R below) fourth-moves (ladder-moves U js) (ladder-mono U (fourthOf S) mostFourth js (fourth-most S most))
+      risen-rise U (fourthOf R) (fourthOf S) (ladder U (fourthOf R) js) (ladder U (fourthOf S) js) mostFourth (ladder U mostFourth js) 498 (rise U 498 js)
+      (fourth-most R below) fourth-moves (ladder-moves U js) (ladder-mono U (fourthOf S) mostFourth js (fourth-most S most))
 
   square-side : (U : ℕ) (js : List ℕ) → risen 0 (squareOf S) (ladder U (fourthOf S) js) ≤ risen 0 (squareOf R) (ladder U (fourthOf R) js) + lift mostSquare (ladder U mostFourth js) 403 (rise U 498 js)
   square-side U js =
-      risen-rise 0 (squareOf R) (squareOf S) (ladder U (fourthOf R) js) (ladder U (fourthOf S) js) mostSquare (ladder U mostFourth js) 403 (rise U 498 js) (square-most R below) square-moves (ladder-moves U js) (ladder-mono U (fourthOf S) mostFourth js (fourth-most S most))
+      risen-rise 0 (squareOf R) (squareOf S) (ladder U (fourthOf R) js) (ladder U (fourthOf S) js) mostSquare (ladder U mostFourth js) 403 (rise U 498 js)
+      (square-most R below) square-moves (ladder-moves U js) (ladder-mono U (fourthOf S) mostFourth js (fourth-most S most))
 
   pub cosine-down-moves : cosineDown S ≤ cosineDown R + 1488
   unfolding ladder factorial rise

@@ -59,8 +59,11 @@ module _ (D e k Y X A w z p m a b : ℕ) (same : D ≡ k * 2 ^ 20) (twice : e + 
 
   -- twice e times both sizes is at most k times them
   room : e * X * (w * z) + e * Y * (w * z) + (e * X * (w * z) + e * Y * (w * z)) ≤ k * ((X + Y) * (w * z))
-  room = le-trans (le-of-eq (sum (e * X * (w * z)) (e * Y * (w * z)) (sym (add-mul (e * X) (e * Y) (w * z)) ∙ ap (λ (x : ℕ). x * (w * z)) (sym (mul-add e X Y)) ∙ mul-assoc e (X + Y) (w * z)) ∙ sym (add-mul e e ((X + Y) * (w * z))))) (mul-le-mul-right ((X + Y) * (w * z)) twice)
+  room = le-trans (le-of-eq (sum (e * X * (w * z)) (e * Y * (w * z)) once ∙ sym (add-mul e e ((X + Y) * (w * z))))) (mul-le-mul-right ((X + Y) * (w * z)) twice)
     where
+      once : e * X * (w * z) + e * Y * (w * z) ≡ e * ((X + Y) * (w * z))
+      once = sym (add-mul (e * X) (e * Y) (w * z)) ∙ ap (λ (x : ℕ). x * (w * z)) (sym (mul-add e X Y)) ∙ mul-assoc e (X + Y) (w * z)
+
       sum : (x y : ℕ) → x + y ≡ e * ((X + Y) * (w * z)) → x + y + (x + y) ≡ e * ((X + Y) * (w * z)) + e * ((X + Y) * (w * z))
       sum x y h = omega arith
 

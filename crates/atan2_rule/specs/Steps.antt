@@ -68,6 +68,10 @@ unfoldable pub passes : ℕ → ℕ → ℕ → ℕ → Bool
 passes u v left b = cond (leb (fixedOf b) half) (passesAt u v left 0 (fixedOf b)) (passesAt u v left 1 (turn - fixedOf b))
 
 -- ---- the guess
+-- m - n * s, of two f64 by their bits
+abbrev pub lessOf : ℕ → ℕ → Float → Float
+lessOf m n s = sub binary64 (ofBits binary64 m) (mul binary64 (ofBits binary64 n) s)
+
 -- e + atan t for t from -1 to 1, by a polynomial in t * t
 abbrev pub bendOf : Float → Float → Float
 bendOf e t =
@@ -75,9 +79,9 @@ bendOf e t =
     let q = mul binary64 s s in
     let o = mul binary64 q q in
     let k = mul binary64 t o in
-    let a = add binary64 (sub binary64 (ofBits binary64 4607182418795996032) (mul binary64 (ofBits binary64 4599676417467509233) s)) (mul binary64 q (sub binary64 (ofBits binary64 4596373620483205329) (mul binary64 (ofBits binary64 4594312419463711947) s))) in
-    let b = add binary64 (sub binary64 (ofBits binary64 4592627340567176626) (mul binary64 (ofBits binary64 4590994711487626206) s)) (mul binary64 q (sub binary64 (ofBits binary64 4589481673679609669) (mul binary64 (ofBits binary64 4586491572210492718) s))) in
-    let c = add binary64 (sub binary64 (ofBits binary64 4581973198037814223) (mul binary64 (ofBits binary64 4574755832177917852) s)) (mul binary64 q (ofBits binary64 4562520176334015345)) in
+    let a = add binary64 (lessOf 4607182418795996032 4599676417467509233 s) (mul binary64 q (lessOf 4596373620483205329 4594312419463711947 s)) in
+    let b = add binary64 (lessOf 4592627340567176626 4590994711487626206 s) (mul binary64 q (lessOf 4589481673679609669 4586491572210492718 s)) in
+    let c = add binary64 (lessOf 4581973198037814223 4574755832177917852 s) (mul binary64 q (ofBits binary64 4562520176334015345)) in
     add binary64 (add binary64 e (mul binary64 t a)) (add binary64 (mul binary64 k b) (mul binary64 (mul binary64 k o) c))
 
 -- the bits of PI, and of the f32 nearest to an f64 from 2 ^ -14 to PI; for any other it is PI, which then fails the test

@@ -82,12 +82,12 @@ pub read-is : (text : List ℕ) (at : ℕ) (r : Number) → r ≡ scanNumberOf t
 unfolding numberOf
 read-is text at r e = ap (readOf text) e
 
-module _ (text : List ℕ) (at whole fraction : ℕ) (first all : Leading)
+module _ {text : List ℕ} (at : ℕ) {whole fraction : ℕ} {first all : Leading}
     (w-is : whole ≡ pastSignOf text at) (before : Gathers text whole 0 0 first) (f-is : fraction ≡ pastPointOf text (first .at)) (after : Gathers text fraction (first .w) (first .dropped) all) where
   pub number-no-digit : (eqb whole (first .at) && eqb fraction (all .at)) ≡ true → Refused (ExpectedNumber at) ≡ numberOf text at
   number-no-digit h = read-is text at (NoDigit at) (number-none text at whole (first .at) fraction (all .at) w-is (before .passed) f-is (after .passed) h)
 
-  module _ (some : (eqb whole (first .at) && eqb fraction (all .at)) ≡ false) (x e : ℕ) (x-is : x ≡ pastMarkOf text (all .at)) (e-is : e ≡ pastDigitsOf text x) where
+  module _ (some : (eqb whole (first .at) && eqb fraction (all .at)) ≡ false) {x e : ℕ} (x-is : x ≡ pastMarkOf text (all .at)) (e-is : e ≡ pastDigitsOf text x) where
     abbrev p : Places
     p = record { start = at; whole = whole; point = first .at; fraction = fraction; mark = all .at; exponent = x; end = e }
 
@@ -104,16 +104,22 @@ module _ (text : List ℕ) (at whole fraction : ℕ) (first all : Leading)
       leads : Leads (digitsOf text p) (all .w) (all .dropped)
       leads =
           after .held whole (le-trans (fits .whole-le) (fits .point-le))
-          (subst (λ (z : ℕ). Leads (digitsIn text whole z) (first .w) (first .dropped)) (sym f-is) (leads-point text whole (first .at) (first .w) (first .dropped) (fits .whole-le) (before .held whole (le-refl whole) (leads-start text whole))))
+          (subst (λ (z : ℕ). Leads (digitsIn text whole z) (first .w) (first .dropped)) (sym f-is)
+          (leads-point text whole (first .at) (first .w) (first .dropped) (fits .whole-le) (before .held whole (le-refl whole) (leads-start text whole))))
 
       inside : all .at ≤ length text
       inside = le-trans (fits .mark-le) (le-trans (fits .exponent-le) (fits .end-within))
+
+      fraction-in : digitsIn text (first .at) (all .at) ≡ digitsIn text fraction (all .at)
+      fraction-in =
+          join-in text (first .at) fraction (all .at) (fits .point-le) (fits .fraction-le)
+          ∙ ap (λ (z : List ℕ). z ++ digitsIn text fraction (all .at)) (ap (digitsIn text (first .at)) f-is ∙ point-in text (first .at))
 
       count : length (digitsOf text p) ≡ (first .at - whole) + (all .at - fraction)
       count =
           ap length (join-in text whole (first .at) (all .at) (fits .whole-le) (le-trans (fits .point-le) (fits .fraction-le)))
           ∙ length-append (digitsIn text whole (first .at)) (digitsIn text (first .at) (all .at))
-          ∙ ap (λ (z : List ℕ). length (digitsIn text whole (first .at)) + length z) (join-in text (first .at) fraction (all .at) (fits .point-le) (fits .fraction-le) ∙ ap (λ (z : List ℕ). z ++ digitsIn text fraction (all .at)) (ap (digitsIn text (first .at)) f-is ∙ point-in text (first .at)))
+          ∙ ap (λ (z : List ℕ). length (digitsIn text whole (first .at)) + length z) fraction-in
           ∙ ap (λ (z : ℕ). z + length (digitsIn text fraction (all .at))) (run-in text whole (first .at) (fits .whole-le) (le-trans (fits .point-le) (le-trans (fits .fraction-le) inside)) (fits .whole-digits))
           ∙ ap (λ (z : ℕ). (first .at - whole) + z) (run-in text fraction (all .at) (fits .fraction-le) inside (fits .fraction-digits))
 
@@ -187,8 +193,8 @@ pub record Plain (text : List ℕ) (m : ℕ) : Type 0 where
   pub e-is : m ≡ pastDigitsOf text m
   pub fine : (ltb m m && eqb m m) ≡ false
 
-pub plain-at : (text : List ℕ) (from m : ℕ) → m ≡ pastDigitsOf text from → among (getD text m 0) exponentMarks ≡ false → Plain text m
-plain-at text from m e n =
+pub plain-at : {text : List ℕ} (from : ℕ) {m : ℕ} → m ≡ pastDigitsOf text from → among (getD text m 0) exponentMarks ≡ false → Plain text m
+plain-at {text} from {m} e n =
     record {
       x-is = mark-none text m n;
       e-is = e ∙ sym (all-again digits text from) ∙ ap (pastDigitsOf text) (sym e);
@@ -204,9 +210,9 @@ pub record Marked (text : List ℕ) (m x : ℕ) (r : Power) : Type 0 where
   pub none : x ≡ r .at → (ltb m x && eqb x (r .at)) ≡ true
   pub fine : (x ≡ r .at → ⊥) → (ltb m x && eqb x (r .at)) ≡ false
 
-pub marked-at : (text : List ℕ) (m x : ℕ) (r : Power) → among (getD text m 0) exponentMarks ≡ true → x ≡ pastSignOf text (m + 1) → r ≡ exponentOf text x → Marked text m x r
+pub marked-at : {text : List ℕ} {m x : ℕ} {r : Power} → among (getD text m 0) exponentMarks ≡ true → x ≡ pastSignOf text (m + 1) → r ≡ exponentOf text x → Marked text m x r
 unfolding exponentOf
-marked-at text m x r is sign e =
+marked-at {text} {m} {x} {r} is sign e =
     let at-is = ap (λ (z : Power). z .at) e in
     let past = one-onward signs text (m + 1) in
     let ahead : m < x = subst (λ (z : ℕ). m < z) (sym sign) (omega arith) in
@@ -221,29 +227,29 @@ marked-at text m x r is sign e =
 
 -- ---- what a value is asked for
 
-module _ (text : List ℕ) (at whole fraction : ℕ) (first all : Leading)
+module _ {text : List ℕ} (at : ℕ) {whole fraction : ℕ} {first all : Leading}
     (w-is : whole ≡ pastSignOf text at) (before : Gathers text whole 0 0 first) (f-is : fraction ≡ pastPointOf text (first .at)) (after : Gathers text fraction (first .w) (first .dropped) all)
     (some : (eqb whole (first .at) && eqb fraction (all .at)) ≡ false) where
-  pub held-plain : (end : Plain text (all .at)) → Held text (p text at whole fraction first all w-is before f-is after some (all .at) (all .at) (end .x-is) (end .e-is)) (all .w) (all .dropped) 0 0
+  pub held-plain : (end : Plain text (all .at)) → Held text (p at w-is before f-is after some (end .x-is) (end .e-is)) (all .w) (all .dropped) 0 0
   held-plain end =
-      let q = p text at whole fraction first all w-is before f-is after some (all .at) (all .at) (end .x-is) (end .e-is) in
-      held text at whole fraction first all w-is before f-is after some (all .at) (all .at) (end .x-is) (end .e-is) (end .fine) 0 0
+      let q = p at w-is before f-is after some (end .x-is) (end .e-is) in
+      held at w-is before f-is after some (end .x-is) (end .e-is) (end .fine) 0 0
       (rise-rising text q 0 (no-power text q refl) (no-falls text q refl)) (fall-rising text q 0 (no-power text q refl) (no-falls text q refl))
 
-  module _ (x : ℕ) (r : Power) (end : Marked text (all .at) x r) (digit : x ≡ r .at → ⊥) where
+  module _ {x : ℕ} {r : Power} (end : Marked text (all .at) x r) (digit : x ≡ r .at → ⊥) where
     abbrev q : Places
-    q = p text at whole fraction first all w-is before f-is after some x (r .at) (end .x-is) (end .e-is)
+    q = p at w-is before f-is after some (end .x-is) (end .e-is)
 
     pub held-falling : eqb (getD text (all .at + 1) 0) minus ≡ true → Held text q (all .w) (all .dropped) 0 (r .size)
     held-falling e =
         let sign = falls-is text q true (end .ahead) e in
-        held text at whole fraction first all w-is before f-is after some x (r .at) (end .x-is) (end .e-is) (end .fine digit) 0 (r .size)
+        held at w-is before f-is after some (end .x-is) (end .e-is) (end .fine digit) 0 (r .size)
         (rise-falling text q (r .size) (end .size-is) sign) (fall-falling text q (r .size) (end .size-is) sign)
 
     pub held-rising : eqb (getD text (all .at + 1) 0) minus ≡ false → Held text q (all .w) (all .dropped) (r .size) 0
     held-rising e =
         let sign = falls-is text q false (end .ahead) e in
-        held text at whole fraction first all w-is before f-is after some x (r .at) (end .x-is) (end .e-is) (end .fine digit) (r .size) 0
+        held at w-is before f-is after some (end .x-is) (end .e-is) (end .fine digit) (r .size) 0
         (rise-rising text q (r .size) (end .size-is) sign) (fall-rising text q (r .size) (end .size-is) sign)
 
 -- ---- what is found, by its case

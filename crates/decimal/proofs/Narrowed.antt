@@ -6,13 +6,15 @@ use mathlib.Core.Logic.{_⊎_, inl, inr, ⊎-elim}
 use mathlib.Core.Bool.{Bool, false, cond}
 use native.Mathlib.Nat.{mul-assoc, mul-comm, mul-pos, mul-le-mul-right, mul-lt-mul-of-pos-right, lt-of-lt-of-le, lt-of-not-le, not-le-of-lt, le-of-mul-le-mul-right, lt-of-mul-lt-mul-right, pow-suc, add-mul, one-mul, suc-mul}
 use native.Mathlib.Omega.{arith}
+use lib.Dec.{T}
 use lib.Pow.{pow-pos, pow-mono, pow-add, shl-lt}
 use lib.Ieee.{Float, binary32, binary64, round, ofBits, toBits}
 use lib.Ieee.Bits.{ofBits-toBits}
 use lib.Ieee.Fits.{round-fits}
 use lib.Ieee.Exact.{HasValue, round-exact}
 use lib.Ieee.Order.{round-mono}
-use lib.Ieee.Positive.{positive-of-value, values-of-le}
+use lib.Ieee.Positive.{positive, positive-of-value, values-of-le}
+use Rattle.floats.specs.Patterns.{hidden, signPlace}
 use Rattle.decimal_rounding.proofs.Compares.{below-or-not}
 use Rattle.decimal_rounding.proofs.Halves.{near-down, near-up}
 use Rattle.decimal_rounding.proofs.Pattern.{units-pattern}
@@ -21,6 +23,16 @@ use Rattle.decimal.specs.Bits.{Nearest, Tells, narrowedOf}
 
 abbrev sized : ℕ → ℕ
 sized c = digitsOf c * 2 ^ powerOf c
+
+-- a pattern with its last 29 digits rounded off, in steps of f32; and a step's 24 digits and the power of two that they are taken with
+abbrev stepOf : ℕ → ℕ
+stepOf b = (b + 268435456) / 536870912
+
+abbrev singleDigits : ℕ → ℕ
+singleDigits t = t % hidden + hidden
+
+abbrev singlePower : ℕ → ℕ
+singlePower t = t / hidden - 897
 
 -- ---- patterns in order
 
@@ -44,37 +56,43 @@ sized-lt c b l h = go (below-or-not (powerOf c) (powerOf b))
         subst (λ (k : ℕ). digitsOf c * 2 ^ powerOf c < digitsOf b * 2 ^ k) (sym same) (mul-lt-mul-of-pos-right less (pow-pos (powerOf c)))
 
 -- a pattern's own value is not rounded
-pub own : (c : ℕ) → c < 0x7FF0000000000000 → HasValue (round binary64 false (sized c) (2 ^ 1074)) false (sized c) (2 ^ 1074)
+abbrev ownOf : ℕ → Float
+ownOf c = round binary64 false (sized c) (2 ^ 1074)
+
+pub own : (c : ℕ) → c < 0x7FF0000000000000 → HasValue (ownOf c) false (sized c) (2 ^ 1074)
 own c h =
     let few : digitsOf c < 2 ^ 53 = omega arith in
     let fits : 53 + powerOf c ≤ 2098 = omega arith in
     round-exact binary64 false (sized c) (2 ^ 1074) (digitsOf c) (powerOf c) (pow-pos 1074) few (lt-of-lt-of-le (shl-lt 53 (powerOf c) few) (pow-mono fits)) refl
 
+own-positive : (c : ℕ) → c < 0x7FF0000000000000 → T (positive (ownOf c))
+own-positive c h = positive-of-value (ownOf c) (sized c) (2 ^ 1074) (own c h) (sized-pos c)
+
 module _ (w d b : ℕ) (D : 0 < d) (is : round binary64 false w d ≡ ofBits binary64 b) (low : 0x3E00000000000000 ≤ b) (high : b < 0x4400000000000000) where
   value : HasValue (round binary64 false w d) false (sized b) (2 ^ 1074)
   value = subst (λ (x : Float). HasValue x false (sized b) (2 ^ 1074)) (sym is) (pattern-value b (omega arith) (omega arith))
+
+  over-zero : T (positive (round binary64 false w d))
+  over-zero = positive-of-value (round binary64 false w d) (sized b) (2 ^ 1074) value (sized-pos b)
 
   -- a pattern below the quotient's is below the fraction, and one above it above
   above : (c : ℕ) → 0x10000000000000 ≤ c → c < b → sized c * d < w * 2 ^ 1074
   above c l h =
       lt-of-not-le
       (λ (g : w * 2 ^ 1074 ≤ sized c * d).
-      let v = own c (omega arith) in
+      let u : c < 0x7FF0000000000000 = omega arith in
       not-le-of-lt (sized-lt c b l h)
       (le-of-mul-le-mul-right
-      (values-of-le (round binary64 false w d) (round binary64 false (sized c) (2 ^ 1074)) (sized b) (2 ^ 1074) (sized c) (2 ^ 1074)
-      (positive-of-value (round binary64 false w d) (sized b) (2 ^ 1074) value (sized-pos b)) (positive-of-value (round binary64 false (sized c) (2 ^ 1074)) (sized c) (2 ^ 1074) v (sized-pos c)) value v (round-mono binary64 w d (sized c) (2 ^ 1074) D (pow-pos 1074) g))
+      (values-of-le (round binary64 false w d) (ownOf c) (sized b) (2 ^ 1074) (sized c) (2 ^ 1074) over-zero (own-positive c u) value (own c u) (round-mono binary64 w d (sized c) (2 ^ 1074) D (pow-pos 1074) g))
       (pow-pos 1074)))
 
   below : (c : ℕ) → b < c → c < 0x7FF0000000000000 → w * 2 ^ 1074 < sized c * d
   below c h u =
       lt-of-not-le
       (λ (g : sized c * d ≤ w * 2 ^ 1074).
-      let v = own c u in
       not-le-of-lt (sized-lt b c (omega arith) h)
       (le-of-mul-le-mul-right
-      (values-of-le (round binary64 false (sized c) (2 ^ 1074)) (round binary64 false w d) (sized c) (2 ^ 1074) (sized b) (2 ^ 1074) (positive-of-value (round binary64 false (sized c) (2 ^ 1074)) (sized c) (2 ^ 1074) v (sized-pos c))
-      (positive-of-value (round binary64 false w d) (sized b) (2 ^ 1074) value (sized-pos b)) v value (round-mono binary64 (sized c) (2 ^ 1074) w d (pow-pos 1074) D g))
+      (values-of-le (ownOf c) (round binary64 false w d) (sized c) (2 ^ 1074) (sized b) (2 ^ 1074) (own-positive c u) over-zero (own c u) value (round-mono binary64 (sized c) (2 ^ 1074) w d (pow-pos 1074) D g))
       (pow-pos 1074)))
 
   -- ---- the fraction among the steps of f32
@@ -105,49 +123,49 @@ module _ (w d b : ℕ) (D : 0 < d) (is : round binary64 false w d ≡ ofBits bin
 
   module _ (no-tie : b % 536870912 ≡ 268435456 → ⊥) where
     -- past the middle below, and short of the middle above
-    past : (q k : ℕ) → q ≡ ((b + 268435456) / 536870912 - 1) % 8388608 + 8388608 → k ≡ ((b + 268435456) / 536870912 - 1) / 8388608 - 897 → 2 * (q * (d * 2 ^ k)) + d * 2 ^ k < 2 * (w * 2 ^ 149)
+    past : (q k : ℕ) → q ≡ singleDigits (stepOf b - 1) → k ≡ singlePower (stepOf b - 1) → 2 * (q * (d * 2 ^ k)) + d * 2 ^ k < 2 * (w * 2 ^ 149)
     past q k e f =
-        let c = (b + 268435456) / 536870912 * 536870912 - 268435456 in
+        let c = stepOf b * 536870912 - 268435456 in
         let m = middle c q k (omega arith) (omega arith) in
         let a = above c (omega arith) (omega arith) in
         lt-of-mul-lt-mul-right (2 ^ 924) (subst (λ (z : ℕ). (2 * (q * (d * 2 ^ k)) + d * 2 ^ k) * 2 ^ 924 < z) twice (subst (λ (z : ℕ). z < w * 2 ^ 1074) m a))
 
-    short : (q k : ℕ) → q ≡ (b + 268435456) / 536870912 % 8388608 + 8388608 → k ≡ (b + 268435456) / 536870912 / 8388608 - 897 → 2 * (w * 2 ^ 149) < 2 * (q * (d * 2 ^ k)) + d * 2 ^ k
+    short : (q k : ℕ) → q ≡ singleDigits (stepOf b) → k ≡ singlePower (stepOf b) → 2 * (w * 2 ^ 149) < 2 * (q * (d * 2 ^ k)) + d * 2 ^ k
     short q k e f =
-        let c = (b + 268435456) / 536870912 * 536870912 + 268435456 in
+        let c = stepOf b * 536870912 + 268435456 in
         let m = middle c q k (omega arith) (omega arith) in
         let a = below c (omega arith) (omega arith) in
         lt-of-mul-lt-mul-right (2 ^ 924) (subst (λ (z : ℕ). z < (2 * (q * (d * 2 ^ k)) + d * 2 ^ k) * 2 ^ 924) twice (subst (λ (z : ℕ). w * 2 ^ 1074 < z) m a))
 
     -- the next step of the one is the other
-    step : (q k p j : ℕ) → ((p ≡ suc q) × (j ≡ k)) ⊎ ((q ≡ 16777215) × (p ≡ 8388608) × (j ≡ suc k)) → p * (d * 2 ^ j) ≡ q * (d * 2 ^ k) + d * 2 ^ k
+    step : (q k p j : ℕ) → ((p ≡ suc q) × (j ≡ k)) ⊎ ((q ≡ 16777215) × (p ≡ hidden) × (j ≡ suc k)) → p * (d * 2 ^ j) ≡ q * (d * 2 ^ k) + d * 2 ^ k
     step q k p j (inl e) = ap₂ (λ (x : ℕ) (y : ℕ). x * (d * 2 ^ y)) (e .0) (e .1) ∙ suc-mul q (d * 2 ^ k)
     step q k p j (inr e) =
         let u = d * 2 ^ k in
         let v : d * 2 ^ suc k ≡ u * 2 = ap (λ (z : ℕ). d * z) (pow-suc 2 k) ∙ sym (mul-assoc d (2 ^ k) 2) in
-        ap₂ (λ (x : ℕ) (y : ℕ). x * (d * 2 ^ y)) (e .1) (e .2) ∙ ap (λ (z : ℕ). 8388608 * z) v ∙ omega (arith, ap (λ (z : ℕ). z * u) (e .0))
+        ap₂ (λ (x : ℕ) (y : ℕ). x * (d * 2 ^ y)) (e .1) (e .2) ∙ ap (λ (z : ℕ). hidden * z) v ∙ omega (arith, ap (λ (z : ℕ). z * u) (e .0))
 
-    narrowed : Nearest w d ((b + 268435456) / 536870912 - 7516192768)
+    narrowed : Nearest w d (narrowedOf b)
     narrowed =
-        let q = ((b + 268435456) / 536870912 - 1) % 8388608 + 8388608 in
-        let k = ((b + 268435456) / 536870912 - 1) / 8388608 - 897 in
-        let p = (b + 268435456) / 536870912 % 8388608 + 8388608 in
-        let j = (b + 268435456) / 536870912 / 8388608 - 897 in
+        let q = singleDigits (stepOf b - 1) in
+        let k = singlePower (stepOf b - 1) in
+        let p = singleDigits (stepOf b) in
+        let j = singlePower (stepOf b) in
         record {
           finite-or-infinite = omega arith;
           is = λ s. go s q k p j refl refl refl refl (below-or-not (w * 2 ^ 149) (p * (d * 2 ^ j)));
         }
       where
-        which : (t q k p j : ℕ) → 8128000000 ≤ t → q ≡ (t - 1) % 8388608 + 8388608 → k ≡ (t - 1) / 8388608 - 897 → p ≡ t % 8388608 + 8388608 → j ≡ t / 8388608 - 897
-            → ((p ≡ suc q) × (j ≡ k)) ⊎ ((q ≡ 16777215) × (p ≡ 8388608) × (j ≡ suc k))
-        which t q k p j l a b c e = ⊎-elim (λ (h : 0 < t % 8388608). inl (omega arith, omega arith)) (λ (h : t % 8388608 ≤ 0). inr (omega arith, omega arith, omega arith)) (below-or-not 0 (t % 8388608))
+        which : (t q k p j : ℕ) → 8128000000 ≤ t → q ≡ singleDigits (t - 1) → k ≡ singlePower (t - 1) → p ≡ singleDigits t → j ≡ singlePower t
+            → ((p ≡ suc q) × (j ≡ k)) ⊎ ((q ≡ 16777215) × (p ≡ hidden) × (j ≡ suc k))
+        which t q k p j l a b c e = ⊎-elim (λ (h : 0 < t % hidden). inl (omega arith, omega arith)) (λ (h : t % hidden ≤ 0). inr (omega arith, omega arith, omega arith)) (below-or-not 0 (t % hidden))
 
-        go : (s : Bool) (q k p j : ℕ) → q ≡ ((b + 268435456) / 536870912 - 1) % 8388608 + 8388608 → k ≡ ((b + 268435456) / 536870912 - 1) / 8388608 - 897
-            → p ≡ (b + 268435456) / 536870912 % 8388608 + 8388608 → j ≡ (b + 268435456) / 536870912 / 8388608 - 897
+        go : (s : Bool) (q k p j : ℕ) → q ≡ singleDigits (stepOf b - 1) → k ≡ singlePower (stepOf b - 1)
+            → p ≡ singleDigits (stepOf b) → j ≡ singlePower (stepOf b)
             → (w * 2 ^ 149 < p * (d * 2 ^ j)) ⊎ (p * (d * 2 ^ j) ≤ w * 2 ^ 149)
-            → round binary32 s w d ≡ ofBits binary32 (cond s 2147483648 0 + ((b + 268435456) / 536870912 - 7516192768))
+            → round binary32 s w d ≡ ofBits binary32 (cond s signPlace 0 + narrowedOf b)
         go s q k p j eq ek ep ej (inl under) =
-            near-up binary32 s w d q k D (omega arith) (inl (omega arith)) (subst (λ (z : ℕ). w * 2 ^ 149 < z) (step q k p j (which ((b + 268435456) / 536870912) q k p j (omega arith) eq ek ep ej)) under) (inl (past q k eq ek))
+            near-up binary32 s w d q k D (omega arith) (inl (omega arith)) (subst (λ (z : ℕ). w * 2 ^ 149 < z) (step q k p j (which (stepOf b) q k p j (omega arith) eq ek ep ej)) under) (inl (past q k eq ek))
             ∙ units-pattern s (suc q) k (omega arith) (inl (omega arith)) (omega arith)
             ∙ ap (λ (z : ℕ). ofBits binary32 z) (omega arith)
         go s q k p j eq ek ep ej (inr over) =

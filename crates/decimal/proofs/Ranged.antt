@@ -1,50 +1,21 @@
 -- The f64 nearest to a quotient of whole numbers, one below 2 ^ 53 and one up to 10 ^ 8, lies from 2 ^ -31 to 2 ^ 53, and so does its pattern. Assumes nothing.
-use Prim.Native.Nat.{ℕ, zero, suc, _+_, _-_, _*_, _/_, _%_, _^_, _≤_, _<_, zero-le}
+use Prim.Native.Nat.{ℕ, zero, suc, _*_, _%_, _^_, _≤_, _<_, zero-le}
 use mathlib.Core.Path.{_≡_, sym, subst, _∙_}
-use mathlib.Core.Bool.{Bool, true, false, cond}
-use native.Mathlib.Nat.{le-trans, le-of-eq, le-of-lt, lt-of-le-of-lt, lt-of-lt-of-le, lt-of-not-le, not-le-of-lt, le-div-iff-mul-le, div-lt-iff-lt-mul, mul-le-mul-left, mul-le-mul-right, mul-lt-mul-of-pos-right, zero-add, zero-mul}
+use mathlib.Core.Bool.{Bool, false, cond}
+use native.Mathlib.Nat.{le-trans, le-of-lt, lt-of-le-of-lt, le-div-iff-mul-le, div-lt-iff-lt-mul, mul-le-mul-left, mul-le-mul-right, mul-lt-mul-of-pos-right, zero-mul}
 use native.Mathlib.Omega.{arith}
 use borrow.Author.Tests.{ne-eqb}
 use lib.Dec.{T, eqb, lit≤, lit<}
-use lib.Pow.{pow-add, pow-pos, pow-mono}
-use lib.Ieee.{Float, nan, inf, fin, binary64, round, toBits, le, size}
-use lib.Ieee.Digits.{size-lt, size-le, size-reaches}
+use lib.Pow.{pow-pos}
+use lib.Ieee.{Float, binary64, round, toBits, le}
 use lib.Ieee.Exact.{HasValue}
-use lib.Ieee.Fits.{kept-lt}
 use lib.Ieee.Order.{round-mono}
 use lib.Ieee.Positive.{num, den, positive, den-pos, own-value, positive-of-value, values-of-le, between}
 use Rattle.decimal_rounding.proofs.Limits.{zero-to}
 use Rattle.decimal_rounding.proofs.Pattern.{zero-bits}
+use Rattle.decimal_rounding.proofs.Sizes.{wideUnits, bits-between}
 use Rattle.decimal.specs.Bits.{Nearest, Tells, narrowedOf}
 use Rattle.decimal.proofs.Narrowed.{own, quotient-nearest}
-
--- ---- the pattern of n units of 2 ^ -1074
-
-abbrev units : Float → ℕ
-units x = num x * 2 ^ 1074 / den x
-
-bits-of : (x : Float) → T (positive x) → toBits binary64 x ≡ (size (units x) - 53) * 0x10000000000000 + units x / 2 ^ (size (units x) - 53)
-unfolding toBits
-bits-of nan p = absurd p
-bits-of (inf s) p = absurd p
-bits-of (fin true m e) p = absurd p
-bits-of (fin false m e) p = simp zero-add
-
-module _ (n a b : ℕ) (normal : 53 ≤ a) (low : 2 ^ a ≤ n) (high : n < 2 ^ b) where
-  long : a < size n
-  long = lt-of-not-le (λ (g : size n ≤ a). not-le-of-lt (lt-of-lt-of-le (size-lt n) (pow-mono g)) low)
-
-  first-digit : 0x10000000000000 ≤ n / 2 ^ (size n - 53)
-  first-digit =
-      let k = size n - 53 in
-      let e : 52 + k < size n = omega (arith, long) in
-      le-div-iff-mul-le (pow-pos k) .1 (le-trans (le-of-eq (sym (pow-add 2 52 k))) (size-reaches n (52 + k) e))
-
-  bits-low : (a - 51) * 0x10000000000000 ≤ (size n - 53) * 0x10000000000000 + n / 2 ^ (size n - 53)
-  bits-low = omega (arith, long, first-digit)
-
-  bits-high : (size n - 53) * 0x10000000000000 + n / 2 ^ (size n - 53) < (b - 51) * 0x10000000000000
-  bits-high = omega (arith, long, size-le n b high, kept-lt 53 n)
 
 -- ---- the quotient between two powers of two
 
@@ -83,12 +54,12 @@ module _ (w d : ℕ) (some : 0 < w) (few : w < 2 ^ 53) (D : 0 < d) (small : d �
   above : T (positive x)
   above = between least x most least-positive most-positive from-least to-most
 
-  units-low : 2 ^ 1043 ≤ units x
+  units-low : 2 ^ 1043 ≤ wideUnits x
   units-low =
       le-div-iff-mul-le (den-pos x) .1
       (values-of-le least x (2 ^ 1043) (2 ^ 1074) (num x) (den x) least-positive above least-value (own-value x above) from-least)
 
-  units-high : units x < 2 ^ 1128
+  units-high : wideUnits x < 2 ^ 1128
   units-high =
       div-lt-iff-lt-mul (den-pos x) .1
       (lt-of-le-of-lt (values-of-le x most (num x) (den x) (2 ^ 1127) (2 ^ 1074) above most-positive (own-value x above) most-value to-most)
@@ -97,10 +68,8 @@ module _ (w d : ℕ) (some : 0 < w) (few : w < 2 ^ 53) (D : 0 < d) (small : d �
   -- the pattern tells the nearest f32 but for a middle
   pub quotient-tells : (b : ℕ) → b ≡ toBits binary64 x → (b % 536870912 ≡ 268435456 → ⊥) → Tells b
   quotient-tells b e n =
-      let l = bits-low (units x) 1043 1128 (lit≤ tt) units-low units-high in
-      let h = bits-high (units x) 1043 1128 (lit≤ tt) units-low units-high in
-      let f = bits-of x above in
-      record { low = omega (arith, e, f, l); high = omega (arith, e, f, h); no-tie = n }
+      let r = bits-between x above 1043 1128 (lit≤ tt) units-low units-high in
+      record { low = omega (arith, e, r .0); high = omega (arith, e, r .1); no-tie = n }
 
 -- ---- the bits of a quotient's f32
 

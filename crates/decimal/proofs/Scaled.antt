@@ -5,16 +5,18 @@ use mathlib.Core.Path.{_≡_, refl, ap, sym, _∙_, subst}
 use mathlib.Core.Logic.{_⊎_, inl, inr}
 use mathlib.Core.List.{List}
 use mathlib.Core.Bool.{Bool, true}
-use native.Mathlib.Nat.{le-refl, le-trans, le-of-eq, le-of-lt, add-mul, add-zero, zero-add, mul-assoc, mul-comm, mul-left-comm, mul-right-comm, zero-mul, one-mul, mul-one, mul-le-mul, mul-le-mul-left, mul-le-mul-right, le-of-mul-le-mul-right, pow-suc}
+use native.Mathlib.Nat.{le-refl, le-trans, le-of-eq, add-mul, add-zero, zero-add, mul-assoc, mul-comm, mul-right-comm, zero-mul, one-mul, mul-le-mul, mul-le-mul-left, mul-le-mul-right, le-of-mul-le-mul-right, pow-suc}
 use native.Mathlib.Omega.{arith}
 use lib.Dec.{lit≤, lit<}
 use lib.Pow.{pow-add}
+use Rattle.floats.specs.Patterns.{infinityBits}
 use Rattle.decimal_rounding.proofs.Compares.{below-or-not}
 use Rattle.decimal_rounding.proofs.Limits.{infinite-from, zero-to}
 use Rattle.decimal_rounding.proofs.Pattern.{infinite-bits, zero-bits}
 use Rattle.decimal_digits.specs.Digits.{val}
 use Rattle.decimal_digits.specs.Leading.{Leads}
 use Rattle.decimal_digits.proofs.Values.{ten-pos}
+use Rattle.decimal_digits.proofs.Taking.{ten-mono}
 use Rattle.decimal_product.specs.Near.{Leading, Cell, Says, Nearest as Product}
 use Rattle.decimal_product.specs.declared.products.Near.{Near}
 use Rattle.decimal_product.specs.declared.products.Near.the-variants.{Bits, Between}
@@ -78,19 +80,24 @@ sized ds w dropped up l = go (below-or-not w (10 ^ 18))
     next : (a b c p : ℕ) → a ≡ b + c → c < p → a ≤ b + p
     next a b c p e h = omega arith
 
+    high : (more : ℕ) → val ds ≤ (w + more) * 10 ^ dropped → val ds * 10 ^ up * 10 ^ 64 ≤ (w + more) * 10 ^ u
+    high more h = le-trans (scale (val ds) ((w + more) * 10 ^ dropped) h) (le-of-eq (moved (w + more)))
+
     go : (w < 10 ^ 18) ⊎ (10 ^ 18 ≤ w) → Sized w u (val ds * 10 ^ up)
     go (inl h) =
+        let all = bare (val ds) (w * 10 ^ dropped) (l .rest) (l .is) (nothing (l .rest) dropped (l .small) (l .early h)) in
         record {
           more = 0;
           at-least = low;
-          at-most = le-trans (scale (val ds) ((w + 0) * 10 ^ dropped) (le-trans (bare (val ds) (w * 10 ^ dropped) (l .rest) (l .is) (nothing (l .rest) dropped (l .small) (l .early h))) (le-of-eq (ap (λ (z : ℕ). z * 10 ^ dropped) (sym (add-zero w)))))) (le-of-eq (moved (w + 0)));
+          at-most = high 0 (le-trans all (le-of-eq (ap (λ (z : ℕ). z * 10 ^ dropped) (sym (add-zero w)))));
           cut-off = inl refl;
         }
     go (inr h) =
+        let cut = next (val ds) (w * 10 ^ dropped) (l .rest) (10 ^ dropped) (l .is) (l .small) in
         record {
           more = 1;
           at-least = low;
-          at-most = le-trans (scale (val ds) ((w + 1) * 10 ^ dropped) (le-trans (next (val ds) (w * 10 ^ dropped) (l .rest) (10 ^ dropped) (l .is) (l .small)) (le-of-eq (ap (λ (z : ℕ). w * 10 ^ dropped + z) (sym (one-mul (10 ^ dropped))) ∙ sym (add-mul w 1 (10 ^ dropped)))))) (le-of-eq (moved (w + 1)));
+          at-most = high 1 (le-trans cut (le-of-eq (ap (λ (z : ℕ). w * 10 ^ dropped + z) (sym (one-mul (10 ^ dropped))) ∙ sym (add-mul w 1 (10 ^ dropped)))));
           cut-off = inr (refl, le-trans (lit≤ tt) h);
         }
 
@@ -108,9 +115,9 @@ module _ (w u num below : ℕ) (z : Sized w u num) where
 
   pub too-low : w < 2 ^ 64 → u < below → Nearest num (10 ^ below) 0
   too-low h l =
-      let one-more : suc u + (below - suc u) ≡ below = omega arith in
-      let power : 10 ^ u * 10 ≤ 10 ^ below = le-trans (le-of-eq (sym (pow-suc 10 u))) (le-trans (le-trans (le-of-eq (sym (mul-one (10 ^ suc u)))) (mul-le-mul-left (10 ^ suc u) (ten-pos (below - suc u)))) (le-of-eq (sym (pow-add 10 (suc u) (below - suc u)) ∙ ap (λ (x : ℕ). 10 ^ x) one-more))) in
-      let digits : num * 10 ^ 65 ≤ 2 ^ 64 * 10 ^ below = le-trans (le-of-eq (sym (mul-assoc num (10 ^ 64) 10))) (le-trans (mul-le-mul-right 10 (z .at-most)) (le-trans (le-of-eq (mul-assoc (w + z .more) (10 ^ u) 10)) (mul-le-mul (top (z .more) (z .cut-off)) power))) in
+      let power : 10 ^ u * 10 ≤ 10 ^ below = le-trans (le-of-eq (sym (pow-suc 10 u))) (ten-mono (suc u) below l) in
+      let leading : (w + z .more) * 10 ^ u * 10 ≤ 2 ^ 64 * 10 ^ below = le-trans (le-of-eq (mul-assoc (w + z .more) (10 ^ u) 10)) (mul-le-mul (top (z .more) (z .cut-off)) power) in
+      let digits : num * 10 ^ 65 ≤ 2 ^ 64 * 10 ^ below = le-trans (le-of-eq (sym (mul-assoc num (10 ^ 64) 10))) (le-trans (mul-le-mul-right 10 (z .at-most)) leading) in
       let small : num * 2 ^ 150 * 2 ^ 64 ≤ 10 ^ below * 2 ^ 64 = le-trans (le-of-eq (mul-assoc num (2 ^ 150) (2 ^ 64))) (le-trans (mul-le-mul-left num (lit≤ tt)) (le-trans digits (le-of-eq (mul-comm (2 ^ 64) (10 ^ below))))) in
       record {
         finite-or-infinite = lit≤ tt;
@@ -127,14 +134,13 @@ module _ (w u num below : ℕ) (z : Sized w u num) where
           one : (w m : ℕ) → w < 2 ^ 64 → m ≡ 1 → w + m ≤ 2 ^ 64
           one w m h e = omega arith
 
-  pub too-high : 0 < w → below + 102 < u → Nearest num (10 ^ below) 2139095040
+  pub too-high : 0 < w → below + 102 < u → Nearest num (10 ^ below) infinityBits
   too-high h l =
-      let far : below + 103 + (u - (below + 103)) ≡ u = omega arith in
-      let power : 10 ^ below * 10 ^ 103 ≤ 10 ^ u = le-trans (le-of-eq (sym (pow-add 10 below 103))) (le-trans (le-trans (le-of-eq (sym (mul-one (10 ^ (below + 103))))) (mul-le-mul-left (10 ^ (below + 103)) (ten-pos (u - (below + 103))))) (le-of-eq (sym (pow-add 10 (below + 103) (u - (below + 103))) ∙ ap (λ (x : ℕ). 10 ^ x) far))) in
+      let power : 10 ^ below * 10 ^ 103 ≤ 10 ^ u = le-trans (le-of-eq (sym (pow-add 10 below 103))) (ten-mono (below + 103) u (omega arith)) in
       let digits : 10 ^ below * 10 ^ 103 ≤ num * 10 ^ 64 = le-trans power (le-trans (le-trans (le-of-eq (sym (one-mul (10 ^ u)))) (mul-le-mul-right (10 ^ u) h)) (z .at-least)) in
       let large : 10 ^ below * 10 ^ 39 ≤ num = le-of-mul-le-mul-right (le-trans (le-of-eq (mul-assoc (10 ^ below) (10 ^ 39) (10 ^ 64))) digits) (lit< tt) in
       record {
-        finite-or-infinite = le-refl 2139095040;
+        finite-or-infinite = le-refl infinityBits;
         is = λ s. infinite-from s num (10 ^ below) (ten-pos below) (le-trans (le-of-eq (mul-comm (2 ^ 128 - 2 ^ 103) (10 ^ below))) (le-trans (mul-le-mul-left (10 ^ below) (lit≤ tt)) large)) ∙ infinite-bits s;
       }
 

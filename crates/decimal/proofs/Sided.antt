@@ -9,6 +9,7 @@ use native.Mathlib.Omega.{arith}
 use lib.Pow.{pow-add}
 use lib.ListN.{length}
 use lib.Ieee.{binary32, units, round, ofBits}
+use Rattle.floats.specs.Patterns.{hidden, signPlace, infinityBits}
 use Rattle.decimal_rounding.proofs.Compares.{compare-scale, lt-of-compare, eq-of-compare, gt-of-compare}
 use Rattle.decimal_rounding.proofs.Halves.{near-down, near-up}
 use Rattle.decimal_rounding.proofs.Pattern.{units-pattern}
@@ -71,41 +72,41 @@ module _ (num den m k : ℕ) (d : 0 < den) (cell : Cell m k num den) where
       weaker : (m : ℕ) → m < 2 ^ 24 → m ≤ 2 ^ 24
       weaker m h = omega arith
 
-  down : ((s : Bool) → round binary32 s num den ≡ units binary32 s m k) → Nearest num den (k * 8388608 + m)
+  down : ((s : Bool) → round binary32 s num den ≡ units binary32 s m k) → Nearest num den (k * hidden + m)
   down h =
       record {
         finite-or-infinite = small m k (cell .few) (cell .low);
-        is = λ s. h s ∙ units-pattern s m k few (cell .full) (cell .low) ∙ ap (λ (z : ℕ). ofBits binary32 z) (add-assoc (cond s 2147483648 0) (k * 8388608) m);
+        is = λ s. h s ∙ units-pattern s m k few (cell .full) (cell .low) ∙ ap (λ (z : ℕ). ofBits binary32 z) (add-assoc (cond s signPlace 0) (k * hidden) m);
       }
     where
-      small : (m k : ℕ) → m < 2 ^ 24 → k ≤ 253 → k * 8388608 + m ≤ 2139095040
+      small : (m k : ℕ) → m < 2 ^ 24 → k ≤ 253 → k * hidden + m ≤ infinityBits
       small m k h l = omega arith
 
-  up : ((s : Bool) → round binary32 s num den ≡ units binary32 s (suc m) k) → Nearest num den (k * 8388608 + m + 1)
+  up : ((s : Bool) → round binary32 s num den ≡ units binary32 s (suc m) k) → Nearest num den (k * hidden + m + 1)
   up h =
       record {
         finite-or-infinite = small m k (cell .few) (cell .low);
-        is = λ s. h s ∙ units-pattern s (suc m) k (cell .few) fuller (cell .low) ∙ ap (λ (z : ℕ). ofBits binary32 z) (shift (cond s 2147483648 0) k m);
+        is = λ s. h s ∙ units-pattern s (suc m) k (cell .few) fuller (cell .low) ∙ ap (λ (z : ℕ). ofBits binary32 z) (shift (cond s signPlace 0) k m);
       }
     where
-      small : (m k : ℕ) → m < 2 ^ 24 → k ≤ 253 → k * 8388608 + m + 1 ≤ 2139095040
+      small : (m k : ℕ) → m < 2 ^ 24 → k ≤ 253 → k * hidden + m + 1 ≤ infinityBits
       small m k h l = omega arith
 
-      shift : (c k m : ℕ) → c + k * 8388608 + suc m ≡ c + (k * 8388608 + m + 1)
+      shift : (c k m : ℕ) → c + k * hidden + suc m ≡ c + (k * hidden + m + 1)
       shift c k m = omega arith
 
-  pub bits-less : compare (num * 2 ^ 150) ((2 * m + 1) * 2 ^ k * den) ≡ Ordering·lt → Nearest num den (k * 8388608 + m)
+  pub bits-less : compare (num * 2 ^ 150) ((2 * m + 1) * 2 ^ k * den) ≡ Ordering·lt → Nearest num den (k * hidden + m)
   bits-less c =
       let h = lt-of-compare (2 * n) (2 * (m * t) + t) (sym (to _ _ (twice num) middle) ∙ c) in
       down (λ s. near-down binary32 s num den m k d (cell .few) (cell .full) (cell .at-least) (inl h))
 
-  pub bits-greater : compare (num * 2 ^ 150) ((2 * m + 1) * 2 ^ k * den) ≡ Ordering·gt → Nearest num den (k * 8388608 + m + 1)
+  pub bits-greater : compare (num * 2 ^ 150) ((2 * m + 1) * 2 ^ k * den) ≡ Ordering·gt → Nearest num den (k * hidden + m + 1)
   bits-greater c =
       let h = gt-of-compare (2 * n) (2 * (m * t) + t) (sym (to _ _ (twice num) middle) ∙ c) in
       up (λ s. near-up binary32 s num den m k d (cell .few) (cell .full) (cell .below-next) (inl h))
 
   -- a tie: to the even one
-  pub bits-equal : compare (num * 2 ^ 150) ((2 * m + 1) * 2 ^ k * den) ≡ Ordering·eq → Nearest num den (k * 8388608 + m + m % 2)
+  pub bits-equal : compare (num * 2 ^ 150) ((2 * m + 1) * 2 ^ k * den) ≡ Ordering·eq → Nearest num den (k * hidden + m + m % 2)
   bits-equal c = go (parity m)
     where
       h : 2 * n ≡ 2 * (m * t) + t
@@ -122,9 +123,9 @@ module _ (num den m k : ℕ) (d : 0 < den) (cell : Cell m k num den) where
           pick (suc zero) l = inr refl
           pick (suc (suc r)) l = absurd (omega arith)
 
-      even : (m k : ℕ) → m % 2 ≡ 0 → k * 8388608 + m ≡ k * 8388608 + m + m % 2
+      even : (m k : ℕ) → m % 2 ≡ 0 → k * hidden + m ≡ k * hidden + m + m % 2
       even m k e = omega arith
 
-      go : (m % 2 ≡ 0) ⊎ (m % 2 ≡ 1) → Nearest num den (k * 8388608 + m + m % 2)
+      go : (m % 2 ≡ 0) ⊎ (m % 2 ≡ 1) → Nearest num den (k * hidden + m + m % 2)
       go (inl e) = subst (λ (b : ℕ). Nearest num den b) (even m k e) (down (λ s. near-down binary32 s num den m k d (cell .few) (cell .full) (cell .at-least) (inr (h, e))))
-      go (inr e) = subst (λ (z : ℕ). Nearest num den (k * 8388608 + m + z)) (sym e) (up (λ s. near-up binary32 s num den m k d (cell .few) (cell .full) (cell .below-next) (inr (h, e))))
+      go (inr e) = subst (λ (z : ℕ). Nearest num den (k * hidden + m + z)) (sym e) (up (λ s. near-up binary32 s num den m k d (cell .few) (cell .full) (cell .below-next) (inr (h, e))))

@@ -7,10 +7,10 @@ use mathlib.Core.Bool.{Bool, true, false, not, cond, _&&_}
 use native.Mathlib.Nat.{mul-one, add-zero}
 use native.Mathlib.Omega.{arith}
 use lib.Dec.{T}
-use borrow.Author.Tests.{le-ltb}
 use lib.ListN.{length}
 use lib.Ieee.{Float, binary32, round, nanBits}
-use lib.Ieee.Bits.{nanBits-above}
+use Rattle.floats.specs.Patterns.{signPlace, infinityBits}
+use Rattle.decimal_rounding.proofs.Wide.{no-nan-plain, no-nan-single}
 use Rattle.scan.specs.declared.numbers.Places.{Places}
 use Rattle.decimal_digits.specs.Digits.{val}
 use Rattle.decimal_digits.specs.Exponent.{most, capped}
@@ -29,20 +29,14 @@ all-four false b c d e = let z : _≡_ {A = ℕ} 0 1 = cc in absurd (omega arith
 
 -- ---- patterns that are no NaN's
 
-plain : (n : ℕ) → n % 2147483648 ≤ 2139095040 → T (not (nanBits binary32 n))
-plain n h = subst (λ (b : Bool). T (not b)) (sym (nanBits-above binary32 n ∙ le-ltb 2139095040 (n % 2147483648) h)) tt
+pub plain-signed : (s : Bool) (n : ℕ) → n ≤ infinityBits → T (not (nanBits binary32 (cond s signPlace 0 + n)))
+plain-signed true n h = no-nan-plain binary32 (signPlace + n) (let l : (signPlace + n) % signPlace ≤ infinityBits = omega arith in l)
+plain-signed false n h = no-nan-single (0 + n) (omega arith)
 
-pub plain-signed : (s : Bool) (n : ℕ) → n ≤ 2139095040 → T (not (nanBits binary32 (cond s 2147483648 0 + n)))
-plain-signed true n h = plain (2147483648 + n) (omega arith)
-plain-signed false n h = plain (0 + n) (omega arith)
+pub plain-negative : (n : ℕ) → n ≤ infinityBits → T (not (nanBits binary32 (n + signPlace)))
+plain-negative n h = no-nan-plain binary32 (n + signPlace) (let l : (n + signPlace) % signPlace ≤ infinityBits = omega arith in l)
 
-pub plain-bits : (n : ℕ) → n ≤ 2139095040 → T (not (nanBits binary32 n))
-plain-bits n h = plain n (omega arith)
-
-pub plain-negative : (n : ℕ) → n ≤ 2139095040 → T (not (nanBits binary32 (n + 2147483648)))
-plain-negative n h = plain (n + 2147483648) (omega arith)
-
-pub sign-le : (s : Bool) → cond s 2147483648 0 ≤ 2147483648
+pub sign-le : (s : Bool) → cond s signPlace 0 ≤ signPlace
 sign-le true = omega arith
 sign-le false = omega arith
 

@@ -6,6 +6,7 @@ use mathlib.Core.List.{List}
 use mathlib.Core.Bool.{Bool, cond}
 use lib.ListN.{length}
 use lib.Ieee.{binary32, round, ofBits}
+use Rattle.floats.specs.Patterns.{signPlace, infinityBits}
 use Rattle.scan.specs.Numbers.{scanNumberOf}
 use Rattle.scan.specs.declared.numbers.Places.{Places}
 use Rattle.scan.specs.declared.numbers.Number.the-variants.{Scanned}
@@ -22,8 +23,8 @@ use Rattle.decimal.specs.declared.numbers.Found.the-variants.{Number, No
 
 -- the bits b of the nearest f32, but for the sign s
 pub record Nearest (num den b : ℕ) : Type 0 where
-  pub finite-or-infinite : b ≤ 2139095040
-  pub is : (s : Bool) → round binary32 s num den ≡ ofBits binary32 (cond s 2147483648 0 + b)
+  pub finite-or-infinite : b ≤ infinityBits
+  pub is : (s : Bool) → round binary32 s num den ≡ ofBits binary32 (cond s signPlace 0 + b)
 
 -- an f64's bits that tell the nearest f32: it lies from 2 ^ -31 to 2 ^ 65, and its last 29 digits are no half
 pub record Tells (b : ℕ) : Type 0 where

@@ -8,6 +8,7 @@ ghost use Prim.Native.Nat.{ℕ, _+_, _-_, _*_, _%_, _^_, _≤_, _<_};
 ghost use lib.Dec.{eqb};
 ghost use lib.Ieee.{binary32, binary64, round, ofBits, toBits};
 ghost use lib.Ieee.Exact.{HasValue};
+ghost use Rattle.floats.specs.Patterns.{signPlace, infinityBits};
 ghost use Rattle.decimal_digits.specs.Digits.{digitsAmong};
 ghost use Rattle.decimal_digits.specs.Exponent.{capped, most};
 ghost use Rattle.decimal.specs.Bits.{Tells, narrowedOf, Sides, Gathered, Rounds, Settles};
@@ -15,6 +16,13 @@ use decimal_product::inner::Near;
 use decimal_product::inner::nearest;
 use decimal_tie::inner::Order;
 use decimal_tie::inner::weigh;
+
+// One step of an f32's exponent in its bits.
+const HIDDEN: u64 = 8388608;
+// The sign's bit.
+pub const SIGN_PLACE: u64 = 2147483648;
+// Infinity's bits without the sign.
+const INFINITY_BITS: u64 = 2139095040;
 
 // 10^places.
 fn ten(places: u64) -> f64
@@ -71,15 +79,15 @@ pub fn narrow(w: u64, b: u64) -> u64
 
 // A sign's bit: a number and no branch.
 fn sign_of(negative: bool) -> u64
-    ensures { λ r. ⌜ r ≡ cond negative 2147483648 0 ⌝ }
+    ensures { λ r. ⌜ r ≡ cond negative signPlace 0 ⌝ }
 {
-    if negative { 2147483648 } else { 0 }
+    if negative { SIGN_PLACE } else { 0 }
 }
 
 // The f32 of the bits and the sign.
 pub fn signed(bits: u64, negative: bool) -> f32
-    requires { ⌜ bits ≤ 2139095040 ⌝ }
-    ensures { λ r. ⌜ r ≡ ofBits binary32 (cond negative 2147483648 0 + bits) ⌝ }
+    requires { ⌜ bits ≤ infinityBits ⌝ }
+    ensures { λ r. ⌜ r ≡ ofBits binary32 (cond negative signPlace 0 + bits) ⌝ }
 {
     f32::from_bits((sign_of(negative) + bits) as u32)
 }
@@ -115,9 +123,9 @@ fn between(part: &[u8], count: u64, rise: u64, fall: u64, m: u64, k: u64) -> u64
     ensures { λ b. ⌜ Settles (digitsAmong (now (part .entry))) count rise fall m k b ⌝ }
 {
     match side(part, count, rise, fall, m, k) {
-        Order::Less => k * 8388608 + m,
-        Order::Greater => k * 8388608 + m + 1,
-        Order::Equal => k * 8388608 + m + m % 2,
+        Order::Less => k * HIDDEN + m,
+        Order::Greater => k * HIDDEN + m + 1,
+        Order::Equal => k * HIDDEN + m + m % 2,
     }
 }
 
@@ -144,7 +152,7 @@ pub fn magnitude(
         return 0;
     }
     if 102 < up - down {
-        return 2139095040;
+        return INFINITY_BITS;
     }
     match nearest(w, up - down) {
         Near::Bits(bits) => bits,

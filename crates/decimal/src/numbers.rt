@@ -1,4 +1,5 @@
 // A number of a text: its places, its digits and its value in one pass.
+use crate::magnitudes::SIGN_PLACE;
 use crate::magnitudes::magnitude;
 use crate::magnitudes::narrow;
 use crate::magnitudes::pattern;
@@ -135,7 +136,7 @@ fn value(text: &[u8], parts: Parts) -> f32
         fall,
     );
     if negative {
-        f32::from_bits((bits + 2147483648) as u32)
+        f32::from_bits((bits + SIGN_PLACE) as u32)
     } else {
         f32::from_bits(bits as u32)
     }

@@ -39,7 +39,8 @@ unfolding val digitsAmong
 val-lt [] = lit< tt
 val-lt (byte ∷ rest) = go (among byte digits) refl (val-lt rest)
   where
-    go : (x : Bool) → among byte digits ≡ x → val (digitsAmong rest) < 10 ^ length (digitsAmong rest) → val (cond x ((byte - 48) ∷ digitsAmong rest) (digitsAmong rest)) < 10 ^ length (cond x ((byte - 48) ∷ digitsAmong rest) (digitsAmong rest))
+    go : (x : Bool) → among byte digits ≡ x → val (digitsAmong rest) < 10 ^ length (digitsAmong rest)
+        → val (cond x ((byte - 48) ∷ digitsAmong rest) (digitsAmong rest)) < 10 ^ length (cond x ((byte - 48) ∷ digitsAmong rest) (digitsAmong rest))
     go true e w = subst (λ (z : ℕ). (byte - 48) * 10 ^ length (digitsAmong rest) + val (digitsAmong rest) < z) (mul-comm 10 (10 ^ length (digitsAmong rest)) ∙ sym (pow-suc 10 (length (digitsAmong rest)))) (digits-lt (digit-lt byte e) w)
     go false e w = w
 

@@ -4,11 +4,13 @@ use Prim.Native.Nat.{ℕ, zero, suc, _+_, _-_, _*_, _/_, _%_, _^_, _≤_, _<_}
 use mathlib.Core.Path.{_≡_, refl, ap, sym, _∙_, subst}
 use mathlib.Core.Logic.{_⊎_, inl, inr, ⊎-elim}
 use mathlib.Core.Bool.{Bool, cond}
-use native.Mathlib.Nat.{add-mul, mul-assoc, mul-comm, mul-right-comm, mul-le-mul-right, le-of-mul-le-mul-right, lt-of-mul-lt-mul-right, mod-eq-of-lt, div-add-mod', le-div-iff-mul-le, le-trans, le-of-eq, suc-mul, one-mul, zero-mul, mul-pos, add-assoc, mod-lt, lt-of-le-of-lt, div-mul-le-self}
+use native.Mathlib.Nat.{add-mul, mul-assoc, mul-comm, mul-right-comm, div-add-mod', suc-mul, one-mul, zero-mul, add-assoc}
+use native.Mathlib.Nat.{mul-le-mul-right, le-of-mul-le-mul-right, lt-of-mul-lt-mul-right, mod-eq-of-lt, le-div-iff-mul-le, le-trans, le-of-eq, mul-pos, mod-lt, lt-of-le-of-lt, div-mul-le-self}
 use native.Mathlib.Omega.{arith}
 use lib.Dec.{lit≤}
 use lib.Pow.{pow-pos, pow-lt, pow-mono, pow-add, shr-lt}
 use lib.Ieee.{binary32, round, ofBits}
+use Rattle.floats.specs.Patterns.{hidden, signPlace, infinityBits}
 use Rattle.decimal_rounding.proofs.Halves.{near-down}
 use Rattle.decimal_rounding.proofs.Middles.{between-middles}
 use Rattle.decimal_rounding.proofs.Pattern.{units-pattern}
@@ -130,15 +132,15 @@ module _ (product dropped k : ℕ) (P : Parts product dropped) (K : k ≤ 253) (
     split : product ≡ m * 2 ^ dropped + rest
     split = omega (arith, P .under)
 
-    pub cut-down : rest + 5 ≤ half → (k * 8388608 + m ≤ 2139095040) × (round binary32 s num den ≡ ofBits binary32 (cond s 2147483648 0 + (k * 8388608 + m)))
+    pub cut-down : rest + 5 ≤ half → (k * hidden + m ≤ infinityBits) × (round binary32 s num den ≡ ofBits binary32 (cond s signPlace 0 + (k * hidden + m)))
     cut-down h = (
       omega (arith, P .few),
       near-down binary32 s num den m k D (P .few) full (from-step product (num * 2 ^ 149) m rest half (2 ^ dropped) u (den * 2 ^ k) g G t-pos split (P .twice) e (B .at-least) (B .below))
           (inl (under-middle product (num * 2 ^ 149) m rest half (2 ^ dropped) u (den * 2 ^ k) g G t-pos split (P .twice) e (B .at-least) (B .below) h))
-          ∙ units-pattern s m k (omega (arith, P .few)) full K ∙ ap (λ (z : ℕ). ofBits binary32 z) (add-assoc (cond s 2147483648 0) (k * 8388608) m),
+          ∙ units-pattern s m k (omega (arith, P .few)) full K ∙ ap (λ (z : ℕ). ofBits binary32 z) (add-assoc (cond s signPlace 0) (k * hidden) m),
     )
 
-    pub cut-up : half < rest → (k * 8388608 + m + 1 ≤ 2139095040) × (round binary32 s num den ≡ ofBits binary32 (cond s 2147483648 0 + (k * 8388608 + m + 1)))
+    pub cut-up : half < rest → (k * hidden + m + 1 ≤ infinityBits) × (round binary32 s num den ≡ ofBits binary32 (cond s signPlace 0 + (k * hidden + m + 1)))
     cut-up h = (
       omega (arith, P .few),
       between-middles s num den m k D (P .few) full K (num * 2 ^ 149) (den * 2 ^ k) refl refl

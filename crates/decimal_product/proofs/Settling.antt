@@ -7,6 +7,7 @@ use native.Mathlib.Omega.{arith}
 use lib.Dec.{lit≤}
 use lib.Pow.{pow-pos, pow-mono, pow-add}
 use lib.Ieee.{binary32, round, ofBits}
+use Rattle.floats.specs.Patterns.{signPlace, infinityBits}
 use Rattle.decimal_rounding.proofs.Limits.{infinite-far, zero-to}
 use Rattle.decimal_rounding.proofs.Pattern.{infinite-bits, zero-bits}
 use Rattle.decimal_product.specs.Near.{Bracket}
@@ -21,17 +22,17 @@ units-agree den a b k d e =
 
 module _ (s : Bool) (num den product b d : ℕ) (D : 0 < den) (B : Bracket product (2 ^ b * den) (2 ^ d) num) where
   -- the leading digit alone is 2 ^ 128 or more
-  pub too-large : (r : ℕ) → 2 ^ (23 + r) ≤ product → 277 + d ≤ 23 + r + b → (2139095040 ≤ 2139095040) × (round binary32 s num den ≡ ofBits binary32 (cond s 2147483648 0 + 2139095040))
+  pub too-large : (r : ℕ) → 2 ^ (23 + r) ≤ product → 277 + d ≤ 23 + r + b → (infinityBits ≤ infinityBits) × (round binary32 s num den ≡ ofBits binary32 (cond s signPlace 0 + infinityBits))
   too-large r h l =
       let scaled : 2 ^ 277 * den * 2 ^ d ≤ num * 2 ^ 149 * 2 ^ d =
       le-trans (le-of-eq (mul-right-comm (2 ^ 277) den (2 ^ d) ∙ ap (λ (z : ℕ). z * den) (sym (pow-add 2 277 d))))
       (le-trans (mul-le-mul-right den (pow-mono l))
       (le-trans (le-of-eq (ap (λ (z : ℕ). z * den) (pow-add 2 (23 + r) b) ∙ mul-assoc (2 ^ (23 + r)) (2 ^ b) den))
       (le-trans (mul-le-mul-right (2 ^ b * den) h) (B .at-least)))) in
-      (le-refl 2139095040, infinite-far s num den D (le-of-mul-le-mul-right scaled (pow-pos d)) ∙ infinite-bits s)
+      (le-refl infinityBits, infinite-far s num den D (le-of-mul-le-mul-right scaled (pow-pos d)) ∙ infinite-bits s)
 
   -- it is less than 2 ^ -150
-  pub too-small : product < 2 ^ 60 → b + 62 ≤ d → (0 ≤ 2139095040) × (round binary32 s num den ≡ ofBits binary32 (cond s 2147483648 0 + 0))
+  pub too-small : product < 2 ^ 60 → b + 62 ≤ d → (0 ≤ infinityBits) × (round binary32 s num den ≡ ofBits binary32 (cond s signPlace 0 + 0))
   too-small h l =
       let room : product + 5 ≤ 2 ^ 61 = omega arith in
       let unit = 2 ^ 61 * 2 ^ b in

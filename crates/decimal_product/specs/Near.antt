@@ -4,6 +4,7 @@ use mathlib.Core.Path.{_≡_}
 use mathlib.Core.Logic.{_⊎_}
 use mathlib.Core.Bool.{Bool, cond}
 use lib.Ieee.{binary32, round, ofBits}
+use Rattle.floats.specs.Patterns.{signPlace, infinityBits}
 use Rattle.decimal_tens.specs.Tens.{height}
 use Rattle.decimal_product.specs.declared.products.Near.{Near}
 use Rattle.decimal_product.specs.declared.products.Near.the-variants.{Bits, Between}
@@ -25,7 +26,7 @@ pub record Cell (m k num den : ℕ) : Type 0 where
 
 -- what an answer says of num / den with the sign s
 abbrev pub Says : Near → Bool → ℕ → ℕ → Type 0
-Says (Bits b) s num den = (b ≤ 2139095040) × (round binary32 s num den ≡ ofBits binary32 (cond s 2147483648 0 + b))
+Says (Bits b) s num den = (b ≤ infinityBits) × (round binary32 s num den ≡ ofBits binary32 (cond s signPlace 0 + b))
 Says (Between m k) s num den = Cell m k num den
 
 -- ---- the steps on the way there

@@ -9,6 +9,7 @@ use lib.Dec.{T, ltb, leb, eqb, eqb→eq, leb→le, ltb→lt, lit<}
 use lib.Pow.{pow-pos}
 use borrow.Author.Tests.{le-ltb, lt-ltb, eqb-true, eqb-false}
 use Rattle.decimal_tens.specs.Tens.{places, height, leading, tensOf}
+use Rattle.decimal_tens.proofs.Matched.{NoneOf, none-of}
 
 -- ---- the table as a `match` on the place
 
@@ -16,16 +17,7 @@ use Rattle.decimal_tens.specs.Tens.{places, height, leading, tensOf}
 pub entry : (k r place : ℕ) → place ≡ k → T (eqb r (tensOf k)) → r ≡ tensOf place
 entry k r place e t = eqb→eq r (tensOf k) t ∙ ap tensOf (sym e)
 
--- a place is none of the first n numbers, as `match` says it of the keys before its last arm
-abbrev pub NoneOf : ℕ → ℕ → Type 0
-NoneOf zero place = Unit
-NoneOf (suc n) place = NoneOf n place × (place ≡ n → ⊥)
-
-none-of : (n place : ℕ) → NoneOf n place → n ≤ place
-none-of zero place h = omega arith
-none-of (suc n) place h = let l = none-of n place (h .0) in let m = h .1 in omega arith
-
--- such a place is past the table
+-- a place that is none of the keys is past the table
 pub past : (place : ℕ) → NoneOf places place → 0 ≡ tensOf place
 unfolding tensOf
 past place h = rw (le-ltb place places (none-of places place h))

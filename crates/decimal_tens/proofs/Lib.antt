@@ -1,2 +1,3 @@
 -- The table of powers of ten, and what its entries are.
+pub mod Matched
 pub mod Entries

@@ -84,7 +84,9 @@ module _ (odd k : ℕ) (t : TwoWords odd k) where
       record {
         whole-small = words 0 0 h none none (t .high-lt);
         fraction-small = words l 0 0 (t .low-lt) none none;
-        is = moved 2 e ∙ add-mul (h * 2 ^ 50) l (2 ^ 100) ∙ ap (λ (z : ℕ). z + l * 2 ^ 100) (mul-assoc h (2 ^ 50) (2 ^ 100)) ∙ ap (λ (z : ℕ). z * 2 ^ 150 + l * 2 ^ 100) (low-word h) ∙ ap (λ (z : ℕ). ((0 * 2 ^ 50 + 0) * 2 ^ 50 + h) * 2 ^ 150 + z) (high-word l);
+        is =
+            moved 2 e ∙ add-mul (h * 2 ^ 50) l (2 ^ 100) ∙ ap (λ (z : ℕ). z + l * 2 ^ 100) (mul-assoc h (2 ^ 50) (2 ^ 100))
+            ∙ ap (λ (z : ℕ). z * 2 ^ 150 + l * 2 ^ 100) (low-word h) ∙ ap (λ (z : ℕ). ((0 * 2 ^ 50 + 0) * 2 ^ 50 + h) * 2 ^ 150 + z) (high-word l);
       }
     where
       low-word : (x : ℕ) → x ≡ (0 * 2 ^ 50 + 0) * 2 ^ 50 + x

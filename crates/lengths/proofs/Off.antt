@@ -10,6 +10,7 @@ use lib.Pow.{pow-add, pow-pos, pow-mono}
 use lib.Ieee.{binary32, ofBits, round, nearest}
 use lib.Ieee.Fits.{nearest-le}
 use lib.Ieee.Nearest.{nearest-ge}
+use Rattle.floats.specs.Patterns.{hidden}
 use Rattle.decimal_rounding.proofs.Pattern.{units-pattern}
 use Rattle.decimal_rounding.proofs.Wide.{joined}
 use Rattle.lengths.proofs.Narrow.{round-at}
@@ -50,7 +51,7 @@ module _ (q k c : ℕ) (few : q < 2 ^ 53) (least : 870 ≤ k) (most : k < 896) (
       sym
       (round-at (q * 2 ^ k) (2 ^ 1074) 0 (q / c) (q % c) c (2 ^ (k + 149)) (pow-pos 1074) (pow-pos (k + 149)) kept-small (inr refl) rest-small (apart q k c) steps
       ∙ units-pattern false m 0 h (inr refl) (lit≤ tt)
-      ∙ ap (ofBits binary32) (let z : 0 + 0 * 8388608 + m ≡ m = omega arith in z))
+      ∙ ap (ofBits binary32) (let z : 0 + 0 * hidden + m ≡ m = omega arith in z))
 
 -- ---- 24 digits
 module _ (q k : ℕ) (long : 2 ^ 52 ≤ q) (few : q < 2 ^ 53) (least : 896 ≤ k) (most : k ≤ 1149) where
@@ -59,7 +60,7 @@ module _ (q k : ℕ) (long : 2 ^ 52 ≤ q) (few : q < 2 ^ 53) (least : 896 ≤ k
       let h : 1074 + (k - 896) ≡ 29 + (k + 149) = omega arith in
       sym (pow-add 2 1074 (k - 896)) ∙ ap (λ (x : ℕ). 2 ^ x) h ∙ pow-add 2 29 (k + 149)
 
-  pub rounded-large : ofBits binary32 ((k - 896) * 8388608 + nearest (q / 536870912) (compare (q % 536870912 * 2) 536870912)) ≡ round binary32 false (q * 2 ^ k) (2 ^ 1074)
+  pub rounded-large : ofBits binary32 ((k - 896) * hidden + nearest (q / 536870912) (compare (q % 536870912 * 2) 536870912)) ≡ round binary32 false (q * 2 ^ k) (2 ^ 1074)
   rounded-large =
       let o = compare (q % 536870912 * 2) 536870912 in
       let m = nearest (q / 536870912) o in
@@ -70,4 +71,4 @@ module _ (q k : ℕ) (long : 2 ^ 52 ≤ q) (few : q < 2 ^ 53) (least : 896 ≤ k
       sym
       (round-at (q * 2 ^ k) (2 ^ 1074) (k - 896) (q / 536870912) (q % 536870912) 536870912 (2 ^ (k + 149)) (pow-pos 1074) (pow-pos (k + 149)) a (inl b) (omega arith) (apart q k 536870912) steps-large
       ∙ units-pattern false m (k - 896) h (inl g) (omega arith)
-      ∙ ap (ofBits binary32) (let z : 0 + (k - 896) * 8388608 + m ≡ (k - 896) * 8388608 + m = omega arith in z))
+      ∙ ap (ofBits binary32) (let z : 0 + (k - 896) * hidden + m ≡ (k - 896) * hidden + m = omega arith in z))

@@ -1,49 +1,17 @@
 -- Bounds on a float are bounds on its pattern. Assumes nothing.
-use mathlib.Core.Path.{_≡_, refl, sym}
+use mathlib.Core.Path.{refl}
 use mathlib.Core.Bool.{true, false}
-use Prim.Native.Nat.{ℕ, _+_, _-_, _*_, _/_, _^_, _≤_, _<_}
-use native.Mathlib.Nat.{le-trans, le-of-eq, lt-of-le-of-lt, lt-of-lt-of-le, lt-of-not-le, not-le-of-lt, le-of-mul-le-mul-right, le-div-iff-mul-le, zero-add}
-use native.Mathlib.Omega.{arith}
+use Prim.Native.Nat.{ℕ, _*_, _^_, _≤_, _<_}
+use native.Mathlib.Nat.{lt-of-le-of-lt, le-of-mul-le-mul-right}
 use lib.Dec.{T, lit≤, lit<}
-use lib.Pow.{pow-add, pow-pos, pow-mono}
-use lib.Ieee.{Float, nan, inf, fin, binary64, ofBits, toBits, fits, le, size}
-use lib.Ieee.Digits.{size-lt, size-le, size-reaches}
+use lib.Pow.{pow-pos}
+use lib.Ieee.{Float, nan, inf, fin, binary64, ofBits, toBits, fits, le}
 use lib.Ieee.Exact.{HasValue}
-use lib.Ieee.Fits.{kept-lt}
 use lib.Ieee.Positive.{positive, values-of-le}
 use Rattle.root.specs.Root.{unitsOf}
+use Rattle.decimal_rounding.proofs.Sizes.{bits-between}
 use Rattle.decimal_rounding.proofs.Wide.{digitsOf, powerOf, pattern-value, pattern-positive}
 use Rattle.lengths.proofs.Exactly.{units-exact}
-
--- ---- the pattern of n units
-bits-of : (x : Float) → T (positive x) → toBits binary64 x ≡ (size (unitsOf binary64 x) - 53) * 0x10000000000000 + unitsOf binary64 x / 2 ^ (size (unitsOf binary64 x) - 53)
-unfolding toBits
-bits-of nan p = absurd p
-bits-of (inf s) p = absurd p
-bits-of (fin true m e) p = absurd p
-bits-of (fin false m e) p = simp zero-add
-
-module _ (n a b : ℕ) (normal : 53 ≤ a) (low : 2 ^ a ≤ n) (high : n < 2 ^ b) where
-  long : a < size n
-  long = lt-of-not-le (λ (g : size n ≤ a). not-le-of-lt (lt-of-lt-of-le (size-lt n) (pow-mono g)) low)
-
-  short : size n ≤ b
-  short = size-le n b high
-
-  top-digits : n / 2 ^ (size n - 53) < 0x20000000000000
-  top-digits = kept-lt 53 n
-
-  first-digit : 0x10000000000000 ≤ n / 2 ^ (size n - 53)
-  first-digit =
-      let k = size n - 53 in
-      let e : 52 + k < size n = omega (arith, long) in
-      le-div-iff-mul-le (pow-pos k) .1 (le-trans (le-of-eq (sym (pow-add 2 52 k))) (size-reaches n (52 + k) e))
-
-  bits-low : (a - 51) * 0x10000000000000 ≤ (size n - 53) * 0x10000000000000 + n / 2 ^ (size n - 53)
-  bits-low = omega (arith, long, first-digit)
-
-  bits-high : (size n - 53) * 0x10000000000000 + n / 2 ^ (size n - 53) < (b - 51) * 0x10000000000000
-  bits-high = omega (arith, long, short, top-digits)
 
 -- ---- units between those of two patterns
 own-units : (x : Float) → T (fits binary64 x) → T (positive x) → HasValue x false (unitsOf binary64 x) (2 ^ 1074)
@@ -72,11 +40,11 @@ module _ (x : Float) (held : T (fits binary64 x)) (above : T (positive x)) where
       let n = unitsOf binary64 x in
       let a : 2 ^ 954 ≤ n = units-from x held above 0x3870000000000000 (lit≤ tt) (lit< tt) h in
       let b : n < 2 ^ 1200 = lt-of-le-of-lt (units-to x held above 0x47C0000000000000 (lit≤ tt) (lit< tt) k) (lit< tt) in
-      rw (bits-of x above) (bits-low n 954 1200 (lit≤ tt) a b, bits-high n 954 1200 (lit≤ tt) a b)
+      bits-between x above 954 1200 (lit≤ tt) a b
 
   pub middling-bits : T (le (ofBits binary64 0x2D30000000000000) x) → T (le x (ofBits binary64 0x4FEFFFFFE0000008)) → (723 * 2 ^ 52 ≤ toBits binary64 x) × (toBits binary64 x < 1279 * 2 ^ 52)
   middling-bits h k =
       let n = unitsOf binary64 x in
       let a : 2 ^ 774 ≤ n = units-from x held above 0x2D30000000000000 (lit≤ tt) (lit< tt) h in
       let b : n < 2 ^ 1330 = lt-of-le-of-lt (units-to x held above 0x4FEFFFFFE0000008 (lit≤ tt) (lit< tt) k) (lit< tt) in
-      rw (bits-of x above) (bits-low n 774 1330 (lit≤ tt) a b, bits-high n 774 1330 (lit≤ tt) a b)
+      bits-between x above 774 1330 (lit≤ tt) a b

@@ -1,13 +1,12 @@
 -- What a digit of either base, a pattern and its float are, case by case as the code tests. Assumes nothing.
 use native.Mathlib.Omega.{arith}
-use borrow.Author.Tests.{eqb-true, eq-eqb, lt-ltb, le-ltb, le-leb, lt-leb}
+use borrow.Author.Tests.{lt-ltb, le-ltb, le-leb, lt-leb}
 use Prim.Native.Nat.{ℕ, _+_, _-_, _*_, _%_, _/_, _≤_, _<_}
-use mathlib.Core.Path.{_≡_, refl, sym, subst}
-use mathlib.Core.Bool.{Bool, true, false, not, _&&_}
+use mathlib.Core.Path.{_≡_, refl}
 use mathlib.Core.List.{List}
-use lib.Dec.{T, eqb}
 use lib.ListN.{length, getD}
-use lib.Ieee.{Float, binary32, nan, nanBits, ofBits}
+use lib.Ieee.{Float, binary32, nan, ofBits}
+use Rattle.floats.specs.Patterns.{signPlace, infinityBits}
 use Rattle.replay_records.specs.Records.{digitOf, halfOf, patternOf, floatOf}
 use Rattle.replay_records.specs.Decimals.{decimalOf}
 
@@ -71,19 +70,10 @@ module _ (text : List ℕ) (at : ℕ) where
 
 -- ---- its float
 
-not-both : (t u : Bool) → (t ≡ true → u ≡ true) → T (not (t && not u))
-not-both true u h = subst (λ (v : Bool). T (not (not v))) (sym (h refl)) tt
-not-both false u h = tt
-
--- a pattern without its sign that is at most 7F800000 has no digits where its exponent field is all ones
-pub no-nan-bits : (bits : ℕ) → bits % 2147483648 ≤ 2139095040 → T (not (nanBits binary32 bits))
-unfolding nanBits
-no-nan-bits b h = not-both _ _ (λ (e : eqb (b % 2147483648 / 8388608) 255 ≡ true). eq-eqb (b % 8388608) 0 (omega (arith, eqb-true (b % 2147483648 / 8388608) 255 e)))
-
-pub float-nan : (bits : ℕ) → 2139095040 < bits % 2147483648 → nan ≡ floatOf bits
+pub float-nan : (bits : ℕ) → infinityBits < bits % signPlace → nan ≡ floatOf bits
 unfolding floatOf
-float-nan bits h = simp (lt-ltb 2139095040 (bits % 2147483648) h)
+float-nan bits h = simp (lt-ltb infinityBits (bits % signPlace) h)
 
-pub float-number : (bits : ℕ) → bits % 2147483648 ≤ 2139095040 → ofBits binary32 bits ≡ floatOf bits
+pub float-number : (bits : ℕ) → bits % signPlace ≤ infinityBits → ofBits binary32 bits ≡ floatOf bits
 unfolding floatOf
-float-number bits h = simp (le-ltb 2139095040 (bits % 2147483648) h)
+float-number bits h = simp (le-ltb infinityBits (bits % signPlace) h)

@@ -5,6 +5,7 @@ use mathlib.Core.List.{List}
 use lib.Dec.{leb, ltb}
 use lib.ListN.{length, getD}
 use lib.Ieee.{Float, binary32, nan, ofBits}
+use Rattle.floats.specs.Patterns.{signPlace, infinityBits}
 
 -- what a byte stands for: 0 to 9, A to F, and 0 for any other
 unfoldable pub digitOf : ℕ → ℕ
@@ -26,4 +27,4 @@ patternOf text at =
 
 -- the float of a pattern; every NaN's pattern has the one NaN
 unfoldable pub floatOf : ℕ → Float
-floatOf bits = cond (ltb 2139095040 (bits % 2147483648)) nan (ofBits binary32 bits)
+floatOf bits = cond (ltb infinityBits (bits % signPlace)) nan (ofBits binary32 bits)

@@ -17,12 +17,12 @@ use Rattle.floats.proofs.Tests.{decide}
 use Rattle.root.specs.Root.{unitsOf}
 use Rattle.root.proofs.Middles.{Few}
 use Rattle.root.proofs.Units.{units-of-value, units-few}
+use Rattle.decimal_rounding.proofs.Values.{value-unique}
 use Rattle.trig_rule.specs.Rule.{Is}
 use Rattle.trig_rule.proofs.Reach.{sized}
 use Rattle.trig_rule.proofs.Answers.{size-unique}
 use Rattle.rotation.specs.Rotation.{fullTurn, reducedOf, Left}
 use Rattle.rotation.proofs.Turns.{mod-scaled, rest-few}
-use Rattle.rotation.proofs.Values.{value-unique}
 
 -- the size of a rotation
 abbrev pub sizeIn : Float → ℕ

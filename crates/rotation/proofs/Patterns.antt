@@ -12,7 +12,7 @@ use lib.Ieee.{Float, nan, inf, fin, binary32, round, mul, ofInt, ofBits, toBits,
 use lib.Ieee.Back.{round-whole}
 use lib.Ieee.Bits.{ofBits-toBits, toBits-lt}
 use lib.Ieee.Scale.{round-same}
-use Rattle.floats.specs.Patterns.{hidden}
+use Rattle.floats.specs.Patterns.{hidden, infinityBits}
 use Rattle.root.proofs.Units.{units-of-value}
 use Rattle.trig_rule.specs.Rule.{Is}
 use Rattle.trig_rule.specs.Steps.{plain, signBit}
@@ -107,14 +107,14 @@ module _ (x : Float) (held : T (fits binary32 x)) where
       small (yes k) = of-units (unitsAt (plain x)) (normal-value (plain x) k (omega arith)) (units-under (plain x) h)
       small (no f) = of-units (plain x) (subnormal-value (plain x) (lt-of-not-le f)) (le-trans (le-of-lt (lt-of-not-le f)) (lit≤ tt))
 
-pub infinite-bits : (x : Float) → T (fits binary32 x) → 0x7f80_0000 ≤ plain x → reducedOf x ≡ x
+pub infinite-bits : (x : Float) → T (fits binary32 x) → infinityBits ≤ plain x → reducedOf x ≡ x
 unfolding reducedOf
 infinite-bits nan held h = refl
 infinite-bits (inf s) held h = refl
 infinite-bits (fin s m e) held h =
-    let l = finite-lt (toBits binary32 (fin s m e)) s m e (toBits-lt binary32 (fin s m e) held) (ofBits-toBits binary32 (fin s m e) held) in absurd (lt-irrefl 0x7f80_0000 (lt-of-le-of-lt h l))
+    let l = finite-lt (toBits binary32 (fin s m e)) s m e (toBits-lt binary32 (fin s m e) held) (ofBits-toBits binary32 (fin s m e) held) in absurd (lt-irrefl infinityBits (lt-of-le-of-lt h l))
 
-pub beyond-bits : (x : Float) (s : Bool) → T (fits binary32 x) → signBit x ≡ bit s → 0x43b4_0000 < plain x → plain x < 0x7f80_0000 → reducedOf x ≡ round binary32 s (unitsAt (plain x) % fullTurn) (2 ^ 149)
+pub beyond-bits : (x : Float) (s : Bool) → T (fits binary32 x) → signBit x ≡ bit s → 0x43b4_0000 < plain x → plain x < infinityBits → reducedOf x ≡ round binary32 s (unitsAt (plain x) % fullTurn) (2 ^ 149)
 beyond-bits x s held sign lo hi = go x s held sign lo hi (signed x held .value (unitsAt (plain x)) (normal-value (plain x) (omega arith) hi)) (one-bit (signed x held .minus) s (sym (signed x held .bits) ∙ sign))
   where
     one-bit : (s t : Bool) → bit s ≡ bit t → s ≡ t
@@ -129,7 +129,7 @@ beyond-bits x s held sign lo hi = go x s held sign lo hi (signed x held .value (
         apart : _≡_ {A = ℕ} 0 1 → ⊥
         apart e = omega arith
 
-    go : (x : Float) (s : Bool) (held : T (fits binary32 x)) → signBit x ≡ bit s → 0x43b4_0000 < plain x → plain x < 0x7f80_0000 → Is x (signed x held .minus) (unitsAt (plain x)) → signed x held .minus ≡ s
+    go : (x : Float) (s : Bool) (held : T (fits binary32 x)) → signBit x ≡ bit s → 0x43b4_0000 < plain x → plain x < infinityBits → Is x (signed x held .minus) (unitsAt (plain x)) → signed x held .minus ≡ s
         → reducedOf x ≡ round binary32 s (unitsAt (plain x) % fullTurn) (2 ^ 149)
     go nan s held sign lo hi v e = absurd v
     go (inf t) s held sign lo hi v e = absurd v

@@ -3,6 +3,7 @@ ghost use mathlib.Core.Path.{_≡_};
 ghost use mathlib.Core.Bool.{false};
 ghost use Prim.Native.Nat.{_*_, _^_, _%_, _<_};
 ghost use lib.Ieee.{binary32, round};
+ghost use Rattle.floats.specs.Patterns.{infinityBits};
 ghost use Rattle.rotation.specs.Rotation.{fullTurn, unitsAt, reducedOf, phiOf};
 
 // m·2^k times 8 degrees without full turns, which are 45 times 8 degrees. 2^12 is 1 more than a multiple of 45, so that only the
@@ -16,7 +17,7 @@ fn eights(m: u32, k: u32) -> u32
 // What is left of a size beyond 360, given by its bits: its 24 digits count 2^(e - 150), and 360 is 45·2^(153 - e) of these.
 // Both factors and their product are f32 exactly.
 fn rest(a: u32) -> f32
-    requires { ⌜ (0x43b4_0000 < a) × (a < 0x7f80_0000) ⌝ }
+    requires { ⌜ (0x43b4_0000 < a) × (a < infinityBits) ⌝ }
     ensures { λ r. ⌜ r ≡ round binary32 false (unitsAt a % fullTurn) (2 ^ 149) ⌝ }
 {
     let m = a % 0x80_0000 + 0x80_0000;

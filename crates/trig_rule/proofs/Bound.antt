@@ -1,7 +1,8 @@
 -- The bits of the steps, without their sign, stand for a number that is within 2 ^ -22 of the sum, at an angle R / 2 ^ 56 of at most half a turn. Assumes nothing.
 use mathlib.Core.Path.{_≡_, refl, sym, ap, _∙_, subst}
 use Prim.Native.Nat.{ℕ, _+_, _*_, _/_, _^_, _≤_, _<_}
-use native.Mathlib.Nat.{add-le-add, le-refl, le-trans, le-of-eq, le-of-lt, lt-of-lt-of-le, lt-of-le-of-lt, lt-of-not-le, mul-assoc, mul-comm, mul-right-comm, mul-add, add-mul, mul-le-mul, mul-le-mul-right, mul-le-mul-left, mul-lt-mul-of-pos-right, div-mul-le-self, lt-div-mul-add}
+use native.Mathlib.Nat.{mul-assoc, mul-comm, mul-right-comm, mul-add, add-mul}
+use native.Mathlib.Nat.{add-le-add, le-refl, le-trans, le-of-eq, le-of-lt, lt-of-lt-of-le, lt-of-le-of-lt, lt-of-not-le, mul-le-mul, mul-le-mul-right, mul-le-mul-left, mul-lt-mul-of-pos-right, div-mul-le-self, lt-div-mul-add}
 use native.Mathlib.Omega.{arith}
 use native.Mathlib.Decide.{decLe}
 use mathlib.Core.Bool.{Bool, false, not}
@@ -64,8 +65,9 @@ module _ (R g s y : ℕ) (hs : s ≤ 27) (hg : g ≤ 2 ^ 30) where
   pub product-below : k * g * 2 ^ (s + 63) ≤ y + 2 ^ 126 → 2 ^ 63 * (R * g) ≤ y + (2 ^ 126 + 2 ^ 120)
   product-below h =
       let b : R ≤ k * 2 ^ s + 2 ^ s = le-of-lt (lt-div-mul-add {a = R} {b = 2 ^ s} (pow-pos s)) in
-      cut-below y (k * g * 2 ^ (s + 63)) (2 ^ 63 * (R * g)) (2 ^ 63 * (2 ^ s * g)) (2 ^ 126) (2 ^ 120) h
-      (le-trans (mul-le-mul-left (2 ^ 63) (le-trans (mul-le-mul-right g b) (le-of-eq (add-mul (k * 2 ^ s) (2 ^ s) g)))) (le-trans (le-of-eq (mul-add (2 ^ 63) (k * 2 ^ s * g) (2 ^ s * g))) (add-le-add (le-of-eq (sym moved)) (le-refl (2 ^ 63 * (2 ^ s * g)))))) lost
+      let split = mul-le-mul-left (2 ^ 63) (le-trans (mul-le-mul-right g b) (le-of-eq (add-mul (k * 2 ^ s) (2 ^ s) g))) in
+      let shifted = le-trans (le-of-eq (mul-add (2 ^ 63) (k * 2 ^ s * g) (2 ^ s * g))) (add-le-add (le-of-eq (sym moved)) (le-refl (2 ^ 63 * (2 ^ s * g)))) in
+      cut-below y (k * g * 2 ^ (s + 63)) (2 ^ 63 * (R * g)) (2 ^ 63 * (2 ^ s * g)) (2 ^ 126) (2 ^ 120) h (le-trans split shifted) lost
 
 -- ---- the sine
 -- the sides by the steps' own comparison: they change places where the steps take away more than they add

@@ -2,7 +2,8 @@
 -- The error is worked out from the list of exponents, and closed by computation. Assumes nothing.
 use mathlib.Core.Path.{_≡_, sym, ap, _∙_, subst}
 use Prim.Native.Nat.{ℕ, _+_, _*_, _/_, _^_, _≤_, _<_}
-use native.Mathlib.Nat.{add-le-add, le-refl, le-trans, le-of-eq, mul-assoc, mul-comm, mul-left-comm, mul-add, add-mul, zero-mul, mul-zero, one-mul, mul-le-mul, mul-le-mul-right, le-of-mul-le-mul-left, div-mul-le-self, lt-div-mul-add, add-assoc}
+use native.Mathlib.Nat.{mul-assoc, mul-comm, mul-left-comm, mul-add, add-mul, zero-mul, mul-zero, one-mul, add-assoc}
+use native.Mathlib.Nat.{add-le-add, le-refl, le-trans, le-of-eq, mul-le-mul, mul-le-mul-right, le-of-mul-le-mul-left, div-mul-le-self, lt-div-mul-add}
 use native.Mathlib.Omega.{arith}
 use mathlib.Core.List.{List, [], _∷_, _++_}
 use mathlib.Core.Bool.{Bool, true, _&&_}
@@ -120,7 +121,8 @@ module _ (N U K D Q v : ℕ) (units : 256 * D ≡ 2 ^ 32 * K) (v-low : v * K ≤
       let cl : a * G ≤ c * share = subst (λ (i : ℕ). coefficient U i * G ≤ weight U j * (G / factorial i)) (sym same) (coefficient-low N U j small) in
       let ch : c * share ≤ (a + 1) * G = subst (λ (i : ℕ). weight U j * (G / factorial i) ≤ (coefficient U i + 1) * G) (sym same) (coefficient-high N U j small) in
       let w = D * wide D js in
-      let e1 : c * (share * w + Q * nested N Q D js) ≡ c * share * w + Q * s = mul-add c (share * w) (Q * nested N Q D js) ∙ ap (λ (n : ℕ). n + c * (Q * nested N Q D js)) (sym (mul-assoc c share w)) ∙ ap (λ (n : ℕ). c * share * w + n) (mul-left-comm c Q (nested N Q D js)) in
+      let e1 : c * (share * w + Q * nested N Q D js) ≡ c * share * w + Q * s =
+      mul-add c (share * w) (Q * nested N Q D js) ∙ ap (λ (n : ℕ). n + c * (Q * nested N Q D js)) (sym (mul-assoc c share w)) ∙ ap (λ (n : ℕ). c * share * w + n) (mul-left-comm c Q (nested N Q D js)) in
       let e2 : W * D ≡ G * w = mul-assoc G (wide D js) D ∙ ap (λ (n : ℕ). G * n) (mul-comm (wide D js) D) in
       let xl : a * (G * w) ≤ c * share * w = le-trans (le-of-eq (sym (mul-assoc a G w))) (mul-le-mul-right w cl) in
       let xh : c * share * w ≤ (a + 1) * (G * w) = le-trans (mul-le-mul-right w ch) (le-of-eq (mul-assoc (a + 1) G w)) in

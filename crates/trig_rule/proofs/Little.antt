@@ -1,7 +1,8 @@
 -- Below 2 ^ -12 the angle itself is within 2 ^ -22 of the sine's sum, and 1 of the cosine's: every further term is at most 2 ^ -25, and no turn is subtracted. Assumes nothing.
 use mathlib.Core.Path.{_≡_, sym, ap, _∙_}
 use Prim.Native.Nat.{ℕ, zero, suc, _+_, _-_, _*_, _/_, _^_, _≤_, _<_}
-use native.Mathlib.Nat.{add-le-add, le-refl, le-trans, le-of-eq, le-of-lt, mul-assoc, mul-comm, mul-left-comm, mul-add, add-mul, zero-add, one-mul, mul-zero, zero-mul, add-zero, mul-le-mul, mul-le-mul-left, mul-le-mul-right, pow-zero, pow-suc, pow-le-pow-left, pow-le-pow-right}
+use native.Mathlib.Nat.{mul-assoc, mul-comm, mul-left-comm, mul-add, add-mul, zero-add, one-mul, mul-zero, zero-mul, add-zero, pow-zero, pow-suc}
+use native.Mathlib.Nat.{add-le-add, le-refl, le-trans, le-of-eq, le-of-lt, mul-le-mul, mul-le-mul-left, mul-le-mul-right, pow-le-pow-left, pow-le-pow-right}
 use native.Mathlib.Omega.{arith}
 use mathlib.Core.List.{List, [], _∷_}
 use mathlib.Core.Bool.{Bool, true, false, _&&_}

@@ -141,7 +141,14 @@ sized x t m e f h = go (decLe hidden (plain x))
 
         field : tinyBits ≤ plain x → 114 ≤ plain x / hidden - 1
         field l = omega arith
-    go (no g) = record { minus = s .minus; units = a; value = s .value a (subnormal-value a (lt-of-not-le g)); from-tiny = λ (l : tinyBits ≤ plain x). absurd (g (le-trans (omega arith) l)); from-far = λ (l : 1115684864 < plain x). absurd (g (le-trans (omega arith) l)) }
+    go (no g) =
+        record {
+          minus = s .minus;
+          units = a;
+          value = s .value a (subnormal-value a (lt-of-not-le g));
+          from-tiny = λ (l : tinyBits ≤ plain x). absurd (g (le-trans (omega arith) l));
+          from-far = λ (l : 1115684864 < plain x). absurd (g (le-trans (omega arith) l));
+        }
 
 -- ---- what the steps ask of the bits
 pub reach-plain : (x : Float) → T (fits binary32 x) → T (inReach x) → plain x ≤ 1115684864

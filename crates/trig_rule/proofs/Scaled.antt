@@ -58,11 +58,21 @@ module _ (k m a t w : ℕ) (h : Within m a t w) where
   scaled-left : k * (m * w + 2 ^ 149 * t) ≡ m * (k * w) + 2 ^ 149 * (k * t)
   scaled-left = mul-add k (m * w) (2 ^ 149 * t) ∙ ap (λ (n : ℕ). n + k * (2 ^ 149 * t)) (mul-left-comm k m w) ∙ ap (λ (n : ℕ). m * (k * w) + n) (mul-left-comm k (2 ^ 149) t)
 
+  scaled-above : k * (2 ^ 149 * a + tolerance * w) ≡ 2 ^ 149 * (k * a) + tolerance * (k * w)
+  scaled-above =
+      mul-add k (2 ^ 149 * a) (tolerance * w) ∙ ap (λ (n : ℕ). n + k * (tolerance * w)) (mul-left-comm k (2 ^ 149) a)
+      ∙ ap (λ (n : ℕ). 2 ^ 149 * (k * a) + n) (mul-left-comm k (tolerance) w)
+
+  scaled-below : k * (m * w + 2 ^ 149 * t + tolerance * w) ≡ m * (k * w) + 2 ^ 149 * (k * t) + tolerance * (k * w)
+  scaled-below =
+      mul-add k (m * w + 2 ^ 149 * t) (tolerance * w) ∙ ap (λ (n : ℕ). n + k * (tolerance * w)) scaled-left
+      ∙ ap (λ (n : ℕ). m * (k * w) + 2 ^ 149 * (k * t) + n) (mul-left-comm k (tolerance) w)
+
   pub within-scaled : Within m (k * a) (k * t) (k * w)
   within-scaled =
       record {
-        above = le-trans (le-of-eq (sym scaled-left)) (le-trans (mul-le-mul-left k (h .above)) (le-of-eq (mul-add k (2 ^ 149 * a) (tolerance * w) ∙ ap (λ (n : ℕ). n + k * (tolerance * w)) (mul-left-comm k (2 ^ 149) a) ∙ ap (λ (n : ℕ). 2 ^ 149 * (k * a) + n) (mul-left-comm k (tolerance) w))));
-        below = le-trans (le-of-eq (mul-left-comm (2 ^ 149) k a)) (le-trans (mul-le-mul-left k (h .below)) (le-of-eq (mul-add k (m * w + 2 ^ 149 * t) (tolerance * w) ∙ ap (λ (n : ℕ). n + k * (tolerance * w)) scaled-left ∙ ap (λ (n : ℕ). m * (k * w) + 2 ^ 149 * (k * t) + n) (mul-left-comm k (tolerance) w))));
+        above = le-trans (le-of-eq (sym scaled-left)) (le-trans (mul-le-mul-left k (h .above)) (le-of-eq scaled-above));
+        below = le-trans (le-of-eq (mul-left-comm (2 ^ 149) k a)) (le-trans (mul-le-mul-left k (h .below)) (le-of-eq scaled-below));
       }
 
 pub sine-rescaled : (m R : ℕ) (b : Bool) → Within m (sineSide b R (2 ^ 56)) (sineSide (not b) R (2 ^ 56)) (whole 31 (2 ^ 56))

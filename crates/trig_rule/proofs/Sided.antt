@@ -1,7 +1,8 @@
 -- A ladder times the square or the fourth power of the angle is near the terms that it stands for, at an angle R / 2 ^ 56 of at most half a turn. Assumes nothing.
 use mathlib.Core.Path.{_≡_, refl, sym, ap, _∙_, subst}
 use Prim.Native.Nat.{ℕ, _+_, _*_, _/_, _^_, _≤_, _<_}
-use native.Mathlib.Nat.{add-le-add, le-refl, le-trans, le-of-eq, le-of-lt, mul-assoc, mul-comm, mul-left-comm, mul-add, add-mul, one-mul, mul-le-mul, mul-le-mul-left, mul-le-mul-right, mul-mul-mul-comm, le-of-mul-le-mul-left, div-mul-le-self, lt-div-mul-add, add-assoc, pow-zero, pow-suc}
+use native.Mathlib.Nat.{mul-assoc, mul-comm, mul-left-comm, mul-add, add-mul, one-mul, mul-mul-mul-comm, add-assoc, pow-zero, pow-suc}
+use native.Mathlib.Nat.{add-le-add, le-refl, le-trans, le-of-eq, le-of-lt, mul-le-mul, mul-le-mul-left, mul-le-mul-right, le-of-mul-le-mul-left, div-mul-le-self, lt-div-mul-add}
 use native.Mathlib.Omega.{arith}
 use mathlib.Core.List.{List, _++_}
 use lib.Dec.{T, lit<}
@@ -40,7 +41,11 @@ cut-square p z R lo hi zlo zhi small =
 cut-fourth : (z w X : ℕ) → z * 2 ^ 84 ≤ X → X ≤ (z + 3) * 2 ^ 84 → w * 2 ^ 32 ≤ z * z → z * z < w * 2 ^ 32 + 2 ^ 32 → z ≤ 2649351757 → (w * 2 ^ 200 ≤ X * X) × (X * X ≤ (w + 5) * 2 ^ 200)
 cut-fourth z w X lo hi wlo whi small =
     let b : (z + 3) * (z + 3) ≤ (w + 5) * 2 ^ 32 = within (mul-add (z + 3) z 3) (add-mul z 3 z) in
-    (le-trans (le-of-eq (sym (mul-assoc w (2 ^ 32) (2 ^ 168)))) (le-trans (mul-le-mul-right (2 ^ 168) wlo) (le-trans (le-of-eq (sym (mul-mul-mul-comm z (2 ^ 84) z (2 ^ 84)))) (mul-le-mul lo lo))), le-trans (mul-le-mul hi hi) (le-trans (le-of-eq (mul-mul-mul-comm (z + 3) (2 ^ 84) (z + 3) (2 ^ 84))) (le-trans (mul-le-mul-right (2 ^ 168) b) (le-of-eq (mul-assoc (w + 5) (2 ^ 32) (2 ^ 168))))))
+    let low : z * z * 2 ^ 168 ≤ X * X = le-trans (le-of-eq (sym (mul-mul-mul-comm z (2 ^ 84) z (2 ^ 84)))) (mul-le-mul lo lo) in
+    let high : X * X ≤ (z + 3) * (z + 3) * 2 ^ 168 = le-trans (mul-le-mul hi hi) (le-of-eq (mul-mul-mul-comm (z + 3) (2 ^ 84) (z + 3) (2 ^ 84))) in (
+      le-trans (le-of-eq (sym (mul-assoc w (2 ^ 32) (2 ^ 168)))) (le-trans (mul-le-mul-right (2 ^ 168) wlo) low),
+      le-trans high (le-trans (mul-le-mul-right (2 ^ 168) b) (le-of-eq (mul-assoc (w + 5) (2 ^ 32) (2 ^ 168)))),
+    )
   where
     within : (z + 3) * (z + 3) ≡ (z + 3) * z + (z + 3) * 3 → (z + 3) * z ≡ z * z + 3 * z → (z + 3) * (z + 3) ≤ (w + 5) * 2 ^ 32
     within e f = omega arith

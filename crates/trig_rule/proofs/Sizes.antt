@@ -15,6 +15,7 @@ use lib.Ieee.Bits.{is-true}
 use lib.Ieee.Fits.{and-l, and-r, and-i}
 use Rattle.floats.proofs.Signs.{SignedLe, le→signed, signed→le}
 use Rattle.floats.proofs.Within.{Within, within-le}
+use Rattle.floats.specs.Patterns.{signPlace}
 use Rattle.trig_rule.specs.Rule.{inReach, Is}
 use Rattle.trig_rule.specs.Steps.{half, restOf, fixedOf, flipOf, plain, signBit, sinePlus, sineMinus, cosinePlus, cosineMinus, gapOf, overOf, dropOf, packOf, sineAt, cosineAt, sineOf, cosineOf}
 use Rattle.trig_rule.proofs.Gaps.{sine-gap, cosine-gap}
@@ -50,12 +51,12 @@ sign-of (suc zero) h = (true, refl)
 sign-of (suc (suc n)) h = absurd (omega arith)
 
 -- a sign and what is packed
-signed-within : (n w s : ℕ) → n < 2 → w < 2 ^ 64 → s ≤ 60 → w * 2 ^ s < 2 ^ 88 → Within 64 (ofBits binary32 (n * 2147483648 + packOf w s))
+signed-within : (n w s : ℕ) → n < 2 → w < 2 ^ 64 → s ≤ 60 → w * 2 ^ s < 2 ^ 88 → Within 64 (ofBits binary32 (n * signPlace + packOf w s))
 signed-within n w s few small short under =
     let p = pack-near w s small short under in
     let b = sign-of n few in
-    subst (λ (k : ℕ). Within 64 (ofBits binary32 (k * 2147483648 + packOf w s))) (sym (b .1))
-    (value-within (ofBits binary32 (bit (b .0) * 2147483648 + packOf w s)) (b .0) (p .units) (with-sign (b .0) (packOf w s) (p .units) (pack-lt w s short) (p .value)) (packed-small w s p under))
+    subst (λ (k : ℕ). Within 64 (ofBits binary32 (k * signPlace + packOf w s))) (sym (b .1))
+    (value-within (ofBits binary32 (bit (b .0) * signPlace + packOf w s)) (b .0) (p .units) (with-sign (b .0) (packOf w s) (p .units) (pack-lt w s short) (p .value)) (packed-small w s p under))
 
 module _ (R : ℕ) (h : R ≤ half) where
   kept-lt : R / 2 ^ dropOf R < 2 ^ 31

@@ -1,16 +1,15 @@
 -- The patterns of finite f64, of either sign. Assumes nothing.
-use mathlib.Core.Path.{_≡_, sym, subst}
+use mathlib.Core.Path.{_≡_, subst}
 use mathlib.Core.Bool.{Bool, not}
 use Prim.Native.Nat.{ℕ, _%_, _<_}
-use native.Mathlib.Omega.{arith}
-use lib.Dec.{T, ltb, ltb→lt, not-T}
+use native.Mathlib.Nat.{le-of-lt}
+use lib.Dec.{T}
 use lib.Ieee.{binary64, toBits, ofBits, nanBits}
-use lib.Ieee.Bits.{toBits-ofBits, nanBits-is, nanBits-above}
+use lib.Ieee.Bits.{toBits-ofBits, nanBits-is}
+use Rattle.decimal_rounding.proofs.Wide.{no-nan-plain}
 
 pub finite-bits : (b : ℕ) → b % 9223372036854775808 < 9218868437227405312 → T (not (nanBits binary64 b))
-finite-bits b h =
-    subst (λ (t : Bool). T (not t)) (sym (nanBits-above binary64 b))
-    (not-T (ltb 9218868437227405312 (b % 9223372036854775808)) (λ t. let l = ltb→lt 9218868437227405312 (b % 9223372036854775808) t in omega arith))
+finite-bits b h = no-nan-plain binary64 b (le-of-lt h)
 
 pub bits-back : (b : ℕ) → b < 18446744073709551616 → b % 9223372036854775808 < 9218868437227405312 → toBits binary64 (ofBits binary64 b) ≡ b
 bits-back b lt h = toBits-ofBits binary64 b lt (subst (λ (t : Bool). T (not t)) (nanBits-is binary64 b) (finite-bits b h))

@@ -65,8 +65,8 @@ module _ (s : Bool) (u k n : ℕ) (units : u + k ≡ 86) (some : 0 < n) (few : n
             low = omega arith;
             high = omega arith;
             single =
-                (let r : singleOf p ≡ (40 + k + j) * 8388608 + roundedOf (q * 2048) = omega arith in r)
-                ∙ ap (λ (i : ℕ). (40 + k + j) * 8388608 + roundedOf i) (sym shift) ∙ sym (packed-at n k j e (λ z. omega arith) high);
+                (let r : singleOf p ≡ (40 + k + j) * hidden + roundedOf (q * 2048) = omega arith in r)
+                ∙ ap (λ (i : ℕ). (40 + k + j) * hidden + roundedOf i) (sym shift) ∙ sym (packed-at n k j e (λ z. omega arith) high);
           }
         where
           short : (j : ℕ) → 2 ^ j ≤ n → j ≤ 52

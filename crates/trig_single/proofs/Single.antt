@@ -12,10 +12,12 @@ use lib.Ieee.{Float, binary32, binary64, units, fits, ofBits, nanBits, isNan}
 use lib.Ieee.Bits.{ofBits-fits, nanBits-is}
 use lib.Ieee.Exact.{HasValue, units-val}
 use lib.Ieee.Fits.{fits-widens, and-i}
+use Rattle.floats.specs.Patterns.{hidden, signPlace}
 use Rattle.decimal_rounding.proofs.Pattern.{units-bits}
+use Rattle.decimal_rounding.proofs.Values.{value-unique}
 use Rattle.trig_single.specs.Single.{singleOf}
 use Rattle.trig_single.proofs.Finite.{finite-bits}
-use Rattle.trig_single.proofs.Values.{value-unique, value-scaled}
+use Rattle.trig_single.proofs.Values.{value-scaled}
 
 -- ---- m steps of 2 ^ x of the smallest f32, as an f64 of 29 digits more
 module _ (s : Bool) (m x : ℕ) (low : 2 ^ 23 ≤ m) (high : m ≤ 2 ^ 24) (reach : x ≤ 252) where
@@ -28,7 +30,7 @@ module _ (s : Bool) (m x : ℕ) (low : 2 ^ 23 ≤ m) (high : m ≤ 2 ^ 24) (reac
   wide-bits : units binary64 s (m * 2 ^ 29) (x + 896) ≡ ofBits binary64 (cond s 9223372036854775808 0 + (x + 896) * 4503599627370496 + m * 2 ^ 29)
   wide-bits = units-bits binary64 s (m * 2 ^ 29) (x + 896) (omega arith) (inl (omega arith)) large
 
-  single-bits : units binary32 s m x ≡ ofBits binary32 (cond s 2147483648 0 + x * 8388608 + m)
+  single-bits : units binary32 s m x ≡ ofBits binary32 (cond s signPlace 0 + x * hidden + m)
   single-bits = units-bits binary32 s m x high (inl low) small
 
   wide-value : HasValue (units binary64 s (m * 2 ^ 29) (x + 896)) s (m * 2 ^ x * 2 ^ 925) (2 ^ 149 * 2 ^ 925)
@@ -39,10 +41,10 @@ module _ (s : Bool) (m x : ℕ) (low : 2 ^ 23 ≤ m) (high : m ≤ 2 ^ 24) (reac
       (units-val binary64 s (m * 2 ^ 29) (x + 896) large)
 
   pub single-wide :
-      ofBits binary64 (cond s 9223372036854775808 0 + (x + 896) * 4503599627370496 + m * 2 ^ 29) ≡ ofBits binary32 (cond s 2147483648 0 + x * 8388608 + m)
+      ofBits binary64 (cond s 9223372036854775808 0 + (x + 896) * 4503599627370496 + m * 2 ^ 29) ≡ ofBits binary32 (cond s signPlace 0 + x * hidden + m)
   single-wide =
       let wide = cond s 9223372036854775808 0 + (x + 896) * 4503599627370496 + m * 2 ^ 29 in
-      let single = cond s 2147483648 0 + x * 8388608 + m in
+      let single = cond s signPlace 0 + x * hidden + m in
       sym wide-bits
       ∙ value-unique binary64 (units binary64 s (m * 2 ^ 29) (x + 896)) (units binary32 s m x) s (m * 2 ^ x * 2 ^ 925) (2 ^ 149 * 2 ^ 925) (pow-pos 1074)
       (subst (λ (y : Float). T (fits binary64 y)) (sym wide-bits) (ofBits-fits binary64 wide))
@@ -56,15 +58,15 @@ abbrev pub roundedWide : ℕ → ℕ
 roundedWide b = (b + 268435456) / 536870912 * 536870912
 
 module _ (s : Bool) (p : ℕ) (low : 897 * 4503599627370496 ≤ p) (high : p < 1149 * 4503599627370496) where
-  pub rounded-single : ofBits binary64 (cond s 9223372036854775808 0 + roundedWide p) ≡ ofBits binary32 (cond s 2147483648 0 + singleOf p)
+  pub rounded-single : ofBits binary64 (cond s 9223372036854775808 0 + roundedWide p) ≡ ofBits binary32 (cond s signPlace 0 + singleOf p)
   rounded-single =
       let x = p / 4503599627370496 - 897 in
-      let m = 8388608 + (p % 4503599627370496 + 268435456) / 536870912 in
+      let m = hidden + (p % 4503599627370496 + 268435456) / 536870912 in
       let w : roundedWide p ≡ (x + 896) * 4503599627370496 + m * 2 ^ 29 = omega arith in
-      let n : singleOf p ≡ x * 8388608 + m = omega arith in
+      let n : singleOf p ≡ x * hidden + m = omega arith in
       ap (ofBits binary64) (let e : cond s 9223372036854775808 0 + roundedWide p ≡ cond s 9223372036854775808 0 + (x + 896) * 4503599627370496 + m * 2 ^ 29 = omega arith in e)
       ∙ single-wide s m x (omega arith) (omega arith) (omega arith)
-      ∙ ap (ofBits binary32) (let e : cond s 2147483648 0 + x * 8388608 + m ≡ cond s 2147483648 0 + singleOf p = omega arith in e)
+      ∙ ap (ofBits binary32) (let e : cond s signPlace 0 + x * hidden + m ≡ cond s signPlace 0 + singleOf p = omega arith in e)
 
 -- ---- a pattern with its sign, in the range of f32
 abbrev pub InRange : ℕ → Type 0
@@ -87,7 +89,7 @@ module _ (b : ℕ) (fit : b < 2 ^ 64) where
           let h = ltb-false b 9223372036854775808 e in
           ap (ofBits binary64) (let g : roundedWide b ≡ 9223372036854775808 + roundedWide p = omega arith in g)
           ∙ rounded-single true p (r .0) (r .1)
-          ∙ ap (ofBits binary32) (let g : 2147483648 + singleOf p ≡ b / 2 ^ 63 * 2 ^ 31 + singleOf p = omega arith in g)
+          ∙ ap (ofBits binary32) (let g : signPlace + singleOf p ≡ b / 2 ^ 63 * 2 ^ 31 + singleOf p = omega arith in g)
 
   zero-single : b ≡ 0 → ofBits binary64 (roundedWide b) ≡ ofBits binary32 (b / 2 ^ 63 * 2 ^ 31 + singleOf (b % 2 ^ 63))
   unfolding ofBits

@@ -1,34 +1,16 @@
--- Floats by sign and size: a float is told by the two, and a difference and a product are the rounded difference and product of the values. Assumes nothing.
+-- Floats by sign and size: the same size by another fraction, and a difference is the rounded difference of the values. Assumes nothing.
 use mathlib.Core.Path.{_≡_, refl, sym, ap, _∙_, subst}
 use Prim.Native.Nat.{ℕ, _-_, _*_, _≤_, _<_}
-use native.Mathlib.Nat.{mul-pos, mul-comm, mul-assoc, mul-right-comm, mul-sub, eq-of-mul-eq-mul-right, mul-le-mul-right, mul-lt-mul-of-pos-right, lt-of-mul-lt-mul-right, le-of-mul-le-mul-right, not-le-of-lt}
+use native.Mathlib.Nat.{mul-pos, mul-comm, mul-assoc, mul-right-comm, mul-sub, mul-le-mul-right, mul-lt-mul-of-pos-right, lt-of-mul-lt-mul-right, le-of-mul-le-mul-right, not-le-of-lt}
 use mathlib.Core.Bool.{Bool, true, false, cond, true≢false}
 use borrow.Author.Tests.{ltb-true, ltb-false}
-use lib.Dec.{T, ltb}
-use lib.Ieee.{Float, nan, inf, fin, Format, up, down, round, sub, add, neg, sum, fits}
+use lib.Dec.{ltb}
+use lib.Ieee.{Float, nan, inf, fin, Format, up, down, round, sub, add, neg, sum}
 use lib.Ieee.Exact.{HasValue}
 use lib.Ieee.Fits.{down-pos}
 use lib.Ieee.Scale.{round-same}
-use Rattle.floats.proofs.Unique.{unique}
 
--- ---- one float for a sign and a size
-pub value-unique : (f : Format) (x y : Float) (s : Bool) (a c : ℕ) → 0 < c → T (fits f x) → T (fits f y) → HasValue x s a c → HasValue y s a c → x ≡ y
-value-unique f nan y s a c C p q v w = absurd v
-value-unique f (inf t) y s a c C p q v w = absurd v
-value-unique f (fin t m e) nan s a c C p q v w = absurd w
-value-unique f (fin t m e) (inf u) s a c C p q v w = absurd w
-value-unique f (fin t m e) (fin u n g) s a c C p q v w =
-    let same : u ≡ t = w .0 ∙ sym (v .0) in
-    let cross : m * up e * down g ≡ n * up g * down e =
-    eq-of-mul-eq-mul-right c C (m * up e * down g) (n * up g * down e)
-    (mul-right-comm (m * up e) (down g) c
-    ∙ ap (λ (k : ℕ). k * down g) (v .1)
-    ∙ mul-right-comm a (down e) (down g)
-    ∙ ap (λ (k : ℕ). k * down e) (sym (w .1))
-    ∙ mul-right-comm (n * up g) c (down e)) in
-    unique f t m e n g p (subst (λ (b : Bool). T (fits f (fin b n g))) same q) cross ∙ ap (λ (b : Bool). fin b n g) (sym same)
-
--- the same size by another fraction
+-- ---- the same size by another fraction
 pub value-scaled : (x : Float) (s : Bool) (a c u : ℕ) → HasValue x s a c → HasValue x s (a * u) (c * u)
 value-scaled nan s a c u v = absurd v
 value-scaled (inf t) s a c u v = absurd v

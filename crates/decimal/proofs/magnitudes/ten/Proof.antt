@@ -1,27 +1,15 @@
 -- `decimal::magnitudes::ten` meets its contract: each arm's float is computed to have the power at its key. Assumes nothing.
 use mathlib.Core.Path.{_≡_, refl, sym, subst}
-use Prim.Native.Nat.{ℕ, zero, suc, _^_, _≤_}
+use Prim.Native.Nat.{ℕ, _^_}
 use mathlib.Core.Bool.{false}
-use native.Mathlib.Omega.{arith}
 use lib.Ieee.{Float, binary64, ofBits}
 use lib.Ieee.Exact.{HasValue}
+use Rattle.decimal_tens.proofs.Matched.{last-of}
 use Rattle.decimal.proofs.magnitudes.ten.Statement.{statement}
 use Rattle.decimal.proofs.magnitudes.ten.Tie as tie
 
 at-place : (k places : ℕ) (x : Float) → places ≡ k → HasValue x false (10 ^ k) 1 → HasValue x false (10 ^ places) 1
 at-place k places x e h = subst (λ (n : ℕ). HasValue x false (10 ^ n) 1) (sym e) h
-
--- a place is none of the first n numbers, as `match` says it of the keys before its last arm
-abbrev NoneOf : ℕ → ℕ → Type 0
-NoneOf zero place = Unit
-NoneOf (suc n) place = NoneOf n place × (place ≡ n → ⊥)
-
-none-of : (n place : ℕ) → NoneOf n place → n ≤ place
-none-of zero place h = omega arith
-none-of (suc n) place h = let l = none-of n place (h .0) in let m = h .1 in omega arith
-
-none-of-eight : (place : ℕ) → NoneOf 8 place → place ≤ 8 → place ≡ 8
-none-of-eight place h l = let g = none-of 8 place h in omega arith
 
 pub ten-spec : {M : Type 1} → statement M
 unfolding ofBits
@@ -36,4 +24,4 @@ ten-spec =
     (λ c. at-place 5 _ (ofBits binary64 4681608360884174848) (c .match .keys6) (refl, refl))
     (λ c. at-place 6 _ (ofBits binary64 4696837146684686336) (c .match .keys7) (refl, refl))
     (λ c. at-place 7 _ (ofBits binary64 4711630319722168320) (c .match .keys8) (refl, refl))
-    (λ c. at-place 8 _ (ofBits binary64 4726483295884279808) (none-of-eight _ (c .match .rest) (c .before .pre)) (refl, refl)))
+    (λ c. at-place 8 _ (ofBits binary64 4726483295884279808) (last-of 8 _ (c .match .rest) (c .before .pre)) (refl, refl)))

@@ -1,7 +1,7 @@
 -- `decimal::numbers::find` meets its contract: each way out is a law over what the calls have found. Assumes nothing.
 use mathlib.Core.Path.{_≡_, refl, ap, sym, _∙_}
 use mathlib.Core.Bool.{true, false}
-use Prim.Native.Nat.{ℕ, _+_, _≤_, _<_}
+use Prim.Native.Nat.{ℕ, _+_, _^_, _<_}
 use native.Mathlib.Omega.{arith}
 use lib.Dec.{eqb}
 use lib.ListN.{getD}
@@ -19,6 +19,12 @@ use Rattle.decimal.proofs.numbers.find.Tie as tie
 is-mark : (c : tie.Else2) → among (getD (c .before .before .before .before .before .before .before .before .args .text .now) (c .before .before .before .before .gather-fraction .result .at) 0) exponentMarks ≡ true
 is-mark c = ap (λ (x : ℕ). among x exponentMarks) (sym (c .before .before .byte-at .ensures)) ∙ sym (c .before .is-exponent-mark .ensures) ∙ not-false _ (c .if2 .left)
 
+-- then the text goes on
+mark-lt : (c : tie.Else2) → c .before .before .before .before .gather-fraction .result .at + 1 < 2 ^ 64
+mark-lt c =
+    let start = c .before .before .before .before .before .before .before .before in
+    omega (arith, mark-inside (start .args .text .now) _ (is-mark c), start .good)
+
 gather-fraction-requires : tie.Need-gather-fraction-requires
 gather-fraction-requires c κs =
     let text = c .before .before .before .args .text .now in
@@ -26,43 +32,69 @@ gather-fraction-requires c κs =
     (c .gather .ensures .few, ap (pastDigitsOf text) passed ∙ all-again digits text (c .before .past-sign .result) ∙ sym passed)
 
 returns : tie.Need-returns
-returns c = record { said = number-no-digit _ _ _ _ _ _ (c .before .before .before .past-sign .ensures) (c .before .before .gather .ensures) (c .before .gather-fraction .ensures .starts) (c .before .gather-fraction .ensures .gathers) (c .if1 .taken) }
+returns c =
+    let all = c .before .gather-fraction .ensures in
+    let whole = c .before .before in
+    record { said = number-no-digit _ (whole .before .past-sign .ensures) (whole .gather .ensures) (all .starts) (all .gathers) (c .if1 .taken) }
 
 returns-2 : tie.Need-returns-2
 returns-2 c =
-    let end = plain-at _ _ _ (c .before .before .before .before .gather-fraction .ensures .gathers .passed) (ap (λ (x : ℕ). among x exponentMarks) (sym (c .before .before .byte-at .ensures)) ∙ sym (c .before .is-exponent-mark .ensures) ∙ not-true _ (c .if2 .taken)) in
+    let some = c .before .before .before in
+    let all = some .before .gather-fraction .ensures in
+    let whole = some .before .before in
+    let no-mark = ap (λ (x : ℕ). among x exponentMarks) (sym (c .before .before .byte-at .ensures)) ∙ sym (c .before .is-exponent-mark .ensures) ∙ not-true _ (c .if2 .taken) in
+    let end = plain-at _ (all .gathers .passed) no-mark in
     record {
-      said = (scanned _ _ _ _ _ _ (c .before .before .before .before .before .before .past-sign .ensures) (c .before .before .before .before .before .gather .ensures) (c .before .before .before .before .gather-fraction .ensures .starts) (c .before .before .before .before .gather-fraction .ensures .gathers) (c .before .before .before .if1 .left) _ _ (end .x-is) (end .e-is) (end .fine), held-plain _ _ _ _ _ _ (c .before .before .before .before .before .before .past-sign .ensures) (c .before .before .before .before .before .gather .ensures) (c .before .before .before .before .gather-fraction .ensures .starts) (c .before .before .before .before .gather-fraction .ensures .gathers) (c .before .before .before .if1 .left) end);
+      said = (
+        scanned _ (whole .before .past-sign .ensures) (whole .gather .ensures) (all .starts) (all .gathers) (some .if1 .left) (end .x-is) (end .e-is) (end .fine),
+        held-plain _ (whole .before .past-sign .ensures) (whole .gather .ensures) (all .starts) (all .gathers) (some .if1 .left) end,
+      );
     }
 
 add-past-sign : tie.Need-add-past-sign
-add-past-sign c = omega (arith, mark-inside (c .before .before .before .before .before .before .before .before .args .text .now) (c .before .before .before .before .gather-fraction .result .at) (is-mark (c)), c .before .before .before .before .before .before .before .before .good)
+add-past-sign c = omega (arith, mark-lt c)
 
 returns-3 : tie.Need-returns-3
 returns-3 c =
-    let end = marked-at _ _ _ _ (is-mark (c .before .before .before)) (c .before .before .past-sign2 .ensures) (c .before .exponent .ensures) in
-    record { said = number-no-exponent _ _ _ _ _ _ (c .before .before .before .before .before .before .before .before .before .past-sign .ensures) (c .before .before .before .before .before .before .before .before .gather .ensures) (c .before .before .before .before .before .before .before .gather-fraction .ensures .starts) (c .before .before .before .before .before .before .before .gather-fraction .ensures .gathers) (c .before .before .before .before .before .before .if1 .left) _ _ (end .x-is) (end .e-is) (end .none (c .if3 .taken)) }
+    let marked = c .before .before .before in
+    let some = marked .before .before .before in
+    let all = some .before .gather-fraction .ensures in
+    let whole = some .before .before in
+    let end = marked-at (is-mark marked) (c .before .before .past-sign2 .ensures) (c .before .exponent .ensures) in
+    record { said = number-no-exponent _ (whole .before .past-sign .ensures) (whole .gather .ensures) (all .starts) (all .gathers) (some .if1 .left) (end .x-is) (end .e-is) (end .none (c .if3 .taken)) }
 
 add-byte-at : tie.Need-add-byte-at
-add-byte-at c = omega (arith, mark-inside (c .before .before .before .before .before .before .before .before .before .before .before .args .text .now) (c .before .before .before .before .before .before .before .gather-fraction .result .at) (is-mark (c .before .before .before)), c .before .before .before .before .before .before .before .before .before .before .before .good)
+add-byte-at c = omega (arith, mark-lt (c .before .before .before))
 
 returns-4 : tie.Need-returns-4
 returns-4 c =
-    let end = marked-at _ _ _ _ (is-mark (c .before .before .before .before .before)) (c .before .before .before .before .past-sign2 .ensures) (c .before .before .before .exponent .ensures) in
+    let digit = c .before .before in
+    let marked = digit .before .before .before in
+    let some = marked .before .before .before in
+    let all = some .before .gather-fraction .ensures in
+    let whole = some .before .before in
+    let end = marked-at (is-mark marked) (digit .before .before .past-sign2 .ensures) (digit .before .exponent .ensures) in
+    let is-minus = ap (λ (x : ℕ). eqb x minus) (sym (c .before .byte-at2 .ensures)) ∙ eq-eqb _ _ (c .if4 .taken) in
     record {
       said = (
-        scanned _ _ _ _ _ _ (c .before .before .before .before .before .before .before .before .before .before .before .past-sign .ensures) (c .before .before .before .before .before .before .before .before .before .before .gather .ensures) (c .before .before .before .before .before .before .before .before .before .gather-fraction .ensures .starts) (c .before .before .before .before .before .before .before .before .before .gather-fraction .ensures .gathers) (c .before .before .before .before .before .before .before .before .if1 .left) _ _ (end .x-is) (end .e-is) (end .fine (c .before .before .if3 .left)),
-        held-falling _ _ _ _ _ _ (c .before .before .before .before .before .before .before .before .before .before .before .past-sign .ensures) (c .before .before .before .before .before .before .before .before .before .before .gather .ensures) (c .before .before .before .before .before .before .before .before .before .gather-fraction .ensures .starts) (c .before .before .before .before .before .before .before .before .before .gather-fraction .ensures .gathers) (c .before .before .before .before .before .before .before .before .if1 .left) _ _ end (c .before .before .if3 .left) (ap (λ (x : ℕ). eqb x minus) (sym (c .before .byte-at2 .ensures)) ∙ eq-eqb _ _ (c .if4 .taken)),
+        scanned _ (whole .before .past-sign .ensures) (whole .gather .ensures) (all .starts) (all .gathers) (some .if1 .left) (end .x-is) (end .e-is) (end .fine (digit .if3 .left)),
+        held-falling _ (whole .before .past-sign .ensures) (whole .gather .ensures) (all .starts) (all .gathers) (some .if1 .left) end (digit .if3 .left) is-minus,
       );
     }
 
 returns-5 : tie.Need-returns-5
 returns-5 c =
-    let end = marked-at _ _ _ _ (is-mark (c .before .before .before .before .before)) (c .before .before .before .before .past-sign2 .ensures) (c .before .before .before .exponent .ensures) in
+    let digit = c .before .before in
+    let marked = digit .before .before .before in
+    let some = marked .before .before .before in
+    let all = some .before .gather-fraction .ensures in
+    let whole = some .before .before in
+    let end = marked-at (is-mark marked) (digit .before .before .past-sign2 .ensures) (digit .before .exponent .ensures) in
+    let no-minus = ap (λ (x : ℕ). eqb x minus) (sym (c .before .byte-at2 .ensures)) ∙ ne-eqb _ _ (c .if4 .left) in
     record {
       said = (
-        scanned _ _ _ _ _ _ (c .before .before .before .before .before .before .before .before .before .before .before .past-sign .ensures) (c .before .before .before .before .before .before .before .before .before .before .gather .ensures) (c .before .before .before .before .before .before .before .before .before .gather-fraction .ensures .starts) (c .before .before .before .before .before .before .before .before .before .gather-fraction .ensures .gathers) (c .before .before .before .before .before .before .before .before .if1 .left) _ _ (end .x-is) (end .e-is) (end .fine (c .before .before .if3 .left)),
-        held-rising _ _ _ _ _ _ (c .before .before .before .before .before .before .before .before .before .before .before .past-sign .ensures) (c .before .before .before .before .before .before .before .before .before .before .gather .ensures) (c .before .before .before .before .before .before .before .before .before .gather-fraction .ensures .starts) (c .before .before .before .before .before .before .before .before .before .gather-fraction .ensures .gathers) (c .before .before .before .before .before .before .before .before .if1 .left) _ _ end (c .before .before .if3 .left) (ap (λ (x : ℕ). eqb x minus) (sym (c .before .byte-at2 .ensures)) ∙ ne-eqb _ _ (c .if4 .left)),
+        scanned _ (whole .before .past-sign .ensures) (whole .gather .ensures) (all .starts) (all .gathers) (some .if1 .left) (end .x-is) (end .e-is) (end .fine (digit .if3 .left)),
+        held-rising _ (whole .before .past-sign .ensures) (whole .gather .ensures) (all .starts) (all .gathers) (some .if1 .left) end (digit .if3 .left) no-minus,
       );
     }
 

@@ -8,11 +8,13 @@ use lib.Dec.{eqb}
 use lib.Ieee.{binary32, ofBits}
 use borrow.Author.Needs.{needs}
 use borrow.Author.Tests.{leb-true, ltb-true, eqb-true}
+use Rattle.floats.specs.Patterns.{signPlace}
+use Rattle.decimal_rounding.proofs.Wide.{no-nan-single}
 use Rattle.decimal_digits.proofs.Values.{ten-pos}
 use Rattle.decimal.specs.Decimal.{minus, numerator, denominator, placesOf}
 use Rattle.decimal.specs.Bits.{Nearest}
 use Rattle.decimal.proofs.Ranged.{quotient-tells, quotient-bits}
-use Rattle.decimal.proofs.Valued.{all-four, plain-bits, plain-negative, one-way, gathered, short-is, value-signed}
+use Rattle.decimal.proofs.Valued.{all-four, plain-negative, one-way, gathered, short-is, value-signed}
 use Rattle.decimal.proofs.numbers.value.Statement.{statement}
 use Rattle.decimal.proofs.numbers.value.Tie as tie
 
@@ -68,13 +70,13 @@ cast-result-2 : tie.Need-cast-result-2
 cast-result-2 c = let m = nearest (c .before) in record { fits = omega (arith, m .finite-or-infinite) }
 
 float-from-bits-result-2 : tie.Need-float-from-bits-result-2
-float-from-bits-result-2 c = plain-bits _ (nearest (c .before) .finite-or-infinite)
+float-from-bits-result-2 c = no-nan-single _ (nearest (c .before) .finite-or-infinite)
 
 returns-2 : tie.Need-returns-2
 returns-2 c =
     let start = c .before .before .before .before .before .before .before .before .before in
     value-signed _ _ _ _ _ _ (start .pre) _ true (sym (ap (λ (n : ℕ). eqb n minus) (sym (c .before .before .before .before .before .before .byte-at .ensures)) ∙ c .if3 .taken))
-    (ap (λ (n : ℕ). ofBits binary32 n) (add-comm (c .before .magnitude .result) 2147483648) ∙ sym (nearest (c .before) .is true))
+    (ap (λ (n : ℕ). ofBits binary32 n) (add-comm (c .before .magnitude .result) signPlace) ∙ sym (nearest (c .before) .is true))
 
 returns-3 : tie.Need-returns-3
 returns-3 c =

@@ -1,24 +1,12 @@
 -- `decimal_digits::words::power` meets its contract: each arm has the power at its key. Assumes nothing.
 use mathlib.Core.Path.{_≡_, ap, sym}
-use Prim.Native.Nat.{ℕ, zero, suc, _^_, _≤_}
-use native.Mathlib.Omega.{arith}
+use Prim.Native.Nat.{ℕ, _^_}
+use Rattle.decimal_tens.proofs.Matched.{last-of}
 use Rattle.decimal_digits.proofs.words.power.Statement.{statement}
 use Rattle.decimal_digits.proofs.words.power.Tie as tie
 
 at-count : (k count : ℕ) → count ≡ k → 10 ^ k ≡ 10 ^ count
 at-count k count e = ap (λ (n : ℕ). 10 ^ n) (sym e)
-
--- the count is none of the first n numbers, as `match` says it of the keys before its last arm
-abbrev NoneOf : ℕ → ℕ → Type 0
-NoneOf zero count = Unit
-NoneOf (suc n) count = NoneOf n count × (count ≡ n → ⊥)
-
-none-of : (n count : ℕ) → NoneOf n count → n ≤ count
-none-of zero count h = omega arith
-none-of (suc n) count h = let l = none-of n count (h .0) in let m = h .1 in omega arith
-
-none-of-eight : (count : ℕ) → NoneOf 8 count → count ≤ 8 → count ≡ 8
-none-of-eight count h l = let g = none-of 8 count h in omega arith
 
 pub power-spec : {M : Type 1} → statement M
 power-spec =
@@ -32,4 +20,4 @@ power-spec =
     (λ c. at-count 5 _ (c .match .keys6))
     (λ c. at-count 6 _ (c .match .keys7))
     (λ c. at-count 7 _ (c .match .keys8))
-    (λ c. at-count 8 _ (none-of-eight _ (c .match .rest) (c .before .pre))))
+    (λ c. at-count 8 _ (last-of 8 _ (c .match .rest) (c .before .pre))))

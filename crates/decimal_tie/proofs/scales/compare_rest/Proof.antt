@@ -44,8 +44,9 @@ times-ten-requires c κs = (c .before .before .before .before .before .before .l
 -- the digit that was read is the first of those from i on
 read-first :
     (c : tie.After-digit Inv-loop μ-loop)
-    → against (c .digit .result ∷ digitsAmong (drop (c .before .before .before .before .before .before .loop .i + 1) (c .before .before .before .before .before .before .before .before .args .part .now))) (wideOf (c .before .before .before .before .before .before .loop .w))
-    ≡ against (digitsAmong (drop (c .before .before .before .before .before .before .before .before .args .from) (c .before .before .before .before .before .before .before .before .args .part .now))) (wideOf (c .before .before .before .before .before .before .before .before .args .f))
+    → let at-loop = c .before .before .before .before .before .before in
+    let args = at-loop .before .before .args in
+    against (c .digit .result ∷ digitsAmong (drop (at-loop .loop .i + 1) (args .part .now))) (wideOf (at-loop .loop .w)) ≡ against (digitsAmong (drop (args .from) (args .part .now))) (wideOf (args .f))
 read-first c =
     let at-loop = c .before .before .before .before .before .before in
     let part = at-loop .before .before .args .part .now in

@@ -13,9 +13,10 @@ returns : tie.Need-returns
 returns c =
     let start = c .before .before .before .before in
     let words = c .before .before .in-six-words .ensures in
+    let none : 0 ≡ start .args .count = ⊎-elim (λ (e : start .args .count ≡ 0). sym e) (λ (e : start .args .zeros ≡ 0). absurd (omega (arith, c .before .if1 .taken))) (start .pre .2) in
     c .weigh-small .ensures
     ∙ ap (λ (s : ℕ). weighOf (digitsAmong (start .args .part .now)) 0 (start .args .zeros) s) (sym (words .is))
-    ∙ ⊎-elim (λ (e : start .args .count ≡ 0). ap (λ (n : ℕ). weighOf (digitsAmong (start .args .part .now)) n (start .args .zeros) (start .args .odd * 2 ^ start .args .k)) (sym e)) (λ (e : start .args .zeros ≡ 0). absurd (omega (arith, c .before .if1 .taken))) (start .pre .2)
+    ∙ ap (λ (n : ℕ). weighOf (digitsAmong (start .args .part .now)) n (start .args .zeros) (start .args .odd * 2 ^ start .args .k)) none
 
 returns-2 : tie.Need-returns-2
 returns-2 c =

@@ -18,7 +18,7 @@ limit c = six-lt _ _ (wide-lt _ (c .pre .0)) (wide-lt _ (c .pre .1))
 compare-wide-requires : tie.Need-compare-wide-requires
 compare-wide-requires c κs =
     let start = c .before .before .before .before .before in
-    (whole-is (c .before .before .before .whole-digits .ensures) _ (limit (c .before .before .before .before .before)) (c .before .w .given .1) .0, start .pre .0)
+    (whole-is (c .before .before .before .whole-digits .ensures) _ (limit start) (c .before .w .given .1) .0, start .pre .0)
 
 compare-rest-requires : tie.Need-compare-rest-requires
 compare-rest-requires c κs = c .before .before .before .before .before .before .before .before .pre .1
@@ -29,27 +29,30 @@ returns c =
 
 returns-2 : tie.Need-returns-2
 returns-2 c =
-    let start = c .before .before .before .before .before .before .before .before in
+    let counted = c .before .before .before .before .before .before in
+    let start = counted .before .before in
     sym
     (partly-start _ _ _
-    ∙ whole-is (c .before .before .before .before .before .before .whole-digits .ensures) _ (limit (c .before .before .before .before .before .before .before .before)) (c .before .before .before .before .w .given .1) .1
+    ∙ whole-is (counted .whole-digits .ensures) _ (limit start) (c .before .before .before .before .w .given .1) .1
     ∙ partly-lt _ _ _ _ (wide-lt _ (start .pre .1)) (val-lt _) (lt-of-compare _ _ (sym (c .before .before .compare-wide .ensures) ∙ ap orderOf (c .enum-told2 .given .1))))
 
 returns-3 : tie.Need-returns-3
 returns-3 c =
-    let start = c .before .before .before .before .before .before .before .before in
+    let counted = c .before .before .before .before .before .before in
+    let start = counted .before .before in
     sym
     (partly-start _ _ _
-    ∙ whole-is (c .before .before .before .before .before .before .whole-digits .ensures) _ (limit (c .before .before .before .before .before .before .before .before)) (c .before .before .before .before .w .given .1) .1
+    ∙ whole-is (counted .whole-digits .ensures) _ (limit start) (c .before .before .before .before .w .given .1) .1
     ∙ partly-gt _ _ _ _ (wide-lt _ (start .pre .1)) (val-lt _) (gt-of-compare _ _ (sym (c .before .before .compare-wide .ensures) ∙ ap orderOf (c .enum-told3 .given .1))))
 
 returns-4 : tie.Need-returns-4
 returns-4 c =
-    let start = c .before .before .before .before .before .before .before .before .before in
+    let counted = c .before .before .before .before .before .before .before in
+    let start = counted .before .before in
     c .compare-rest .ensures
     ∙ sym
     (partly-start _ _ _
-    ∙ whole-is (c .before .before .before .before .before .before .before .whole-digits .ensures) _ (limit (c .before .before .before .before .before .before .before .before .before)) (c .before .before .before .before .before .w .given .1) .1
+    ∙ whole-is (counted .whole-digits .ensures) _ (limit start) (c .before .before .before .before .before .w .given .1) .1
     ∙ partly-eq _ _ _ _ (wide-lt _ (start .pre .1)) (val-lt _) (eq-of-compare _ _ (sym (c .before .before .before .compare-wide .ensures) ∙ ap orderOf (c .before .enum-told4 .given .1))))
 
 pub weigh-large-spec : {M : Type 1} → statement M

@@ -50,9 +50,10 @@ returns c =
 loop-again : tie.Need-loop-again Inv-loop μ-loop
 loop-again c =
     let tens = c .before .before .before .times-ten .ensures in
-    let taken = c .before .before .before .before in (
+    let taken = c .before .before .before .before in
+    let rest = digitsAmong (drop (taken .take .result .at) (taken .before .before .before .before .args .part .now)) in (
       tens .small,
-      λ s. onward taken s ∙ ap (λ (w : ℕ). partly w (digitsAmong (drop (taken .take .result .at) (taken .before .before .before .before .args .part .now))) (taken .before .before .loop .more - 1) s) (tens-none _ _ _ tens (c .before .if1 .left)),
+      λ s. onward taken s ∙ ap (λ (w : ℕ). partly w rest (taken .before .before .loop .more - 1) s) (tens-none _ _ _ tens (c .before .if1 .left)),
     )
 
 returns-2 : tie.Need-returns-2 Inv-loop μ-loop

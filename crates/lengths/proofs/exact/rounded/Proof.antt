@@ -3,6 +3,7 @@ use native.Mathlib.Omega.{arith}
 use mathlib.Core.Path.{ap, _∙_}
 use Prim.Native.Nat.{ℕ, _+_, _-_, _*_, _^_}
 use lib.Ieee.{binary32, ofBits}
+use Rattle.floats.specs.Patterns.{hidden}
 use Rattle.lengths.proofs.Off.{shifted, step-pos, step-small, kept-small, rest-small, rounded-small, rounded-large}
 use borrow.Author.Needs.{needs}
 use Rattle.lengths.proofs.exact.rounded.Statement.{statement}
@@ -43,7 +44,7 @@ returns-2 c =
     let q = c .before .before .args .q in
     let k = c .before .before .args .k in
     let p = c .before .before .pre in
-    (ap (λ (z : ℕ). ofBits binary32 ((k - 896) * 8388608 + z)) (c .nearest2 .ensures .0) ∙ rounded-large q k (p .0) (p .1) (c .before .if1 .left) (p .3), omega (arith, c .nearest2 .ensures, p))
+    (ap (λ (z : ℕ). ofBits binary32 ((k - 896) * hidden + z)) (c .nearest2 .ensures .0) ∙ rounded-large q k (p .0) (p .1) (c .before .if1 .left) (p .3), omega (arith, c .nearest2 .ensures, p))
 
 pub rounded-spec : {M : Type 1} → statement M
 rounded-spec =
