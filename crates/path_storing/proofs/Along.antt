@@ -12,9 +12,11 @@ use Rattle.answers.specs.declared.refusals.Refusal.{Refusal}
 use Rattle.answers.specs.declared.refusals.Refusal.the-variants.{RotationRange, NotFinite}
 use Rattle.floats.specs.Floats.{zeroF}
 use Rattle.commands.specs.declared.command.PathCommand.{PathCommand}
-use Rattle.path_segment.specs.Segments.{kindOf, fieldsOf}
+use Rattle.path_segment.specs.Segments.{kindOf, fieldsOf, tableStored}
+use Rattle.path_segment.proofs.Reading.{fields-most}
+use Rattle.path_segment.proofs.Tables.{table-most}
 use Rattle.path_segment.specs.declared.segments.PathSegment.{PathSegment}
-use Rattle.path_stored.specs.Layout.{kindsOf, fieldsOfAll, tableStored, tablesOfAll}
+use Rattle.path_stored.specs.Layout.{kindsOf, fieldsOfAll, tablesOfAll}
 use Rattle.path_drawing.specs.Drawing.{drawOf}
 use Rattle.path_drawing.specs.Building.{Built, path, refusal, lengthAfter, buildFrom, buildOf, namedBy, drawersOf}
 use Rattle.path_drawing.specs.declared.pens.Pen.{Pen}
@@ -25,7 +27,6 @@ use Rattle.path_storing.specs.Sites.{startOf, afterOf, movedOf, nextOf, 
 use Rattle.path_storing.specs.declared.sites.Site.{Site}
 use Rattle.path_storing.specs.declared.sites.Advanced.{Advanced}
 use Rattle.path_storing.specs.declared.sites.Advanced.the-variants.{To, Refused}
-use Rattle.path_storing.proofs.Counts.{fields-most, table-most}
 use Rattle.path_storing.proofs.Layouts.{kinds-append, fields-append, tables-append, endOf, end-append}
 
 -- after some commands, which drew some segments, the site is this

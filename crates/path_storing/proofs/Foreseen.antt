@@ -19,10 +19,9 @@ use Rattle.ellipse.specs.declared.ends.Chord.{Chord}
 use Rattle.ellipse.specs.Ends.{fromEndsOf}
 use Rattle.arc.specs.Lines.{lineOf}
 use Rattle.arc.specs.Arcs.{isFallback, fallbackShape}
-use Rattle.path_segment.specs.Segments.{fieldsOf, lengthFor}
+use Rattle.path_segment.specs.Segments.{fieldsOf, tableStored, lengthFor}
 use Rattle.path_segment.specs.declared.segments.PathSegment.{PathSegment}
 use Rattle.path_segment.specs.declared.segments.PathSegment.the-variants.{Line, Quad, Cubic, Arc, Fallback}
-use Rattle.path_stored.specs.Layout.{tableStored}
 use Rattle.path_bounds.specs.Calm.{farF, backF, isNear, isCalm}
 use Rattle.floats.proofs.Within.{Within}
 use Rattle.path_bounds.proofs.Arcs.{arc-short}

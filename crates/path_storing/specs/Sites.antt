@@ -11,11 +11,11 @@ use lib.Seq.{sets}
 use Rattle.answers.specs.declared.refusals.Refusal.the-variants.{RotationRange, NotFinite}
 use Rattle.floats.specs.Floats.{zeroF}
 use Rattle.commands.specs.declared.command.PathCommand.{PathCommand}
-use Rattle.path_segment.specs.Segments.{fieldsOf, lengthFor}
+use Rattle.path_segment.specs.Segments.{fieldsOf, tableStored}
 use Rattle.path_segment.specs.declared.segments.PathSegment.{PathSegment}
 use Rattle.answers.specs.Report.{written}
 use Rattle.path_stored.specs.Buffers.{Buffers, buffers}
-use Rattle.path_stored.specs.Layout.{kindsOf, fieldsOfAll, tableStored, tablesOfAll, runningOf, lengthsOfAll}
+use Rattle.path_stored.specs.Layout.{kindsOf, fieldsOfAll, tablesOfAll, runningOf, lengthsOfAll}
 use Rattle.path_drawing.specs.Drawing.{freshOf, drawOf}
 use Rattle.path_drawing.specs.Building.{lengthAfter, namedBy}
 use Rattle.path_drawing.specs.declared.pens.Pen.{Pen}
@@ -73,11 +73,6 @@ pub record Few (site : Site) : Type 0 where
   pub segments : site .segments < 65536
   pub fields : site .fields ≤ 11 * site .segments
   pub tables : site .tables ≤ 33 * site .segments
-
--- a table is stored, where the segment has one, and the segment's length is told
-pub record TableLaid (at : ℕ) (segment : PathSegment) (tables : List Float) (r : Float) (tables′ : List Float) : Type 0 where
-  pub lengthTold : r ≡ lengthFor segment
-  pub tablesAfter : tables′ ≡ sets tables at (tableStored segment)
 
 -- a site of which only the counts and the running length are asked
 abbrev pub siteAt : Float → ℕ → ℕ → ℕ → Site

@@ -5,10 +5,9 @@ use lib.ListN.{length}
 use Rattle.math.specs.declared.points.Point.{Point}
 use Rattle.commands.specs.declared.command.PathCommand.{PathCommand}
 use Rattle.commands.specs.declared.command.PathCommand.the-variants.{MoveTo, LineTo, QuadTo, CubicTo, ArcTo, ClosePath}
-use Rattle.path_segment.specs.Segments.{fieldsOf}
+use Rattle.path_segment.specs.Segments.{fieldsOf, tableStored}
 use Rattle.path_segment.specs.declared.segments.PathSegment.{PathSegment}
 use Rattle.path_segment.specs.declared.segments.PathSegment.the-variants.{Line, Quad, Cubic, Arc, Fallback}
-use Rattle.path_stored.specs.Layout.{tableStored}
 use Rattle.path_bounds.specs.Calm.{isCalm, isCalmArc}
 use Rattle.path_drawing.specs.Drawing.{drawnOf, drawOf}
 use Rattle.path_drawing.specs.declared.pens.Pen.{Pen}

@@ -6,7 +6,6 @@ ghost use Rattle.path_drawing.specs.Drawing.{drawOf};
 ghost use Rattle.path_storing.specs.Sites.{startOf};
 ghost use Rattle.path_storing.specs.Tallies.{Scant, tallyOf, stayedOf, grownOf, strokedOf, isBounded, countedOf, talliedOf};
 use crate::arc_tallies::count_arc;
-use crate::laying::table_width;
 use commands::PathCommand;
 use ellipse::Chord;
 use math::Point;
@@ -20,6 +19,7 @@ use path_drawing::fresh;
 use path_drawing::moved;
 use path_segment::PathSegment;
 use path_segment::kind;
+use path_segment::table_width;
 use path_segment::width;
 
 // A site without its running length.
@@ -134,8 +134,9 @@ fn count_any(so_far: Tally, command: PathCommand) -> Tallied
         Drawn::Moved(next) => Tallied::To(stayed(so_far, next)),
         Drawn::Segment { segment, next } => {
             if is_bounded(segment) {
-                let own = width(kind(segment));
-                let more = table_width(segment);
+                let byte = kind(segment);
+                let own = width(byte);
+                let more = table_width(byte);
                 return Tallied::To(grown(so_far, next, own, more));
             }
             Tallied::Unsure
