@@ -23,7 +23,7 @@ use Rattle.path_drawing.specs.declared.pens.Pen.{Pen}
 use Rattle.path_drawing.specs.declared.strokes.Drawn.{Drawn}
 use Rattle.path_drawing.specs.declared.strokes.Drawn.the-variants.{Moved, Segment, OutOfRange}
 use Rattle.path_drawing.proofs.Onward.{onto, Drew, drew-none, drew-all, drew-named, drew-moved, drew-segment, drew-infinite, drew-turned}
-use Rattle.path_storing.specs.Sites.{startOf, afterOf, movedOf, nextOf, judgedOf, advanceOf, drawnBy, Few}
+use Rattle.path_storing.specs.Sites.{startOf, afterOf, movedOf, nextOf, judgedOf, advanceOf, drawnBy, FewAt}
 use Rattle.path_storing.specs.declared.sites.Site.{Site}
 use Rattle.path_storing.specs.declared.sites.Advanced.{Advanced}
 use Rattle.path_storing.specs.declared.sites.Advanced.the-variants.{To, Refused}
@@ -55,7 +55,7 @@ at-none =
     }
 
 module _ (commands : List PathCommand) (done : List PathSegment) (site : Site) (k : At commands done site) where
-  pub at-few : length commands < 65536 → Few site
+  pub at-few : length commands < 65536 → FewAt site
   at-few h = record { segments = omega (arith, k .few); fields = k .fewFields; tables = k .fewTables }
 
   -- no command is left

@@ -32,7 +32,7 @@ use Rattle.path_drawing.specs.Building.{lengthAfter}
 use Rattle.path_drawing.specs.declared.pens.Pen.{Pen}
 use Rattle.path_drawing.specs.declared.strokes.Drawn.{Drawn}
 use Rattle.path_drawing.specs.declared.strokes.Drawn.the-variants.{Moved, Segment, OutOfRange}
-use Rattle.path_storing.specs.Sites.{startOf, afterOf, movedOf, judgedOf, advanceOf, Few}
+use Rattle.path_storing.specs.Sites.{startOf, afterOf, movedOf, judgedOf, advanceOf, FewAt}
 use Rattle.path_storing.specs.Tallies.{tallyOf, stayedOf, grownOf, namesCalm, isBounded, countedOf, talliedOf}
 use Rattle.path_storing.specs.declared.sites.Site.{Site}
 use Rattle.path_storing.specs.declared.sites.Advanced.the-variants as Advanced
@@ -110,7 +110,7 @@ yes false t = absurd t
 abbrev pub Foresees : Site → PathCommand → Tally → Type 0
 Foresees site command next = (further : Site) × (advanceOf site command ≡ Advanced.To further) × (tallyOf further ≡ next) × Calm further
 
-module _ (site : Site) (few : Few site) (calm : Calm site) (command : PathCommand) (next : Tally) where
+module _ (site : Site) (few : FewAt site) (calm : Calm site) (command : PathCommand) (next : Tally) where
   moves : (pen : Pen) → CalmPen pen → drawOf (site .pen) command ≡ Moved pen → stayedOf (tallyOf site) pen ≡ next → Foresees site command next
   unfolding advanceOf judgedOf movedOf tallyOf
   moves pen p d e = (movedOf site pen, ap (judgedOf site) d, e, record { pen = p; length = calm .length })

@@ -69,10 +69,13 @@ drawnBy (Segment segment next) = segment ∷ []
 drawnBy OutOfRange = []
 
 -- there are so few segments that every count fits; a segment has at most 11 numbers, its table 33
-pub record Few (site : Site) : Type 0 where
-  pub segments : site .segments < 65536
-  pub fields : site .fields ≤ 11 * site .segments
-  pub tables : site .tables ≤ 33 * site .segments
+pub record Few (m n k : ℕ) : Type 0 where
+  pub segments : m < 65536
+  pub fields : n ≤ 11 * m
+  pub tables : k ≤ 33 * m
+
+abbrev pub FewAt : Site → Type 0
+FewAt site = Few (site .segments) (site .fields) (site .tables)
 
 -- a site of which only the counts and the running length are asked
 abbrev pub siteAt : Float → ℕ → ℕ → ℕ → Site

@@ -1,5 +1,5 @@
 -- What is counted of a path before anything is stored, with no length measured. That such a count is what judging every length comes to is a law. Definitions only.
-use Prim.Native.Nat.{ℕ, _+_, _*_, _≤_, _<_}
+use Prim.Native.Nat.{ℕ, _+_}
 use mathlib.Core.Bool.{Bool, true, _&&_, cond}
 use lib.ListN.{length}
 use Rattle.math.specs.declared.points.Point.{Point}
@@ -14,6 +14,7 @@ use Rattle.path_drawing.specs.declared.pens.Pen.{Pen}
 use Rattle.path_drawing.specs.declared.strokes.Drawn.{Drawn}
 use Rattle.path_drawing.specs.declared.strokes.Drawn.the-variants.{Moved, Segment, OutOfRange}
 use Rattle.path_storing.specs.declared.sites.Site.{Site}
+use Rattle.path_storing.specs.Sites.{Few}
 use Rattle.path_storing.specs.declared.tallies.Tally.{Tally}
 use Rattle.path_storing.specs.declared.tallies.Tallied.{Tallied}
 use Rattle.path_storing.specs.declared.tallies.Tallied.the-variants.{To, Unsure}
@@ -22,11 +23,9 @@ use Rattle.path_storing.specs.declared.tallies.Tallied.the-variants.{To,
 unfoldable pub tallyOf : Site → Tally
 tallyOf site = record { pen = site .pen; segments = site .segments; fields = site .fields; tables = site .tables }
 
--- there are so few segments that every count fits
-pub record Scant (tally : Tally) : Type 0 where
-  pub segments : tally .segments < 65536
-  pub fields : tally .fields ≤ 11 * tally .segments
-  pub tables : tally .tables ≤ 33 * tally .segments
+-- it has so few segments that every count fits
+abbrev pub FewIn : Tally → Type 0
+FewIn tally = Few (tally .segments) (tally .fields) (tally .tables)
 
 -- after a command that draws no segment, and after one of so many numbers
 abbrev pub stayedOf : Tally → Pen → Tally

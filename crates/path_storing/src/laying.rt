@@ -4,7 +4,7 @@ ghost use Rattle.path_stored.specs.Buffers.{after, before, lent};
 ghost use Rattle.path_drawing.specs.Drawing.{freshOf, drawOf};
 ghost use Rattle.path_drawing.specs.Building.{lengthAfter};
 ghost use Rattle.path_drawing.specs.declared.strokes.Drawn.the-variants.{Segment};
-ghost use Rattle.path_storing.specs.Sites.{Few, siteAt, Room, SegmentLaid, Laid, afterOf, movedOf, advanceOf};
+ghost use Rattle.path_storing.specs.Sites.{FewAt, siteAt, Room, SegmentLaid, Laid, afterOf, movedOf, advanceOf};
 use crate::direct::line_to;
 use crate::sites::Advanced;
 use crate::sites::Site;
@@ -25,7 +25,7 @@ use path_segment::width;
 
 // The site after a segment, where `length` is the running length up to its end.
 fn after(site: Site, segment: PathSegment, length: f32, pen: Pen) -> Site
-    requires { ⌜ Few site × (length ≡ lengthAfter (site .length) segment) ⌝ }
+    requires { ⌜ FewAt site × (length ≡ lengthAfter (site .length) segment) ⌝ }
     ensures { λ r. ⌜ r ≡ afterOf site segment pen ⌝ }
 {
     let byte = kind(segment);
@@ -55,7 +55,7 @@ pub(crate) fn moved(site: Site, pen: Pen) -> Site
 
 // Judges a command at a site and counts what it stores.
 pub fn advance(site: Site, command: PathCommand) -> Advanced
-    requires { ⌜ Few site ⌝ }
+    requires { ⌜ FewAt site ⌝ }
     ensures { λ r. ⌜ r ≡ advanceOf site command ⌝ }
 {
     let pen = site.pen;
@@ -110,7 +110,7 @@ fn lay_segment(
     lengths: &mut [f32],
     commands: &mut [u32],
 ) -> Site
-    requires { ⌜ Few site × Room site (Segment segment pen) (lent kinds fields tables lengths commands) ⌝ }
+    requires { ⌜ FewAt site × Room site (Segment segment pen) (lent kinds fields tables lengths commands) ⌝ }
     ensures { λ r. ⌜ Laid site number (Segment segment pen) (before kinds fields tables lengths commands) r (after kinds fields tables lengths commands) ⌝ }
 {
     let length = store_segment(
@@ -140,7 +140,7 @@ pub fn lay_any(
     lengths: &mut [f32],
     commands: &mut [u32],
 ) -> Site
-    requires { ⌜ Few site × Room site (drawOf (site .pen) command) (lent kinds fields tables lengths commands) ⌝ }
+    requires { ⌜ FewAt site × Room site (drawOf (site .pen) command) (lent kinds fields tables lengths commands) ⌝ }
     ensures { λ r. ⌜ Laid site number (drawOf (site .pen) command) (before kinds fields tables lengths commands) r (after kinds fields tables lengths commands) ⌝ }
 {
     let pen = site.pen;
@@ -175,7 +175,7 @@ pub fn lay(
     lengths: &mut [f32],
     commands: &mut [u32],
 ) -> Site
-    requires { ⌜ Few site × Room site (drawOf (site .pen) command) (lent kinds fields tables lengths commands) ⌝ }
+    requires { ⌜ FewAt site × Room site (drawOf (site .pen) command) (lent kinds fields tables lengths commands) ⌝ }
     ensures { λ r. ⌜ Laid site number (drawOf (site .pen) command) (before kinds fields tables lengths commands) r (after kinds fields tables lengths commands) ⌝ }
 {
     if let PathCommand::LineTo(end) = command {
