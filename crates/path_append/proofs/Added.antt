@@ -17,13 +17,14 @@ use Rattle.answers.specs.declared.refusals.Refusal.the-variants.{NoRoom, Rotati
 use Rattle.floats.specs.Floats.{zeroF}
 use Rattle.table.specs.Spots as Spots
 use Rattle.path_segment.specs.declared.segments.PathSegment.{PathSegment}
-use Rattle.path_segment.specs.Segments.{kindOf, widthOf, tablesOf, fieldsOf, lengthFor}
+use Rattle.path_segment.specs.Segments.{kindOf, widthOf, tablesOf, fieldsOf, tableStored, lengthFor}
 use Rattle.path_segment.proofs.Reading.{fields-width}
+use Rattle.path_segment.proofs.Tables.{stored-size}
 use Rattle.path_stored.specs.Buffers.{Buffers}
-use Rattle.path_stored.specs.Layout.{tableStored, extended}
+use Rattle.path_stored.specs.Layout.{extended}
 use Rattle.path_stored.specs.Stored.{before, mostSegments, lastNumber, isStored, Stored}
 use Rattle.path_stored.proofs.Rule.{stored-rule, rule-stored}
-use Rattle.path_stored.proofs.Extending.{all-more, stored-size, stored-more}
+use Rattle.path_stored.proofs.Extending.{all-more, stored-more}
 use Rattle.path_append.specs.declared.pushing.Appended.{Appended}
 use Rattle.path_append.specs.declared.pushing.Appended.the-variants as Appended
 use Rattle.path_append.specs.Appending.{numbersUsed, tablesUsed, firstOf, inUse, numberBefore, mayFollow, mayTurn, grownOf, needsOf, hasRoom, fittingOf, appendedOf, isAdded, storedAt, afterwards, Append, Room}

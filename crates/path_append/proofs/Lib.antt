@@ -1,5 +1,5 @@
 -- Laws of appending.
 pub mod InUse
 pub mod Fitting
-pub mod Own
+pub mod Grown
 pub mod Added

@@ -20,9 +20,8 @@ use Rattle.ellipse.specs.Ends.{fromEndsOf}
 use Rattle.arc.specs.Arcs.{isFallback, fallbackShape}
 use Rattle.path_segment.specs.declared.segments.PathSegment.{PathSegment}
 use Rattle.path_segment.specs.declared.segments.PathSegment.the-variants as Segment
-use Rattle.path_segment.specs.Segments.{kindOf, widthOf, tablesOf, fieldsOf, lengthFor}
+use Rattle.path_segment.specs.Segments.{kindOf, widthOf, tablesOf, fieldsOf, tableStored, lengthFor}
 use Rattle.path_stored.specs.Buffers.{Buffers, buffers}
-use Rattle.path_stored.specs.Layout.{tableStored}
 use Rattle.path_stored.specs.Stored.{before, mostSegments, isStored}
 use Rattle.path_append.specs.declared.pushing.Appended.{Appended}
 use Rattle.path_append.specs.declared.pushing.Appended.the-variants as Appended
@@ -134,11 +133,6 @@ pub record Room (b : Buffers) (count : ℕ) (segment : PathSegment) : Type 0 whe
   pub forTable : tablesUsed (b .kinds) count + 33 * tablesOf (kindOf segment) ≤ length (b .tables)
   pub forLength : count < length (b .lengths)
   pub forCommand : count < length (b .commands)
-
--- a table is stored, where the segment has one, and the segment's length is told
-pub record TableStored (at : ℕ) (segment : PathSegment) (tables : List Float) (r : Float) (tables′ : List Float) : Type 0 where
-  pub told : r ≡ lengthFor segment
-  pub tablesAre : tables′ ≡ sets tables at (tableStored segment)
 
 -- ---- `arc_to`: `EllipticalArc::from_svg`, a line fallback or an arc
 unfoldable pub arcSegment : Chord → PathSegment

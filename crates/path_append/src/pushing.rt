@@ -7,15 +7,14 @@ use answers::Refusal;
 use answers::Values;
 use floats::is_finite;
 use path_segment::PathSegment;
-use path_segment::has_table;
 use path_segment::kind;
 use path_segment::segment_length;
+use path_segment::table_width;
 use path_segment::width;
 use table::inner::length_before;
 ghost use mathlib.Core.Path.{_≡_};
-ghost use Prim.Native.Nat.{_*_, _≤_, _<_};
+ghost use Prim.Native.Nat.{_≤_, _<_};
 ghost use lib.ListN.{length};
-ghost use Rattle.path_segment.specs.Segments.{tablesOf};
 ghost use Rattle.path_stored.specs.Buffers.{after, before};
 ghost use Rattle.path_stored.specs.Stored.{mostSegments};
 ghost use Rattle.path_append.specs.Appending.{mayTurn, fittingOf, appendedOf, Append};
@@ -48,16 +47,6 @@ fn may_turn(segment: PathSegment) -> bool
         PathSegment::Arc(shape) => is_finite(shape.x_axis_rotation),
         PathSegment::Fallback(_) => true,
     }
-}
-
-// How many places the table of a kind takes.
-fn table_width(kind: u8) -> usize
-    ensures { λ r. ⌜ r ≡ 33 * tablesOf kind ⌝ }
-{
-    if has_table(kind) {
-        return 33;
-    }
-    0
 }
 
 // Whether the buffers have room for a segment after the first `count`, or how much they need.

@@ -3,32 +3,13 @@ use crate::used::numbers_used;
 use crate::used::tables_used;
 use floats::tidy;
 use path_segment::PathSegment;
-use path_segment::has_table;
 use path_segment::inner::put_segment;
-use path_segment::inner::put_table;
+use path_segment::inner::store_table;
 use path_segment::kind;
-use path_segment::segment_length;
-use path_segment::segment_table;
 use table::inner::length_before;
 ghost use mathlib.Core.Path.{_≡_};
-ghost use Prim.Native.Nat.{_+_, _*_, _≤_};
-ghost use lib.ListN.{length};
-ghost use Rattle.path_segment.specs.Segments.{kindOf, tablesOf};
 ghost use Rattle.path_stored.specs.Buffers.{after, before, lent};
-ghost use Rattle.path_append.specs.Appending.{Room, TableStored, storedAt};
-
-// Stores a segment's table from `at` on, where it has one, and gives the segment's length.
-fn store_table(tables: &mut [f32], at: usize, segment: PathSegment) -> f32
-    requires { ⌜ at + 33 * tablesOf (kindOf segment) ≤ length (now tables) ⌝ }
-    ensures { λ r. ⌜ TableStored at segment (now (tables .entry)) r (now (tables .exit)) ⌝ }
-{
-    if has_table(kind(segment)) {
-        let table = segment_table(segment);
-        put_table(tables, at, table);
-        return tidy(table.total);
-    }
-    segment_length(segment)
-}
+ghost use Rattle.path_append.specs.Appending.{Room, storedAt};
 
 // Stores a segment as number `count`, right after the numbers and tables of those before it.
 pub(crate) fn store(

@@ -18,8 +18,8 @@ use Rattle.path_stored.specs.Layout.{kindsOf, fieldsOfAll, tablesOfAll}
 use Rattle.path_stored.specs.Buffers.{Buffers}
 use Rattle.path_drawing.specs.Drawing.{drawOf}
 use Rattle.path_drawing.specs.Building.{Built, path, refusal, buildOf, drawersOf}
-use Rattle.path_storing.specs.Sites.{startOf, advanceOf, drawnBy, Few, Holds, Room, Laid}
-use Rattle.path_storing.specs.Tallies.{tallyOf, Scant, talliedOf}
+use Rattle.path_storing.specs.Sites.{startOf, advanceOf, drawnBy, FewAt, Holds, Room, Laid}
+use Rattle.path_storing.specs.Tallies.{tallyOf, FewIn, talliedOf}
 use Rattle.path_storing.specs.declared.sites.Site.{Site}
 use Rattle.path_storing.specs.declared.sites.Advanced.the-variants.{To, Refused}
 use Rattle.path_storing.specs.declared.tallies.Tally.{Tally}
@@ -73,7 +73,7 @@ module _ {letters : List ℕ} {numbers : List Float} {site : Site} {place at : �
       (ap builtBy (k .passed .whole ∙ ap (λ x. wellFormed (k .commands ++ x)) r ∙ ap wellFormed (append-nil (k .commands))) ∙ at-all (k .commands) (k .done) site (k .known))
 
   module _ (here : place < length letters) where
-    pub measuring-few : checkCommandsOf letters numbers ≡ accepted [] → Few site
+    pub measuring-few : checkCommandsOf letters numbers ≡ accepted [] → FewAt site
     measuring-few e = at-few (k .commands) (k .done) site (k .known) (omega (arith, formed letters numbers e .few, k .passed .count))
 
     pub measuring-bad : commandOf (getD letters place 0) (drop at numbers) ≡ Bad → ⊥
@@ -115,9 +115,9 @@ pub counted-at : (site : Site) (tally : Tally) (size : Size) → tallyOf site �
 unfolding tallyOf
 counted-at site tally size e h = subst (λ (t : Tally). Size.Counted (t .segments) (t .fields) (t .tables) ≡ size) e h
 
-pub scant-at : (site : Site) (tally : Tally) → tallyOf site ≡ tally → Few site → Scant tally
+pub few-in : (site : Site) (tally : Tally) → tallyOf site ≡ tally → FewAt site → FewIn tally
 unfolding tallyOf
-scant-at site tally e few = subst Scant e (record { segments = few .segments; fields = few .fields; tables = few .tables })
+few-in site tally e few = subst FewIn e few
 
 module _ {letters : List ℕ} {numbers : List Float} {tally : Tally} {place at : ℕ} (k : Surveying letters numbers tally place at) where
   pub surveying-inside : at ≤ length numbers
@@ -127,11 +127,11 @@ module _ {letters : List ℕ} {numbers : List Float} {tally : Tally} {place at :
   surveyed-all past = counted-at (k .site) tally (measureOf (builtBy (listed 0 letters numbers))) (k .same) (measured-all (k .measuring) past)
 
   module _ (here : place < length letters) (checked : checkCommandsOf letters numbers ≡ accepted []) where
-    few : Few (k .site)
+    few : FewAt (k .site)
     few = measuring-few (k .measuring) here checked
 
-    pub surveying-scant : Scant tally
-    surveying-scant = scant-at (k .site) tally (k .same) few
+    pub surveying-few : FewIn tally
+    surveying-few = few-in (k .site) tally (k .same) few
 
     module _ (command : PathCommand) (e : commandOf (getD letters place 0) (drop at numbers) ≡ Command command) where
       pub surveying-fits : at + length (argumentsOf command) ≤ length numbers
@@ -216,7 +216,7 @@ module _
         storing-fits = passed-fits letters numbers place at (k .commands) (k .rest) (k .passed) here command e
 
         -- what `lay` asks
-        pub storing-room : Few site × Room site (drawOf (site .pen) command) b
+        pub storing-room : FewAt site × Room site (drawOf (site .pen) command) b
         storing-room =
             let n = passed-next letters numbers place at (k .commands) (k .rest) (k .passed) here command e (length (argumentsOf command)) refl in (
               at-few (k .commands) (k .filling .done) site (k .filling .known) (omega (arith, formed letters numbers checked .few, k .passed .count)),
@@ -245,7 +245,7 @@ module _
 
       -- what `lay_at` asks
       pub storing-asks :
-          (at + strideOf (getD letters place 0) ≤ length numbers) × Few site × Room site (drawnAt (site .pen) (commandOf (getD letters place 0) (drop at numbers))) b
+          (at + strideOf (getD letters place 0) ≤ length numbers) × FewAt site × Room site (drawnAt (site .pen) (commandOf (getD letters place 0) (drop at numbers))) b
       storing-asks =
           let d = decoded in
           let r = storing-room (d .0) (d .1) in (

@@ -22,9 +22,9 @@ use Rattle.commands.specs.declared.encoding.Decoded.the-variants.{Command}
 use Rattle.commands.proofs.Decoding.{is-move, is-line, is-quad, is-cubic, is-close}
 use Rattle.commands.proofs.Listing.{listedFrom, from-next, from-end, check-few}
 use Rattle.arc.specs.Lines.{lineOf}
-use Rattle.path_segment.specs.Segments.{hasTable, tablesOf, fieldsOf}
+use Rattle.path_segment.specs.Segments.{hasTable, tablesOf, fieldsOf, tableStored}
+use Rattle.path_segment.proofs.Tables.{table-none}
 use Rattle.path_segment.specs.declared.segments.PathSegment.the-variants.{Line}
-use Rattle.path_stored.specs.Layout.{tableStored}
 use Rattle.path_bounds.specs.Calm.{isNear, isCalm}
 use Rattle.path_drawing.specs.Drawing.{movedOf, drawnOf, drawOf}
 use Rattle.path_drawing.specs.declared.pens.Pen.{Pen}
@@ -32,7 +32,6 @@ use Rattle.path_storing.specs.Sites.{startOf}
 use Rattle.path_storing.specs.Tallies.{tallyOf, stayedOf, grownOf, strokedOf, isBounded, countedOf, talliedOf}
 use Rattle.path_storing.specs.declared.tallies.Tally.{Tally}
 use Rattle.path_storing.specs.declared.tallies.Tallied.the-variants.{To}
-use Rattle.path_storing.proofs.Counts.{table-none}
 use Rattle.path_storing.proofs.Tallying.{line-tallied, quad-tallied, cubic-tallied}
 use Rattle.path_build.specs.Answers.{measureOf}
 use Rattle.path_build.specs.Paths.{builtBy, Sized}

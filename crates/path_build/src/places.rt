@@ -4,7 +4,7 @@ ghost use Prim.Native.Nat.{_+_, _≤_};
 ghost use lib.ListN.{length, drop};
 ghost use Rattle.commands.specs.Listed.{commandOf};
 ghost use Rattle.path_stored.specs.Buffers.{after, before, lent};
-ghost use Rattle.path_storing.specs.Sites.{Few, Room, Laid};
+ghost use Rattle.path_storing.specs.Sites.{FewAt, Room, Laid};
 ghost use Rattle.path_build.specs.Places.{strideOf, drawnAt};
 use commands::inner::Decoded;
 use commands::inner::decode;
@@ -43,7 +43,7 @@ pub(crate) fn lay_at(
     lengths: &mut [f32],
     commands: &mut [u32],
 ) -> Site
-    requires { ⌜ (at + strideOf letter ≤ length (now numbers)) × Few site
+    requires { ⌜ (at + strideOf letter ≤ length (now numbers)) × FewAt site
         × Room site (drawnAt (site .pen) (commandOf letter (drop at (now numbers)))) (lent kinds fields tables lengths commands) ⌝ }
     ensures { λ r. ⌜ Laid site number (drawnAt (site .pen) (commandOf letter (drop at (now (numbers .entry)))))
         (before kinds fields tables lengths commands) r (after kinds fields tables lengths commands) ⌝ }

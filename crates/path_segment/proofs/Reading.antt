@@ -1,6 +1,6 @@
 -- A stored segment is read back: its kind and its numbers settle it, and have the kind's width. Assumes nothing.
-use Prim.Native.Nat.{ℕ, _<_}
-use mathlib.Core.Path.{_≡_, refl}
+use Prim.Native.Nat.{ℕ, _≤_, _<_}
+use mathlib.Core.Path.{_≡_, refl, sym, ap, _∙_}
 use native.Mathlib.Omega.{arith}
 use mathlib.Core.List.{List, _++_}
 use lib.ListN.{length}
@@ -11,6 +11,7 @@ use Rattle.math.specs.declared.points.Point.{Point}
 use Rattle.ellipse.specs.declared.ends.Arc.{Arc}
 use Rattle.commands.specs.Listed.{pointAt}
 use Rattle.path_segment.specs.Segments.{kindOf, widthOf, fieldsOf, shapeOf, segmentOf}
+use Rattle.path_segment.proofs.Widths.{width-most}
 
 pub segment-back : (s : PathSegment) (rest : List Float) → segmentOf (kindOf s) (fieldsOf s ++ rest) ≡ s
 unfolding segmentOf
@@ -27,6 +28,13 @@ fields-width (Segment.Quad start control end) = refl
 fields-width (Segment.Cubic start control1 control2 end) = refl
 fields-width (Segment.Arc shape) = refl
 fields-width (Segment.Fallback shape) = refl
+
+pub fields-most : (s : PathSegment) → length (fieldsOf s) ≤ 11
+fields-most s = rw (fields-width s) (width-most (kindOf s))
+
+-- what `width` tells of a segment's kind
+pub fields-counted : (s : PathSegment) {n kind : ℕ} → n ≡ widthOf kind → kind ≡ kindOf s → n ≡ length (fieldsOf s)
+fields-counted s e k = e ∙ ap widthOf k ∙ sym (fields-width s)
 
 -- ---- the arms of `segment_at`
 pub fifth : (kind : ℕ) → (kind ≡ 0 → ⊥) → (kind ≡ 1 → ⊥) → (kind ≡ 2 → ⊥) → (kind ≡ 3 → ⊥) → kind < 5 → kind ≡ 4

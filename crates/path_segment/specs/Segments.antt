@@ -1,11 +1,13 @@
 -- A segment of a path and its stored form (document 01, "Stored path check"; source document 002, `PathSegment`). Coordinates, radii and lengths are `f32` values in path units,
 -- a rotation in degrees, the angles in radians. Definitions only.
 use Prim.Native.Nat.{ℕ, _+_}
+use mathlib.Core.Path.{_≡_}
 use mathlib.Core.Bool.{Bool, cond}
 use mathlib.Core.List.{List, [], _∷_, _++_}
 use lib.Dec.{eqb}
 use lib.ListN.{getD, take, drop}
 use lib.Ieee.{Float, nan}
+use lib.Seq.{sets}
 use Rattle.math.specs.declared.points.Point.{Point}
 use Rattle.table.specs.declared.tables.Table.{Table}
 use Rattle.table_samples.specs.Samples.{tableOf}
@@ -97,6 +99,10 @@ tableFor (Segment.Cubic start control1 control2 end) = tableOf (cubicSampleOf st
 tableFor (Segment.Arc shape) = tableOf (pointOn shape)
 tableFor (Segment.Fallback shape) = noTable
 
+-- the 33 numbers of its table, where a segment has one
+unfoldable pub tableStored : PathSegment → List Float
+tableStored segment = cond (hasTable (kindOf segment)) (tableNumbers (tableFor segment)) []
+
 -- "`arc_length` of an arc is its table's total (a fallback's, the line's); of `LineSegment`, length is `distance` of the ends"
 unfoldable pub lengthFor : PathSegment → Float
 lengthFor (Segment.Line line) = lineLengthOf line
@@ -104,3 +110,8 @@ lengthFor (Segment.Quad start control end) = tableOf (quadSampleOf start control
 lengthFor (Segment.Cubic start control1 control2 end) = tableOf (cubicSampleOf start control1 control2 end) .total
 lengthFor (Segment.Arc shape) = tableOf (pointOn shape) .total
 lengthFor (Segment.Fallback shape) = lineLengthOf (chordLine shape)
+
+-- a table is stored from a place on, where the segment has one, and the segment's length is told
+pub record TableStored (at : ℕ) (segment : PathSegment) (tables : List Float) (r : Float) (tables′ : List Float) : Type 0 where
+  pub lengthTold : r ≡ lengthFor segment
+  pub tablesAfter : tables′ ≡ sets tables at (tableStored segment)

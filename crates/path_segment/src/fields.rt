@@ -1,5 +1,9 @@
 // A segment's numbers and its table in the buffers of a stored path: read from a place, and stored at it.
 use crate::segments::PathSegment;
+use crate::segments::has_table;
+use crate::segments::kind;
+use crate::segments::segment_length;
+use crate::segments::segment_table;
 use arc::LineSegment;
 use commands::inner::point_at;
 use commands::inner::put_two;
@@ -12,7 +16,7 @@ ghost use mathlib.Core.List.{[]};
 ghost use Prim.Native.Nat.{_+_, _≤_, _<_};
 ghost use lib.ListN.{length, drop};
 ghost use lib.Seq.{sets};
-ghost use Rattle.path_segment.specs.Segments.{widthOf, xy, shapeFields, fieldsOf, shapeOf, segmentOf, tableNumbers, tableAt};
+ghost use Rattle.path_segment.specs.Segments.{widthOf, xy, shapeFields, fieldsOf, shapeOf, segmentOf, tableNumbers, tableAt, tableStored, TableStored};
 
 // Puts two points at four places, and touches no other.
 fn put_pair(numbers: &mut [f32], at: usize, p: Point, q: Point)
@@ -161,4 +165,17 @@ pub fn put_table(tables: &mut [f32], at: usize, table: Table)
         k += 1;
     }
     tables[at + 32] = tidy(table.total);
+}
+
+// Stores a segment's table from `at` on, where it has one, and gives the segment's length.
+pub fn store_table(tables: &mut [f32], at: usize, segment: PathSegment) -> f32
+    requires { ⌜ at + length (tableStored segment) ≤ length (now tables) ⌝ }
+    ensures { λ r. ⌜ TableStored at segment (now (tables .entry)) r (now (tables .exit)) ⌝ }
+{
+    if has_table(kind(segment)) {
+        let table = segment_table(segment);
+        put_table(tables, at, table);
+        return tidy(table.total);
+    }
+    segment_length(segment)
 }

@@ -2,4 +2,5 @@
 pub use crate::fields::put_segment;
 pub use crate::fields::put_table;
 pub use crate::fields::segment_at;
+pub use crate::fields::store_table;
 pub use crate::fields::table_at;

@@ -9,4 +9,5 @@ pub use segments::has_table;
 pub use segments::kind;
 pub use segments::segment_length;
 pub use segments::segment_table;
+pub use segments::table_width;
 pub use segments::width;

@@ -11,8 +11,9 @@ use floats::tidy;
 use math::Point;
 use table::Table;
 ghost use mathlib.Core.Path.{_≡_};
+ghost use Prim.Native.Nat.{_*_};
 ghost use Rattle.path_segment.specs.declared.segments.PathSegment.the-variants as Segment;
-ghost use Rattle.path_segment.specs.Segments.{kindOf, widthOf, hasTable, tableFor, lengthFor};
+ghost use Rattle.path_segment.specs.Segments.{kindOf, widthOf, tablesOf, hasTable, tableFor, lengthFor};
 
 // A segment with the Rust's fields without `length` and `line_fallback`, in path units; angles are in radians but for the rotation.
 // Its table stands beside it.
@@ -80,6 +81,16 @@ pub fn has_table(kind: u8) -> bool
         3 => true,
         _ => false,
     }
+}
+
+// How many numbers the table of a kind stores.
+pub fn table_width(kind: u8) -> usize
+    ensures { λ r. ⌜ r ≡ 33 * tablesOf kind ⌝ }
+{
+    if has_table(kind) {
+        return 33;
+    }
+    0
 }
 
 // The table of a segment. A line and a line fallback store none; what stands for it is not sound.

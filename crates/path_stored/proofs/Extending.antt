@@ -27,14 +27,15 @@ use Rattle.table.specs.Sound.{allFinite, climbs, lengthsAreSound, tableIsSound}
 use Rattle.table.specs.Spots.{before, pathTotal}
 use Rattle.table.proofs.Lengths.{Sound, table-sound, path-sound, total-nonneg}
 use Rattle.table_samples.specs.Samples.{lengthsOf, totalOf, tableOf}
-use Rattle.table_samples.proofs.Made.{distance-not-below, made-sound, made-count}
+use Rattle.table_samples.proofs.Made.{distance-not-below, made-sound}
 use Rattle.arc.specs.Lines.{lineLengthOf}
 use Rattle.path_segment.specs.declared.segments.PathSegment.{PathSegment}
 use Rattle.path_segment.specs.declared.segments.PathSegment.the-variants as Segment
-use Rattle.path_segment.specs.Segments.{kindOf, widthOf, tablesOf, hasTable, fieldsOf, tableAt, tableNumbers, tableFor, lengthFor}
+use Rattle.path_segment.specs.Segments.{kindOf, widthOf, tablesOf, hasTable, fieldsOf, tableAt, tableNumbers, tableFor, tableStored, lengthFor}
 use Rattle.path_segment.proofs.Reading.{fields-width}
+use Rattle.path_segment.proofs.Tables.{made-size, stored-size}
 use Rattle.path_stored.specs.Buffers.{Buffers}
-use Rattle.path_stored.specs.Layout.{kindsOf, fieldsOfAll, tableStored, tablesOfAll, runningOf, lengthsOfAll, nothing, extended, extendedBy, laidOut}
+use Rattle.path_stored.specs.Layout.{kindsOf, fieldsOfAll, tablesOfAll, runningOf, lengthsOfAll, nothing, extended, extendedBy, laidOut}
 use Rattle.path_stored.specs.Stored.{mostSegments, neverFall, lastNumber, isStored, Stored}
 use Rattle.path_stored.specs.Stored as Stored
 use Rattle.path_stored.proofs.Testing.{soundAt}
@@ -86,10 +87,6 @@ last-more xs y = go 0 xs
 made-table : (formula : Float → Point) → T (finite (tableOf formula .total)) → T (tableIsSound (tableOf formula .entries) (tableOf formula .total))
 unfolding tableOf
 made-table formula h = made-sound formula 31 h
-
-made-size : (formula : Float → Point) → length (tableOf formula .entries) ≡ 32
-unfolding tableOf
-made-size formula = made-count formula 31
 
 table-nonneg : (formula : Float → Point) → T (finite (tableOf formula .total)) → T (nonneg (tableOf formula .total))
 table-nonneg formula h = total-nonneg (table-sound (tableOf formula .entries) (tableOf formula .total) (made-table formula h))
@@ -152,17 +149,6 @@ module _ (xs : List Float) (count : ℕ) (size : length xs ≡ 33 * count) where
   new-table (Segment.Cubic start control1 control2 end) h n below past = added _ n h below past
   new-table (Segment.Arc shape) h n below past = added _ n h below past
   new-table (Segment.Fallback shape) h n below past = absurd (omega arith)
-
-numbers-size : (formula : Float → Point) → length (tableNumbers (tableOf formula)) ≡ 33
-numbers-size formula = length-append (tableOf formula .entries) (tableOf formula .total ∷ []) ∙ ap (λ n. n + 1) (made-size formula)
-
-pub stored-size : (segment : PathSegment) → length (tableStored segment) ≡ 33 * tablesOf (kindOf segment)
-unfolding tablesOf hasTable tableStored tableFor
-stored-size (Segment.Line line) = refl
-stored-size (Segment.Quad start control end) = numbers-size _
-stored-size (Segment.Cubic start control1 control2 end) = numbers-size _
-stored-size (Segment.Arc shape) = numbers-size _
-stored-size (Segment.Fallback shape) = refl
 
 -- ---- one segment more
 

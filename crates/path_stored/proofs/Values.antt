@@ -14,8 +14,8 @@ use Rattle.bezier.specs.Cubics.{cubicSampleOf}
 use Rattle.ellipse.specs.Shape.{pointOn}
 use Rattle.path_segment.specs.declared.segments.PathSegment.{PathSegment}
 use Rattle.path_segment.specs.declared.segments.PathSegment.the-variants as Segment
-use Rattle.path_segment.specs.Segments.{tablesOf, hasTable, tableFor, tableNumbers, lengthFor}
-use Rattle.path_stored.specs.Layout.{tableStored, tablesOfAll, runningOf, lengthsOfAll}
+use Rattle.path_segment.specs.Segments.{tablesOf, hasTable, tableFor, tableNumbers, tableStored, lengthFor}
+use Rattle.path_stored.specs.Layout.{tablesOfAll, runningOf, lengthsOfAll}
 
 -- each number of a list is an f32 value
 abbrev pub F32s : List Float → Type 0

@@ -1,13 +1,12 @@
 -- A list of segments in the five buffers of a stored path (document 01, "Lengths, tables and lookup"; document 02, L5): the kinds, the numbers, the tables and the running lengths, in path
 -- units, and the numbers of the commands that made them, which are told beside the segments. Definitions only.
 use Prim.Native.Nat.{ℕ}
-use mathlib.Core.Bool.{cond}
 use mathlib.Core.List.{List, [], _∷_, _++_}
 use lib.Ieee.{Float, binary32, add}
 use Rattle.floats.specs.Floats.{zeroF}
 use Rattle.table.specs.Spots.{pathTotal}
 use Rattle.path_segment.specs.declared.segments.PathSegment.{PathSegment}
-use Rattle.path_segment.specs.Segments.{kindOf, fieldsOf, hasTable, tableFor, tableNumbers, lengthFor}
+use Rattle.path_segment.specs.Segments.{kindOf, fieldsOf, tableStored, lengthFor}
 use Rattle.path_stored.specs.Buffers.{Buffers, buffers}
 
 -- a byte each
@@ -20,10 +19,7 @@ unfoldable pub fieldsOfAll : List PathSegment → List Float
 fieldsOfAll [] = []
 fieldsOfAll (segment ∷ segments) = fieldsOf segment ++ fieldsOfAll segments
 
--- the 33 numbers of its table, where a segment has one
-unfoldable pub tableStored : PathSegment → List Float
-tableStored segment = cond (hasTable (kindOf segment)) (tableNumbers (tableFor segment)) []
-
+-- the 33 numbers of each table, where a segment has one
 unfoldable pub tablesOfAll : List PathSegment → List Float
 unfolding tableStored
 tablesOfAll [] = []

@@ -12,20 +12,21 @@ use Rattle.answers.specs.declared.refusals.Refusal.{Refusal}
 use Rattle.answers.specs.declared.refusals.Refusal.the-variants.{RotationRange, NotFinite}
 use Rattle.floats.specs.Floats.{zeroF}
 use Rattle.commands.specs.declared.command.PathCommand.{PathCommand}
-use Rattle.path_segment.specs.Segments.{kindOf, fieldsOf}
+use Rattle.path_segment.specs.Segments.{kindOf, fieldsOf, tableStored}
+use Rattle.path_segment.proofs.Reading.{fields-most}
+use Rattle.path_segment.proofs.Tables.{table-most}
 use Rattle.path_segment.specs.declared.segments.PathSegment.{PathSegment}
-use Rattle.path_stored.specs.Layout.{kindsOf, fieldsOfAll, tableStored, tablesOfAll}
+use Rattle.path_stored.specs.Layout.{kindsOf, fieldsOfAll, tablesOfAll}
 use Rattle.path_drawing.specs.Drawing.{drawOf}
 use Rattle.path_drawing.specs.Building.{Built, path, refusal, lengthAfter, buildFrom, buildOf, namedBy, drawersOf}
 use Rattle.path_drawing.specs.declared.pens.Pen.{Pen}
 use Rattle.path_drawing.specs.declared.strokes.Drawn.{Drawn}
 use Rattle.path_drawing.specs.declared.strokes.Drawn.the-variants.{Moved, Segment, OutOfRange}
 use Rattle.path_drawing.proofs.Onward.{onto, Drew, drew-none, drew-all, drew-named, drew-moved, drew-segment, drew-infinite, drew-turned}
-use Rattle.path_storing.specs.Sites.{startOf, afterOf, movedOf, nextOf, judgedOf, advanceOf, drawnBy, Few}
+use Rattle.path_storing.specs.Sites.{startOf, afterOf, movedOf, nextOf, judgedOf, advanceOf, drawnBy, FewAt}
 use Rattle.path_storing.specs.declared.sites.Site.{Site}
 use Rattle.path_storing.specs.declared.sites.Advanced.{Advanced}
 use Rattle.path_storing.specs.declared.sites.Advanced.the-variants.{To, Refused}
-use Rattle.path_storing.proofs.Counts.{fields-most, table-most}
 use Rattle.path_storing.proofs.Layouts.{kinds-append, fields-append, tables-append, endOf, end-append}
 
 -- after some commands, which drew some segments, the site is this
@@ -54,7 +55,7 @@ at-none =
     }
 
 module _ (commands : List PathCommand) (done : List PathSegment) (site : Site) (k : At commands done site) where
-  pub at-few : length commands < 65536 → Few site
+  pub at-few : length commands < 65536 → FewAt site
   at-few h = record { segments = omega (arith, k .few); fields = k .fewFields; tables = k .fewTables }
 
   -- no command is left

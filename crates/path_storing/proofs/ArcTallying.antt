@@ -6,6 +6,7 @@ use Rattle.ellipse.specs.declared.ends.Chord.{Chord}
 use Rattle.ellipse.specs.Ends.{fromEndsOf}
 use Rattle.arc.specs.Arcs.{fallbackShape}
 use Rattle.path_segment.specs.Segments.{hasTable, tablesOf}
+use Rattle.path_segment.proofs.Tables.{table-some, table-none}
 use Rattle.path_segment.specs.declared.segments.PathSegment.the-variants.{Arc, Fallback}
 use Rattle.path_bounds.specs.Calm.{isCalmArc}
 use Rattle.path_drawing.specs.declared.pens.Pen.{Pen}
@@ -13,7 +14,6 @@ use Rattle.path_drawing.specs.declared.strokes.Drawn.the-variants.{Segment}
 use Rattle.path_storing.specs.Tallies.{grownOf, countedOf}
 use Rattle.path_storing.specs.declared.tallies.Tally.{Tally}
 use Rattle.path_storing.specs.declared.tallies.Tallied.the-variants.{To}
-use Rattle.path_storing.proofs.Counts.{table-some, table-none}
 
 module _ (tally : Tally) (chord : Chord) (next : Pen) where
   pub fallback-counted : To (grownOf tally next 11 0) ≡ countedOf tally (Segment (Fallback (fallbackShape chord)) next)

@@ -19,10 +19,9 @@ use Rattle.ellipse.specs.declared.ends.Chord.{Chord}
 use Rattle.ellipse.specs.Ends.{fromEndsOf}
 use Rattle.arc.specs.Lines.{lineOf}
 use Rattle.arc.specs.Arcs.{isFallback, fallbackShape}
-use Rattle.path_segment.specs.Segments.{fieldsOf, lengthFor}
+use Rattle.path_segment.specs.Segments.{fieldsOf, tableStored, lengthFor}
 use Rattle.path_segment.specs.declared.segments.PathSegment.{PathSegment}
 use Rattle.path_segment.specs.declared.segments.PathSegment.the-variants.{Line, Quad, Cubic, Arc, Fallback}
-use Rattle.path_stored.specs.Layout.{tableStored}
 use Rattle.path_bounds.specs.Calm.{farF, backF, isNear, isCalm}
 use Rattle.floats.proofs.Within.{Within}
 use Rattle.path_bounds.proofs.Arcs.{arc-short}
@@ -33,7 +32,7 @@ use Rattle.path_drawing.specs.Building.{lengthAfter}
 use Rattle.path_drawing.specs.declared.pens.Pen.{Pen}
 use Rattle.path_drawing.specs.declared.strokes.Drawn.{Drawn}
 use Rattle.path_drawing.specs.declared.strokes.Drawn.the-variants.{Moved, Segment, OutOfRange}
-use Rattle.path_storing.specs.Sites.{startOf, afterOf, movedOf, judgedOf, advanceOf, Few}
+use Rattle.path_storing.specs.Sites.{startOf, afterOf, movedOf, judgedOf, advanceOf, FewAt}
 use Rattle.path_storing.specs.Tallies.{tallyOf, stayedOf, grownOf, namesCalm, isBounded, countedOf, talliedOf}
 use Rattle.path_storing.specs.declared.sites.Site.{Site}
 use Rattle.path_storing.specs.declared.sites.Advanced.the-variants as Advanced
@@ -111,7 +110,7 @@ yes false t = absurd t
 abbrev pub Foresees : Site → PathCommand → Tally → Type 0
 Foresees site command next = (further : Site) × (advanceOf site command ≡ Advanced.To further) × (tallyOf further ≡ next) × Calm further
 
-module _ (site : Site) (few : Few site) (calm : Calm site) (command : PathCommand) (next : Tally) where
+module _ (site : Site) (few : FewAt site) (calm : Calm site) (command : PathCommand) (next : Tally) where
   moves : (pen : Pen) → CalmPen pen → drawOf (site .pen) command ≡ Moved pen → stayedOf (tallyOf site) pen ≡ next → Foresees site command next
   unfolding advanceOf judgedOf movedOf tallyOf
   moves pen p d e = (movedOf site pen, ap (judgedOf site) d, e, record { pen = p; length = calm .length })

@@ -13,24 +13,23 @@ use Rattle.answers.specs.declared.refusals.Refusal.the-variants.{NotFinite}
 use Rattle.math.specs.declared.points.Point.{Point}
 use Rattle.commands.specs.declared.command.PathCommand.{PathCommand}
 use Rattle.commands.specs.declared.command.PathCommand.the-variants.{LineTo, QuadTo, CubicTo}
-use Rattle.table.specs.declared.tables.Table.{Table}
 use Rattle.arc.specs.declared.lines.LineSegment.{LineSegment}
 use Rattle.arc.specs.Lines.{lineOf, lineLengthOf}
-use Rattle.path_segment.specs.Segments.{kindOf, hasTable, tablesOf, fieldsOf, tableFor, tableNumbers, lengthFor}
+use Rattle.path_segment.specs.Segments.{kindOf, hasTable, tablesOf, fieldsOf, tableStored, lengthFor}
+use Rattle.path_segment.proofs.Tables.{table-some, table-none}
 use Rattle.path_segment.specs.declared.segments.PathSegment.{PathSegment}
 use Rattle.path_segment.specs.declared.segments.PathSegment.the-variants.{Line, Quad, Cubic}
 use Rattle.path_stored.specs.Buffers.{Buffers, buffers}
 use Rattle.path_stored.proofs.Buffers.{buffers-are}
-use Rattle.path_stored.specs.Layout.{kindsOf, fieldsOfAll, tableStored, tablesOfAll, runningOf}
+use Rattle.path_stored.specs.Layout.{kindsOf, fieldsOfAll, tablesOfAll, runningOf}
 use Rattle.path_drawing.specs.Drawing.{drawnOf, drawOf}
 use Rattle.path_drawing.specs.Building.{lengthAfter, namedBy}
 use Rattle.path_drawing.specs.declared.pens.Pen.{Pen}
 use Rattle.path_drawing.specs.declared.strokes.Drawn.{Drawn}
 use Rattle.path_drawing.specs.declared.strokes.Drawn.the-variants.{Moved, Segment, OutOfRange}
-use Rattle.path_storing.specs.Sites.{afterOf, movedOf, nextOf, judgedOf, advanceOf, drawnBy, TableLaid, siteAt, Room, SegmentLaid, Laid}
+use Rattle.path_storing.specs.Sites.{afterOf, movedOf, nextOf, judgedOf, advanceOf, drawnBy, siteAt, Room, SegmentLaid, Laid}
 use Rattle.path_storing.specs.declared.sites.Site.{Site}
 use Rattle.path_storing.specs.declared.sites.Advanced.the-variants.{To, Refused}
-use Rattle.path_storing.proofs.Counts.{stored-some, table-some, table-none, total-is}
 
 -- ---- judged
 
@@ -44,20 +43,6 @@ module _ (site : Site) (command : PathCommand) (segment : PathSegment) (pen : Pe
   not-finite f = sym (ap (judgedOf site) e ∙ (let h : finite (lengthAfter (site .length) segment) ≡ false = ap finite (sym l) ∙ f in rw h))
 
 -- ---- stored
-
-module _ (at : ℕ) (segment : PathSegment) (tables : List Float) (r : Float) (own : ℕ) (has : Bool) (e : own ≡ kindOf segment) (f : has ≡ hasTable own) where
-  told : (b : Bool) → has ≡ b → hasTable (kindOf segment) ≡ b
-  told b g = ap hasTable (sym e) ∙ sym f ∙ g
-
-  pub table-laid : (table : Table) (tables′ : List Float) → has ≡ true → table ≡ tableFor segment → tables′ ≡ sets tables at (tableNumbers table) → r ≡ table .total → TableLaid at segment tables r tables′
-  table-laid table tables′ g h i j =
-      record {
-        lengthTold = j ∙ ap (λ t. t .total) h ∙ total-is segment (told true g);
-        tablesAfter = i ∙ ap (λ t. sets tables at (tableNumbers t)) h ∙ ap (sets tables at) (sym (stored-some segment (told true g)));
-      }
-
-  pub table-absent : has ≡ false → r ≡ lengthFor segment → TableLaid at segment tables r tables
-  table-absent g h = record { lengthTold = h; tablesAfter = ap (sets tables at) (sym (table-none segment (told false g))) }
 
 fields-one : (segment : PathSegment) → fieldsOfAll (segment ∷ []) ≡ fieldsOf segment
 unfolding fieldsOfAll
@@ -138,12 +123,19 @@ line-laid {site} {n} {line} {pen} {b} f h p = stored-laid (rw (p, h, no-table li
 
 -- ---- a curve, which has a table
 
+-- the site after a segment of so many numbers
+pub after-is :
+    (site : Site) (segment : PathSegment) {pen next : Pen} {l : Float} {own more : ℕ}
+    → own ≡ length (fieldsOf segment) → more ≡ length (tableStored segment) → l ≡ lengthAfter (site .length) segment → next ≡ pen
+    → _≡_ {A = Site} (record { pen = next; length = l; segments = site .segments + 1; fields = site .fields + own; tables = site .tables + more }) (afterOf site segment pen)
+unfolding afterOf
+after-is site segment f t h p = rw (p, h, f, t)
+
 curve-laid :
     {site : Site} {n : ℕ} {segment : PathSegment} {pen next : Pen} {b : Buffers} {l : Float} {b′ : Buffers} (own more : ℕ)
     → own ≡ length (fieldsOf segment) → more ≡ length (tableStored segment) → next ≡ pen → SegmentLaid (countsAt site) n segment b l b′
     → Laid site n (Segment segment pen) b (record { pen = next; length = l; segments = site .segments + 1; fields = site .fields + own; tables = site .tables + more }) b′
-unfolding afterOf
-curve-laid own more f t p k = stored-laid (rw (p, k .lengthTold, f, t)) k
+curve-laid {site} {n} {segment} own more f t p k = stored-laid (after-is site segment f t (k .lengthTold) p) k
 
 module _ {site : Site} {n : ℕ} {pen next : Pen} {b : Buffers} {l : Float} {b′ : Buffers} (start : Point) (p : next ≡ pen) where
   pub quad-laid : (control end : Point) → SegmentLaid (countsAt site) n (Quad start control end) b l b′

@@ -6,9 +6,9 @@ use native.Mathlib.Omega.{arith}
 use lib.Ieee.{Float}
 use lib.ListN.{length, length-append}
 use Rattle.floats.specs.Floats.{zeroF}
-use Rattle.path_segment.specs.Segments.{kindOf, fieldsOf}
+use Rattle.path_segment.specs.Segments.{kindOf, fieldsOf, tableStored}
 use Rattle.path_segment.specs.declared.segments.PathSegment.{PathSegment}
-use Rattle.path_stored.specs.Layout.{kindsOf, fieldsOfAll, tableStored, tablesOfAll, runningOf, lengthsOfAll}
+use Rattle.path_stored.specs.Layout.{kindsOf, fieldsOfAll, tablesOfAll, runningOf, lengthsOfAll}
 use Rattle.path_drawing.specs.Building.{lengthAfter}
 
 pub kinds-append : (a b : List PathSegment) → kindsOf (a ++ b) ≡ kindsOf a ++ kindsOf b

@@ -1,5 +1,4 @@
 -- Laws of the definitions of `specs/`.
-pub mod Counts
 pub mod Layouts
 pub mod Judged
 pub mod Along

@@ -7,21 +7,30 @@ use Rattle.math.specs.declared.points.Point.{Point}
 use Rattle.commands.specs.declared.command.PathCommand.the-variants.{LineTo, QuadTo, CubicTo}
 use Rattle.ellipse.specs.declared.ends.Arc.{Arc as Shape}
 use Rattle.arc.specs.Lines.{lineOf}
-use Rattle.path_segment.specs.Segments.{hasTable, tablesOf, fieldsOf}
+use Rattle.path_segment.specs.Segments.{hasTable, tablesOf, fieldsOf, tableStored}
+use Rattle.path_segment.proofs.Tables.{table-some, table-none}
 use Rattle.path_segment.specs.declared.segments.PathSegment.{PathSegment}
 use Rattle.path_segment.specs.declared.segments.PathSegment.the-variants.{Line, Quad, Cubic, Arc}
-use Rattle.path_stored.specs.Layout.{tableStored}
 use Rattle.path_bounds.specs.Calm.{isCalm, isCalmArc}
 use Rattle.path_drawing.specs.Drawing.{strokeOf, drawnOf, drawOf}
+use Rattle.path_drawing.specs.declared.pens.Pen.{Pen}
+use Rattle.path_drawing.specs.declared.strokes.Drawn.{Drawn}
 use Rattle.path_drawing.specs.declared.strokes.Drawn.the-variants.{Moved, Segment}
 use Rattle.path_storing.specs.Tallies.{stayedOf, grownOf, strokedOf, isBounded, countedOf, talliedOf}
 use Rattle.path_storing.specs.declared.tallies.Tally.{Tally}
 use Rattle.path_storing.specs.declared.tallies.Tallied.the-variants.{To, Unsure}
-use Rattle.path_storing.proofs.Counts.{table-some, table-none}
 
 -- an arc is judged by its numbers
 pub bounded-arc : (segment : PathSegment) (shape : Shape) → segment ≡ Arc shape → isCalmArc shape ≡ isBounded segment
 bounded-arc segment shape e = rw e
+
+-- a segment that is not long counts what it stores
+pub grown-counted :
+    (tally : Tally) {r : Tally} {drawn : Drawn} {segment : PathSegment} {next : Pen} {own more : ℕ}
+    → drawn ≡ Segment segment next → isBounded segment ≡ true → own ≡ length (fieldsOf segment) → more ≡ length (tableStored segment)
+    → r ≡ grownOf tally next own more → To r ≡ countedOf tally drawn
+unfolding countedOf
+grown-counted tally d b f t g = rw (d, b, g, f, t)
 
 -- a stroke counts what its segment stores
 module _

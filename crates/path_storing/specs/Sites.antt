@@ -11,11 +11,11 @@ use lib.Seq.{sets}
 use Rattle.answers.specs.declared.refusals.Refusal.the-variants.{RotationRange, NotFinite}
 use Rattle.floats.specs.Floats.{zeroF}
 use Rattle.commands.specs.declared.command.PathCommand.{PathCommand}
-use Rattle.path_segment.specs.Segments.{fieldsOf, lengthFor}
+use Rattle.path_segment.specs.Segments.{fieldsOf, tableStored}
 use Rattle.path_segment.specs.declared.segments.PathSegment.{PathSegment}
 use Rattle.answers.specs.Report.{written}
 use Rattle.path_stored.specs.Buffers.{Buffers, buffers}
-use Rattle.path_stored.specs.Layout.{kindsOf, fieldsOfAll, tableStored, tablesOfAll, runningOf, lengthsOfAll}
+use Rattle.path_stored.specs.Layout.{kindsOf, fieldsOfAll, tablesOfAll, runningOf, lengthsOfAll}
 use Rattle.path_drawing.specs.Drawing.{freshOf, drawOf}
 use Rattle.path_drawing.specs.Building.{lengthAfter, namedBy}
 use Rattle.path_drawing.specs.declared.pens.Pen.{Pen}
@@ -69,15 +69,13 @@ drawnBy (Segment segment next) = segment ∷ []
 drawnBy OutOfRange = []
 
 -- there are so few segments that every count fits; a segment has at most 11 numbers, its table 33
-pub record Few (site : Site) : Type 0 where
-  pub segments : site .segments < 65536
-  pub fields : site .fields ≤ 11 * site .segments
-  pub tables : site .tables ≤ 33 * site .segments
+pub record Few (m n k : ℕ) : Type 0 where
+  pub segments : m < 65536
+  pub fields : n ≤ 11 * m
+  pub tables : k ≤ 33 * m
 
--- a table is stored, where the segment has one, and the segment's length is told
-pub record TableLaid (at : ℕ) (segment : PathSegment) (tables : List Float) (r : Float) (tables′ : List Float) : Type 0 where
-  pub lengthTold : r ≡ lengthFor segment
-  pub tablesAfter : tables′ ≡ sets tables at (tableStored segment)
+abbrev pub FewAt : Site → Type 0
+FewAt site = Few (site .segments) (site .fields) (site .tables)
 
 -- a site of which only the counts and the running length are asked
 abbrev pub siteAt : Float → ℕ → ℕ → ℕ → Site

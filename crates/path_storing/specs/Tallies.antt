@@ -1,20 +1,20 @@
 -- What is counted of a path before anything is stored, with no length measured. That such a count is what judging every length comes to is a law. Definitions only.
-use Prim.Native.Nat.{ℕ, _+_, _*_, _≤_, _<_}
+use Prim.Native.Nat.{ℕ, _+_}
 use mathlib.Core.Bool.{Bool, true, _&&_, cond}
 use lib.ListN.{length}
 use Rattle.math.specs.declared.points.Point.{Point}
 use Rattle.commands.specs.declared.command.PathCommand.{PathCommand}
 use Rattle.commands.specs.declared.command.PathCommand.the-variants.{MoveTo, LineTo, QuadTo, CubicTo, ArcTo, ClosePath}
-use Rattle.path_segment.specs.Segments.{fieldsOf}
+use Rattle.path_segment.specs.Segments.{fieldsOf, tableStored}
 use Rattle.path_segment.specs.declared.segments.PathSegment.{PathSegment}
 use Rattle.path_segment.specs.declared.segments.PathSegment.the-variants.{Line, Quad, Cubic, Arc, Fallback}
-use Rattle.path_stored.specs.Layout.{tableStored}
 use Rattle.path_bounds.specs.Calm.{isCalm, isCalmArc}
 use Rattle.path_drawing.specs.Drawing.{drawnOf, drawOf}
 use Rattle.path_drawing.specs.declared.pens.Pen.{Pen}
 use Rattle.path_drawing.specs.declared.strokes.Drawn.{Drawn}
 use Rattle.path_drawing.specs.declared.strokes.Drawn.the-variants.{Moved, Segment, OutOfRange}
 use Rattle.path_storing.specs.declared.sites.Site.{Site}
+use Rattle.path_storing.specs.Sites.{Few}
 use Rattle.path_storing.specs.declared.tallies.Tally.{Tally}
 use Rattle.path_storing.specs.declared.tallies.Tallied.{Tallied}
 use Rattle.path_storing.specs.declared.tallies.Tallied.the-variants.{To, Unsure}
@@ -23,11 +23,9 @@ use Rattle.path_storing.specs.declared.tallies.Tallied.the-variants.{To,
 unfoldable pub tallyOf : Site → Tally
 tallyOf site = record { pen = site .pen; segments = site .segments; fields = site .fields; tables = site .tables }
 
--- there are so few segments that every count fits
-pub record Scant (tally : Tally) : Type 0 where
-  pub segments : tally .segments < 65536
-  pub fields : tally .fields ≤ 11 * tally .segments
-  pub tables : tally .tables ≤ 33 * tally .segments
+-- it has so few segments that every count fits
+abbrev pub FewIn : Tally → Type 0
+FewIn tally = Few (tally .segments) (tally .fields) (tally .tables)
 
 -- after a command that draws no segment, and after one of so many numbers
 abbrev pub stayedOf : Tally → Pen → Tally

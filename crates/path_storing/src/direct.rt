@@ -10,7 +10,7 @@ ghost use Rattle.path_stored.specs.Buffers.{after, before, lent};
 ghost use Rattle.path_segment.specs.declared.segments.PathSegment.the-variants.{Line};
 ghost use Rattle.path_drawing.specs.Drawing.{drawnOf, drawOf};
 ghost use Rattle.path_drawing.specs.declared.strokes.Drawn.the-variants.{Segment};
-ghost use Rattle.path_storing.specs.Sites.{Few, Room, Laid};
+ghost use Rattle.path_storing.specs.Sites.{FewAt, Room, Laid};
 use crate::laying::moved;
 use crate::laying::store_segment;
 use crate::sites::Site;
@@ -40,7 +40,7 @@ fn lay_line(
     lengths: &mut [f32],
     commands: &mut [u32],
 ) -> Site
-    requires { ⌜ Few site × Room site (Segment (Line (lineOf (site .pen .current) end)) (drawnOf (site .pen) end)) (lent kinds fields tables lengths commands) ⌝ }
+    requires { ⌜ FewAt site × Room site (Segment (Line (lineOf (site .pen .current) end)) (drawnOf (site .pen) end)) (lent kinds fields tables lengths commands) ⌝ }
     ensures { λ r. ⌜ Laid site number (Segment (Line (lineOf (site .pen .current) end)) (drawnOf (site .pen) end))
         (before kinds fields tables lengths commands) r (after kinds fields tables lengths commands) ⌝ }
 {
@@ -74,7 +74,7 @@ pub fn line_to(
     lengths: &mut [f32],
     commands: &mut [u32],
 ) -> Site
-    requires { ⌜ Few site × Room site (drawOf (site .pen) (LineTo end)) (lent kinds fields tables lengths commands) ⌝ }
+    requires { ⌜ FewAt site × Room site (drawOf (site .pen) (LineTo end)) (lent kinds fields tables lengths commands) ⌝ }
     ensures { λ r. ⌜ Laid site number (drawOf (site .pen) (LineTo end)) (before kinds fields tables lengths commands) r (after kinds fields tables lengths commands) ⌝ }
 {
     let pen = site.pen;
@@ -96,7 +96,7 @@ pub fn quad_to(
     lengths: &mut [f32],
     commands: &mut [u32],
 ) -> Site
-    requires { ⌜ Few site × Room site (drawOf (site .pen) (QuadTo control end)) (lent kinds fields tables lengths commands) ⌝ }
+    requires { ⌜ FewAt site × Room site (drawOf (site .pen) (QuadTo control end)) (lent kinds fields tables lengths commands) ⌝ }
     ensures { λ r. ⌜ Laid site number (drawOf (site .pen) (QuadTo control end)) (before kinds fields tables lengths commands) r (after kinds fields tables lengths commands) ⌝ }
 {
     let pen = site.pen;
@@ -144,7 +144,7 @@ pub fn cubic_to(
     lengths: &mut [f32],
     commands: &mut [u32],
 ) -> Site
-    requires { ⌜ Few site × Room site (drawOf (site .pen) (CubicTo control1 control2 end)) (lent kinds fields tables lengths commands) ⌝ }
+    requires { ⌜ FewAt site × Room site (drawOf (site .pen) (CubicTo control1 control2 end)) (lent kinds fields tables lengths commands) ⌝ }
     ensures { λ r. ⌜ Laid site number (drawOf (site .pen) (CubicTo control1 control2 end)) (before kinds fields tables lengths commands) r (after kinds fields tables lengths commands) ⌝ }
 {
     let pen = site.pen;

@@ -1,13 +1,10 @@
 // A command at a site: judged and counted, and then stored. The callers know that there are few segments.
 ghost use mathlib.Core.Path.{_≡_};
-ghost use Prim.Native.Nat.{_+_, _≤_};
-ghost use lib.ListN.{length};
 ghost use Rattle.path_stored.specs.Buffers.{after, before, lent};
-ghost use Rattle.path_stored.specs.Layout.{tableStored};
 ghost use Rattle.path_drawing.specs.Drawing.{freshOf, drawOf};
 ghost use Rattle.path_drawing.specs.Building.{lengthAfter};
 ghost use Rattle.path_drawing.specs.declared.strokes.Drawn.the-variants.{Segment};
-ghost use Rattle.path_storing.specs.Sites.{Few, TableLaid, siteAt, Room, SegmentLaid, Laid, afterOf, movedOf, advanceOf};
+ghost use Rattle.path_storing.specs.Sites.{FewAt, siteAt, Room, SegmentLaid, Laid, afterOf, movedOf, advanceOf};
 use crate::direct::line_to;
 use crate::sites::Advanced;
 use crate::sites::Site;
@@ -19,31 +16,21 @@ use path_drawing::Drawn;
 use path_drawing::Pen;
 use path_drawing::draw;
 use path_segment::PathSegment;
-use path_segment::has_table;
 use path_segment::inner::put_segment;
-use path_segment::inner::put_table;
+use path_segment::inner::store_table;
 use path_segment::kind;
 use path_segment::segment_length;
-use path_segment::segment_table;
+use path_segment::table_width;
 use path_segment::width;
-
-// How many numbers a segment's table stores.
-pub(crate) fn table_width(segment: PathSegment) -> usize
-    ensures { λ r. ⌜ r ≡ length (tableStored segment) ⌝ }
-{
-    if has_table(kind(segment)) {
-        return 33;
-    }
-    0
-}
 
 // The site after a segment, where `length` is the running length up to its end.
 fn after(site: Site, segment: PathSegment, length: f32, pen: Pen) -> Site
-    requires { ⌜ Few site × (length ≡ lengthAfter (site .length) segment) ⌝ }
+    requires { ⌜ FewAt site × (length ≡ lengthAfter (site .length) segment) ⌝ }
     ensures { λ r. ⌜ r ≡ afterOf site segment pen ⌝ }
 {
-    let own = width(kind(segment));
-    let more = table_width(segment);
+    let byte = kind(segment);
+    let own = width(byte);
+    let more = table_width(byte);
     Site {
         pen,
         length,
@@ -68,7 +55,7 @@ pub(crate) fn moved(site: Site, pen: Pen) -> Site
 
 // Judges a command at a site and counts what it stores.
 pub fn advance(site: Site, command: PathCommand) -> Advanced
-    requires { ⌜ Few site ⌝ }
+    requires { ⌜ FewAt site ⌝ }
     ensures { λ r. ⌜ r ≡ advanceOf site command ⌝ }
 {
     let pen = site.pen;
@@ -83,19 +70,6 @@ pub fn advance(site: Site, command: PathCommand) -> Advanced
         }
         Drawn::OutOfRange => Advanced::Refused(Refusal::RotationRange(site.segments)),
     }
-}
-
-// Stores a segment's table from `at` on, where it has one, and gives the segment's length.
-fn lay_table(tables: &mut [f32], at: usize, segment: PathSegment) -> f32
-    requires { ⌜ at + length (tableStored segment) ≤ length (now tables) ⌝ }
-    ensures { λ r. ⌜ TableLaid at segment (now (tables .entry)) r (now (tables .exit)) ⌝ }
-{
-    if has_table(kind(segment)) {
-        let table = segment_table(segment);
-        put_table(tables, at, table);
-        return tidy(table.total);
-    }
-    segment_length(segment)
 }
 
 // Stores a segment of the command with this number at places of its buffers, after the running length `passed`, and gives the running
@@ -118,7 +92,7 @@ pub(crate) fn store_segment(
 {
     kinds[place] = kind(segment);
     put_segment(fields, own, segment);
-    let length = tidy(passed + lay_table(tables, more, segment));
+    let length = tidy(passed + store_table(tables, more, segment));
     lengths[place] = length;
     commands[place] = number;
     length
@@ -136,7 +110,7 @@ fn lay_segment(
     lengths: &mut [f32],
     commands: &mut [u32],
 ) -> Site
-    requires { ⌜ Few site × Room site (Segment segment pen) (lent kinds fields tables lengths commands) ⌝ }
+    requires { ⌜ FewAt site × Room site (Segment segment pen) (lent kinds fields tables lengths commands) ⌝ }
     ensures { λ r. ⌜ Laid site number (Segment segment pen) (before kinds fields tables lengths commands) r (after kinds fields tables lengths commands) ⌝ }
 {
     let length = store_segment(
@@ -166,7 +140,7 @@ pub fn lay_any(
     lengths: &mut [f32],
     commands: &mut [u32],
 ) -> Site
-    requires { ⌜ Few site × Room site (drawOf (site .pen) command) (lent kinds fields tables lengths commands) ⌝ }
+    requires { ⌜ FewAt site × Room site (drawOf (site .pen) command) (lent kinds fields tables lengths commands) ⌝ }
     ensures { λ r. ⌜ Laid site number (drawOf (site .pen) command) (before kinds fields tables lengths commands) r (after kinds fields tables lengths commands) ⌝ }
 {
     let pen = site.pen;
@@ -201,7 +175,7 @@ pub fn lay(
     lengths: &mut [f32],
     commands: &mut [u32],
 ) -> Site
-    requires { ⌜ Few site × Room site (drawOf (site .pen) command) (lent kinds fields tables lengths commands) ⌝ }
+    requires { ⌜ FewAt site × Room site (drawOf (site .pen) command) (lent kinds fields tables lengths commands) ⌝ }
     ensures { λ r. ⌜ Laid site number (drawOf (site .pen) command) (before kinds fields tables lengths commands) r (after kinds fields tables lengths commands) ⌝ }
 {
     if let PathCommand::LineTo(end) = command {

@@ -4,9 +4,8 @@ ghost use mathlib.Core.Path.{_≡_};
 ghost use Prim.Native.Nat.{_≤_};
 ghost use Rattle.path_drawing.specs.Drawing.{drawOf};
 ghost use Rattle.path_storing.specs.Sites.{startOf};
-ghost use Rattle.path_storing.specs.Tallies.{Scant, tallyOf, stayedOf, grownOf, strokedOf, isBounded, countedOf, talliedOf};
+ghost use Rattle.path_storing.specs.Tallies.{FewIn, tallyOf, stayedOf, grownOf, strokedOf, isBounded, countedOf, talliedOf};
 use crate::arc_tallies::count_arc;
-use crate::laying::table_width;
 use commands::PathCommand;
 use ellipse::Chord;
 use math::Point;
@@ -20,6 +19,7 @@ use path_drawing::fresh;
 use path_drawing::moved;
 use path_segment::PathSegment;
 use path_segment::kind;
+use path_segment::table_width;
 use path_segment::width;
 
 // A site without its running length.
@@ -75,7 +75,7 @@ pub(crate) fn stayed(so_far: Tally, pen: Pen) -> Tally
 
 // The tally after a segment of `own` numbers and `more` in its table.
 pub(crate) fn grown(so_far: Tally, pen: Pen, own: usize, more: usize) -> Tally
-    requires { ⌜ Scant «so_far» × (own ≤ 11) × (more ≤ 33) ⌝ }
+    requires { ⌜ FewIn «so_far» × (own ≤ 11) × (more ≤ 33) ⌝ }
     ensures { λ r. ⌜ r ≡ grownOf «so_far» pen own more ⌝ }
 {
     Tally {
@@ -88,7 +88,7 @@ pub(crate) fn grown(so_far: Tally, pen: Pen, own: usize, more: usize) -> Tally
 
 // A line or a curve up to a point, where all its points are calm.
 fn stroked(so_far: Tally, calm: bool, end: Point, own: usize, more: usize) -> Tallied
-    requires { ⌜ Scant «so_far» × (own ≤ 11) × (more ≤ 33) ⌝ }
+    requires { ⌜ FewIn «so_far» × (own ≤ 11) × (more ≤ 33) ⌝ }
     ensures { λ r. ⌜ r ≡ strokedOf «so_far» calm end own more ⌝ }
 {
     if calm {
@@ -126,7 +126,7 @@ fn is_bounded(segment: PathSegment) -> bool
 
 // What any command draws, where it names calm points.
 fn count_any(so_far: Tally, command: PathCommand) -> Tallied
-    requires { ⌜ Scant «so_far» ⌝ }
+    requires { ⌜ FewIn «so_far» ⌝ }
     ensures { λ r. ⌜ r ≡ countedOf «so_far» (drawOf («so_far» .pen) command) ⌝ }
 {
     let pen = so_far.pen;
@@ -134,8 +134,9 @@ fn count_any(so_far: Tally, command: PathCommand) -> Tallied
         Drawn::Moved(next) => Tallied::To(stayed(so_far, next)),
         Drawn::Segment { segment, next } => {
             if is_bounded(segment) {
-                let own = width(kind(segment));
-                let more = table_width(segment);
+                let byte = kind(segment);
+                let own = width(byte);
+                let more = table_width(byte);
                 return Tallied::To(grown(so_far, next, own, more));
             }
             Tallied::Unsure
@@ -146,7 +147,7 @@ fn count_any(so_far: Tally, command: PathCommand) -> Tallied
 
 // Counts what a command stores.
 pub fn count(so_far: Tally, command: PathCommand) -> Tallied
-    requires { ⌜ Scant «so_far» ⌝ }
+    requires { ⌜ FewIn «so_far» ⌝ }
     ensures { λ r. ⌜ r ≡ talliedOf «so_far» command ⌝ }
 {
     match command {

@@ -17,8 +17,8 @@ use Rattle.svg_step.proofs.Ahead.{step-ahead}
 use Rattle.svg.proofs.PassLaws.{onto as ontoCommands, Known, known-none, known-all, known-refused, known-more}
 use Rattle.path_drawing.specs.Drawing.{drawOf}
 use Rattle.path_drawing.specs.Building.{Built, path, refusal, buildOf}
-use Rattle.path_storing.specs.Sites.{startOf, advanceOf, drawnBy, Few, Room, Laid}
-use Rattle.path_storing.specs.Tallies.{tallyOf, Scant, talliedOf}
+use Rattle.path_storing.specs.Sites.{startOf, advanceOf, drawnBy, FewAt, Room, Laid}
+use Rattle.path_storing.specs.Tallies.{tallyOf, FewIn, talliedOf}
 use Rattle.path_storing.specs.declared.sites.Site.{Site}
 use Rattle.path_storing.specs.declared.sites.Advanced.the-variants.{To, Refused}
 use Rattle.path_storing.specs.declared.tallies.Tally.{Tally}
@@ -28,7 +28,7 @@ use Rattle.path_storing.proofs.Filling.{Filling, filling-none, filling-more, ro
 use Rattle.path_storing.proofs.Foreseen.{Calm, calm-start, foreseen}
 use Rattle.path_build.specs.Answers.{measureOf, Holding, Filled}
 use Rattle.path_build.specs.declared.sizes.Size.the-variants as Size
-use Rattle.path_build.proofs.Along.{counts-are, counted-at, scant-at, Holdable, holdable, filled-is}
+use Rattle.path_build.proofs.Along.{counts-are, counted-at, few-in, Holdable, holdable, filled-is}
 use Rattle.path_text.specs.Builds.{builtFrom, drawersIn}
 
 -- the rest of a text whose first commands are known
@@ -61,7 +61,7 @@ module _ {text : List ℕ} {reader : Reader} {site : Site} (k : Measuring text r
     more : Known text next (k .passed ++ (command ∷ []))
     more = known-more text reader (k .passed) (k .known) command next e
 
-    pub measuring-few : length text ≤ 65536 → Few site
+    pub measuring-few : length text ≤ 65536 → FewAt site
     measuring-few h = at-few (k .passed) (k .done) site (k .drawn) (omega (arith, step-ahead text reader next command e, k .few))
 
     pub measured-unbuilt : (reason : Refusal) → advanceOf site command ≡ Refused reason → (list : List PathCommand) → commandsOf text ≡ commands list → buildOf list ≡ refusal reason
@@ -95,11 +95,11 @@ module _ {text : List ℕ} {reader : Reader} {tally : Tally} (k : Surveying text
   surveyed-all e = counted-at (k .site) tally (measureOf (builtFrom (commandsOf text))) (k .same) (measured-all (k .measuring) e)
 
   module _ (command : PathCommand) (next : Reader) (e : readStepOf text reader ≡ Command command next) (short : length text ≤ 65536) where
-    few : Few (k .site)
+    few : FewAt (k .site)
     few = measuring-few (k .measuring) command next e short
 
-    pub surveying-scant : Scant tally
-    surveying-scant = scant-at (k .site) tally (k .same) few
+    pub surveying-few : FewIn tally
+    surveying-few = few-in (k .site) tally (k .same) few
 
     pub surveying-more : (further : Tally) → talliedOf tally command ≡ Tallied.To further → Surveying text next further
     surveying-more further a =
@@ -168,7 +168,7 @@ module _ {text : List ℕ} {reader : Reader} {site : Site} {number : ℕ} {b₀ 
     ahead = whole (k .passed ++ (command ∷ [])) next (known-more text reader (k .passed) (k .known) command next e)
 
     -- what `lay` asks
-    pub storing-room : length text ≤ 65536 → Few site × Room site (drawOf (site .pen) command) b
+    pub storing-room : length text ≤ 65536 → FewAt site × Room site (drawOf (site .pen) command) b
     storing-room few = (
       at-few (k .passed) (k .filling .done) site (k .filling .known) (omega (arith, step-ahead text reader next command e, k .few)),
       roomed (k .filling) (h .holds) command (ahead .0) (ahead .1),

@@ -16,8 +16,8 @@ use Rattle.lengths.specs.Length.{squareSumOf, narrowOf, lengthOf as lengthOf-of
 use Rattle.math.specs.Math.{lerpOf, originF, addOf, subOf, scaleOf, lengthOf, distanceOf, normalizeOf, lerpPointOf}
 use Rattle.table.specs.Lookup.{firstNotBelow, targetOf, shareOf, markOf as markOf-of-table-lookup, rawInPart, rawAt, rawOf}
 use Rattle.table.specs.Spots.{before as before-of-table-spots, pathTotal, spotAt, spotOf}
-use Rattle.path_segment.specs.Segments.{widthOf, tablesOf, hasTable, segmentOf, tableFor, lengthFor}
-use Rattle.path_stored.specs.Layout.{kindsOf, fieldsOfAll, tableStored, tablesOfAll, runningOf, lengthsOfAll}
+use Rattle.path_segment.specs.Segments.{widthOf, tablesOf, hasTable, segmentOf, tableFor, tableStored, lengthFor}
+use Rattle.path_stored.specs.Layout.{kindsOf, fieldsOfAll, tablesOfAll, runningOf, lengthsOfAll}
 use Rattle.path_stored.specs.Stored.{before as before-of-stored-stored, areKnown, tablesAreSound, isStored, segmentIn, tableIn}
 use Rattle.commands.specs.Stored.{lettersOf, numbersOf}
 use Rattle.svg_group.specs.Groups.{readMoveOf, readLineOf, readHorizontalOf, readVerticalOf, readCubicOf, readQuadOf, readArcOf, readGroupOf}

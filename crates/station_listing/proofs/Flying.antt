@@ -18,8 +18,10 @@ use Rattle.commands.specs.Stored.{argumentsOf, lettersOf, numbersOf}
 use Rattle.commands.specs.declared.command.PathCommand.{PathCommand}
 use Rattle.commands.specs.declared.command.PathCommand.the-variants.{MoveTo, LineTo, QuadTo, CubicTo, ArcTo, ClosePath}
 use Rattle.path_segment.specs.declared.segments.PathSegment.{PathSegment}
-use Rattle.path_segment.specs.Segments.{fieldsOf}
-use Rattle.path_stored.specs.Layout.{kindsOf, fieldsOfAll, tableStored, tablesOfAll, lengthsOfAll}
+use Rattle.path_segment.specs.Segments.{fieldsOf, tableStored}
+use Rattle.path_segment.proofs.Reading.{fields-most}
+use Rattle.path_segment.proofs.Tables.{table-most}
+use Rattle.path_stored.specs.Layout.{kindsOf, fieldsOfAll, tablesOfAll, lengthsOfAll}
 use Rattle.path_drawing.specs.Drawing.{freshOf, drawOf}
 use Rattle.path_drawing.specs.Building.{Built, path, refusal, prepend, lengthAfter, follow, buildFrom, buildOf}
 use Rattle.path_drawing.specs.declared.pens.Pen.{Pen}
@@ -28,7 +30,6 @@ use Rattle.path_drawing.specs.declared.strokes.Drawn.the-variants.{Moved, Segme
 use Rattle.path_build.specs.Answers.{isShort, countsOf, values, roomed, answered}
 use Rattle.path_build.specs.Paths.{buildPathOf}
 use Rattle.path_build.specs.declared.sizes.Counts.{Counts}
-use Rattle.path_storing.proofs.Counts.{fields-most, table-most}
 use Rattle.path_storing.proofs.Layouts.{lengths-count}
 use Rattle.station_commands.proofs.PlanLaws.{letters-count}
 

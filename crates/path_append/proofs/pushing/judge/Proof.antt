@@ -1,5 +1,5 @@
 -- `path_append::judge` meets its contract: each way out is a case of `appendedOf`. Assumes nothing.
-use Rattle.path_append.proofs.Own.{grown-is}
+use Rattle.path_append.proofs.Grown.{grown-is}
 use Rattle.path_append.proofs.InUse.{Whole, follow-whole}
 use Rattle.path_append.specs.Appending.{mayFollow, mayTurn, grownOf, appendedOf}
 use Rattle.path_stored.specs.Buffers.{Buffers, lent}

@@ -5,7 +5,7 @@ use Prim.Native.Nat.{_-_}
 use mathlib.Core.Path.{sym, ap, _∙_}
 use native.Mathlib.Omega.{arith}
 use lib.ListN.{length}
-use Rattle.path_build.proofs.Along.{Surveying, surveying-none, surveying-inside, surveying-scant, surveying-fits, surveying-more, surveyed-all}
+use Rattle.path_build.proofs.Along.{Surveying, surveying-none, surveying-inside, surveying-few, surveying-fits, surveying-more, surveyed-all}
 use Rattle.path_build.proofs.passes.survey.Statement.{statement}
 use Rattle.path_build.proofs.passes.survey.Tie as tie
 
@@ -42,7 +42,7 @@ count-requires : tie.Need-count-requires Inv-loop μ-loop
 count-requires c κs =
     let d = decoded (c .before) in
     let l = looped d in
-    surveying-scant (l .loop .inv) (d .before .before .loop-test .taken) (start l .pre)
+    surveying-few (l .loop .inv) (d .before .before .loop-test .taken) (start l .pre)
 
 returns-2 : tie.Need-returns-2 Inv-loop μ-loop
 returns-2 c = tt

@@ -11,15 +11,15 @@ use Rattle.path_storing.proofs.laying.store_segment.Tie as tie
 abbrev start : tie.After-put-segment → tie.Start
 start p = p .before .before .before .before .before .before .before .before
 
-abbrev put : tie.After-lay-table → tie.After-put-segment
+abbrev put : tie.After-store-table → tie.After-put-segment
 put p = p .before .before .before .before
 
-abbrev table : tie.After-tidy → tie.After-lay-table
+abbrev table : tie.After-tidy → tie.After-store-table
 table p = p .before .before .before
 
 -- the running length that is stored
 running : (p : tie.After-tidy) → let a = start (put (table p)) .args in p .tidy .result ≡ lengthAfter (a .passed) (a .segment)
-running p = p .tidy .ensures ∙ ap (add binary32 _) (table p .lay-table .ensures .lengthTold)
+running p = p .tidy .ensures ∙ ap (add binary32 _) (table p .store-table .ensures .lengthTold)
 
 -- ---- the answers
 slice-write-kinds : tie.Need-slice-write-kinds
@@ -28,8 +28,8 @@ slice-write-kinds c = kind-fits (c .before .before .before .before .before .befo
 put-segment-requires : tie.Need-put-segment-requires
 put-segment-requires c κs = fields-fit (c .before .before .before .before .before .before .before .pre)
 
-lay-table-requires : tie.Need-lay-table-requires
-lay-table-requires c κs = table-fits (start (c .before .before .before) .pre)
+store-table-requires : tie.Need-store-table-requires
+store-table-requires c κs = table-fits (start (c .before .before .before) .pre)
 
 slice-write-lengths : tie.Need-slice-write-lengths
 slice-write-lengths c = length-fits (start (put (table c)) .pre)
@@ -41,11 +41,11 @@ returns : tie.Need-returns
 returns c =
     let t = table c in
     let p = put t in
-    segment-stored (p .before .before .kind .ensures) (p .put-segment .ensures) (t .lay-table .ensures .tablesAfter) (running c)
+    segment-stored (p .before .before .kind .ensures) (p .put-segment .ensures) (t .store-table .ensures .tablesAfter) (running c)
 
 pub store-segment-spec : {M : Type 1} → statement M
 store-segment-spec =
     tie.close
-    (tie.spec (λ c κs. search needs) slice-write-kinds put-segment-requires lay-table-requires (λ c κs. search needs)
+    (tie.spec (λ c κs. search needs) slice-write-kinds put-segment-requires store-table-requires (λ c κs. search needs)
     (λ c. search needs) slice-write-lengths (λ c. search needs) slice-write-commands (λ c. search needs) (λ c. search needs) (λ c. search needs) (λ c. search needs)
     (λ c. search needs) returns)

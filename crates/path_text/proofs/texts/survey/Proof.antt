@@ -6,7 +6,7 @@ use mathlib.Core.Path.{sym, _∙_}
 use native.Mathlib.Omega.{arith}
 use lib.ListN.{length}
 use Rattle.svg_step.proofs.Ahead.{step-ahead}
-use Rattle.path_text.proofs.Steps.{Surveying, surveying-none, surveyed-all, surveying-scant, surveying-more}
+use Rattle.path_text.proofs.Steps.{Surveying, surveying-none, surveyed-all, surveying-few, surveying-more}
 use Rattle.path_text.proofs.texts.survey.Statement.{statement}
 use Rattle.path_text.proofs.texts.survey.Tie as tie
 
@@ -30,7 +30,7 @@ count-requires c κs =
     let t = c .before in
     let step = t .before .before in
     let l = step .before in
-    surveying-scant (l .loop .inv) _ _ (sym (step .read-step .ensures) ∙ t .command .given .1) (l .before .before .before .before .pre)
+    surveying-few (l .loop .inv) _ _ (sym (step .read-step .ensures) ∙ t .command .given .1) (l .before .before .before .before .pre)
 
 returns-3 : tie.Need-returns-3 Inv-loop μ-loop
 returns-3 c = tt

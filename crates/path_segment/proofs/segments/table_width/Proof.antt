@@ -1,9 +1,9 @@
--- `path_append::table_width` meets its contract. Assumes nothing.
+-- `path_segment::table_width` meets its contract: with a table and without one. Assumes nothing.
 use Rattle.path_segment.proofs.Widths.{one-table, none-table}
 use mathlib.Core.Path.{sym, _∙_}
 use borrow.Author.Needs.{needs}
-use Rattle.path_append.proofs.pushing.table_width.Statement.{statement}
-use Rattle.path_append.proofs.pushing.table_width.Tie as tie
+use Rattle.path_segment.proofs.segments.table_width.Statement.{statement}
+use Rattle.path_segment.proofs.segments.table_width.Tie as tie
 
 returns : tie.Need-returns
 returns c = rw (one-table _ (sym (c .before .has-table .ensures) ∙ c .if1 .taken))

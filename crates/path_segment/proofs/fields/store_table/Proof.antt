@@ -1,13 +1,12 @@
--- `path_append::store_table` meets its contract: with a table and without one. Assumes nothing.
-use Rattle.path_append.proofs.Own.{table-total, stored-is, stored-none}
-use Rattle.path_segment.proofs.Widths.{one-table}
+-- `path_segment::store_table` meets its contract: with a table and without one. Assumes nothing.
+use Rattle.path_segment.proofs.Tables.{total-is, stored-some, table-some, table-none}
 use Rattle.path_segment.specs.Segments.{kindOf, hasTable, tableNumbers}
 use lib.Seq.{sets}
 use native.Mathlib.Omega.{arith}
 use mathlib.Core.Path.{_≡_, sym, ap, _∙_}
 use borrow.Author.Needs.{needs}
-use Rattle.path_append.proofs.storing.store_table.Statement.{statement}
-use Rattle.path_append.proofs.storing.store_table.Tie as tie
+use Rattle.path_segment.proofs.fields.store_table.Statement.{statement}
+use Rattle.path_segment.proofs.fields.store_table.Tie as tie
 
 -- ---- the points
 abbrev start : tie.After-has-table → tie.Start
@@ -18,7 +17,10 @@ has p = ap hasTable (sym (p .before .kind .ensures)) ∙ sym (p .has-table .ensu
 
 -- ---- the answers
 put-table-requires : tie.Need-put-table-requires
-put-table-requires c κs = let asked = c .before .before .before in omega (arith, one-table _ (has asked ∙ c .before .before .if1 .taken), start asked .pre)
+put-table-requires c κs =
+    let asked = c .before .before .before in
+    let s = start asked in
+    omega (arith, table-some (s .args .segment) (has asked ∙ c .before .before .if1 .taken), s .pre)
 
 returns : tie.Need-returns
 returns c =
@@ -28,18 +30,18 @@ returns c =
     let a = start asked .args in
     let curve = has asked ∙ made .before .if1 .taken in
     record {
-      told = c .tidy .ensures ∙ ap (λ t. t .total) (made .segment-table .ensures) ∙ table-total (a .segment) curve;
-      tablesAre =
+      lengthTold = c .tidy .ensures ∙ ap (λ t. t .total) (made .segment-table .ensures) ∙ total-is (a .segment) curve;
+      tablesAfter =
           put .put-table .ensures
           ∙ ap (λ t. sets (a .tables .now) (a .at) (tableNumbers t)) (made .segment-table .ensures)
-          ∙ ap (sets (a .tables .now) (a .at)) (stored-is (a .segment) curve);
+          ∙ ap (sets (a .tables .now) (a .at)) (sym (stored-some (a .segment) curve));
     }
 
 returns-2 : tie.Need-returns-2
 returns-2 c =
     let asked = c .before .before in
     let a = start asked .args in
-    record { told = c .segment-length .ensures; tablesAre = ap (sets (a .tables .now) (a .at)) (stored-none (a .segment) (has asked ∙ c .before .if1 .left)) }
+    record { lengthTold = c .segment-length .ensures; tablesAfter = ap (sets (a .tables .now) (a .at)) (sym (table-none (a .segment) (has asked ∙ c .before .if1 .left))) }
 
 pub store-table-spec : {M : Type 1} → statement M
 store-table-spec =
