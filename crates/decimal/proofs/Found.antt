@@ -20,7 +20,7 @@ use Rattle.scan.specs.declared.numbers.Places.{Places}
 use Rattle.scan.specs.declared.numbers.Number.{Number}
 use Rattle.scan.specs.declared.numbers.Number.the-variants.{Scanned, NoDigit, NoExponentDigit}
 use Rattle.scan.proofs.ByteLaws.{clash, either-way, apart}
-use Rattle.scan.proofs.RunLaws.{one-step, one-onward, stands-within, stands-among, all-onward, all-again}
+use Rattle.scan.proofs.RunLaws.{byte-inside, one-step, one-onward, stands-within, stands-among, all-onward, all-again}
 use Rattle.scan.proofs.NumberLaws.{mark-taken, mark-left, mark-end, number-none, number-bare, number-found, scanned-number}
 use Rattle.decimal_digits.specs.Digits.{digitsIn, val}
 use Rattle.decimal_digits.specs.Leading.{Leads, Gathers}
@@ -65,13 +65,10 @@ leads-point text start at w dropped h l = ⊎-elim there gone (either-way (stand
 
 -- ---- the e
 
-none-past : (text : List ℕ) (at : ℕ) → length text ≤ at → among (getD text at 0) exponentMarks ≡ false
-unfolding among
-none-past text at h = ap (λ (b : ℕ). among b exponentMarks) (List·getD-eq-default text 0 h)
-
 -- an e stands within the text
 pub mark-inside : (text : List ℕ) (at : ℕ) → among (getD text at 0) exponentMarks ≡ true → at < length text
-mark-inside text at e = ⊎-elim (λ h. h) (λ h. absurd (clash e (none-past text at h))) (below-or-not at (length text))
+unfolding among
+mark-inside text at e = byte-inside exponentMarks text at refl e
 
 pub mark-none : (text : List ℕ) (at : ℕ) → among (getD text at 0) exponentMarks ≡ false → at ≡ pastMarkOf text at
 mark-none text at e = ⊎-elim (λ h. mark-left text at h e) (λ h. mark-end text at h) (below-or-not at (length text))
@@ -88,7 +85,7 @@ module _ {text : List ℕ} (at : ℕ) {whole fraction : ℕ} {first all : Leadin
   number-no-digit h = read-is text at (NoDigit at) (number-none text at whole (first .at) fraction (all .at) w-is (before .passed) f-is (after .passed) h)
 
   module _ (some : (eqb whole (first .at) && eqb fraction (all .at)) ≡ false) {x e : ℕ} (x-is : x ≡ pastMarkOf text (all .at)) (e-is : e ≡ pastDigitsOf text x) where
-    abbrev p : Places
+    abbrev pub p : Places
     p = record { start = at; whole = whole; point = first .at; fraction = fraction; mark = all .at; exponent = x; end = e }
 
     pub number-no-exponent : (ltb (all .at) x && eqb x e) ≡ true → Refused (InvalidNumber (all .at)) ≡ numberOf text at

@@ -9,3 +9,4 @@ pub mod Valued
 pub mod Found
 pub mod Said
 mod Readings
+pub mod Quickly

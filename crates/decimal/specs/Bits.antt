@@ -2,10 +2,10 @@
 use Prim.Native.Nat.{ℕ, _+_, _-_, _*_, _/_, _%_, _^_, _≤_, _<_, compare}
 use mathlib.Core.Path.{_≡_}
 use mathlib.Core.Logic.{_⊎_}
-use mathlib.Core.List.{List}
+use mathlib.Core.List.{List, [], _∷_}
 use mathlib.Core.Bool.{Bool, cond}
 use lib.ListN.{length}
-use lib.Ieee.{binary32, round, ofBits}
+use lib.Ieee.{Float, binary32, round, ofBits}
 use Rattle.floats.specs.Patterns.{signPlace, infinityBits}
 use Rattle.scan.specs.Numbers.{scanNumberOf}
 use Rattle.scan.specs.declared.numbers.Places.{Places}
@@ -17,7 +17,8 @@ use Rattle.decimal_product.specs.Near.{Cell}
 use Rattle.decimal_tie.specs.Weighing.{orderOf}
 use Rattle.decimal_tie.specs.declared.scales.Order.{Order}
 use Rattle.decimal.specs.Decimal.{digitsOf, placesOf, riseOf, fallOf, numberOf}
-use Rattle.decimal.specs.declared.numbers.Read.the-variants.{Refused}
+use Rattle.decimal.specs.declared.numbers.Read.{Read}
+use Rattle.decimal.specs.declared.numbers.Read.the-variants.{Value, Refused}
 use Rattle.decimal.specs.declared.numbers.Found.{Found}
 use Rattle.decimal.specs.declared.numbers.Found.the-variants.{Number, Nothing}
 
@@ -77,3 +78,15 @@ SaysFound (Nothing refusal) text at = Refused refusal ≡ numberOf text at
 
 pub record Finds (text : List ℕ) (at : ℕ) (r : Found) : Type 0 where
   pub said : SaysFound r text at
+
+-- w / 10 ^ places in out, where a quick way ends at r
+pub record Settled (w places : ℕ) (s : Bool) (end r : ℕ) (out : List Float) : Type 0 where
+  pub few : w < 2 ^ 53
+  pub ends : r ≡ end
+  pub stored : out ≡ round binary32 s w (10 ^ places) ∷ []
+
+-- what a quick way has read where it tells anything: the value in out, and where the number ends
+pub record Quick (read : Read) (r : ℕ) (out : List Float) : Type 0 where
+  pub value : Float
+  pub stored : out ≡ value ∷ []
+  pub is : read ≡ Value value r

@@ -3,7 +3,7 @@
 pub mod inner;
 mod magnitudes;
 pub mod numbers;
+mod quick;
 
 pub use numbers::Read;
 pub use numbers::number;
-pub use numbers::number_within;

@@ -8,10 +8,11 @@ use crate::magnitudes::tells;
 use answers::Refusal;
 use decimal_digits::inner::exponent;
 use decimal_digits::inner::gather;
-use decimal_digits::inner::gather_fraction;
+use decimal_digits::inner::gather_many;
 use scan::Places;
 use scan::byte_at;
 use scan::is_exponent_mark;
+use scan::past_point;
 use scan::past_sign;
 ghost use mathlib.Core.Path.{_≡_};
 ghost use Prim.Native.Nat.{ℕ, _+_, _*_, _≤_, _<_};
@@ -41,16 +42,15 @@ pub enum Found {
 }
 
 // The number that starts at a place, not yet worked out. It is left to one caller, so that no memory
-// is passed between the two. That it stands within a text, with more behind it, makes it faster and
-// changes no answer.
-fn find(text: &[u8], at: usize, within: bool) -> Found
+// is passed between the two.
+fn find(text: &[u8], at: usize) -> Found
     ensures { λ r. ⌜ Finds (now (text .entry)) at r ⌝ }
 {
     let whole = past_sign(text, at);
     let first = gather(text, whole, 0, 0);
     let point = first.at;
-    let all = gather_fraction(text, point, first.w, first.dropped, within);
-    let fraction = all.from;
+    let fraction = past_point(text, point);
+    let all = gather_many(text, fraction, first.w, first.dropped);
     let mark = all.at;
     if (whole == point) & (fraction == mark) {
         return Found::Nothing(Refusal::ExpectedNumber(at));
@@ -142,26 +142,12 @@ fn value(text: &[u8], parts: Parts) -> f32
     }
 }
 
-// The number that starts at a place, and whether more text stands behind it, most likely.
-fn number_at(text: &[u8], at: usize, within: bool) -> Read
-    ensures { λ r. ⌜ r ≡ numberOf (now (text .entry)) at ⌝ }
-{
-    match find(text, at, within) {
-        Found::Number(parts) => Read::Value(value(text, parts), parts.places.end),
-        Found::Nothing(refusal) => Read::Refused(refusal),
-    }
-}
-
 // The number that starts at a place. Separators are not passed here.
 pub fn number(text: &[u8], at: usize) -> Read
     ensures { λ r. ⌜ r ≡ numberOf (now (text .entry)) at ⌝ }
 {
-    number_at(text, at, false)
-}
-
-// The same, and faster within a text, where more stands behind it.
-pub fn number_within(text: &[u8], at: usize) -> Read
-    ensures { λ r. ⌜ r ≡ numberOf (now (text .entry)) at ⌝ }
-{
-    number_at(text, at, true)
+    match find(text, at) {
+        Found::Number(parts) => Read::Value(value(text, parts), parts.places.end),
+        Found::Nothing(refusal) => Read::Refused(refusal),
+    }
 }

@@ -101,7 +101,7 @@ module _ (x pairs fours r : ℕ)
 
 -- ---- a test that is computed for each number below one
 
-unfoldable pub all : ℕ → (ℕ → Bool) → Bool
+unfoldable all : ℕ → (ℕ → Bool) → Bool
 all zero test = true
 all (suc n) test = test n && all n test
 
@@ -109,7 +109,7 @@ pub both : (a b : Bool) → (a && b) ≡ true → (a ≡ true) × (b ≡ true)
 both true b e = (refl, e)
 both false b e = let z : _≡_ {A = ℕ} 0 1 = cc in absurd (omega arith)
 
-pub all-is : (n : ℕ) (test : ℕ → Bool) → all n test ≡ true → (i : ℕ) → i < n → test i ≡ true
+all-is : (n : ℕ) (test : ℕ → Bool) → all n test ≡ true → (i : ℕ) → i < n → test i ≡ true
 unfolding all
 all-is zero test e i h = absurd (omega arith)
 all-is (suc n) test e i h = go (λ l. all-is n test (both (test n) (all n test) e .1) i l) (ltb i n) refl
@@ -306,7 +306,7 @@ mark-place above n h l =
     ap (λ (z : ℕ). z * 2 ^ (8 * n)) e ∙ mul-right-comm m (2 ^ 7) (2 ^ (8 * n)) ∙ mul-assoc m (2 ^ (8 * n)) (2 ^ 7) ∙ ap (λ (z : ℕ). m * z) (sym (pow-add 2 (8 * n) 7)) in
     ap (trailingZeros 64) shifted ∙ tz-shift 64 m (8 * n + 7) (omega arith) (omega arith)
 
-pub moved-again : (A U M : ℕ) → A % M * U % M ≡ A * U % M
+moved-again : (A U M : ℕ) → A % M * U % M ≡ A * U % M
 moved-again A U M =
     sym
     (ap (λ (z : ℕ). z * U % M) (sym (div-add-mod' A M))

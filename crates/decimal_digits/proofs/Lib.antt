@@ -5,4 +5,3 @@ pub mod Holding
 pub mod Capping
 pub mod Lanes
 pub mod Taking
-pub mod Tails

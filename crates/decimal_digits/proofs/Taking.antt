@@ -27,13 +27,14 @@ ten-mono i j h =
 
 module _ (text : List ℕ) where
   pub takes-none : (at w : ℕ) → Takes text at w at w
-  takes-none at w = record { onward = le-refl at; same-run = refl; leads = λ start dropped h k. k }
+  takes-none at w = record { onward = le-refl at; grows = le-refl w; same-run = refl; leads = λ start dropped h k. k }
 
   -- digits after digits
   pub takes-on : (a w b v c u : ℕ) → Takes text a w b v → Takes text b v c u → Takes text a w c u
   takes-on a w b v c u s t =
       record {
         onward = le-trans (s .onward) (t .onward);
+        grows = le-trans (s .grows) (t .grows);
         same-run = t .same-run ∙ s .same-run;
         leads = λ start dropped h k. t .leads start dropped (le-trans h (s .onward)) (s .leads start dropped h k);
       }
@@ -42,13 +43,14 @@ module _ (text : List ℕ) where
   takes-digit at w h e l =
       record {
         onward = omega arith;
+        grows = omega arith;
         same-run = all-pass digits text at h e;
         leads = λ start dropped from k. leads-digit text start at w dropped from k h e l;
       }
 
   -- ---- bytes that stand from a place on
 
-  abbrev pub Standing : ℕ → List ℕ → Type 0
+  abbrev Standing : ℕ → List ℕ → Type 0
   Standing at [] = Unit
   Standing at (b ∷ bs) = (getD text at 0 ≡ b) × Standing (at + 1) bs
 
@@ -59,7 +61,7 @@ module _ (text : List ℕ) where
       let f : w * 1 + 0 ≡ w = omega arith in
       rw (e, f) (takes-none at w)
 
-  pub takes-begun : (bs : List ℕ) (at w : ℕ) → Standing at bs → at + length bs ≤ length text → length bs ≤ 19 → w < 10 ^ (19 - length bs)
+  takes-begun : (bs : List ℕ) (at w : ℕ) → Standing at bs → at + length bs ≤ length text → length bs ≤ 19 → w < 10 ^ (19 - length bs)
       → Takes text at w (at + length (begun bs)) (w * 10 ^ length (begun bs) + val (begun bs))
   unfolding begun val
   takes-begun [] at w s h n l = takes-nothing at w
@@ -83,7 +85,7 @@ module _ (text : List ℕ) where
       go false e rest = takes-nothing at w
 
   -- fewer digits than bytes: the run ends with them
-  pub ends-begun : (bs : List ℕ) (at : ℕ) → Standing at bs → at + length bs ≤ length text → length (begun bs) < length bs → pastDigitsOf text (at + length (begun bs)) ≡ at + length (begun bs)
+  ends-begun : (bs : List ℕ) (at : ℕ) → Standing at bs → at + length bs ≤ length text → length (begun bs) < length bs → pastDigitsOf text (at + length (begun bs)) ≡ at + length (begun bs)
   unfolding begun
   ends-begun [] at s h l = absurd (omega arith)
   ends-begun (b ∷ bs) at s h l = go (among b digits) refl l (λ m. ends-begun bs (at + 1) (s .1) (omega arith) m)
@@ -148,7 +150,7 @@ module _ (text : List ℕ) where
 
 -- ---- how large the number of a run is
 
-pub begun-le : (bs : List ℕ) → length (begun bs) ≤ length bs
+begun-le : (bs : List ℕ) → length (begun bs) ≤ length bs
 unfolding begun
 begun-le [] = omega arith
 begun-le (b ∷ bs) = go (among b digits) (begun-le bs)
@@ -157,7 +159,7 @@ begun-le (b ∷ bs) = go (among b digits) (begun-le bs)
     go true h = omega arith
     go false h = omega arith
 
-pub begun-lt : (bs : List ℕ) → val (begun bs) < 10 ^ length (begun bs)
+begun-lt : (bs : List ℕ) → val (begun bs) < 10 ^ length (begun bs)
 unfolding begun val
 begun-lt [] = omega arith
 begun-lt (b ∷ bs) = go (among b digits) refl (begun-lt bs)

@@ -2,9 +2,8 @@
 use Prim.Native.Nat.{ℕ, _+_, _*_, _^_, _≤_, _<_}
 use mathlib.Core.Path.{_≡_}
 use mathlib.Core.List.{List}
-use Rattle.scan.specs.Runs.{pastDigitsOf, pastPointOf}
+use Rattle.scan.specs.Runs.{pastDigitsOf}
 use Rattle.decimal_digits.specs.Digits.{digitsIn, val}
-use Rattle.decimal_digits.specs.declared.gathering.Fraction.{Fraction}
 use Rattle.decimal_digits.specs.declared.gathering.Leading.{Leading}
 use Rattle.decimal_digits.specs.declared.gathering.Taken.{Taken}
 
@@ -18,6 +17,7 @@ pub record Leads (ds : List ℕ) (w dropped : ℕ) : Type 0 where
 -- the digits from one place up to another are taken into a number: the run goes on there, and what is known of the digits before is known of them all
 pub record Takes (text : List ℕ) (from w at held : ℕ) : Type 0 where
   pub onward : from ≤ at
+  pub grows : w ≤ held
   pub same-run : pastDigitsOf text at ≡ pastDigitsOf text from
   pub leads : (start dropped : ℕ) → start ≤ from → Leads (digitsIn text start from) w dropped → Leads (digitsIn text start at) held dropped
 
@@ -31,11 +31,3 @@ pub record Gathers (text : List ℕ) (from w dropped : ℕ) (r : Leading) : Type
   pub passed : r .at ≡ pastDigitsOf text from
   pub held : (start : ℕ) → start ≤ from → Leads (digitsIn text start from) w dropped → Leads (digitsIn text start (r .at)) (r .w) (r .dropped)
   pub few : r .dropped ≤ r .at
-
--- the digits with those past a point that may stand at a place
-abbrev pub allOf : Fraction → Leading
-allOf r = record { at = r .at; w = r .w; dropped = r .dropped }
-
-pub record Fractions (text : List ℕ) (point w dropped : ℕ) (r : Fraction) : Type 0 where
-  pub starts : r .from ≡ pastPointOf text point
-  pub gathers : Gathers text (r .from) w dropped (allOf r)

@@ -1,14 +1,13 @@
 -- Eight bytes of a text as one number, and the digits that they begin with. Definitions only.
-use Prim.Native.Nat.{ℕ, zero, suc, _+_, _-_, _*_, _%_, _^_, _≤_, _<_}
+use Prim.Native.Nat.{ℕ, zero, suc, _+_, _-_, _*_, _%_, _^_, _<_}
 use mathlib.Core.Path.{_≡_}
 use mathlib.Core.List.{List, [], _∷_}
-use mathlib.Core.Bool.{true, false, cond}
+use mathlib.Core.Bool.{cond}
 use lib.Bits.{bitAnd, bitOr}
 use lib.ListN.{length, getD}
 use Rattle.scan.specs.Bytes.{among, digits}
 use Rattle.decimal_digits.specs.Digits.{val}
 use Rattle.decimal_digits.specs.declared.words.Run.{Run}
-use Rattle.decimal_digits.specs.declared.words.Tail.{Tail}
 
 -- numbers in lanes of so many binary digits, the first of them lowest
 unfoldable pub laid : ℕ → List ℕ → ℕ
@@ -20,18 +19,6 @@ abbrev pub eightOf : List ℕ → ℕ → List ℕ
 eightOf text at =
     getD text at 0
     ∷ getD text (at + 1) 0
-    ∷ getD text (at + 2) 0
-    ∷ getD text (at + 3) 0
-    ∷ getD text (at + 4) 0
-    ∷ getD text (at + 5) 0
-    ∷ getD text (at + 6) 0
-    ∷ getD text (at + 7) 0
-    ∷ []
-
--- the seven behind the first of them
-abbrev pub sevenOf : List ℕ → ℕ → List ℕ
-sevenOf text at =
-    getD text (at + 1) 0
     ∷ getD text (at + 2) 0
     ∷ getD text (at + 3) 0
     ∷ getD text (at + 4) 0
@@ -63,11 +50,3 @@ Below most (x ∷ xs) = (x < most) × Below most xs
 pub record Runs (text : List ℕ) (at : ℕ) (r : Run) : Type 0 where
   pub count : r .count ≡ length (begun (eightOf text at))
   pub value : r .value ≡ val (begun (eightOf text at))
-
--- whether the first of eight bytes is a point, and how many of them are that and the digits behind it, with their number
-pub record Tails (text : List ℕ) (at : ℕ) (r : Tail) : Type 0 where
-  pub few : r .count ≤ 8
-  pub none : r .pointed ≡ false → (r .count ≡ 0) × (r .value ≡ 0) × (getD text at 0 ≡ 46 → ⊥)
-  pub some : r .pointed ≡ true → getD text at 0 ≡ 46
-  pub count : r .pointed ≡ true → r .count < 8 → r .count ≡ suc (length (begun (sevenOf text at)))
-  pub value : r .pointed ≡ true → r .count < 8 → r .value ≡ val (begun (sevenOf text at))

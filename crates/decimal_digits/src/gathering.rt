@@ -1,18 +1,16 @@
 // The numbers of digit runs, gathered while the run is passed.
 ghost use mathlib.Core.Path.{_≡_};
-ghost use mathlib.Core.Bool.{true, cond};
+ghost use mathlib.Core.Bool.{true};
 ghost use Prim.Native.Nat.{ℕ, _+_, _-_, _*_, _^_, _≤_, _<_};
 ghost use lib.ListN.{length};
-ghost use Rattle.scan.specs.Runs.{pastDigitsOf};
-ghost use Rattle.decimal_digits.specs.Leading.{Fills, Gathers, Fractions};
+ghost use Rattle.scan.specs.Runs.{byteAtOf, pastDigitsOf};
+ghost use Rattle.decimal_digits.specs.Leading.{Fills, Gathers};
 ghost use Rattle.decimal_digits.specs.Exponent.{capped, exponentOf};
 use crate::words::all_digits;
 use crate::words::power;
 use crate::words::run_at;
-use crate::words::tail_at;
 use scan::is_digit;
 use scan::past_digits;
-use scan::past_point;
 
 // The number that a digit's byte stands for.
 pub fn digit(byte: u8) -> u64
@@ -138,59 +136,37 @@ pub fn gather_many(text: &[u8], from: usize, w: u64, dropped: usize) -> Leading
     pass_rest(text, taken, dropped)
 }
 
-// What stands past a number's whole part: where the digits after the point start, and all the digits
-// with these.
-pub struct Fraction {
-    pub from: usize,
-    pub at: usize,
-    pub w: u64,
-    pub dropped: usize,
-}
-
-// One byte where a point stands, else none: a number and no branch.
-fn step(pointed: bool) -> usize
-    ensures { λ r. ⌜ r ≡ cond pointed 1 0 ⌝ }
+// A number's digits from a place on whose byte is known.
+pub fn whole_digits(text: &[u8], from: usize, byte: u8) -> Taken
+    requires { ⌜ byte ≡ byteAtOf (now text) from ⌝ }
+    ensures { λ r. ⌜ Fills (now (text .entry)) from 0 r ⌝ }
 {
-    if pointed { 1 } else { 0 }
+    if is_digit(byte) {
+        return fill(text, from + 1, digit(byte));
+    }
+    Taken { at: from, w: 0 }
 }
 
-// One less than a count, where it has any.
-fn less(count: u64) -> u64
-    ensures { λ r. ⌜ r ≡ count - 1 ⌝ }
-{
-    if count == 0 { 0 } else { count - 1 }
-}
-
-// Passes the point, where one stands past the digits, and the digits behind it. Within a text most of
-// them stand in eight bytes; where a number is all of a text, these would be read for nothing.
-pub fn gather_fraction(text: &[u8], point: usize, w: u64, dropped: usize, within: bool) -> Fraction
-    requires { ⌜ (dropped ≤ point) × (pastDigitsOf (now text) point ≡ point) ⌝ }
-    ensures { λ r. ⌜ Fractions (now (text .entry)) point w dropped r ⌝ }
+// The digits behind a point, added to those before it. Within a text most of them stand in eight bytes;
+// where a number is all of a text, these would be looked for in vain.
+pub fn fraction_digits(text: &[u8], from: usize, w: u64, within: bool) -> Taken
+    ensures { λ r. ⌜ Fills (now (text .entry)) from w r ⌝ }
 {
     if within {
         if w < 100000000000 {
-            if has(text, point, 8) {
-                let tail = tail_at(text, point);
-                let count = tail.count;
+            if has(text, from, 8) {
+                let run = run_at(text, from);
+                let count = run.count;
+                let at = from + count as usize;
+                let held = w * power(count) + run.value;
                 if count < 8 {
-                    return Fraction {
-                        from: point + step(tail.pointed),
-                        at: point + count as usize,
-                        w: w * power(less(count)) + tail.value,
-                        dropped,
-                    };
+                    return Taken { at, w: held };
                 }
+                return fill(text, at, held);
             }
         }
     }
-    let from = past_point(text, point);
-    let all = gather_many(text, from, w, dropped);
-    Fraction {
-        from,
-        at: all.at,
-        w: all.w,
-        dropped: all.dropped,
-    }
+    fill(text, from, w)
 }
 
 // An exponent: the place past its digits, and their number, or 93 * 10^17 where they are more.

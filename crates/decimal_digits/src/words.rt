@@ -1,13 +1,12 @@
 // Eight bytes of a text at once: how many digits they begin with, and the number of these.
 ghost use mathlib.Core.Path.{_≡_};
 ghost use mathlib.Core.List.{List};
-ghost use mathlib.Core.Bool.{true, cond};
+ghost use mathlib.Core.Bool.{true};
 ghost use Prim.Native.Nat.{ℕ, _+_, _*_, _/_, _^_, _≤_, _<_};
 ghost use lib.Bits.{bitAnd, bitXor};
-ghost use lib.Count.{trailingZeros};
 ghost use lib.ListN.{length};
 ghost use Rattle.decimal_digits.specs.Digits.{val};
-ghost use Rattle.decimal_digits.specs.Words.{laid, eightOf, begun, each, othersOf, Below, Runs, Tails};
+ghost use Rattle.decimal_digits.specs.Words.{laid, eightOf, begun, each, othersOf, Below, Runs};
 
 fn wide(byte: u8) -> u64
     ensures { λ r. ⌜ (r ≡ byte) × (r < 256) ⌝ }
@@ -113,47 +112,4 @@ pub(crate) fn all_digits(text: &[u8], at: usize) -> bool
     ensures { λ r. ⌜ (r ≡ true → length (begun (eightOf (now (text .entry)) at)) ≡ 8) ⌝ }
 {
     others(values(word_at(text, at))) == 0
-}
-
-// Eight bytes that may begin with a point.
-pub(crate) struct Tail {
-    pub pointed: bool,
-    // The bytes of the point and the digits behind it, or none; 8 where all that follow are digits.
-    pub count: u64,
-    pub value: u64,
-}
-
-// As `values` does it, and a point as 0 where the first byte is one.
-fn pointed_values(word: u64) -> u64
-    ensures { λ r. ⌜ r ≡ bitXor word 3472328296227680302 ⌝ }
-{
-    word ^ 0x3030_3030_3030_302E
-}
-
-// How many lanes stand below the lowest mark, or none.
-fn lanes(marks: u64, some: bool) -> u64
-    ensures { λ r. ⌜ r ≡ cond some (trailingZeros 64 marks / 8) 0 ⌝ }
-{
-    if some {
-        return (u64::trailing_zeros(marks) as u64) / 8;
-    }
-    0
-}
-
-// The point that eight bytes begin with, and the digits behind it: the point is a 0 before them. It takes
-// the place past them from one word, where passing the point first would wait for it.
-pub(crate) fn tail_at(text: &[u8], at: usize) -> Tail
-    requires { ⌜ at + 8 ≤ length (now text) ⌝ }
-    ensures { λ r. ⌜ Tails (now (text .entry)) at r ⌝ }
-{
-    let x = pointed_values(word_at(text, at));
-    let marks = others(x);
-    let pointed = x % 256 == 0;
-    let count = lanes(marks, pointed);
-    let up = 4 * (8 - count);
-    Tail {
-        pointed,
-        count,
-        value: eight((x << up) << up),
-    }
 }

@@ -5,11 +5,21 @@ ghost use Rattle.kihavute.specs.Decimals.{readGiven, numberGiven};
 use answers::Refusal;
 use answers::Values;
 use decimal::Read;
+use decimal::inner::quick;
 
 // The number at the start of a text of any length.
 fn read(text: &[u8], answer: &mut [u64]) -> u32
     ensures { λ r. ⌜ Given (readGiven (numberOf (now (text .entry)) 0)) (now (answer .entry)) r (now (answer .exit)) ⌝ }
 {
+    // longer texts most likely have an exponent, or more digits than the quick way tells
+    if text.len() <= 10 {
+        let mut value = [0.0f32; 1];
+        let end = quick(text, 0, false, &mut value);
+        if 0 < end {
+            let bits = floats::bits(value[0]);
+            return c_answer::accept(Values::Two(bits as usize, end), answer);
+        }
+    }
     let found = decimal::number(text, 0);
     match found {
         Read::Value(value, end) => {

@@ -7,7 +7,7 @@ use mathlib.Core.List.{List, [], _∷_}
 use native.Mathlib.Omega.{arith}
 use lib.Dec.{ltb}
 use borrow.Author.Tests.{lt-ltb, le-ltb, ltb-true, ltb-false}
-use lib.ListN.{length, getD}
+use lib.ListN.{length, getD, List·getD-eq-default}
 use Rattle.scan.specs.Bytes.{among}
 use Rattle.scan.specs.Runs.{stands, pastOne, pastAll}
 use Rattle.scan.proofs.ByteLaws.{clash, either-way}
@@ -47,6 +47,23 @@ module _ (class text : List ℕ) (at : ℕ) where
   pub all-end : length text ≤ at → pastAll class text at ≡ at
   unfolding pastAll
   all-end past = scan-end (λ byte. among byte class) text at past
+
+  -- the byte at a place, which is 0 past the text, tells as much: 0 is of no class
+  pub byte-inside : among 0 class ≡ false → among (getD text at 0) class ≡ true → at < length text
+  byte-inside none is =
+      ⊎-elim (λ e. ltb-true at (length text) e) (λ e. absurd (clash is (ap (λ b. among b class) (List·getD-eq-default text 0 (ltb-false at (length text) e)) ∙ none)))
+      (either-way (ltb at (length text)))
+
+  pub one-byte : among 0 class ≡ false → among (getD text at 0) class ≡ true → at + 1 ≡ pastOne class text at
+  one-byte none is = one-taken (byte-inside none is) is
+
+  pub one-none : among (getD text at 0) class ≡ false → at ≡ pastOne class text at
+  one-none isnt =
+      ⊎-elim (λ e. one-left (ltb-true at (length text) e) isnt) (λ e. one-end (ltb-false at (length text) e)) (either-way (ltb at (length text)))
+
+  pub all-none : among (getD text at 0) class ≡ false → pastAll class text at ≡ at
+  all-none isnt =
+      ⊎-elim (λ e. all-stop (ltb-true at (length text) e) isnt) (λ e. all-end (ltb-false at (length text) e)) (either-way (ltb at (length text)))
 
   -- a byte of the class stands at a place, or none does and the place is past the run
   pub one-step : (stands text at class ≡ true → pastOne class text at ≡ at + 1) × (stands text at class ≡ false → pastOne class text at ≡ at)

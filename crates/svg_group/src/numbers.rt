@@ -1,8 +1,12 @@
 // Numbers, flags and pairs where one is due. Each passes the separators before it.
 ghost use mathlib.Core.Path.{_≡_};
+ghost use Prim.Native.Nat.{_<_};
+ghost use lib.ListN.{length};
+ghost use Rattle.decimal.specs.Bits.{Quick};
 ghost use Rattle.svg_group.specs.Numbers.{readNumberOf, readFlagOf, readFlagsOf, movedOf, readPairOf, pairOf};
 use answers::Refusal;
 use decimal::Read;
+use decimal::inner::quick;
 use math::Point;
 
 // The value and the place past it, here and below.
@@ -28,7 +32,20 @@ pub enum Coordinates {
     Refused(Refusal),
 }
 
-pub fn read_number(text: &[u8], at: usize) -> Read
+// A number past separators by the quick way: the place past it, with its value in out, or 0 where that does not tell.
+fn quick_number(text: &[u8], at: usize, out: &mut [f32; 1]) -> usize
+    requires { ⌜ length (now out) ≡ 1 ⌝ }
+    ensures { λ r. ⌜ (0 < r → Quick (readNumberOf (now (text .entry)) at) r (now (out .exit))) ⌝ }
+{
+    let start = scan::past_separators(text, at);
+    if text.len() <= start {
+        return 0;
+    }
+    quick(text, start, true, out)
+}
+
+// Any number past separators.
+fn any_number(text: &[u8], at: usize) -> Read
     ensures { λ r. ⌜ r ≡ readNumberOf (now (text .entry)) at ⌝ }
 {
     let start = scan::past_separators(text, at);
@@ -36,10 +53,21 @@ pub fn read_number(text: &[u8], at: usize) -> Read
         return Read::Refused(Refusal::UnexpectedEnd(text.len()));
     }
     // taken apart and put together again: else it is copied as a whole, which is slower
-    match decimal::number_within(text, start) {
+    match decimal::number(text, start) {
         Read::Value(value, next) => Read::Value(value, next),
         Read::Refused(refusal) => Read::Refused(refusal),
     }
+}
+
+pub fn read_number(text: &[u8], at: usize) -> Read
+    ensures { λ r. ⌜ r ≡ readNumberOf (now (text .entry)) at ⌝ }
+{
+    let mut value = [0.0f32; 1];
+    let next = quick_number(text, at, &mut value);
+    if 0 < next {
+        return Read::Value(value[0], next);
+    }
+    any_number(text, at)
 }
 
 fn read_flag(text: &[u8], at: usize) -> Flag
@@ -94,12 +122,13 @@ fn moved(relative: bool, current: Point, point: Point) -> Point
     point
 }
 
-pub fn read_pair(text: &[u8], at: usize, relative: bool, current: Point) -> Coordinates
+// Any two numbers.
+fn any_pair(text: &[u8], at: usize, relative: bool, current: Point) -> Coordinates
     ensures { λ r. ⌜ pairOf r ≡ readPairOf (now (text .entry)) at relative current ⌝ }
 {
-    match read_number(text, at) {
+    match any_number(text, at) {
         Read::Refused(refusal) => Coordinates::Refused(refusal),
-        Read::Value(x, next) => match read_number(text, next) {
+        Read::Value(x, next) => match any_number(text, next) {
             Read::Refused(refusal) => Coordinates::Refused(refusal),
             Read::Value(y, end) => {
                 let point = moved(relative, current, Point { x, y });
@@ -111,4 +140,24 @@ pub fn read_pair(text: &[u8], at: usize, relative: bool, current: Point) -> Coor
             }
         },
     }
+}
+
+pub fn read_pair(text: &[u8], at: usize, relative: bool, current: Point) -> Coordinates
+    ensures { λ r. ⌜ pairOf r ≡ readPairOf (now (text .entry)) at relative current ⌝ }
+{
+    let mut x = [0.0f32; 1];
+    let next = quick_number(text, at, &mut x);
+    if 0 < next {
+        let mut y = [0.0f32; 1];
+        let end = quick_number(text, next, &mut y);
+        if 0 < end {
+            let point = moved(relative, current, Point { x: x[0], y: y[0] });
+            return Coordinates::Taken {
+                x: point.x,
+                y: point.y,
+                next: end,
+            };
+        }
+    }
+    any_pair(text, at, relative, current)
 }

@@ -1,29 +1,21 @@
--- `svg_group::numbers::read_number` meets its contract: each way out is a case of its definition. Assumes nothing.
+-- `svg_group::numbers::read_number` meets its contract: by the quick way where that tells. Assumes nothing.
+use mathlib.Core.Path.{_≡_, ap, sym, _∙_}
+use mathlib.Core.List.{List, [], _∷_}
+use Prim.Native.Nat.{ℕ, _<_}
+use native.Mathlib.Omega.{arith}
 use borrow.Author.Needs.{needs}
-use mathlib.Core.Path.{sym, _∙_}
-use borrow.Author.Tests.{lt-ltb, le-ltb}
-use Rattle.svg_group.specs.Numbers.{readNumberOf}
+use lib.ListN.{length}
+use lib.Ieee.{Float}
+use Rattle.decimal.specs.declared.numbers.Read.the-variants.{Value}
 use Rattle.svg_group.proofs.numbers.read_number.Statement.{statement}
 use Rattle.svg_group.proofs.numbers.read_number.Tie as tie
 
+array-read-t9 : tie.Need-array-read-t9
+array-read-t9 c = search (needs, ap length (c .before .quick-number .ensures (c .if1 .taken) .stored))
+
 returns : tie.Need-returns
-unfolding readNumberOf
-returns c = simp (sym (c .before .past-separators .ensures), le-ltb _ _ (c .if1 .taken))
-
-returns-2 : tie.Need-returns-2
-unfolding readNumberOf
-returns-2 c =
-    let found = c .before .before .before in
-    simp (sym (found .before .before .past-separators .ensures), lt-ltb _ _ (found .before .if1 .left)) (sym (c .before .value .given .1) ∙ found .number-within .ensures)
-
-returns-3 : tie.Need-returns-3
-unfolding readNumberOf
-returns-3 c =
-    let found = c .before .before .before in
-    simp (sym (found .before .before .past-separators .ensures), lt-ltb _ _ (found .before .if1 .left)) (sym (c .before .refusal .given .1) ∙ found .number-within .ensures)
+returns c = let q = c .before .quick-number .ensures (c .if1 .taken) in rw (q .stored) (sym (q .is))
 
 pub read-number-spec : {M : Type 1} → statement M
 read-number-spec =
-    tie.close
-    (tie.spec (λ c κs. search needs) returns (λ c κs. search needs) (λ c. search needs) (λ c. search needs) returns-2
-    returns-3)
+    tie.close (tie.spec (λ c κs. search needs) array-read-t9 returns (λ c κs. search needs) (λ c. search needs))
