@@ -48,10 +48,12 @@ signed-requires c κs = near c .finite-or-infinite
 returns-3 : tie.Need-returns-3
 returns-3 c h =
     let narrow = c .before in
+    let few = narrow .before .before .before .before .before in
+    let start = few .before in
     record {
-      few = omega (arith, narrow .before .before .before .before .before .if1 .left);
+      few = omega (arith, few .if1 .left);
       ends = refl;
-      stored = set-one (c .before .before .before .before .before .before .before .args .out .now) _ (c .before .before .before .before .before .before .before .pre) ∙ ap (λ (x : Float). x ∷ []) (c .signed .ensures ∙ sym (near narrow .is _));
+      stored = set-one (start .args .out .now) _ (start .pre) ∙ ap (λ (x : Float). x ∷ []) (c .signed .ensures ∙ sym (near narrow .is _));
     }
 
 returns-4 : tie.Need-returns-4
