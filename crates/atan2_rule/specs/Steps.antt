@@ -111,7 +111,7 @@ apart a b = cond (leb a b) (b - a) (a - b)
 unfoldable pub missAt : ℕ → ℕ → ℕ → ℕ → ℕ
 missAt u v left b = apart (behind u v (eqb left 0) (fixedOf b)) (ahead u v (eqb left 0) (fixedOf b))
 
--- from t the test's last place below `to`, by steps of 2 ^ (k - 1), .., 2, 1
+-- from t the test's last pattern below `to`, by steps of 2 ^ (k - 1), .., 2, 1
 unfoldable pub climb : (ℕ → Bool) → ℕ → ℕ → ℕ → ℕ
 climb test to zero t = t
 climb test to (suc k) t = climb test to k (cond (ltb (t + 2 ^ k) to && test (t + 2 ^ k)) (t + 2 ^ k) t)
