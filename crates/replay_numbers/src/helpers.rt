@@ -8,7 +8,7 @@ use replay_records::same_point;
 use replay_records::seen;
 
 // The bytes of a record, which is a line: the helper's letter, then five operands and two answers as
-// patterns of eight hexadecimal digits, a space before each. Places that a helper does not use hold
+// patterns of eight hexadecimal digits, a space before each. Those that a helper does not use are
 // zeros.
 const RECORD: usize = 65;
 
