@@ -8,7 +8,7 @@ use lib.Dec.{leb, ltb, eqb, lit≤}
 use lib.Pow.{pow-pos, pow-add}
 use lib.Ieee.{Float, binary32, binary64, toBits, ofBits, isNan, div}
 use borrow.Author.Tests.{ltb-false, leb-true, leb-false, le-leb, lt-leb}
-use Rattle.floats.specs.Patterns.{hidden, signPlace}
+use Rattle.floats.specs.Patterns.{hidden, signPlace, narrowStep, narrowHalf}
 use Rattle.trig_rule.specs.Reduction.{turn, Reduced}
 use Rattle.trig_rule.specs.Rule.{Is}
 use Rattle.trig_rule.specs.Sums.{factorial}
@@ -117,7 +117,7 @@ narrowed-range : (b : ℕ) → (least ≤ narrowed b) × (narrowed b ≤ piBits)
 narrowed-range b = go (ltb b 4544132024016830464) (ltb 4614256656748904448 b) refl refl
   where
     go : (s t : Bool) → ltb b 4544132024016830464 ≡ s → ltb 4614256656748904448 b ≡ t
-        → (least ≤ cond s piBits (cond t piBits ((b - 4035225266123964416 + 268435456) / 536870912))) × (cond s piBits (cond t piBits ((b - 4035225266123964416 + 268435456) / 536870912)) ≤ piBits)
+        → (least ≤ cond s piBits (cond t piBits ((b - 4035225266123964416 + narrowHalf) / narrowStep))) × (cond s piBits (cond t piBits ((b - 4035225266123964416 + narrowHalf) / narrowStep)) ≤ piBits)
     go true t e f = (lit≤ tt, lit≤ tt)
     go false true e f = (lit≤ tt, lit≤ tt)
     go false false e f = let l = ltb-false b 4544132024016830464 e in let h = ltb-false 4614256656748904448 b f in omega arith

@@ -5,7 +5,7 @@ use mathlib.Core.Bool.{Bool, cond, _&&_}
 use lib.Dec.{leb, ltb, eqb}
 use lib.Ieee.{Float, nan, binary32, binary64, toBits, ofBits, isNan, add, sub, mul, div}
 use lib.Ieee.Scale.{finite}
-use Rattle.floats.specs.Patterns.{signPlace}
+use Rattle.floats.specs.Patterns.{signPlace, narrowStep, narrowHalf}
 use Rattle.trig_rule.specs.Reduction.{turn}
 use Rattle.trig_rule.specs.Steps.{half, fixedOf, sinePlus, sineMinus, cosinePlus, cosineMinus}
 
@@ -89,7 +89,7 @@ abbrev pub piBits : ℕ
 piBits = 1078530011
 
 abbrev pub narrowed : ℕ → ℕ
-narrowed b = cond (ltb b 4544132024016830464) piBits (cond (ltb 4614256656748904448 b) piBits ((b - 4035225266123964416 + 268435456) / 536870912))
+narrowed b = cond (ltb b 4544132024016830464) piBits (cond (ltb 4614256656748904448 b) piBits ((b - 4035225266123964416 + narrowHalf) / narrowStep))
 
 unfoldable pub nearOf : Float → ℕ
 nearOf g = cond (isNan g) piBits (narrowed (toBits binary64 g))
