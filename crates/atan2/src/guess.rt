@@ -4,6 +4,7 @@ ghost use mathlib.Core.Bool.{cond};
 ghost use lib.Dec.{ltb};
 ghost use Prim.Native.Nat.{_+_, _-_, _*_, _/_, _%_, _^_, _≤_, _<_};
 ghost use Rattle.atan2_rule.specs.Steps.{bendOf, nearOf, guessOf};
+ghost use Rattle.floats.specs.Patterns.{wideInfinityBits};
 
 // e + atan t by a polynomial in t·t, for t from -1 to 1: within 4.4e-10.
 fn bend(e: f64, t: f64) -> f64
@@ -58,7 +59,7 @@ fn base(u: u64, v: u64, l: u64) -> u64
 // The angle from the bits a and b of the sizes of y and x, which u and v are cut from. Where the
 // point is on the left side or y is the larger, but not both, the small angle is taken away.
 pub(crate) fn guess(a: u64, b: u64, u: u64, v: u64, left: u32) -> u32
-    requires { ⌜ (a < 9218868437227405312) × (b < 9218868437227405312) × (u < 2 ^ 30) × (v < 2 ^ 30) × (left ≤ 1) ⌝ }
+    requires { ⌜ (a < wideInfinityBits) × (b < wideInfinityBits) × (u < 2 ^ 30) × (v < 2 ^ 30) × (left ≤ 1) ⌝ }
     ensures { λ r. ⌜ (r ≡ guessOf a b (ltb v u) left) × (947912704 ≤ r) × (r ≤ 1078530011) ⌝ }
 {
     let l = left as u64;

@@ -17,11 +17,12 @@ ghost use Prim.Native.Nat.{_+_, _-_, _*_, _/_, _%_, _^_, _≤_, _<_};
 ghost use lib.Ieee.{binary64, toBits};
 ghost use lib.Ieee.Scale.{finite};
 ghost use Rattle.atan2_rule.specs.Steps.{angleBits, slanted, level, atan2Of};
+ghost use Rattle.floats.specs.Patterns.{wideInfinityBits};
 
 // The bits of a finite x as an f64.
 fn wide(x: f32) -> u64
     requires { ⌜ finite x ≡ true ⌝ }
-    ensures { λ r. ⌜ (r ≡ toBits binary64 x) × (r % 2 ^ 63 < 9218868437227405312) ⌝ }
+    ensures { λ r. ⌜ (r ≡ toBits binary64 x) × (r % 2 ^ 63 < wideInfinityBits) ⌝ }
 {
     f64::to_bits(x as f64)
 }
@@ -39,7 +40,7 @@ fn angle(u: u64, v: u64, left: u32, first: u32) -> u32
 
 // The angle of a point off the x axis. a and b are the bits of y and x without their signs.
 fn slant(y: f32, x: f32, a: u64, b: u64, sign: u32, left: u32) -> f32
-    requires { ⌜ (a < 9218868437227405312) × (b < 9218868437227405312) × (sign ≤ 1) × (left ≤ 1) ⌝ }
+    requires { ⌜ (a < wideInfinityBits) × (b < wideInfinityBits) × (sign ≤ 1) × (left ≤ 1) ⌝ }
     ensures { λ r. ⌜ r ≡ slanted y x a b sign left ⌝ }
 {
     let top = larger(a, b);

@@ -1,6 +1,6 @@
 // The search for an angle that passes, by bisection over the bits of f32 below PI's.
 use crate::test::both;
-use crate::test::placed;
+use crate::test::fixed;
 use crate::test::side;
 use crate::test::sides;
 ghost use mathlib.Core.Path.{_≡_};
@@ -20,7 +20,7 @@ fn balance(u: u64, v: u64, left: u32, b: u32) -> Weighed
     requires { ⌜ (u < 2 ^ 30) × (v < 2 ^ 30) × (947912704 ≤ b) × (b ≤ 1078530010) ⌝ }
     ensures { λ r. ⌜ (r .ahead ≡ ahead u v (eqb left 0) (fixedOf b)) × (r .behind ≡ behind u v (eqb left 0) (fixedOf b)) ⌝ }
 {
-    let s = sides(placed(b));
+    let s = sides(fixed(b));
     let right = left == 0;
     let to = both(u, s.cosine_up, v, side(right, s.sine_down, s.sine_up));
     let from = both(u, s.cosine_down, v, side(right, s.sine_up, s.sine_down));
@@ -64,7 +64,7 @@ fn stride(u: u64, v: u64, left: u32, to: u32, t: u32, k: u32) -> u32
     if ahead_at(u, v, left, m) { m } else { t }
 }
 
-// The last place from `from` on that strides of 2^26, .., 2, 1 reach.
+// The last pattern from `from` on that strides of 2^26, .., 2, 1 reach.
 fn climb(u: u64, v: u64, left: u32, from: u32, to: u32) -> u32
     requires { ⌜ (u < 2 ^ 30) × (v < 2 ^ 30) × (947912704 ≤ from) × (from < to) × (to ≤ 1078530010) ⌝ }
     ensures { λ r. ⌜ (r ≡ climb (aheadAt u v left) to 27 from) × (947912704 ≤ r) × (r < to) ⌝ }

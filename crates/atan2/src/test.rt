@@ -36,7 +36,7 @@ pub(crate) fn sides(r: u64) -> Sums
 }
 
 // The size of the angle with the bits b, counted in 2^-56.
-pub(crate) fn placed(b: u32) -> u64
+pub(crate) fn fixed(b: u32) -> u64
     requires { ⌜ (947912704 ≤ b) × (b ≤ 1078530011) ⌝ }
     ensures { λ r. ⌜ (r ≡ fixedOf b) × (r < turn) ⌝ }
 {
@@ -115,7 +115,7 @@ pub(crate) fn passes(u: u64, v: u64, left: u32, b: u32) -> bool
     requires { ⌜ (u < 2 ^ 30) × (v < 2 ^ 30) × (947912704 ≤ b) × (b ≤ 1078530011) ⌝ }
     ensures { λ t. ⌜ t ≡ passes u v left b ⌝ }
 {
-    let x = placed(b);
+    let x = fixed(b);
     if x <= 226375608064910088 {
         judged(u, v, left, 0, sides(x))
     } else {

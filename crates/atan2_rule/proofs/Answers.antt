@@ -8,7 +8,7 @@ use lib.Dec.{leb, ltb, eqb, lit≤}
 use lib.Pow.{pow-pos, pow-add}
 use lib.Ieee.{Float, binary32, binary64, toBits, ofBits, isNan, div}
 use borrow.Author.Tests.{ltb-false, leb-true, leb-false, le-leb, lt-leb}
-use Rattle.floats.specs.Patterns.{hidden, signPlace}
+use Rattle.floats.specs.Patterns.{hidden, signPlace, narrowStep, narrowHalf}
 use Rattle.trig_rule.specs.Reduction.{turn, Reduced}
 use Rattle.trig_rule.specs.Rule.{Is}
 use Rattle.trig_rule.specs.Sums.{factorial}
@@ -18,7 +18,7 @@ use Rattle.trig_rule.proofs.Turns.{reduced}
 use Rattle.trig_rule.proofs.Little.{little-reduced}
 use Rattle.atan2_rule.specs.Rule.{piUnits, Atan2Rule}
 use Rattle.atan2_rule.specs.Steps.{sineUp, sineDown, along, against, passesAt, passes, piBits, narrowed, nearOf, guessOf, least, fallbackOf, angleBits, tiny}
-use Rattle.atan2_rule.proofs.Places.{fixed-mono}
+use Rattle.atan2_rule.proofs.Fixed.{fixed-mono}
 use Rattle.atan2_rule.proofs.Regions.{Ends, ahead-right, behind-right, carry}
 use Rattle.atan2_rule.proofs.Fallback.{Good, fallback-good, good-passes}
 use Rattle.atan2_rule.proofs.Exact.{Cut}
@@ -32,8 +32,8 @@ module _ (b : ℕ) (low : least ≤ b) (high : b ≤ piBits) where
   wide : 788529152 ≤ b
   wide = le-trans (lit≤ tt) low
 
-  pub place-value : Is (ofBits binary32 b) false (fixedOf b * 2 ^ 93)
-  place-value = subst (λ (n : ℕ). Is (ofBits binary32 b) false n) value (normal-value b (le-trans (lit≤ tt) low) (lt-of-le-of-lt high (lit≤ tt)))
+  pub angle-value : Is (ofBits binary32 b) false (fixedOf b * 2 ^ 93)
+  angle-value = subst (λ (n : ℕ). Is (ofBits binary32 b) false n) value (normal-value b (le-trans (lit≤ tt) low) (lt-of-le-of-lt high (lit≤ tt)))
     where
       split : b / hidden - 1 ≡ b / hidden - 94 + 93
       split = let h = wide in omega arith
@@ -42,10 +42,10 @@ module _ (b : ℕ) (low : least ≤ b) (high : b ≤ piBits) where
       value = ap (λ (k : ℕ). (b % hidden + hidden) * 2 ^ k) split ∙ ap (λ (n : ℕ). (b % hidden + hidden) * n) (pow-add 2 (b / hidden - 94) 93) ∙ sym (mul-assoc (b % hidden + hidden) (2 ^ (b / hidden - 94)) (2 ^ 93))
 
   pub signed-value : (p : Bool) → Is (ofBits binary32 (bit p * signPlace + b)) p (fixedOf b * 2 ^ 93)
-  signed-value p = with-sign p b (fixedOf b * 2 ^ 93) (lt-of-le-of-lt high (lit≤ tt)) place-value
+  signed-value p = with-sign p b (fixedOf b * 2 ^ 93) (lt-of-le-of-lt high (lit≤ tt)) angle-value
 
-  pub place-range : fixedOf b * 2 ^ 93 ≤ piUnits
-  place-range = le-trans (mul-le-mul-right (2 ^ 93) (fixed-mono b piBits wide high)) (lit≤ tt)
+  pub angle-range : fixedOf b * 2 ^ 93 ≤ piUnits
+  angle-range = le-trans (mul-le-mul-right (2 ^ 93) (fixed-mono b piBits wide high)) (lit≤ tt)
 
   under-turn : fixedOf b < turn
   under-turn = lt-of-le-of-lt (fixed-mono b piBits wide high) (lit≤ tt)
@@ -91,7 +91,7 @@ module _ (y x : Float) (p q : Bool) (Y X u v : ℕ) (hy : Is y p Y) (hx : Is x q
     abscissa = hx;
     size = fixedOf b * 2 ^ 93;
     angle = signed-value b low high p;
-    range = place-range b low high;
+    range = angle-range b low high;
     rest = R * 2 ^ 93;
     below = f;
     reduced = red;
@@ -117,7 +117,7 @@ narrowed-range : (b : ℕ) → (least ≤ narrowed b) × (narrowed b ≤ piBits)
 narrowed-range b = go (ltb b 4544132024016830464) (ltb 4614256656748904448 b) refl refl
   where
     go : (s t : Bool) → ltb b 4544132024016830464 ≡ s → ltb 4614256656748904448 b ≡ t
-        → (least ≤ cond s piBits (cond t piBits ((b - 4035225266123964416 + 268435456) / 536870912))) × (cond s piBits (cond t piBits ((b - 4035225266123964416 + 268435456) / 536870912)) ≤ piBits)
+        → (least ≤ cond s piBits (cond t piBits ((b - 4035225266123964416 + narrowHalf) / narrowStep))) × (cond s piBits (cond t piBits ((b - 4035225266123964416 + narrowHalf) / narrowStep)) ≤ piBits)
     go true t e f = (lit≤ tt, lit≤ tt)
     go false true e f = (lit≤ tt, lit≤ tt)
     go false false e f = let l = ltb-false b 4544132024016830464 e in let h = ltb-false 4614256656748904448 b f in omega arith

@@ -11,7 +11,7 @@ use borrow.Author.Tests.{ltb-true, ltb-false, leb-true, leb-false, eqb-true, le-
 use Rattle.trig_rule.specs.Steps.{half, fixedOf}
 use Rattle.atan2_rule.specs.Steps.{cosineUp, cosineDown, sineUp, sineDown, ahead, behind, passes, aheadAt, missAt, climb, nearer, betweenOf, fallbackOf, least, quarter, threeQuarters, most}
 use Rattle.atan2_rule.proofs.Sides.{cosine-up-mono, sine-up-mono, sine-down-mono, cosine-down-moves, sine-up-moves, sine-down-moves}
-use Rattle.atan2_rule.proofs.Places.{fixed-mono, under-half, step-up, step-near}
+use Rattle.atan2_rule.proofs.Fixed.{fixed-mono, under-half, step-up, step-near}
 use Rattle.atan2_rule.proofs.Search.{Held, climb-held, climb-from}
 use Rattle.atan2_rule.proofs.Regions.{Settled, Forward, Region, right-region, steep-region, left-region}
 

@@ -1,6 +1,6 @@
 -- The laws of atan2, from the steps' sums up to the rule.
 pub mod Sides
-pub mod Places
+pub mod Fixed
 pub mod Search
 pub mod Regions
 pub mod Fallback

@@ -1,4 +1,4 @@
--- The bisection stops at a place that passes its test while the next one below `to` does not. Assumes nothing.
+-- The bisection stops at a pattern that passes its test while the next one below `to` does not. Assumes nothing.
 use mathlib.Core.Path.{_≡_, refl, sym, ap, _∙_, subst}
 use Prim.Native.Nat.{ℕ, zero, suc, _+_, _*_, _^_, _≤_, _<_}
 use native.Mathlib.Nat.{le-refl, le-trans, le-add-right, add-assoc, pow-succ'}
@@ -21,7 +21,7 @@ module _ (test : ℕ → Bool) (to : ℕ) where
       double : (n : ℕ) → n + n ≡ 2 * n
       double n = omega arith
 
-  -- one step: it is taken where the place below `to` passes
+  -- one step: it is taken where the pattern below `to` passes
   held-step : (k t : ℕ) → Held (2 ^ suc k) t → Held (2 ^ k) (cond (ltb (t + 2 ^ k) to && test (t + 2 ^ k)) (t + 2 ^ k) t)
   held-step k t h = go (ltb (t + 2 ^ k) to) (test (t + 2 ^ k)) refl refl
     where

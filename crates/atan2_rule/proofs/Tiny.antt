@@ -9,6 +9,26 @@ use Rattle.trig_rule.specs.Sums.{factorial, whole, sineSide, cosineSide}
 use Rattle.trig_rule.proofs.Little.{sine-little, cosine-little}
 use Rattle.atan2_rule.proofs.Pointed.{Kept}
 
+-- a side (p - m) / w that is near C / D, times n and over both sides: v is w * z
+module _ (C D e w z v p m n : ℕ) (both : w * z ≡ v) where
+  over-above : C * w + D * m ≤ D * p + e * w → C * n * v + D * (n * m * z) ≤ D * (n * p * z) + e * n * v
+  over-above h = le-trans (le-of-eq left) (le-trans (mul-le-mul-left (n * z) h) (le-of-eq right))
+    where
+      left : C * n * v + D * (n * m * z) ≡ n * z * (C * w + D * m)
+      left = rw (← both) (simp (mul-add, mul-assoc, mul-comm, mul-left-comm))
+
+      right : n * z * (D * p + e * w) ≡ D * (n * p * z) + e * n * v
+      right = rw (← both) (simp (mul-add, mul-assoc, mul-comm, mul-left-comm))
+
+  over-below : D * p ≤ C * w + D * m + e * w → D * (n * p * z) ≤ C * n * v + D * (n * m * z) + e * n * v
+  over-below h = le-trans (le-of-eq left) (le-trans (mul-le-mul-left (n * z) h) (le-of-eq right))
+    where
+      left : D * (n * p * z) ≡ n * z * (D * p)
+      left = simp (mul-assoc, mul-comm, mul-left-comm)
+
+      right : n * z * (C * w + D * m + e * w) ≡ C * n * v + D * (n * m * z) + e * n * v
+      right = rw (← both) (simp (mul-add, mul-assoc, mul-comm, mul-left-comm))
+
 -- D is 2 ^ 149, e is 2 ^ 127 and k is 2 ^ 129. The cosine is (p - m) / w, the sine (a - b) / z, near 1 and near A / D
 module _ (D e k Y X A w z p m a b : ℕ) (same : D ≡ k * 2 ^ 20) (twice : e + e ≤ k)
     (cosine-above : D * w + D * m ≤ D * p + e * w) (cosine-below : D * p ≤ D * w + D * m + e * w)
@@ -16,40 +36,16 @@ module _ (D e k Y X A w z p m a b : ℕ) (same : D ≡ k * 2 ^ 20) (twice : e + 
     (ratio-above : D * Y ≤ A * X + e * X) (ratio-below : A * X ≤ D * Y + e * X) where
   -- the products, over w * z
   cosine-above' : (n : ℕ) → D * n * (w * z) + D * (n * m * z) ≤ D * (n * p * z) + e * n * (w * z)
-  cosine-above' n = le-trans (le-of-eq left) (le-trans (mul-le-mul-left (n * z) cosine-above) (le-of-eq right))
-    where
-      left : D * n * (w * z) + D * (n * m * z) ≡ n * z * (D * w + D * m)
-      left = simp (mul-add, mul-assoc, mul-comm, mul-left-comm)
-
-      right : n * z * (D * p + e * w) ≡ D * (n * p * z) + e * n * (w * z)
-      right = simp (mul-add, mul-assoc, mul-comm, mul-left-comm)
+  cosine-above' n = over-above D D e w z (w * z) p m n refl cosine-above
 
   cosine-below' : (n : ℕ) → D * (n * p * z) ≤ D * n * (w * z) + D * (n * m * z) + e * n * (w * z)
-  cosine-below' n = le-trans (le-of-eq left) (le-trans (mul-le-mul-left (n * z) cosine-below) (le-of-eq right))
-    where
-      left : D * (n * p * z) ≡ n * z * (D * p)
-      left = simp (mul-assoc, mul-comm, mul-left-comm)
-
-      right : n * z * (D * w + D * m + e * w) ≡ D * n * (w * z) + D * (n * m * z) + e * n * (w * z)
-      right = simp (mul-add, mul-assoc, mul-comm, mul-left-comm)
+  cosine-below' n = over-below D D e w z (w * z) p m n refl cosine-below
 
   sine-above' : (n : ℕ) → A * n * (w * z) + D * (n * b * w) ≤ D * (n * a * w) + e * n * (w * z)
-  sine-above' n = le-trans (le-of-eq left) (le-trans (mul-le-mul-left (n * w) sine-above) (le-of-eq right))
-    where
-      left : A * n * (w * z) + D * (n * b * w) ≡ n * w * (A * z + D * b)
-      left = simp (mul-add, mul-assoc, mul-comm, mul-left-comm)
-
-      right : n * w * (D * a + e * z) ≡ D * (n * a * w) + e * n * (w * z)
-      right = simp (mul-add, mul-assoc, mul-comm, mul-left-comm)
+  sine-above' n = over-above A D e z w (w * z) a b n (mul-comm z w) sine-above
 
   sine-below' : (n : ℕ) → D * (n * a * w) ≤ A * n * (w * z) + D * (n * b * w) + e * n * (w * z)
-  sine-below' n = le-trans (le-of-eq left) (le-trans (mul-le-mul-left (n * w) sine-below) (le-of-eq right))
-    where
-      left : D * (n * a * w) ≡ n * w * (D * a)
-      left = simp (mul-assoc, mul-comm, mul-left-comm)
-
-      right : n * w * (A * z + D * b + e * z) ≡ A * n * (w * z) + D * (n * b * w) + e * n * (w * z)
-      right = simp (mul-add, mul-assoc, mul-comm, mul-left-comm)
+  sine-below' n = over-below A D e z w (w * z) a b n (mul-comm z w) sine-below
 
   ratio-above' : D * Y * (w * z) ≤ A * X * (w * z) + e * X * (w * z)
   ratio-above' = le-trans (mul-le-mul-right (w * z) ratio-above) (le-of-eq (add-mul (A * X) (e * X) (w * z)))

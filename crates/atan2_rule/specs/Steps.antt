@@ -5,7 +5,7 @@ use mathlib.Core.Bool.{Bool, cond, _&&_}
 use lib.Dec.{leb, ltb, eqb}
 use lib.Ieee.{Float, nan, binary32, binary64, toBits, ofBits, isNan, add, sub, mul, div}
 use lib.Ieee.Scale.{finite}
-use Rattle.floats.specs.Patterns.{signPlace}
+use Rattle.floats.specs.Patterns.{signPlace, narrowStep, narrowHalf}
 use Rattle.trig_rule.specs.Reduction.{turn}
 use Rattle.trig_rule.specs.Steps.{half, fixedOf, sinePlus, sineMinus, cosinePlus, cosineMinus}
 
@@ -89,7 +89,7 @@ abbrev pub piBits : ℕ
 piBits = 1078530011
 
 abbrev pub narrowed : ℕ → ℕ
-narrowed b = cond (ltb b 4544132024016830464) piBits (cond (ltb 4614256656748904448 b) piBits ((b - 4035225266123964416 + 268435456) / 536870912))
+narrowed b = cond (ltb b 4544132024016830464) piBits (cond (ltb 4614256656748904448 b) piBits ((b - 4035225266123964416 + narrowHalf) / narrowStep))
 
 unfoldable pub nearOf : Float → ℕ
 nearOf g = cond (isNan g) piBits (narrowed (toBits binary64 g))
@@ -111,7 +111,7 @@ apart a b = cond (leb a b) (b - a) (a - b)
 unfoldable pub missAt : ℕ → ℕ → ℕ → ℕ → ℕ
 missAt u v left b = apart (behind u v (eqb left 0) (fixedOf b)) (ahead u v (eqb left 0) (fixedOf b))
 
--- from t the test's last place below `to`, by steps of 2 ^ (k - 1), .., 2, 1
+-- from t the test's last pattern below `to`, by steps of 2 ^ (k - 1), .., 2, 1
 unfoldable pub climb : (ℕ → Bool) → ℕ → ℕ → ℕ → ℕ
 climb test to zero t = t
 climb test to (suc k) t = climb test to k (cond (ltb (t + 2 ^ k) to && test (t + 2 ^ k)) (t + 2 ^ k) t)

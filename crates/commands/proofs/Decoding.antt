@@ -1,23 +1,20 @@
 -- A command is read back case by case: each letter with enough numbers, with too few, and the letters that are none. Assumes nothing.
 use Prim.Native.Nat.{ℕ, _+_, _≤_, _<_}
 use mathlib.Core.Path.{_≡_, refl, sym, ap, _∙_}
-use mathlib.Core.Bool.{Bool, true, false, _&&_, cond}
-use mathlib.Core.List.{List, [], _∷_}
-use native.Mathlib.Omega.{arith}
-use native.Mathlib.Nat.{add-assoc}
+use mathlib.Core.Bool.{Bool, true, false}
+use mathlib.Core.List.{List}
+use native.Mathlib.Nat.{add-assoc, add-zero}
 use borrow.Author.Tests.{lt-ltb, le-ltb, ne-eqb}
 use lib.Ieee.{Float, nan}
-use lib.ListN.{length, getD, drop}
+use lib.ListN.{length, drop}
 use lib.Seq.{getD-drop}
 use Rattle.math.specs.declared.points.Point.{Point}
 use Rattle.floats.specs.Floats.{bitsOf}
 use Rattle.commands.specs.Listed.{numberAt, pointAt, isFlag, isSet, arcOf, commandOf}
-use Rattle.commands.specs.declared.command.PathCommand.{PathCommand}
 use Rattle.commands.specs.declared.command.PathCommand.the-variants.{MoveTo, LineTo, QuadTo, CubicTo, ArcTo, ClosePath}
-use Rattle.commands.specs.declared.encoding.Decoded.{Decoded}
 use Rattle.commands.specs.declared.encoding.Decoded.the-variants.{Command, Bad}
 
--- ---- numbers from a place on
+-- ---- numbers from one on
 
 module _ (numbers : List Float) (at i j : ℕ) (e : j ≡ at + i) where
   pub number-from : numberAt numbers j ≡ numberAt (drop at numbers) i
@@ -29,24 +26,37 @@ module _ (numbers : List Float) (at i j : ℕ) (e : j ≡ at + i) where
       let y : numberAt numbers (j + 1) ≡ numberAt (drop at numbers) (i + 1) = rw (e, add-assoc at i 1) (sym (getD-drop at numbers (i + 1) nan)) in
       cc
 
+module _ (numbers : List Float) (at : ℕ) {p : Point} where
+  pub point-first : p ≡ pointAt numbers at → p ≡ pointAt (drop at numbers) 0
+  point-first e = e ∙ point-from numbers at 0 at (sym (add-zero at))
+
+  pub point-later : (i : ℕ) → p ≡ pointAt numbers (at + i) → p ≡ pointAt (drop at numbers) i
+  point-later i e = e ∙ point-from numbers at i (at + i) refl
+
 -- ---- an arc's flags
 
-module _ (numbers : List Float) (large sweep : ℕ) (el : large ≡ bitsOf (numberAt numbers 3)) (es : sweep ≡ bitsOf (numberAt numbers 4)) where
+module _ (numbers : List Float) (at : ℕ) {large sweep : ℕ} (el : large ≡ bitsOf (numberAt numbers (at + 3))) (es : sweep ≡ bitsOf (numberAt numbers (at + 4))) where
+  large-is : bitsOf (numberAt (drop at numbers) 3) ≡ large
+  large-is = sym (el ∙ ap bitsOf (number-from numbers at 3 (at + 3) refl))
+
+  sweep-is : bitsOf (numberAt (drop at numbers) 4) ≡ sweep
+  sweep-is = sym (es ∙ ap bitsOf (number-from numbers at 4 (at + 4) refl))
+
   pub arc-flagged :
-      (radii end : Point) (rotation : Float) (l s : Bool)
-      → isFlag large ≡ true → isFlag sweep ≡ true
-      → radii ≡ pointAt numbers 0 → rotation ≡ numberAt numbers 2 → l ≡ isSet large → s ≡ isSet sweep → end ≡ pointAt numbers 5
-      → Command (ArcTo radii rotation l s end) ≡ arcOf numbers
+      {radii end : Point} {l s : Bool} → isFlag large ≡ true → isFlag sweep ≡ true
+      → radii ≡ pointAt numbers at → l ≡ isSet large → s ≡ isSet sweep → end ≡ pointAt numbers (at + 5)
+      → Command (ArcTo radii (numberAt numbers (at + 2)) l s end) ≡ arcOf (drop at numbers)
   unfolding arcOf
-  arc-flagged radii end rotation l s f g er eo ef eg ee = simp (er, eo, ef, eg, ee, sym el, sym es, f, g)
+  arc-flagged f g er el es ee =
+      simp (point-first numbers at er, number-from numbers at 2 (at + 2) refl, el, es, point-later numbers at 5 ee, large-is, sweep-is, f, g)
 
-  pub arc-large : isFlag large ≡ false → Bad ≡ arcOf numbers
+  pub arc-large : isFlag large ≡ false → Bad ≡ arcOf (drop at numbers)
   unfolding arcOf
-  arc-large f = simp (sym el, f)
+  arc-large f = simp (large-is, f)
 
-  pub arc-sweep : isFlag large ≡ true → isFlag sweep ≡ false → Bad ≡ arcOf numbers
+  pub arc-sweep : isFlag large ≡ true → isFlag sweep ≡ false → Bad ≡ arcOf (drop at numbers)
   unfolding arcOf
-  arc-sweep f g = simp (sym el, sym es, f, g)
+  arc-sweep f g = simp (large-is, sweep-is, f, g)
 
 -- ---- the letters
 

@@ -1,4 +1,4 @@
--- A stored list read from a place on: what a loop over it knows after a command, at a bad one and at the end. Assumes nothing.
+-- A stored list read from a command on: what a loop over it knows after a command, at a bad one and at the end. Assumes nothing.
 use Prim.Native.Nat.{ℕ, zero, suc, _+_, _≤_, _<_}
 use mathlib.Core.Path.{_≡_, refl, sym, ap, subst, _∙_}
 use mathlib.Core.Bool.{Bool, true, false, cond, _&&_}
@@ -52,38 +52,38 @@ module _ (numbers : List Float) where
   unfolding Takes
   command-fits letter command e = subst (Takes numbers) e (command-takes letter)
 
--- ---- one place further
+-- ---- one command further
 
--- the list from a command on, whose first number stands at a place
+-- the list from the letter at `letter-at` on, whose first number stands at `at`
 unfoldable pub listedFrom : List ℕ → List Float → ℕ → ℕ → Listing
-listedFrom letters numbers place at = listed place (drop place letters) (drop at numbers)
+listedFrom letters numbers letter-at at = listed letter-at (drop letter-at letters) (drop at numbers)
 
-module _ (letters : List ℕ) (numbers : List Float) (place at : ℕ) (inside : place < length letters) where
-  split : listedFrom letters numbers place at ≡ follow place (drop at numbers) (commandOf (getD letters place 0) (drop at numbers)) (listed (suc place) (drop (suc place) letters))
+module _ (letters : List ℕ) (numbers : List Float) (letter-at at : ℕ) (inside : letter-at < length letters) where
+  split : listedFrom letters numbers letter-at at ≡ follow letter-at (drop at numbers) (commandOf (getD letters letter-at 0) (drop at numbers)) (listed (suc letter-at) (drop (suc letter-at) letters))
   unfolding listedFrom listed
-  split = ap (λ (l : List ℕ). listed place l (drop at numbers)) (drop-cons letters place 0 inside)
+  split = ap (λ (l : List ℕ). listed letter-at l (drop at numbers)) (drop-cons letters letter-at 0 inside)
 
   pub from-next :
-      (command : PathCommand) → commandOf (getD letters place 0) (drop at numbers) ≡ Command command
-      → listedFrom letters numbers place at ≡ prepend command (listedFrom letters numbers (place + 1) (at + length (argumentsOf command)))
+      (command : PathCommand) → commandOf (getD letters letter-at 0) (drop at numbers) ≡ Command command
+      → listedFrom letters numbers letter-at at ≡ prepend command (listedFrom letters numbers (letter-at + 1) (at + length (argumentsOf command)))
   unfolding listedFrom
   from-next command e =
       split
-      ∙ ap (λ (d : Decoded). follow place (drop at numbers) d (listed (suc place) (drop (suc place) letters))) e
-      ∙ ap (λ (l : List Float). prepend command (listed (suc place) (drop (suc place) letters) l)) (drop-drop (length (argumentsOf command)) at numbers)
-      ∙ ap (λ (k : ℕ). prepend command (listed k (drop k letters) (drop (at + length (argumentsOf command)) numbers))) (sym (add-one place))
+      ∙ ap (λ (d : Decoded). follow letter-at (drop at numbers) d (listed (suc letter-at) (drop (suc letter-at) letters))) e
+      ∙ ap (λ (l : List Float). prepend command (listed (suc letter-at) (drop (suc letter-at) letters) l)) (drop-drop (length (argumentsOf command)) at numbers)
+      ∙ ap (λ (k : ℕ). prepend command (listed k (drop k letters) (drop (at + length (argumentsOf command)) numbers))) (sym (add-one letter-at))
 
-  pub from-bad : commandOf (getD letters place 0) (drop at numbers) ≡ Bad → listedFrom letters numbers place at ≡ malformed place
-  from-bad e = split ∙ ap (λ (d : Decoded). follow place (drop at numbers) d (listed (suc place) (drop (suc place) letters))) e
+  pub from-bad : commandOf (getD letters letter-at 0) (drop at numbers) ≡ Bad → listedFrom letters numbers letter-at at ≡ malformed letter-at
+  from-bad e = split ∙ ap (λ (d : Decoded). follow letter-at (drop at numbers) d (listed (suc letter-at) (drop (suc letter-at) letters))) e
 
-module _ (letters : List ℕ) (numbers : List Float) (place at : ℕ) (past : length letters ≤ place) where
-  pub from-left-over : at < length numbers → listedFrom letters numbers place at ≡ malformed place
+module _ (letters : List ℕ) (numbers : List Float) (letter-at at : ℕ) (past : length letters ≤ letter-at) where
+  pub from-left-over : at < length numbers → listedFrom letters numbers letter-at at ≡ malformed letter-at
   unfolding listedFrom listed
-  from-left-over h = ap (λ (l : List ℕ). listed place l (drop at numbers)) (drop-of-length-le letters past) ∙ ap (listed place []) (drop-cons numbers at nan h)
+  from-left-over h = ap (λ (l : List ℕ). listed letter-at l (drop at numbers)) (drop-of-length-le letters past) ∙ ap (listed letter-at []) (drop-cons numbers at nan h)
 
-  pub from-end : length numbers ≤ at → listedFrom letters numbers place at ≡ wellFormed []
+  pub from-end : length numbers ≤ at → listedFrom letters numbers letter-at at ≡ wellFormed []
   unfolding listedFrom listed
-  from-end h = ap (λ (l : List ℕ). listed place l (drop at numbers)) (drop-of-length-le letters past) ∙ ap (listed place []) (drop-of-length-le numbers h)
+  from-end h = ap (λ (l : List ℕ). listed letter-at l (drop at numbers)) (drop-of-length-le letters past) ∙ ap (listed letter-at []) (drop-of-length-le numbers h)
 
 -- ---- what the check keeps
 
@@ -92,12 +92,12 @@ judged-prepend command (wellFormed commands) = refl
 judged-prepend command (malformed k) = refl
 
 pub judged-next :
-    (letters : List ℕ) (numbers : List Float) (place at width : ℕ) (command : PathCommand)
-    → place < length letters → width ≡ length (argumentsOf command)
-    → commandOf (getD letters place 0) (drop at numbers) ≡ Command command
-    → judged (listedFrom letters numbers (place + 1) (at + width)) ≡ judged (listedFrom letters numbers place at)
-judged-next letters numbers place at width command inside w e =
-    rw w (sym (ap judged (from-next letters numbers place at inside command e) ∙ judged-prepend command (listedFrom letters numbers (place + 1) (at + length (argumentsOf command)))))
+    (letters : List ℕ) (numbers : List Float) (letter-at at width : ℕ) (command : PathCommand)
+    → letter-at < length letters → width ≡ length (argumentsOf command)
+    → commandOf (getD letters letter-at 0) (drop at numbers) ≡ Command command
+    → judged (listedFrom letters numbers (letter-at + 1) (at + width)) ≡ judged (listedFrom letters numbers letter-at at)
+judged-next letters numbers letter-at at width command inside w e =
+    rw w (sym (ap judged (from-next letters numbers letter-at at inside command e) ∙ judged-prepend command (listedFrom letters numbers (letter-at + 1) (at + length (argumentsOf command)))))
 
 pub check-few : (letters : List ℕ) (numbers : List Float) → length letters ≤ 65536 → checkCommandsOf letters numbers ≡ judged (listed 0 letters numbers)
 unfolding checkCommandsOf

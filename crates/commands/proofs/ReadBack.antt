@@ -41,7 +41,7 @@ command-back (CubicTo control1 control2 end) rest =
 command-back (ArcTo radii rotation large sweep end) rest =
     let numbers = radii .x ∷ radii .y ∷ rotation ∷ flagOf large ∷ flagOf sweep ∷ end .x ∷ end .y ∷ rest in
     sym
-    (arc-flagged numbers (bitsOf (flagOf large)) (bitsOf (flagOf sweep)) refl refl radii end rotation large sweep (flag-is large) (flag-is sweep) refl refl (set-is large) (set-is sweep) refl
+    (arc-flagged numbers 0 refl refl (flag-is large) (flag-is sweep) refl (set-is large) (set-is sweep) refl
     ∙ is-arc 65 numbers refl (omega arith))
 command-back ClosePath rest = sym (is-close 90 rest refl)
 

@@ -14,7 +14,7 @@ use Rattle.commands.specs.declared.command.PathCommand.the-variants.{Mov
 use Rattle.commands.specs.declared.encoding.Decoded.{Decoded}
 use Rattle.commands.specs.declared.encoding.Decoded.the-variants.{Command, Bad}
 
--- the number at a place among those of a command
+-- a command's number, counted from 0
 abbrev pub numberAt : List Float → ℕ → Float
 numberAt numbers i = getD numbers i nan
 

@@ -44,7 +44,7 @@ unfoldable pub numbersOf : List PathCommand → List Float
 numbersOf [] = []
 numbersOf (command ∷ commands) = argumentsOf command ++ numbersOf commands
 
--- one command is stored: its letter at a place, its numbers from another on
-pub record Store (place at : ℕ) (command : PathCommand) (letters : List ℕ) (numbers : List Float) (letters′ : List ℕ) (numbers′ : List Float) : Type 0 where
-  pub letter : letters′ ≡ set letters place (letterOf command)
+-- one command is stored: its letter at `letter-at`, its numbers from `at` on
+pub record Store (letter-at at : ℕ) (command : PathCommand) (letters : List ℕ) (numbers : List Float) (letters′ : List ℕ) (numbers′ : List Float) : Type 0 where
+  pub letter : letters′ ≡ set letters letter-at (letterOf command)
   pub arguments : numbers′ ≡ sets numbers at (argumentsOf command)

@@ -21,16 +21,16 @@ pub fn check_commands(letters: &[u8], numbers: &[f32]) -> Checked
     if 65536 < count {
         return Checked::Refused(Refusal::Range(count));
     }
-    let mut place = 0;
+    let mut letter_at = 0;
     let mut at = 0;
-    while place < count {
-        match decode(letters[place], numbers, at) {
+    while letter_at < count {
+        match decode(letters[letter_at], numbers, at) {
             Decoded::Bad => {
-                return Checked::Refused(Refusal::BadList(place));
+                return Checked::Refused(Refusal::BadList(letter_at));
             }
             Decoded::Command(command) => {
                 at += width(command);
-                place += 1;
+                letter_at += 1;
             }
         }
     }

@@ -1,4 +1,4 @@
-// One command in the two buffers of a list: stored at a place, and read back from it.
+// One command in the two buffers of a list: stored, and read back.
 ghost use mathlib.Core.Path.{_≡_};
 ghost use Prim.Native.Nat.{_+_, _≤_, _<_};
 ghost use lib.ListN.{length, drop};
@@ -16,7 +16,7 @@ fn flag_number(flag: bool) -> f32
     if flag { 1.0 } else { 0.0 }
 }
 
-// Puts two numbers at the places `at` and `at + 1`, and touches no other.
+// Puts two numbers at `at` and `at + 1`, and touches no other.
 pub fn put_two(numbers: &mut [f32], at: usize, x: f32, y: f32)
     requires { ⌜ at + 2 ≤ length (now numbers) ⌝ }
     ensures { λ _. ⌜ now (numbers .exit) ≡ sets (now (numbers .entry)) at (x ∷ y ∷ []) ⌝ }
@@ -85,12 +85,18 @@ fn store_arguments(numbers: &mut [f32], at: usize, command: PathCommand)
     }
 }
 
-// Stores a command: its letter at `place`, its numbers from `at` on.
-pub fn store(letters: &mut [u8], numbers: &mut [f32], place: usize, at: usize, command: PathCommand)
-    requires { ⌜ (place < length (now letters)) × (at + length (argumentsOf command) ≤ length (now numbers)) ⌝ }
-    ensures { λ _. ⌜ Store place at command (now (letters .entry)) (now (numbers .entry)) (now (letters .exit)) (now (numbers .exit)) ⌝ }
+// Stores a command: its letter at `letter_at`, its numbers from `at` on.
+pub fn store(
+    letters: &mut [u8],
+    numbers: &mut [f32],
+    letter_at: usize,
+    at: usize,
+    command: PathCommand,
+)
+    requires { ⌜ («letter_at» < length (now letters)) × (at + length (argumentsOf command) ≤ length (now numbers)) ⌝ }
+    ensures { λ _. ⌜ Store «letter_at» at command (now (letters .entry)) (now (numbers .entry)) (now (letters .exit)) (now (numbers .exit)) ⌝ }
 {
-    letters[place] = letter(command);
+    letters[letter_at] = letter(command);
     store_arguments(numbers, at, command);
 }
 
@@ -108,14 +114,14 @@ fn is_set(bits: u32) -> bool
     bits == 0x3f80_0000
 }
 
-// What a letter and the numbers from a place on are.
+// What a letter and the numbers that follow are.
 pub enum Decoded {
     Command(PathCommand),
     // An unknown letter, a missing number or another flag.
     Bad,
 }
 
-// The point of the two numbers from a place on.
+// The point of the two numbers from `at` on.
 pub fn point_at(numbers: &[f32], at: usize) -> Point
     requires { ⌜ at + 2 ≤ length (now numbers) ⌝ }
     ensures { λ r. ⌜ r ≡ pointAt (now (numbers .entry)) at ⌝ }

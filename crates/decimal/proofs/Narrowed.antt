@@ -14,7 +14,7 @@ use lib.Ieee.Fits.{round-fits}
 use lib.Ieee.Exact.{HasValue, round-exact}
 use lib.Ieee.Order.{round-mono}
 use lib.Ieee.Positive.{positive, positive-of-value, values-of-le}
-use Rattle.floats.specs.Patterns.{hidden, signPlace}
+use Rattle.floats.specs.Patterns.{hidden, signPlace, wideHidden, wideInfinityBits, narrowStep, narrowHalf}
 use Rattle.decimal_rounding.proofs.Compares.{below-or-not}
 use Rattle.decimal_rounding.proofs.Halves.{near-down, near-up}
 use Rattle.decimal_rounding.proofs.Pattern.{units-pattern}
@@ -26,7 +26,7 @@ sized c = digitsOf c * 2 ^ powerOf c
 
 -- a pattern with its last 29 digits rounded off, in steps of f32; and a step's 24 digits and the power of two that they are taken with
 abbrev stepOf : ℕ → ℕ
-stepOf b = (b + 268435456) / 536870912
+stepOf b = (b + narrowHalf) / narrowStep
 
 abbrev singleDigits : ℕ → ℕ
 singleDigits t = t % hidden + hidden
@@ -39,15 +39,15 @@ singlePower t = t / hidden - 897
 sized-pos : (c : ℕ) → 0 < sized c
 sized-pos c = mul-pos (let p : 0 < digitsOf c = omega arith in p) (pow-pos (powerOf c))
 
-sized-lt : (c b : ℕ) → 0x10000000000000 ≤ c → c < b → sized c < sized b
+sized-lt : (c b : ℕ) → wideHidden ≤ c → c < b → sized c < sized b
 sized-lt c b l h = go (below-or-not (powerOf c) (powerOf b))
   where
     go : (powerOf c < powerOf b) ⊎ (powerOf b ≤ powerOf c) → sized c < sized b
     go (inl less) =
         let next : suc (powerOf c) ≤ powerOf b = less in
-        let twice : 0x10000000000000 * 2 ^ suc (powerOf c) ≡ 0x20000000000000 * 2 ^ powerOf c = ap (λ (z : ℕ). 0x10000000000000 * z) (pow-suc 2 (powerOf c)) ∙ omega arith in
+        let twice : wideHidden * 2 ^ suc (powerOf c) ≡ 0x20000000000000 * 2 ^ powerOf c = ap (λ (z : ℕ). wideHidden * z) (pow-suc 2 (powerOf c)) ∙ omega arith in
         let below : digitsOf c * 2 ^ powerOf c < 0x20000000000000 * 2 ^ powerOf c = mul-lt-mul-of-pos-right (let p : digitsOf c < 0x20000000000000 = omega arith in p) (pow-pos (powerOf c)) in
-        let least : 0x10000000000000 * 2 ^ powerOf b ≤ digitsOf b * 2 ^ powerOf b = mul-le-mul-right (2 ^ powerOf b) (let p : 0x10000000000000 ≤ digitsOf b = omega arith in p) in
+        let least : wideHidden * 2 ^ powerOf b ≤ digitsOf b * 2 ^ powerOf b = mul-le-mul-right (2 ^ powerOf b) (let p : wideHidden ≤ digitsOf b = omega arith in p) in
         let up = pow-mono next in
         omega (arith, twice, below, least, up)
     go (inr more) =
@@ -59,13 +59,13 @@ sized-lt c b l h = go (below-or-not (powerOf c) (powerOf b))
 abbrev ownOf : ℕ → Float
 ownOf c = round binary64 false (sized c) (2 ^ 1074)
 
-pub own : (c : ℕ) → c < 0x7FF0000000000000 → HasValue (ownOf c) false (sized c) (2 ^ 1074)
+pub own : (c : ℕ) → c < wideInfinityBits → HasValue (ownOf c) false (sized c) (2 ^ 1074)
 own c h =
     let few : digitsOf c < 2 ^ 53 = omega arith in
     let fits : 53 + powerOf c ≤ 2098 = omega arith in
     round-exact binary64 false (sized c) (2 ^ 1074) (digitsOf c) (powerOf c) (pow-pos 1074) few (lt-of-lt-of-le (shl-lt 53 (powerOf c) few) (pow-mono fits)) refl
 
-own-positive : (c : ℕ) → c < 0x7FF0000000000000 → T (positive (ownOf c))
+own-positive : (c : ℕ) → c < wideInfinityBits → T (positive (ownOf c))
 own-positive c h = positive-of-value (ownOf c) (sized c) (2 ^ 1074) (own c h) (sized-pos c)
 
 module _ (w d b : ℕ) (D : 0 < d) (is : round binary64 false w d ≡ ofBits binary64 b) (low : 0x3E00000000000000 ≤ b) (high : b < 0x4400000000000000) where
@@ -76,17 +76,17 @@ module _ (w d b : ℕ) (D : 0 < d) (is : round binary64 false w d ≡ ofBits bin
   over-zero = positive-of-value (round binary64 false w d) (sized b) (2 ^ 1074) value (sized-pos b)
 
   -- a pattern below the quotient's is below the fraction, and one above it above
-  above : (c : ℕ) → 0x10000000000000 ≤ c → c < b → sized c * d < w * 2 ^ 1074
+  above : (c : ℕ) → wideHidden ≤ c → c < b → sized c * d < w * 2 ^ 1074
   above c l h =
       lt-of-not-le
       (λ (g : w * 2 ^ 1074 ≤ sized c * d).
-      let u : c < 0x7FF0000000000000 = omega arith in
+      let u : c < wideInfinityBits = omega arith in
       not-le-of-lt (sized-lt c b l h)
       (le-of-mul-le-mul-right
       (values-of-le (round binary64 false w d) (ownOf c) (sized b) (2 ^ 1074) (sized c) (2 ^ 1074) over-zero (own-positive c u) value (own c u) (round-mono binary64 w d (sized c) (2 ^ 1074) D (pow-pos 1074) g))
       (pow-pos 1074)))
 
-  below : (c : ℕ) → b < c → c < 0x7FF0000000000000 → w * 2 ^ 1074 < sized c * d
+  below : (c : ℕ) → b < c → c < wideInfinityBits → w * 2 ^ 1074 < sized c * d
   below c h u =
       lt-of-not-le
       (λ (g : sized c * d ≤ w * 2 ^ 1074).
@@ -98,41 +98,41 @@ module _ (w d b : ℕ) (D : 0 < d) (is : round binary64 false w d ≡ ofBits bin
   -- ---- the fraction among the steps of f32
 
   -- the middle of q and q + 1 steps of 2 ^ k smallest values, which a pattern has
-  middle : (c q k : ℕ) → digitsOf c ≡ q * 536870912 + 268435456 → powerOf c ≡ k + 896 → sized c * d ≡ (2 * (q * (d * 2 ^ k)) + d * 2 ^ k) * 2 ^ 924
+  middle : (c q k : ℕ) → digitsOf c ≡ q * narrowStep + narrowHalf → powerOf c ≡ k + 896 → sized c * d ≡ (2 * (q * (d * 2 ^ k)) + d * 2 ^ k) * 2 ^ 924
   middle c q k e p =
       let P = 2 ^ k in
       let split : 2 ^ (k + 896) ≡ P * 2 ^ 896 = pow-add 2 k 896 in
       ap₂ (λ (x : ℕ) (y : ℕ). x * 2 ^ y * d) e p
-      ∙ ap (λ (z : ℕ). (q * 536870912 + 268435456) * z * d) split
+      ∙ ap (λ (z : ℕ). (q * narrowStep + narrowHalf) * z * d) split
       ∙ scaled q P (2 ^ 896)
     where
-      scaled : (q P M : ℕ) → (q * 536870912 + 268435456) * (P * M) * d ≡ (2 * (q * (d * P)) + d * P) * (268435456 * M)
+      scaled : (q P M : ℕ) → (q * narrowStep + narrowHalf) * (P * M) * d ≡ (2 * (q * (d * P)) + d * P) * (narrowHalf * M)
       scaled q P M =
-          let u : q * 536870912 + 268435456 ≡ (2 * q + 1) * 268435456 = omega arith in
+          let u : q * narrowStep + narrowHalf ≡ (2 * q + 1) * narrowHalf = omega arith in
           let v : (2 * q + 1) * (d * P) ≡ 2 * (q * (d * P)) + d * P = add-mul (2 * q) 1 (d * P) ∙ ap₂ _+_ (mul-assoc 2 q (d * P)) (one-mul (d * P)) in
-          let swap : 268435456 * (P * M) ≡ P * (268435456 * M) = sym (mul-assoc 268435456 P M) ∙ ap (λ (z : ℕ). z * M) (mul-comm 268435456 P) ∙ mul-assoc P 268435456 M in
+          let swap : narrowHalf * (P * M) ≡ P * (narrowHalf * M) = sym (mul-assoc narrowHalf P M) ∙ ap (λ (z : ℕ). z * M) (mul-comm narrowHalf P) ∙ mul-assoc P narrowHalf M in
           ap (λ (z : ℕ). z * (P * M) * d) u
-          ∙ ap (λ (z : ℕ). z * d) (mul-assoc (2 * q + 1) 268435456 (P * M))
-          ∙ mul-assoc (2 * q + 1) (268435456 * (P * M)) d
-          ∙ ap (λ (z : ℕ). (2 * q + 1) * z) (mul-comm (268435456 * (P * M)) d ∙ ap (λ (z : ℕ). d * z) swap ∙ sym (mul-assoc d P (268435456 * M)))
-          ∙ sym (mul-assoc (2 * q + 1) (d * P) (268435456 * M))
-          ∙ ap (λ (z : ℕ). z * (268435456 * M)) v
+          ∙ ap (λ (z : ℕ). z * d) (mul-assoc (2 * q + 1) narrowHalf (P * M))
+          ∙ mul-assoc (2 * q + 1) (narrowHalf * (P * M)) d
+          ∙ ap (λ (z : ℕ). (2 * q + 1) * z) (mul-comm (narrowHalf * (P * M)) d ∙ ap (λ (z : ℕ). d * z) swap ∙ sym (mul-assoc d P (narrowHalf * M)))
+          ∙ sym (mul-assoc (2 * q + 1) (d * P) (narrowHalf * M))
+          ∙ ap (λ (z : ℕ). z * (narrowHalf * M)) v
 
   twice : w * 2 ^ 1074 ≡ 2 * (w * 2 ^ 149) * 2 ^ 924
   twice = sym (ap (λ (z : ℕ). z * 2 ^ 924) (mul-comm 2 (w * 2 ^ 149) ∙ mul-assoc w (2 ^ 149) 2) ∙ mul-assoc w (2 ^ 150) (2 ^ 924))
 
-  module _ (no-tie : b % 536870912 ≡ 268435456 → ⊥) where
+  module _ (no-tie : b % narrowStep ≡ narrowHalf → ⊥) where
     -- past the middle below, and short of the middle above
     past : (q k : ℕ) → q ≡ singleDigits (stepOf b - 1) → k ≡ singlePower (stepOf b - 1) → 2 * (q * (d * 2 ^ k)) + d * 2 ^ k < 2 * (w * 2 ^ 149)
     past q k e f =
-        let c = stepOf b * 536870912 - 268435456 in
+        let c = stepOf b * narrowStep - narrowHalf in
         let m = middle c q k (omega arith) (omega arith) in
         let a = above c (omega arith) (omega arith) in
         lt-of-mul-lt-mul-right (2 ^ 924) (subst (λ (z : ℕ). (2 * (q * (d * 2 ^ k)) + d * 2 ^ k) * 2 ^ 924 < z) twice (subst (λ (z : ℕ). z < w * 2 ^ 1074) m a))
 
     short : (q k : ℕ) → q ≡ singleDigits (stepOf b) → k ≡ singlePower (stepOf b) → 2 * (w * 2 ^ 149) < 2 * (q * (d * 2 ^ k)) + d * 2 ^ k
     short q k e f =
-        let c = stepOf b * 536870912 + 268435456 in
+        let c = stepOf b * narrowStep + narrowHalf in
         let m = middle c q k (omega arith) (omega arith) in
         let a = below c (omega arith) (omega arith) in
         lt-of-mul-lt-mul-right (2 ^ 924) (subst (λ (z : ℕ). z < (2 * (q * (d * 2 ^ k)) + d * 2 ^ k) * 2 ^ 924) twice (subst (λ (z : ℕ). w * 2 ^ 1074 < z) m a))

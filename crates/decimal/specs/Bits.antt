@@ -6,7 +6,7 @@ use mathlib.Core.List.{List, [], _∷_}
 use mathlib.Core.Bool.{Bool, cond}
 use lib.ListN.{length}
 use lib.Ieee.{Float, binary32, round, ofBits}
-use Rattle.floats.specs.Patterns.{signPlace, infinityBits}
+use Rattle.floats.specs.Patterns.{signPlace, infinityBits, narrowStep, narrowHalf}
 use Rattle.scan.specs.Numbers.{scanNumberOf}
 use Rattle.scan.specs.declared.numbers.Places.{Places}
 use Rattle.scan.specs.declared.numbers.Number.the-variants.{Scanned}
@@ -31,11 +31,11 @@ pub record Nearest (num den b : ℕ) : Type 0 where
 pub record Tells (b : ℕ) : Type 0 where
   pub low : 0x3E00000000000000 ≤ b
   pub high : b < 0x4400000000000000
-  pub no-tie : b % 536870912 ≡ 268435456 → ⊥
+  pub no-tie : b % narrowStep ≡ narrowHalf → ⊥
 
 -- the bits of that f32
 abbrev pub narrowedOf : ℕ → ℕ
-narrowedOf b = (b + 268435456) / 536870912 - 7516192768
+narrowedOf b = (b + narrowHalf) / narrowStep - 7516192768
 
 -- what is gathered of a number: its digits, of which count stand before the point and places after it, and capped exponents
 pub record Gathered (ds : List ℕ) (count places w dropped rise fall : ℕ) : Type 0 where

@@ -3,12 +3,10 @@ use Prim.Native.Nat.{ℕ}
 use mathlib.Core.Path.{_≡_}
 use mathlib.Core.Bool.{cond}
 use mathlib.Core.List.{List, [], _∷_}
-use denote.Ref.{RefT}
-use denote.Triple.Both.{Both}
 use lib.Ieee.{Float}
 use lib.ListN.{length}
 use Rattle.answers.specs.Answers.{Answer, accepted, refused}
-use Rattle.answers.specs.Report.{written, short}
+use Rattle.answers.specs.Report.{Lent, written, short}
 use Rattle.floats.specs.Floats.{bitsOf}
 use Rattle.resample.specs.Resample.{Outcome, answered, writtenBy}
 use Rattle.morph.specs.Morph.{Outcomes, morphOf, firstWritten, secondWritten}
@@ -32,10 +30,6 @@ pub record PutTwo (outcome : Outcomes) (one other : List Float) (answer : List �
   pub given : Given (Morph.answered outcome) answer returned answer′
   pub first : one′ ≡ cond (short answer) one (written (firstWritten outcome) one)
   pub second : other′ ≡ cond (short answer) other (written (secondWritten outcome) other)
-
--- a slice that is lent, before and after
-abbrev Lent : Type 0 → Type 0
-Lent A = Both (RefT (List A)) (RefT (List A))
 
 -- both outputs and the answer of a morph to so many points
 abbrev pub PutMorph : List Float → List Float → ℕ → Lent Float → Lent Float → Lent ℕ → ℕ → Type 0

@@ -15,6 +15,7 @@ use lib.Ieee.Exact.{HasValue, round-exact}
 use lib.Ieee.Fits.{round-fits}
 use lib.Ieee.Positive.{num, den, den-pos, positive, positive-of-value, value→cross}
 use lib.Ieee.Scale.{round-same}
+use Rattle.floats.specs.Patterns.{wideHidden}
 use Rattle.root.specs.Root.{unitsOf, rootOf}
 use Rattle.root.proofs.Squares.{Root, square-scaled}
 use Rattle.root.proofs.Middles.{Between}
@@ -26,7 +27,7 @@ use Rattle.lengths.proofs.Narrow.{narrow-is}
 
 -- the digits below the root, doubled where the field is even; the power of two of the root's 53 digits; and those, of 54 that were cut off
 abbrev pub fieldOf : ℕ → ℕ
-fieldOf b = b / 0x10000000000000
+fieldOf b = b / wideHidden
 
 abbrev pub below : ℕ → ℕ
 below b = digitsOf b * (2 - fieldOf b % 2)

@@ -10,15 +10,16 @@ use lib.Ieee.Bits.{ofBits-fits}
 use lib.Ieee.Fits.{down-pos, add-fits}
 use lib.Ieee.Positive.{num, den, positive, between}
 use lib.Ieee.Scale.{round-same}
-use Rattle.floats.specs.Kinds.{nonneg}
+use Rattle.floats.specs.Kinds.{nonneg, upward}
 use Rattle.floats.proofs.Order.{not-lt→le}
 use Rattle.floats.proofs.Fractions.{nonneg-real, lt→pos, cross→le}
 use Rattle.floats.proofs.Unique.{antisym}
 use Rattle.root.specs.Root.{rootOf}
 use Rattle.root.proofs.Nearest.{root-nearest}
-use Rattle.lengths.specs.Length.{squareSumOf, narrowOf, lengthOf, upward}
+use Rattle.lengths.specs.Length.{squareSumOf, narrowOf, lengthOf}
 use Rattle.decimal_rounding.proofs.Wide.{pattern-positive}
-use Rattle.lengths.proofs.Upward.{round-upward, upward-real}
+use Rattle.floats.proofs.Held.{round-upward}
+use Rattle.lengths.proofs.Upward.{upward-real}
 use Rattle.lengths.proofs.Sizes.{middling-bits}
 use Rattle.lengths.proofs.Narrow.{narrow-is, narrow-fits, narrow-mono}
 use Rattle.lengths.proofs.Enclosed.{positive-nonneg, root-above, root-below}

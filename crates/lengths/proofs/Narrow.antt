@@ -12,6 +12,7 @@ use lib.Ieee.Fits.{round-fits}
 use lib.Ieee.Order.{round-mono}
 use lib.Ieee.Positive.{num, den, den-pos, positive, value→cross, le→cross}
 use lib.Ieee.Scale.{round-same}
+use Rattle.floats.specs.Patterns.{narrowStep, narrowHalf}
 use Rattle.decimal_rounding.proofs.Cell.{cell}
 use Rattle.decimal_rounding.proofs.Compares.{compare-lt, compare-gt, compare-scale}
 use Rattle.decimal_rounding.proofs.Pattern.{units-pattern}
@@ -52,34 +53,34 @@ module _ (b : ℕ) (low : 0x3810000000000000 ≤ b) (high : b < 0x47F00000000000
       narrow-is x (pattern-positive b (omega arith) (omega arith))
       ∙ round-same binary32 false (num x) (den x) (digitsOf b * 2 ^ powerOf b) (2 ^ 1074) (den-pos x) (pow-pos 1074) (value→cross x (digitsOf b * 2 ^ powerOf b) (2 ^ 1074) (pattern-value b (omega arith) (omega arith)))
 
-  n-is : digitsOf b * 2 ^ powerOf b * 2 ^ 149 ≡ (digitsOf b / 536870912 * 536870912 + digitsOf b % 536870912) * 2 ^ (powerOf b + 149)
+  n-is : digitsOf b * 2 ^ powerOf b * 2 ^ 149 ≡ (digitsOf b / narrowStep * narrowStep + digitsOf b % narrowStep) * 2 ^ (powerOf b + 149)
   n-is =
-      let e : digitsOf b ≡ digitsOf b / 536870912 * 536870912 + digitsOf b % 536870912 = omega arith in
+      let e : digitsOf b ≡ digitsOf b / narrowStep * narrowStep + digitsOf b % narrowStep = omega arith in
       joined (digitsOf b) (powerOf b) 149 ∙ ap (λ (x : ℕ). x * 2 ^ (powerOf b + 149)) e
 
-  t-is : 2 ^ 1074 * 2 ^ (powerOf b - 896) ≡ 536870912 * 2 ^ (powerOf b + 149)
+  t-is : 2 ^ 1074 * 2 ^ (powerOf b - 896) ≡ narrowStep * 2 ^ (powerOf b + 149)
   t-is =
       let e : 1074 + (powerOf b - 896) ≡ 29 + (powerOf b + 149) = omega arith in
       sym (pow-add 2 1074 (powerOf b - 896)) ∙ ap (λ (x : ℕ). 2 ^ x) e ∙ pow-add 2 29 (powerOf b + 149)
 
-  rounded-off : narrowOf (ofBits binary64 b) ≡ units binary32 false (nearest (digitsOf b / 536870912) (compare (digitsOf b % 536870912 * 2) 536870912)) (powerOf b - 896)
+  rounded-off : narrowOf (ofBits binary64 b) ≡ units binary32 false (nearest (digitsOf b / narrowStep) (compare (digitsOf b % narrowStep * 2) narrowStep)) (powerOf b - 896)
   rounded-off =
       as-fraction
-      ∙ round-at (digitsOf b * 2 ^ powerOf b) (2 ^ 1074) (powerOf b - 896) (digitsOf b / 536870912) (digitsOf b % 536870912) 536870912 (2 ^ (powerOf b + 149))
+      ∙ round-at (digitsOf b * 2 ^ powerOf b) (2 ^ 1074) (powerOf b - 896) (digitsOf b / narrowStep) (digitsOf b % narrowStep) narrowStep (2 ^ (powerOf b + 149))
       (pow-pos 1074) (pow-pos (powerOf b + 149)) (omega arith) (inl (omega arith)) (omega arith) n-is t-is
 
-  pub narrow-down : b % 536870912 < 268435456 → narrowOf (ofBits binary64 b) ≡ ofBits binary32 (b / 536870912 - 7516192768)
+  pub narrow-down : b % narrowStep < narrowHalf → narrowOf (ofBits binary64 b) ≡ ofBits binary32 (b / narrowStep - 7516192768)
   narrow-down h =
-      let m = digitsOf b / 536870912 in
+      let m = digitsOf b / narrowStep in
       rounded-off
-      ∙ ap (λ (o : Ordering). units binary32 false (nearest m o) (powerOf b - 896)) (compare-lt (digitsOf b % 536870912 * 2) 536870912 (omega arith))
+      ∙ ap (λ (o : Ordering). units binary32 false (nearest m o) (powerOf b - 896)) (compare-lt (digitsOf b % narrowStep * 2) narrowStep (omega arith))
       ∙ units-pattern false m (powerOf b - 896) (omega arith) (inl (omega arith)) (omega arith)
       ∙ ap (ofBits binary32) (omega arith)
 
-  pub narrow-up : 268435456 < b % 536870912 → narrowOf (ofBits binary64 b) ≡ ofBits binary32 (b / 536870912 + 1 - 7516192768)
+  pub narrow-up : narrowHalf < b % narrowStep → narrowOf (ofBits binary64 b) ≡ ofBits binary32 (b / narrowStep + 1 - 7516192768)
   narrow-up h =
-      let m = digitsOf b / 536870912 in
+      let m = digitsOf b / narrowStep in
       rounded-off
-      ∙ ap (λ (o : Ordering). units binary32 false (nearest m o) (powerOf b - 896)) (compare-gt (digitsOf b % 536870912 * 2) 536870912 (omega arith))
+      ∙ ap (λ (o : Ordering). units binary32 false (nearest m o) (powerOf b - 896)) (compare-gt (digitsOf b % narrowStep * 2) narrowStep (omega arith))
       ∙ units-pattern false (suc m) (powerOf b - 896) (omega arith) (inl (omega arith)) (omega arith)
       ∙ ap (ofBits binary32) (omega arith)

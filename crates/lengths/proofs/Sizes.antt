@@ -8,6 +8,7 @@ use lib.Pow.{pow-pos}
 use lib.Ieee.{Float, nan, inf, fin, binary64, ofBits, toBits, fits, le}
 use lib.Ieee.Exact.{HasValue}
 use lib.Ieee.Positive.{positive, values-of-le}
+use Rattle.floats.specs.Patterns.{wideHidden, wideInfinityBits}
 use Rattle.root.specs.Root.{unitsOf}
 use Rattle.decimal_rounding.proofs.Sizes.{bits-between}
 use Rattle.decimal_rounding.proofs.Wide.{digitsOf, powerOf, pattern-value, pattern-positive}
@@ -20,7 +21,7 @@ own-units (inf s) h p = absurd p
 own-units (fin true m e) h p = absurd p
 own-units (fin false m e) h p = (refl, units-exact binary64 (fin false m e) h p)
 
-module _ (x : Float) (held : T (fits binary64 x)) (above : T (positive x)) (p : ℕ) (least : 0x10000000000000 ≤ p) (most : p < 0x7FF0000000000000) where
+module _ (x : Float) (held : T (fits binary64 x)) (above : T (positive x)) (p : ℕ) (least : wideHidden ≤ p) (most : p < wideInfinityBits) where
   pub units-from : T (le (ofBits binary64 p) x) → digitsOf p * 2 ^ powerOf p ≤ unitsOf binary64 x
   units-from h =
       le-of-mul-le-mul-right

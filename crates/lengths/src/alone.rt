@@ -3,7 +3,8 @@
 
 ghost use Prim.Native.Nat.{_*_, _^_, _≤_, _<_};
 ghost use lib.Dec.{T};
-ghost use Rattle.lengths.specs.Length.{upward, Judged};
+ghost use Rattle.floats.specs.Kinds.{upward};
+ghost use Rattle.lengths.specs.Length.{Judged};
 use crate::passes::LEAST;
 use crate::passes::MOST;
 use crate::passes::root_or_zero;

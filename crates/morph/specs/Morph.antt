@@ -8,7 +8,7 @@ use lib.Dec.{ltb}
 use lib.ListN.{length}
 use lib.Ieee.{Float}
 use Rattle.answers.specs.Answers.{Answer, refused, accepted}
-use Rattle.answers.specs.Report.{written}
+use Rattle.answers.specs.Report.{Lent, written}
 use Rattle.answers.specs.declared.refusals.Values.the-variants.{Two}
 use Rattle.answers.specs.declared.refusals.Refusal.{Refusal}
 use Rattle.answers.specs.declared.refusals.Refusal.the-variants.{NoRoom, Range}
@@ -92,3 +92,7 @@ pub record Morph (from to : List Float) (count : ℕ) (one other : List Float) (
   pub answer : answerOf r ≡ answered (morphOf from to count (length one) (length other))
   pub fromShape : one′ ≡ written (firstWritten (morphOf from to count (length one) (length other))) one
   pub toShape : other′ ≡ written (secondWritten (morphOf from to count (length one) (length other))) other
+
+-- the same over the two outputs that a call is lent
+abbrev pub MorphInto : List Float → List Float → ℕ → Lent Float → Lent Float → Morphed → Type 0
+MorphInto from to count one other r = Morph from to count (one .entry .now) (other .entry .now) r (one .exit .now) (other .exit .now)

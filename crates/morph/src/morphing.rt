@@ -11,7 +11,7 @@ use resample::inner::plan_for;
 ghost use mathlib.Core.Path.{_≡_};
 ghost use Prim.Native.Nat.{_≤_};
 ghost use lib.ListN.{length};
-ghost use Rattle.morph.specs.Morph.{resolved, largerOf, defaultOf, plansOf, Morph};
+ghost use Rattle.morph.specs.Morph.{resolved, largerOf, defaultOf, plansOf, MorphInto};
 
 pub enum Morphed {
     // The shapes are put into this many places of each output, two for each point.
@@ -71,7 +71,7 @@ pub fn morph(
     out_from: &mut [f32],
     out_to: &mut [f32],
 ) -> Morphed
-    ensures { λ r. ⌜ Morph (now (from .entry)) (now (to .entry)) (resolved resolution) (now («out_from» .entry)) (now («out_to» .entry)) r (now («out_from» .exit)) (now («out_to» .exit)) ⌝ }
+    ensures { λ r. ⌜ MorphInto (now (from .entry)) (now (to .entry)) (resolved resolution) «out_from» «out_to» r ⌝ }
 {
     match judge_two(from, to) {
         Judged::Refused(refusal) => {
@@ -108,7 +108,7 @@ pub fn morph(
 
 // The same with 128 points, or as many as the larger shape has if that is more.
 pub fn morph_default(from: &[f32], to: &[f32], out_from: &mut [f32], out_to: &mut [f32]) -> Morphed
-    ensures { λ r. ⌜ Morph (now (from .entry)) (now (to .entry)) (defaultOf (now (from .entry)) (now (to .entry))) (now («out_from» .entry)) (now («out_to» .entry)) r (now («out_from» .exit)) (now («out_to» .exit)) ⌝ }
+    ensures { λ r. ⌜ MorphInto (now (from .entry)) (now (to .entry)) (defaultOf (now (from .entry)) (now (to .entry))) «out_from» «out_to» r ⌝ }
 {
     morph(from, to, default_resolution(from, to), out_from, out_to)
 }

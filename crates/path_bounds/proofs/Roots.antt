@@ -16,7 +16,8 @@ use Rattle.floats.proofs.Between.{finite-real}
 use Rattle.root.specs.Root.{unitsOf, wholeRoot, rootOf}
 use Rattle.root.proofs.Middles.{square-lt}
 use Rattle.root.proofs.Squares.{whole-root}
-use Rattle.lengths.specs.Length.{narrowOf, squareSumOf, upward}
+use Rattle.floats.specs.Kinds.{upward}
+use Rattle.lengths.specs.Length.{narrowOf, squareSumOf}
 use Rattle.lengths.specs.Length as lengths
 use Rattle.lengths.proofs.Upward.{squares-upward}
 use Rattle.math.specs.declared.points.Point.{Point}

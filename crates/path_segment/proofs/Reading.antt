@@ -1,15 +1,16 @@
--- A stored segment is read back: its kind and its numbers settle it, and have the kind's width. Assumes nothing.
-use Prim.Native.Nat.{ℕ, _≤_, _<_}
+-- A stored segment is read back: its kind and its fields settle it, and have the kind's width. Assumes nothing.
+use Prim.Native.Nat.{ℕ, _+_, _≤_, _<_}
 use mathlib.Core.Path.{_≡_, refl, sym, ap, _∙_}
 use native.Mathlib.Omega.{arith}
 use mathlib.Core.List.{List, _++_}
-use lib.ListN.{length}
+use lib.ListN.{length, drop}
 use lib.Ieee.{Float}
 use Rattle.path_segment.specs.declared.segments.PathSegment.{PathSegment}
 use Rattle.path_segment.specs.declared.segments.PathSegment.the-variants as Segment
 use Rattle.math.specs.declared.points.Point.{Point}
 use Rattle.ellipse.specs.declared.ends.Arc.{Arc}
 use Rattle.commands.specs.Listed.{pointAt}
+use Rattle.commands.proofs.Decoding.{point-first, point-later}
 use Rattle.path_segment.specs.Segments.{kindOf, widthOf, fieldsOf, shapeOf, segmentOf}
 use Rattle.path_segment.proofs.Widths.{width-most}
 
@@ -40,26 +41,30 @@ fields-counted s e k = e ∙ ap widthOf k ∙ sym (fields-width s)
 pub fifth : (kind : ℕ) → (kind ≡ 0 → ⊥) → (kind ≡ 1 → ⊥) → (kind ≡ 2 → ⊥) → (kind ≡ 3 → ⊥) → kind < 5 → kind ≡ 4
 fifth kind a b c d h = omega arith
 
-module _ (kind : ℕ) (numbers : List Float) where
-  pub is-line : (start end : Point) → start ≡ pointAt numbers 0 → end ≡ pointAt numbers 2 → kind ≡ 0 → Segment.Line (record { start = start; end = end }) ≡ segmentOf kind numbers
+module _ {kind : ℕ} (fields : List Float) (at : ℕ) where
+  pub line-at :
+      {start end : Point} → start ≡ pointAt fields at → end ≡ pointAt fields (at + 2) → kind ≡ 0
+      → Segment.Line (record { start = start; end = end }) ≡ segmentOf kind (drop at fields)
   unfolding segmentOf
-  is-line start end p q e = rw (p, q, e)
+  line-at p q e = rw (point-first fields at p, point-later fields at 2 q, e)
 
-  pub is-quad :
-      (start control end : Point) → start ≡ pointAt numbers 0 → control ≡ pointAt numbers 2 → end ≡ pointAt numbers 4 → kind ≡ 1 → Segment.Quad start control end ≡ segmentOf kind numbers
+  pub quad-at :
+      {start control end : Point} → start ≡ pointAt fields at → control ≡ pointAt fields (at + 2) → end ≡ pointAt fields (at + 4) → kind ≡ 1
+      → Segment.Quad start control end ≡ segmentOf kind (drop at fields)
   unfolding segmentOf
-  is-quad start control end p q r e = rw (p, q, r, e)
+  quad-at p q r e = rw (point-first fields at p, point-later fields at 2 q, point-later fields at 4 r, e)
 
-  pub is-cubic :
-      (start control1 control2 end : Point) → start ≡ pointAt numbers 0 → control1 ≡ pointAt numbers 2 → control2 ≡ pointAt numbers 4 → end ≡ pointAt numbers 6 → kind ≡ 2
-      → Segment.Cubic start control1 control2 end ≡ segmentOf kind numbers
+  pub cubic-at :
+      {start control1 control2 end : Point} → start ≡ pointAt fields at → control1 ≡ pointAt fields (at + 2) → control2 ≡ pointAt fields (at + 4) → end ≡ pointAt fields (at + 6)
+      → kind ≡ 2 → Segment.Cubic start control1 control2 end ≡ segmentOf kind (drop at fields)
   unfolding segmentOf
-  is-cubic start control1 control2 end p q r s e = rw (p, q, r, s, e)
+  cubic-at p q r s e = rw (point-first fields at p, point-later fields at 2 q, point-later fields at 4 r, point-later fields at 6 s, e)
 
-  pub is-arc : (shape : Arc) → shape ≡ shapeOf numbers → kind ≡ 3 → Segment.Arc shape ≡ segmentOf kind numbers
+module _ {kind : ℕ} (fields : List Float) {shape : Arc} (p : shape ≡ shapeOf fields) where
+  pub arc-at : kind ≡ 3 → Segment.Arc shape ≡ segmentOf kind fields
   unfolding segmentOf
-  is-arc shape p e = rw (p, e)
+  arc-at e = rw (p, e)
 
-  pub is-fallback : (shape : Arc) → shape ≡ shapeOf numbers → kind ≡ 4 → Segment.Fallback shape ≡ segmentOf kind numbers
+  pub fallback-at : kind ≡ 4 → Segment.Fallback shape ≡ segmentOf kind fields
   unfolding segmentOf
-  is-fallback shape p e = rw (p, e)
+  fallback-at e = rw (p, e)

@@ -44,7 +44,7 @@ unfoldable pub hasTable : ℕ → Bool
 unfolding tablesOf
 hasTable kind = eqb (tablesOf kind) 1
 
--- a point's two numbers, and what follows
+-- a point's two fields, and what follows
 abbrev pub xy : Point → List Float → List Float
 xy p rest = p .x ∷ p .y ∷ rest
 
@@ -60,26 +60,26 @@ fieldsOf (Segment.Cubic start control1 control2 end) = xy start (xy control1 (xy
 fieldsOf (Segment.Arc shape) = shapeFields shape
 fieldsOf (Segment.Fallback shape) = shapeFields shape
 
--- the segment of a kind and of the numbers from its first on; an unknown kind reads as the last known
+-- the segment of a kind and of the fields from its first on; an unknown kind reads as the last known
 abbrev pub shapeOf : List Float → Arc
-shapeOf numbers =
+shapeOf fields =
     record {
-      start = pointAt numbers 0;
-      end = pointAt numbers 2;
-      center = pointAt numbers 4;
-      radii = pointAt numbers 6;
-      «x_axis_rotation» = numberAt numbers 8;
-      «start_angle» = numberAt numbers 9;
-      «delta_angle» = numberAt numbers 10;
+      start = pointAt fields 0;
+      end = pointAt fields 2;
+      center = pointAt fields 4;
+      radii = pointAt fields 6;
+      «x_axis_rotation» = numberAt fields 8;
+      «start_angle» = numberAt fields 9;
+      «delta_angle» = numberAt fields 10;
     }
 
 unfoldable pub segmentOf : ℕ → List Float → PathSegment
-segmentOf kind numbers =
-    cond (eqb kind 0) (Segment.Line (record { start = pointAt numbers 0; end = pointAt numbers 2 }))
-    (cond (eqb kind 1) (Segment.Quad (pointAt numbers 0) (pointAt numbers 2) (pointAt numbers 4))
-    (cond (eqb kind 2) (Segment.Cubic (pointAt numbers 0) (pointAt numbers 2) (pointAt numbers 4) (pointAt numbers 6))
-    (cond (eqb kind 3) (Segment.Arc (shapeOf numbers))
-    (Segment.Fallback (shapeOf numbers)))))
+segmentOf kind fields =
+    cond (eqb kind 0) (Segment.Line (record { start = pointAt fields 0; end = pointAt fields 2 }))
+    (cond (eqb kind 1) (Segment.Quad (pointAt fields 0) (pointAt fields 2) (pointAt fields 4))
+    (cond (eqb kind 2) (Segment.Cubic (pointAt fields 0) (pointAt fields 2) (pointAt fields 4) (pointAt fields 6))
+    (cond (eqb kind 3) (Segment.Arc (shapeOf fields))
+    (Segment.Fallback (shapeOf fields)))))
 
 -- ---- its table and its length
 
@@ -87,9 +87,9 @@ segmentOf kind numbers =
 abbrev pub tableNumbers : Table → List Float
 tableNumbers table = table .entries ++ table .total ∷ []
 
--- the table whose numbers stand from a place on
+-- the table whose numbers stand from `at` on
 abbrev pub tableAt : List Float → ℕ → Table
-tableAt numbers place = record { entries = take 32 (drop place numbers); total = getD numbers (place + 32) nan }
+tableAt tables at = record { entries = take 32 (drop at tables); total = getD tables (at + 32) nan }
 
 -- `new` of a quad and a cubic, `from_svg` of an arc; a line and a line fallback store none, and `noTable` is not sound
 unfoldable pub tableFor : PathSegment → Table
@@ -111,7 +111,7 @@ lengthFor (Segment.Cubic start control1 control2 end) = tableOf (cubicSampleOf s
 lengthFor (Segment.Arc shape) = tableOf (pointOn shape) .total
 lengthFor (Segment.Fallback shape) = lineLengthOf (chordLine shape)
 
--- a table is stored from a place on, where the segment has one, and the segment's length is told
+-- a table is stored from `at` on, where the segment has one, and the segment's length is told
 pub record TableStored (at : ℕ) (segment : PathSegment) (tables : List Float) (r : Float) (tables′ : List Float) : Type 0 where
   pub lengthTold : r ≡ lengthFor segment
   pub tablesAfter : tables′ ≡ sets tables at (tableStored segment)

@@ -1,4 +1,4 @@
-// A segment's numbers and its table in the buffers of a stored path: read from a place, and stored at it.
+// A segment's fields and its table in the buffers of a stored path: read, and stored.
 use crate::segments::PathSegment;
 use crate::segments::has_table;
 use crate::segments::kind;
@@ -18,121 +18,121 @@ ghost use lib.ListN.{length, drop};
 ghost use lib.Seq.{sets};
 ghost use Rattle.path_segment.specs.Segments.{widthOf, xy, shapeFields, fieldsOf, shapeOf, segmentOf, tableNumbers, tableAt, tableStored, TableStored};
 
-// Puts two points at four places, and touches no other.
-fn put_pair(numbers: &mut [f32], at: usize, p: Point, q: Point)
-    requires { ⌜ at + 4 ≤ length (now numbers) ⌝ }
-    ensures { λ _. ⌜ now (numbers .exit) ≡ sets (now (numbers .entry)) at (xy p (xy q [])) ⌝ }
+// Puts two points at four fields, and touches no other.
+fn put_pair(fields: &mut [f32], at: usize, p: Point, q: Point)
+    requires { ⌜ at + 4 ≤ length (now fields) ⌝ }
+    ensures { λ _. ⌜ now (fields .exit) ≡ sets (now (fields .entry)) at (xy p (xy q [])) ⌝ }
 {
-    put_two(numbers, at, p.x, p.y);
-    put_two(numbers, at + 2, q.x, q.y);
+    put_two(fields, at, p.x, p.y);
+    put_two(fields, at + 2, q.x, q.y);
 }
 
-fn put_quad(numbers: &mut [f32], at: usize, start: Point, control: Point, end: Point)
-    requires { ⌜ at + 6 ≤ length (now numbers) ⌝ }
-    ensures { λ _. ⌜ now (numbers .exit) ≡ sets (now (numbers .entry)) at (xy start (xy control (xy end []))) ⌝ }
+fn put_quad(fields: &mut [f32], at: usize, start: Point, control: Point, end: Point)
+    requires { ⌜ at + 6 ≤ length (now fields) ⌝ }
+    ensures { λ _. ⌜ now (fields .exit) ≡ sets (now (fields .entry)) at (xy start (xy control (xy end []))) ⌝ }
 {
-    put_pair(numbers, at, start, control);
-    put_two(numbers, at + 4, end.x, end.y);
+    put_pair(fields, at, start, control);
+    put_two(fields, at + 4, end.x, end.y);
 }
 
 fn put_cubic(
-    numbers: &mut [f32],
+    fields: &mut [f32],
     at: usize,
     start: Point,
     control1: Point,
     control2: Point,
     end: Point,
 )
-    requires { ⌜ at + 8 ≤ length (now numbers) ⌝ }
-    ensures { λ _. ⌜ now (numbers .exit) ≡ sets (now (numbers .entry)) at (xy start (xy control1 (xy control2 (xy end [])))) ⌝ }
+    requires { ⌜ at + 8 ≤ length (now fields) ⌝ }
+    ensures { λ _. ⌜ now (fields .exit) ≡ sets (now (fields .entry)) at (xy start (xy control1 (xy control2 (xy end [])))) ⌝ }
 {
-    put_pair(numbers, at, start, control1);
-    put_pair(numbers, at + 4, control2, end);
+    put_pair(fields, at, start, control1);
+    put_pair(fields, at + 4, control2, end);
 }
 
-fn put_shape(numbers: &mut [f32], at: usize, shape: Arc)
-    requires { ⌜ at + 11 ≤ length (now numbers) ⌝ }
-    ensures { λ _. ⌜ now (numbers .exit) ≡ sets (now (numbers .entry)) at (shapeFields shape) ⌝ }
+fn put_shape(fields: &mut [f32], at: usize, shape: Arc)
+    requires { ⌜ at + 11 ≤ length (now fields) ⌝ }
+    ensures { λ _. ⌜ now (fields .exit) ≡ sets (now (fields .entry)) at (shapeFields shape) ⌝ }
 {
     put_cubic(
-        numbers,
+        fields,
         at,
         shape.start,
         shape.end,
         shape.center,
         shape.radii,
     );
-    put_two(numbers, at + 8, shape.x_axis_rotation, shape.start_angle);
-    numbers[at + 10] = tidy(shape.delta_angle);
+    put_two(fields, at + 8, shape.x_axis_rotation, shape.start_angle);
+    fields[at + 10] = tidy(shape.delta_angle);
 }
 
-// Stores a segment's numbers from `at` on.
-pub fn put_segment(numbers: &mut [f32], at: usize, segment: PathSegment)
-    requires { ⌜ at + length (fieldsOf segment) ≤ length (now numbers) ⌝ }
-    ensures { λ _. ⌜ now (numbers .exit) ≡ sets (now (numbers .entry)) at (fieldsOf segment) ⌝ }
+// Stores a segment's fields from `at` on.
+pub fn put_segment(fields: &mut [f32], at: usize, segment: PathSegment)
+    requires { ⌜ at + length (fieldsOf segment) ≤ length (now fields) ⌝ }
+    ensures { λ _. ⌜ now (fields .exit) ≡ sets (now (fields .entry)) at (fieldsOf segment) ⌝ }
 {
     match segment {
-        PathSegment::Line(line) => put_pair(numbers, at, line.start, line.end),
+        PathSegment::Line(line) => put_pair(fields, at, line.start, line.end),
         PathSegment::Quad {
             start,
             control,
             end,
-        } => put_quad(numbers, at, start, control, end),
+        } => put_quad(fields, at, start, control, end),
         PathSegment::Cubic {
             start,
             control1,
             control2,
             end,
-        } => put_cubic(numbers, at, start, control1, control2, end),
-        PathSegment::Arc(shape) => put_shape(numbers, at, shape),
-        PathSegment::Fallback(shape) => put_shape(numbers, at, shape),
+        } => put_cubic(fields, at, start, control1, control2, end),
+        PathSegment::Arc(shape) => put_shape(fields, at, shape),
+        PathSegment::Fallback(shape) => put_shape(fields, at, shape),
     }
 }
 
-fn shape_at(numbers: &[f32], at: usize) -> Arc
-    requires { ⌜ at + 11 ≤ length (now numbers) ⌝ }
-    ensures { λ r. ⌜ r ≡ shapeOf (drop at (now (numbers .entry))) ⌝ }
+fn shape_at(fields: &[f32], at: usize) -> Arc
+    requires { ⌜ at + 11 ≤ length (now fields) ⌝ }
+    ensures { λ r. ⌜ r ≡ shapeOf (drop at (now (fields .entry))) ⌝ }
 {
-    let start = point_at(numbers, at);
-    let end = point_at(numbers, at + 2);
-    let center = point_at(numbers, at + 4);
-    let radii = point_at(numbers, at + 6);
+    let start = point_at(fields, at);
+    let end = point_at(fields, at + 2);
+    let center = point_at(fields, at + 4);
+    let radii = point_at(fields, at + 6);
     Arc {
         start,
         end,
         center,
         radii,
-        x_axis_rotation: numbers[at + 8],
-        start_angle: numbers[at + 9],
-        delta_angle: numbers[at + 10],
+        x_axis_rotation: fields[at + 8],
+        start_angle: fields[at + 9],
+        delta_angle: fields[at + 10],
     }
 }
 
-// The segment of a known kind, whose numbers stand from `at` on.
-pub fn segment_at(kind: u8, numbers: &[f32], at: usize) -> PathSegment
+// The segment of a known kind, whose fields stand from `at` on.
+pub fn segment_at(kind: u8, fields: &[f32], at: usize) -> PathSegment
     requires { ⌜ kind < 5 ⌝ }
-    requires { ⌜ at + widthOf kind ≤ length (now numbers) ⌝ }
-    ensures { λ r. ⌜ r ≡ segmentOf kind (drop at (now (numbers .entry))) ⌝ }
+    requires { ⌜ at + widthOf kind ≤ length (now fields) ⌝ }
+    ensures { λ r. ⌜ r ≡ segmentOf kind (drop at (now (fields .entry))) ⌝ }
 {
     match kind {
         0 => {
-            let start = point_at(numbers, at);
-            let end = point_at(numbers, at + 2);
+            let start = point_at(fields, at);
+            let end = point_at(fields, at + 2);
             PathSegment::Line(LineSegment { start, end })
         }
         1 => PathSegment::Quad {
-            start: point_at(numbers, at),
-            control: point_at(numbers, at + 2),
-            end: point_at(numbers, at + 4),
+            start: point_at(fields, at),
+            control: point_at(fields, at + 2),
+            end: point_at(fields, at + 4),
         },
         2 => PathSegment::Cubic {
-            start: point_at(numbers, at),
-            control1: point_at(numbers, at + 2),
-            control2: point_at(numbers, at + 4),
-            end: point_at(numbers, at + 6),
+            start: point_at(fields, at),
+            control1: point_at(fields, at + 2),
+            control2: point_at(fields, at + 4),
+            end: point_at(fields, at + 6),
         },
-        3 => PathSegment::Arc(shape_at(numbers, at)),
-        _ => PathSegment::Fallback(shape_at(numbers, at)),
+        3 => PathSegment::Arc(shape_at(fields, at)),
+        _ => PathSegment::Fallback(shape_at(fields, at)),
     }
 }
 
@@ -153,7 +153,7 @@ pub fn table_at(tables: &[f32], at: usize) -> Table
     }
 }
 
-// Stores a table at 33 places.
+// Stores a table's 33 numbers from `at` on.
 pub fn put_table(tables: &mut [f32], at: usize, table: Table)
     requires { ⌜ at + 33 ≤ length (now tables) ⌝ }
     ensures { λ _. ⌜ now (tables .exit) ≡ sets (now (tables .entry)) at (tableNumbers table) ⌝ }

@@ -57,7 +57,7 @@ pub fn kind(segment: PathSegment) -> u8
     }
 }
 
-// How many numbers a segment of a kind stores. An unknown kind stores none.
+// How many fields a segment of a kind has. An unknown kind has none.
 pub fn width(kind: u8) -> usize
     ensures { λ r. ⌜ r ≡ widthOf kind ⌝ }
 {

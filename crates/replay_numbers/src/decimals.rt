@@ -8,7 +8,7 @@ use replay_records::seen;
 use replay_records::three;
 
 // The bytes of a record: v and the value's pattern or r and the refusal's number, as eight
-// hexadecimal digits; the count of bytes taken or the refusal's place, and the text's length, as
+// hexadecimal digits; the count of bytes taken or the refusal's offset, and the text's length, as
 // three digits each; the text, blanks up to 115 bytes, and a line's end.
 const RECORD: usize = 131;
 
@@ -24,22 +24,22 @@ fn agrees(line: &[u8]) -> bool {
         return false;
     }
     let due = pattern(line, 1);
-    let place = three(line, 9);
+    let offset = three(line, 9);
     let size = three(line, 12);
     if 115 < size {
         return false;
     }
     let to = 15 + size;
-    same(decimal::number(&line[15..to], 0), line[0], due, place)
+    same(decimal::number(&line[15..to], 0), line[0], due, offset)
 }
 
-fn same(read: Read, letter: u8, due: u32, place: usize) -> bool {
+fn same(read: Read, letter: u8, due: u32, offset: usize) -> bool {
     match read {
-        Read::Value(value, end) => letter == b'v' && has_bits(value, due) && end == place,
+        Read::Value(value, end) => letter == b'v' && has_bits(value, due) && end == offset,
         Read::Refused(refusal) => {
             letter == b'r'
                 && answers::number(refusal) == due
-                && only(answers::carried(refusal)) == place
+                && only(answers::carried(refusal)) == offset
         }
     }
 }

@@ -1,55 +1,40 @@
 // The root and the helpers of math.rs: the Rust's answers.
-use math::Point;
+use crate::lines::Line;
+use crate::lines::next;
 use replay_records::Count;
-use replay_records::float;
 use replay_records::has_bits;
-use replay_records::pattern;
 use replay_records::same_point;
 use replay_records::seen;
 
-// The bytes of a record, which is a line: the helper's letter, then five operands and two answers as
-// patterns of eight hexadecimal digits, a space before each. Places that a helper does not use hold
-// zeros.
-const RECORD: usize = 65;
-
 pub fn replay(count: Count) -> Count {
-    let mut record = [0u8; RECORD];
-    let n = io::read_full(0, &mut record);
-    seen(count, agrees(&record[..n]))
+    seen(count, agrees(next()))
 }
 
-// Whether a whole record holds what the proved crates answer.
-fn agrees(text: &[u8]) -> bool {
-    if text.len() < RECORD {
-        return false;
-    }
-    let a = float(pattern(text, 2));
-    let b = float(pattern(text, 11));
-    let c = float(pattern(text, 20));
-    let d = float(pattern(text, 29));
-    let e = float(pattern(text, 38));
-    let x = pattern(text, 47);
-    let y = pattern(text, 56);
-    let p = Point { x: a, y: b };
-    let q = Point { x: c, y: d };
-    match text[0] {
-        b'r' => has_bits(root::sqrt(a), x),
-        b't' => has_bits(floats::tidy(a), x),
-        b'm' => has_bits(floats::min(a, b), x),
-        b'M' => has_bits(floats::max(a, b), x),
-        b'c' => has_bits(floats::clamp(a, b, c), x),
-        b'C' => has_bits(math::clamp01(a), x),
-        b'l' => has_bits(math::lerp(a, b, c), x),
-        b'd' => has_bits(math::deg_to_rad(a), x),
-        b'D' => has_bits(math::rad_to_deg(a), x),
+// Whether a record holds what the proved crates answer.
+fn agrees(line: Line) -> bool {
+    let letter = line.letter;
+    let p = line.p;
+    let q = line.q;
+    let x = line.x;
+    let y = line.y;
+    match letter {
+        b'r' => has_bits(root::sqrt(p.x), x),
+        b't' => has_bits(floats::tidy(p.x), x),
+        b'm' => has_bits(floats::min(p.x, p.y), x),
+        b'M' => has_bits(floats::max(p.x, p.y), x),
+        b'c' => has_bits(floats::clamp(p.x, p.y, q.x), x),
+        b'C' => has_bits(math::clamp01(p.x), x),
+        b'l' => has_bits(math::lerp(p.x, p.y, q.x), x),
+        b'd' => has_bits(math::deg_to_rad(p.x), x),
+        b'D' => has_bits(math::rad_to_deg(p.x), x),
         b'a' => same_point(math::add(p, q), x, y),
         b's' => same_point(math::sub(p, q), x, y),
-        b'k' => same_point(math::scale(p, c), x, y),
+        b'k' => same_point(math::scale(p, q.x), x, y),
         b'p' => has_bits(math::dot(p, q), x),
         b'n' => has_bits(math::length(p), x),
         b'w' => has_bits(math::distance(p, q), x),
         b'u' => same_point(math::normalize(p), x, y),
-        b'L' => same_point(math::lerp_point(p, q, e), x, y),
+        b'L' => same_point(math::lerp_point(p, q, line.t), x, y),
         _ => false,
     }
 }

@@ -2,6 +2,7 @@
 // differ. `oracle/record numbers` writes the records to this crate's stdin, each after the letter of its kind.
 mod decimals;
 mod helpers;
+mod lines;
 mod turns;
 
 use replay_records::kind;

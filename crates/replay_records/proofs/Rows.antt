@@ -1,4 +1,4 @@
--- A row of a record, one place after the other: what the places before are, and that the rest decides. Past the text's end all places are alike. Assumes nothing.
+-- A row of a record, one pattern after the other: what those before are, and that the rest decides. Past the text's end all offsets are alike. Assumes nothing.
 use Prim.Native.Nat.{ℕ, zero, suc, _+_, _-_, _≤_, _<_}
 use mathlib.Core.Path.{_≡_, refl, sym, ap, _∙_}
 use mathlib.Core.Bool.{Bool, true, false, _&&_, cond}
@@ -38,33 +38,33 @@ module _ (text : List ℕ) (step : ℕ) where
       let rest = same-past numbers (p + step) (q + step) (omega arith) (omega arith) in
       cc
 
-  module _ (place : ℕ) where
-    numbers-onward : (count : ℕ) → numbersOf text (onwardOf text place step) step count ≡ numbersOf text (place + step) step count
-    numbers-onward count = go (ltb place (length text)) refl
+  module _ (offset : ℕ) where
+    numbers-onward : (count : ℕ) → numbersOf text (onwardOf text offset step) step count ≡ numbersOf text (offset + step) step count
+    numbers-onward count = go (ltb offset (length text)) refl
       where
-        go : (b : Bool) → ltb place (length text) ≡ b → numbersOf text (cond b (place + step) place) step count ≡ numbersOf text (place + step) step count
+        go : (b : Bool) → ltb offset (length text) ≡ b → numbersOf text (cond b (offset + step) offset) step count ≡ numbersOf text (offset + step) step count
         go true e = refl
-        go false e = let h = ltb-false place (length text) e in numbers-past count place (place + step) h (omega arith)
+        go false e = let h = ltb-false offset (length text) e in numbers-past count offset (offset + step) h (omega arith)
 
-    same-onward : (numbers : List Float) → sameNumbers numbers text (onwardOf text place step) step ≡ sameNumbers numbers text (place + step) step
-    same-onward numbers = go (ltb place (length text)) refl
+    same-onward : (numbers : List Float) → sameNumbers numbers text (onwardOf text offset step) step ≡ sameNumbers numbers text (offset + step) step
+    same-onward numbers = go (ltb offset (length text)) refl
       where
-        go : (b : Bool) → ltb place (length text) ≡ b → sameNumbers numbers text (cond b (place + step) place) step ≡ sameNumbers numbers text (place + step) step
+        go : (b : Bool) → ltb offset (length text) ≡ b → sameNumbers numbers text (cond b (offset + step) offset) step ≡ sameNumbers numbers text (offset + step) step
         go true e = refl
-        go false e = let h = ltb-false place (length text) e in same-past numbers place (place + step) h (omega arith)
+        go false e = let h = ltb-false offset (length text) e in same-past numbers offset (offset + step) h (omega arith)
 
 -- ---- numbers read: those before i are in, and the rest of the row belongs past them
-pub record Reading (text : List ℕ) (at step : ℕ) (before out : List Float) (place i : ℕ) : Type 0 where
+pub record Reading (text : List ℕ) (at step : ℕ) (before out : List Float) (offset i : ℕ) : Type 0 where
   pub size : length out ≡ length before
   pub upto : i ≤ length before
-  pub rest : take i out ++ numbersOf text place step (length before - i) ≡ numbersOf text at step (length before)
+  pub rest : take i out ++ numbersOf text offset step (length before - i) ≡ numbersOf text at step (length before)
 
 module _ (text : List ℕ) (at step : ℕ) (before : List Float) where
   pub reading-start : Reading text at step before before at 0
   reading-start = record { size = refl; upto = omega arith; rest = ap (λ (k : ℕ). numbersOf text at step k) (let e : length before - 0 ≡ length before = omega arith in e) }
 
-  module _ (out : List Float) (place i : ℕ) (r : Reading text at step before out place i) where
-    pub reading-more : (x : Float) (next : ℕ) → i < length out → x ≡ floatOf (patternOf text place) → next ≡ onwardOf text place step → Reading text at step before (set out i x) next (i + 1)
+  module _ (out : List Float) (offset i : ℕ) (r : Reading text at step before out offset i) where
+    pub reading-more : (x : Float) (next : ℕ) → i < length out → x ≡ floatOf (patternOf text offset) → next ≡ onwardOf text offset step → Reading text at step before (set out i x) next (i + 1)
     unfolding numbersOf
     reading-more x next inside e f =
         let s = r .size in
@@ -75,12 +75,12 @@ module _ (text : List ℕ) (at step : ℕ) (before : List Float) where
           upto = omega arith;
           rest =
               ap (λ (p : ℕ). take (i + 1) (set out i x) ++ numbersOf text p step m) f
-              ∙ ap (λ (l : List Float). take (i + 1) (set out i x) ++ l) (numbers-onward text step place m)
-              ∙ ap (λ (k : ℕ). take k (set out i x) ++ numbersOf text (place + step) step m) (add-one i)
-              ∙ ap (λ (l : List Float). l ++ numbersOf text (place + step) step m) (take-suc-set out i x inside)
-              ∙ append-snoc (take i out) x (numbersOf text (place + step) step m)
-              ∙ ap (λ (y : Float). take i out ++ y ∷ numbersOf text (place + step) step m) e
-              ∙ ap (λ (k : ℕ). take i out ++ numbersOf text place step k) (sym left)
+              ∙ ap (λ (l : List Float). take (i + 1) (set out i x) ++ l) (numbers-onward text step offset m)
+              ∙ ap (λ (k : ℕ). take k (set out i x) ++ numbersOf text (offset + step) step m) (add-one i)
+              ∙ ap (λ (l : List Float). l ++ numbersOf text (offset + step) step m) (take-suc-set out i x inside)
+              ∙ append-snoc (take i out) x (numbersOf text (offset + step) step m)
+              ∙ ap (λ (y : Float). take i out ++ y ∷ numbersOf text (offset + step) step m) e
+              ∙ ap (λ (k : ℕ). take i out ++ numbersOf text offset step k) (sym left)
               ∙ r .rest;
         }
 
@@ -89,44 +89,44 @@ module _ (text : List ℕ) (at step : ℕ) (before : List Float) where
     reading-done past =
         let s = r .size in
         let none : length before - i ≡ 0 = omega arith in
-        sym (take-all i out past) ∙ sym (nothing (take i out)) ∙ ap (λ (k : ℕ). take i out ++ numbersOf text place step k) (sym none) ∙ r .rest
+        sym (take-all i out past) ∙ sym (nothing (take i out)) ∙ ap (λ (k : ℕ). take i out ++ numbersOf text offset step k) (sym none) ∙ r .rest
       where
         nothing : (xs : List Float) → xs ++ [] ≡ xs
         nothing [] = refl
         nothing (x ∷ xs) = ap (λ (l : List Float). x ∷ l) (nothing xs)
 
 -- ---- numbers held against patterns: those before i agree, and the rest decides
-pub record Agreeing (numbers : List Float) (text : List ℕ) (at step place i : ℕ) : Type 0 where
+pub record Agreeing (numbers : List Float) (text : List ℕ) (at step offset i : ℕ) : Type 0 where
   pub upto : i ≤ length numbers
-  pub rest : sameNumbers (drop i numbers) text place step ≡ sameNumbers numbers text at step
+  pub rest : sameNumbers (drop i numbers) text offset step ≡ sameNumbers numbers text at step
 
 module _ (numbers : List Float) (text : List ℕ) (at step : ℕ) where
   pub agreeing-start : Agreeing numbers text at step at 0
   agreeing-start = record { upto = omega arith; rest = refl }
 
-  module _ (place i : ℕ) (a : Agreeing numbers text at step place i) where
-    module _ (inside : i < length numbers) (own due : ℕ) (o : own ≡ bitsOf (getD numbers i nan)) (d : due ≡ patternOf text place) where
-      parted : sameNumbers (drop i numbers) text place step ≡ (eqb own due && sameNumbers (drop (suc i) numbers) text (place + step) step)
+  module _ (offset i : ℕ) (a : Agreeing numbers text at step offset i) where
+    module _ (inside : i < length numbers) (own due : ℕ) (o : own ≡ bitsOf (getD numbers i nan)) (d : due ≡ patternOf text offset) where
+      parted : sameNumbers (drop i numbers) text offset step ≡ (eqb own due && sameNumbers (drop (suc i) numbers) text (offset + step) step)
       unfolding sameNumbers
       parted = rw (drop-cons numbers i nan inside, o, d) refl
 
-      pub agreeing-more : (next : ℕ) → own ≡ due → next ≡ onwardOf text place step → Agreeing numbers text at step next (i + 1)
+      pub agreeing-more : (next : ℕ) → own ≡ due → next ≡ onwardOf text offset step → Agreeing numbers text at step next (i + 1)
       agreeing-more next e f = record {
         upto = omega arith;
         rest =
             ap (λ (p : ℕ). sameNumbers (drop (i + 1) numbers) text p step) f
-            ∙ same-onward text step place (drop (i + 1) numbers)
-            ∙ ap (λ (k : ℕ). sameNumbers (drop k numbers) text (place + step) step) (add-one i)
-            ∙ sym (parted ∙ ap (λ (b : Bool). b && sameNumbers (drop (suc i) numbers) text (place + step) step) (eq-eqb own due e))
+            ∙ same-onward text step offset (drop (i + 1) numbers)
+            ∙ ap (λ (k : ℕ). sameNumbers (drop k numbers) text (offset + step) step) (add-one i)
+            ∙ sym (parted ∙ ap (λ (b : Bool). b && sameNumbers (drop (suc i) numbers) text (offset + step) step) (eq-eqb own due e))
             ∙ a .rest;
       }
 
       pub agreeing-not : (own ≡ due → ⊥) → false ≡ sameNumbers numbers text at step
-      agreeing-not h = sym (parted ∙ ap (λ (b : Bool). b && sameNumbers (drop (suc i) numbers) text (place + step) step) (ne-eqb own due h)) ∙ a .rest
+      agreeing-not h = sym (parted ∙ ap (λ (b : Bool). b && sameNumbers (drop (suc i) numbers) text (offset + step) step) (ne-eqb own due h)) ∙ a .rest
 
     pub agreeing-done : length numbers ≤ i → true ≡ sameNumbers numbers text at step
     unfolding sameNumbers
-    agreeing-done past = ap (λ (xs : List Float). sameNumbers xs text place step) (sym (drop-of-length-le numbers past)) ∙ a .rest
+    agreeing-done past = ap (λ (xs : List Float). sameNumbers xs text offset step) (sym (drop-of-length-le numbers past)) ∙ a .rest
 
 -- ---- bytes held against bytes
 pub record Matching (bytes : List ℕ) (by : ℕ) (text : List ℕ) (at i : ℕ) : Type 0 where

@@ -9,7 +9,7 @@ use lib.ListN.{getD}
 unfoldable pub decimalOf : ℕ → ℕ
 decimalOf byte = cond (ltb byte 48) 9 (cond (leb byte 57) (byte - 48) 9)
 
--- the number of one, two and three digits from a place on, the first the highest
+-- the number of one, two and three digits from an offset on, the first the highest
 abbrev pub oneOf : List ℕ → ℕ → ℕ
 oneOf text at = decimalOf (getD text at 0)
 

@@ -18,7 +18,7 @@ hasBits x due = eqb (bitsOf x) due
 abbrev pub samePoint : Point → ℕ → ℕ → Bool
 samePoint p x y = hasBits (p .x) x && hasBits (p .y) y
 
--- x at the place, y eight digits past it
+-- x at the offset, y eight digits past it
 abbrev pub pointFrom : List ℕ → ℕ → Point
 pointFrom text at = pointOf (floatOf (patternOf text at)) (floatOf (patternOf text (at + 8)))
 

@@ -1,4 +1,4 @@
--- Rows of a record: patterns that stand a step apart, and bytes. Places count from 0. Definitions only.
+-- Rows of a record: patterns that stand a step apart, and bytes. Offsets count from 0. Definitions only.
 use Prim.Native.Nat.{ℕ, zero, suc, _+_, _≤_}
 use mathlib.Core.Bool.{Bool, true, _&&_, cond}
 use mathlib.Core.List.{List, [], _∷_}
@@ -13,9 +13,9 @@ use Rattle.replay_records.specs.Records.{patternOf, floatOf}
 abbrev pub Begins : ℕ → List Float → Type 0
 Begins n numbers = (n ≤ length numbers) × (n ≡ length (take n numbers))
 
--- a step further, or the same place past the text's end
+-- a step further, or the same offset past the text's end
 abbrev pub onwardOf : List ℕ → ℕ → ℕ → ℕ
-onwardOf text place step = cond (ltb place (length text)) (place + step) place
+onwardOf text offset step = cond (ltb offset (length text)) (offset + step) offset
 
 -- the floats of so many patterns
 unfoldable pub numbersOf : List ℕ → ℕ → ℕ → ℕ → List Float

@@ -15,7 +15,7 @@ unfoldable pub halfOf : ℕ → ℕ → ℕ → ℕ → ℕ
 unfolding digitOf
 halfOf a b c d = digitOf a * 4096 + digitOf b * 256 + digitOf c * 16 + digitOf d
 
--- the number of the eight digits from a place on; 0 where the text ends before
+-- the number of the eight digits from an offset on; 0 where the text ends before
 unfoldable pub patternOf : List ℕ → ℕ → ℕ
 unfolding halfOf
 patternOf text at =

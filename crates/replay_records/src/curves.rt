@@ -41,7 +41,7 @@ pub fn turned(found: Turned, due: u32, degrees: u32) -> bool
     }
 }
 
-// Whether a place, a direction and a heading were given and have the five patterns from this place on.
+// Whether a place, a direction and a heading were given and have the five patterns from this offset on.
 pub fn same_answers(
     position: Placed,
     tangent: Placed,

@@ -19,7 +19,7 @@ fn decimal(byte: u8) -> usize
     }
 }
 
-// The number that the digit at this place stands for.
+// The number that the digit at this offset stands for.
 pub fn one(text: &[u8], at: usize) -> usize
     requires { ⌜ at < length (now text) ⌝ }
     ensures { λ r. ⌜ r ≡ oneOf (now (text .entry)) at ⌝ }
@@ -28,7 +28,7 @@ pub fn one(text: &[u8], at: usize) -> usize
     decimal(text[at])
 }
 
-// The number that the two digits at this place stand for.
+// The number that the two digits at this offset stand for.
 pub fn two(text: &[u8], at: usize) -> usize
     requires { ⌜ at + 2 ≤ length (now text) ⌝ }
     ensures { λ r. ⌜ r ≡ twoOf (now (text .entry)) at ⌝ }
@@ -37,7 +37,7 @@ pub fn two(text: &[u8], at: usize) -> usize
     one(text, at) * 10 + one(text, at + 1)
 }
 
-// The number that the three digits at this place stand for.
+// The number that the three digits at this offset stand for.
 pub fn three(text: &[u8], at: usize) -> usize
     requires { ⌜ at + 3 ≤ length (now text) ⌝ }
     ensures { λ r. ⌜ r ≡ threeOf (now (text .entry)) at ⌝ }

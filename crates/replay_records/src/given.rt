@@ -23,7 +23,7 @@ pub fn same_point(p: Point, x: u32, y: u32) -> bool
     has_bits(p.x, x) & has_bits(p.y, y)
 }
 
-// The point of the two patterns at this place.
+// The point of the two patterns at this offset.
 pub fn point(text: &[u8], at: usize) -> Point
     requires { ⌜ at + 16 ≤ length (now text) ⌝ }
     ensures { λ r. ⌜ r ≡ pointFrom (now (text .entry)) at ⌝ }

@@ -31,7 +31,7 @@ ghost use Prim.Native.Nat.{_<_};
 ghost use mathlib.Core.Path.{_≡_};
 ghost use Rattle.replay_records.specs.Records.{digitOf, halfOf, patternOf, floatOf};
 
-// The number that eight upper-case hexadecimal digits from this place on stand for, and 0 where the
+// The number that eight upper-case hexadecimal digits from this offset on stand for, and 0 where the
 // text ends before. Any other byte counts as a digit 0.
 pub fn pattern(text: &[u8], at: usize) -> u32
     ensures { λ r. ⌜ r ≡ patternOf (now (text .entry)) at ⌝ }

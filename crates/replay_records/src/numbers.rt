@@ -9,26 +9,26 @@ ghost use lib.Dec.{eqb};
 ghost use lib.ListN.{length};
 ghost use Rattle.replay_records.specs.Numbers.{Begins, onwardOf, numbersOf, sameNumbers, sameBytes};
 
-// The next place of a row. Past the text's end it stays where it is, for every pattern there is 0.
-fn onward(text: &[u8], place: usize, step: u32) -> usize
-    ensures { λ r. ⌜ r ≡ onwardOf (now (text .entry)) place step ⌝ }
+// The offset of a row's next pattern. Past the text's end it stays where it is, for every pattern there is 0.
+fn onward(text: &[u8], offset: usize, step: u32) -> usize
+    ensures { λ r. ⌜ r ≡ onwardOf (now (text .entry)) offset step ⌝ }
 {
-    if place < text.len() {
-        place + step as usize
+    if offset < text.len() {
+        offset + step as usize
     } else {
-        place
+        offset
     }
 }
 
-// Puts the floats of as many patterns as there are places into out: the first from `at` on, each `step` bytes past the one before.
+// Puts the floats of as many patterns as out has numbers into it: the first from `at` on, each `step` bytes past the one before.
 pub fn read_numbers(text: &[u8], at: usize, step: u32, out: &mut [f32])
     ensures { λ _. ⌜ now (out .exit) ≡ numbersOf (now (text .entry)) at step (length (now (out .entry))) ⌝ }
 {
-    let mut place = at;
+    let mut offset = at;
     let mut i = 0usize;
     while i < out.len() {
-        out[i] = float(pattern(text, place));
-        place = onward(text, place, step);
+        out[i] = float(pattern(text, offset));
+        offset = onward(text, offset, step);
         i += 1;
     }
 }
@@ -50,13 +50,13 @@ pub fn lent(count: u32, numbers: &[f32]) -> usize
 pub fn same_numbers(numbers: &[f32], text: &[u8], at: usize, step: u32) -> bool
     ensures { λ r. ⌜ r ≡ sameNumbers (now (numbers .entry)) (now (text .entry)) at step ⌝ }
 {
-    let mut place = at;
+    let mut offset = at;
     let mut i = 0usize;
     while i < numbers.len() {
-        if bits(numbers[i]) != pattern(text, place) {
+        if bits(numbers[i]) != pattern(text, offset) {
             return false;
         }
-        place = onward(text, place, step);
+        offset = onward(text, offset, step);
         i += 1;
     }
     true

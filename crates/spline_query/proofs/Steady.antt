@@ -1,30 +1,27 @@
--- Demand 3 for splines: the raw parameter that `spline_flight` answers, and at which it samples, never steps back, starts at 0, ends at 1, and lies between the places of the two entries
+-- Demand 3 for splines: the raw parameter that `spline_flight` answers, and at which it samples, never steps back, starts at 0, ends at 1, and lies between the marks of the two entries
 -- that enclose the target. It holds of every sound spline, and a table that was made is one. The law over the number of entries is `steady` of table_order, which a curve's 32 entries cite
 -- too. Assumes nothing.
-use mathlib.Core.Path.{_≡_, refl, sym, ap, _∙_, subst}
-use mathlib.Core.Bool.{Bool, true, false, not, _&&_}
+use mathlib.Core.Path.{_≡_, ap, _∙_, subst}
+use mathlib.Core.Bool.{true, not}
 use mathlib.Core.List.{List}
-use Prim.Native.Nat.{ℕ, _+_, _≤_}
+use Prim.Native.Nat.{ℕ, _+_}
 use native.Mathlib.Omega.{arith}
 use borrow.Author.Tests.{eq-eqb, le-leb}
 use lib.Dec.{T, leb, eqb}
 use lib.ListN.{length}
 use lib.Ieee.{Float, binary32, fits}
-use lib.Ieee.Fits.{and-i}
-use denote.Floats.{passes}
 use Rattle.floats.proofs.Tests.{cond-yes}
 use Rattle.table.specs.Lookup.{at, lastOf}
-use Rattle.table.specs.Sound.{tableIsSound}
 use Rattle.table_order.specs.Swept.{Steady}
 use Rattle.table_order.proofs.Swept.{steady}
 use Rattle.flight.specs.declared.Flown.{Flown}
 use Rattle.flight.specs.declared.Flown.the-variants as Flown
 use Rattle.polyline.specs.Points.{countOf}
 use Rattle.polyline.specs.Judging.{isOdd}
-use Rattle.spline_table.specs.Tables.{lastEntryOf, splineLengthsOf, mostPoints, entries, splineTableOf}
-use Rattle.spline_table.proofs.Made.{Accepted, accepted-when, entries-count, entries-sound, made-table}
+use Rattle.spline_table.specs.Tables.{lastEntryOf, mostPoints, entries, splineTableOf}
+use Rattle.spline_table.proofs.Made.{accepted-when, entries-count, made-table}
 use Rattle.spline_query.specs.Queries.{splineTotal, splineIsSound, splineRaw, splineFlightOf, splineFlownOf}
-use Rattle.spline_query.specs.Ordered.{InOrder, SplineOrdered}
+use Rattle.spline_query.specs.Ordered.{InOrder}
 use Rattle.spline_query.proofs.Checking.{sound-spline, sound-table}
 
 -- ---- a stored spline: what is lent as f32 values, and passes the check
@@ -55,9 +52,9 @@ module _ (points : List Float) (room : ℕ) (stored : List Float) (made : spline
       let a = accepted-when points stored room made in
       let even : not (isOdd points) ≡ true = ap not (a .even) in
       let size : length stored ≡ lastEntryOf (countOf points) + 1 = ap length (a .whole) ∙ entries-count points in
-      and-i (not (isOdd points)) (leb (countOf points) mostPoints && (eqb (length stored) (lastEntryOf (countOf points) + 1) && tableIsSound stored (splineTotal stored))) (passes (not (isOdd points)) even)
-      (and-i (leb (countOf points) mostPoints) (eqb (length stored) (lastEntryOf (countOf points) + 1) && tableIsSound stored (splineTotal stored)) (passes (leb (countOf points) mostPoints) (le-leb (countOf points) mostPoints (a .few)))
-      (and-i (eqb (length stored) (lastEntryOf (countOf points) + 1)) (tableIsSound stored (splineTotal stored)) (passes (eqb (length stored) (lastEntryOf (countOf points) + 1)) (eq-eqb (length stored) (lastEntryOf (countOf points) + 1) size)) (made-table points room stored made .table .sound)))
+      let few : leb (countOf points) mostPoints ≡ true = le-leb (countOf points) mostPoints (a .few) in
+      let whole : eqb (length stored) (lastEntryOf (countOf points) + 1) ≡ true = eq-eqb (length stored) (lastEntryOf (countOf points) + 1) size in
+      rw (even, few, whole) (made-table points room stored made .table .sound)
 
   -- so every call on a table that was made is answered in order
   pub made-in-order : InOrder points stored

@@ -43,8 +43,10 @@ module _ {formula : Float → Point} {n : ℕ} {before : List Float} where
       ap (λ (xs : List Float). set xs k total) (f .filled) ∙ ap (set (written (take k (lengthsOf formula n)) before) k) s
       ∙ more-written (lengthsOf formula n) before k (omega (arith, made-count formula n)) (omega arith)
 
-  pub filling-more : {table : List Float} {previous current : Point} {total sum : Float} {k : ℕ} → Filling formula n before table previous total k → Walking formula n (walkOf current sum) (k + 1) → Filling formula n before (set table k total) current sum (k + 1)
-  filling-more {table} {previous} {current} {total} {sum} {k} f w =
+  pub filling-more : {table : List Float} {previous current : Point} {total sum : Float} {k : ℕ}
+      → Filling formula n before table previous total k → Walking formula n (walkOf current sum) (k + 1)
+      → Filling formula n before (set table k total) current sum (k + 1)
+  filling-more {k = k} f w =
       record { walking = w; room = f .room; filled = filled-next f ∙ ap (λ (m : ℕ). written (take m (lengthsOf formula n)) before) (sym (add-one k)) }
 
   -- a whole row is stored

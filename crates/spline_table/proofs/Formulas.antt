@@ -17,12 +17,12 @@ use Rattle.spline.specs.Formula.{spanOf, scaledOf, indexOf, beforeSpan, afterSp
 use Rattle.spline.proofs.Spans.{in-spans}
 use Rattle.spline.proofs.Counts.{sample-two, sample-more}
 use Rattle.spline_table.specs.Near.{isBetween}
-use Rattle.spline_table.specs.Rows.{placeOf, blendAt}
+use Rattle.spline_table.specs.Rows.{clampedMarkOf, blendAt}
 use Rattle.spline_table.proofs.Index.{index-is}
 
 module _ (points : List Float) (n j : ℕ) where
   -- ---- two points
-  module _ (two : countOf points ≡ 2) (a b : Point) (starts : a ≡ pointAt points 0) (ends : b ≡ pointAt points 1) (t : Float) (e : t ≡ placeOf n j) where
+  module _ (two : countOf points ≡ 2) (a b : Point) (starts : a ≡ pointAt points 0) (ends : b ≡ pointAt points 1) (t : Float) (e : t ≡ clampedMarkOf n j) where
     leg-is : lerpPointOf a b t ≡ sampleAt (splineSampleOf points) n j
     unfolding sampleAt
     leg-is =
@@ -35,10 +35,10 @@ module _ (points : List Float) (n j : ℕ) where
     pub leg-along : lerpOf (a .y) (b .y) t ≡ sampleAt (splineSampleOf points) n j .y
     leg-along = unfold lerpPointOf in ap (λ (p : Point). p .y) leg-is
 
-  -- ---- three points or more: the span number `index`, where the place lies between its ends
+  -- ---- three points or more: the span number `index`, where the scaled mark lies between its ends
   module _ (more : 3 ≤ countOf points) (few : countOf points ≤ 4096) (index : ℕ) (inside : index + 1 < countOf points)
       (p0 p1 p2 p3 : Point) (before : p0 ≡ beforeSpan points index) (starts : p1 ≡ pointAt points index) (ends : p2 ≡ pointAt points (index + 1)) (after : p3 ≡ afterSpan points index)
-      (scaled : Float) (e : scaled ≡ mul binary32 (placeOf n j) (ofInt binary32 (pos (countOf points - 1))))
+      (scaled : Float) (e : scaled ≡ mul binary32 (clampedMarkOf n j) (ofInt binary32 (pos (countOf points - 1))))
       (between : T (isBetween (ofInt binary32 (pos index)) (ofInt binary32 (pos (index + 1))) scaled)) where
     abbrev low : Float
     low = ofInt binary32 (pos index)

@@ -15,7 +15,7 @@ use Rattle.table.specs.Lookup.{at}
 use Rattle.table_samples.specs.Samples.{sampleAt}
 use Rattle.spline_table.specs.Rows.{Scaled, Laid, Apart, Differences}
 
--- ---- the first place is set when the others are done
+-- ---- the first is set when the others are done
 module _ {P : ℕ → Float → Type 0} {r : List Float} {n k : ℕ} (p : Passing P r n k) (first : Float) where
   pub set-first : 0 < n → at (set r 0 first) 0 ≡ first
   set-first h = getD-set-same r 0 first nan (omega (arith, p .size))
@@ -23,21 +23,21 @@ module _ {P : ℕ → Float → Type 0} {r : List Float} {n k : ℕ} (p : Passin
   set-other : (i : ℕ) → 0 < i → at (set r 0 first) i ≡ at r i
   set-other i h = getD-set-other r 0 i first nan (λ (e : i ≡ 0). omega arith)
 
--- ---- the places along the spans
-pub scaled-done : {places : List Float} {segments : ℕ} {r : List Float} {i : ℕ} → Passing (λ (j : ℕ) (v : Float). v ≡ mul binary32 (at places j) (ofInt binary32 (pos segments))) r 16 i
-    → 16 ≤ i → (low : Float) → Scaled places segments (set r 0 low)
-scaled-done {places} {segments} {r} p past low = record { size = length-set r 0 low ∙ p .size; each = λ j h g. set-other p low j h ∙ p .done j (omega arith) }
+-- ---- the marks along the spans
+pub scaled-done : {marks : List Float} {segments : ℕ} {r : List Float} {i : ℕ} → Passing (λ (j : ℕ) (v : Float). v ≡ mul binary32 (at marks j) (ofInt binary32 (pos segments))) r 16 i
+    → 16 ≤ i → (low : Float) → Scaled marks segments (set r 0 low)
+scaled-done {marks} {segments} {r} p past low = record { size = length-set r 0 low ∙ p .size; each = λ j h g. set-other p low j h ∙ p .done j (omega arith) }
 
 -- ---- the samples before i are in, and the last
-pub record Laying (f : Float → Float) (places : List Float) (next : Float) (r : List Float) (i : ℕ) : Type 0 where
-  pub done : Passing (λ (j : ℕ) (v : Float). v ≡ f (at places j)) r 17 i
+pub record Laying (f : Float → Float) (marks : List Float) (next : Float) (r : List Float) (i : ℕ) : Type 0 where
+  pub done : Passing (λ (j : ℕ) (v : Float). v ≡ f (at marks j)) r 17 i
   pub ends : at r 16 ≡ next
 
-module _ {f : Float → Float} {places : List Float} {next : Float} {r : List Float} {i : ℕ} (l : Laying f places next r i) where
-  pub laying-more : i < 16 → (v : Float) → v ≡ f (at places i) → Laying f places next (set r i v) (i + 1)
+module _ {f : Float → Float} {marks : List Float} {next : Float} {r : List Float} {i : ℕ} (l : Laying f marks next r i) where
+  pub laying-more : i < 16 → (v : Float) → v ≡ f (at marks i) → Laying f marks next (set r i v) (i + 1)
   laying-more h v e = record { done = passing-more (l .done) (omega arith) v e; ends = getD-set-other r i 16 v nan (λ (q : 16 ≡ i). omega arith) ∙ l .ends }
 
-  pub laying-done : 16 ≤ i → (first : Float) → Laid f places first next (set r 0 first)
+  pub laying-done : 16 ≤ i → (first : Float) → Laid f marks first next (set r 0 first)
   laying-done past first = record {
     starts = set-first (l .done) first (omega arith);
     between = λ j h g. set-other (l .done) first j h ∙ l .done .done j (omega arith);
@@ -49,11 +49,11 @@ abbrev pub Drawn : (Point → Float) → (Float → Point) → ℕ → ℕ → L
 Drawn coordinate formula n k samples = (i : ℕ) → i ≤ 16 → at samples i ≡ coordinate (sampleAt formula n (k + i))
 
 module _ (coordinate : Point → Float) (formula : Float → Point) (n k : ℕ) where
-  pub drawn : {f : Float → Float} {places : List Float} {first next : Float} {r : List Float} → Laid f places first next r
+  pub drawn : {f : Float → Float} {marks : List Float} {first next : Float} {r : List Float} → Laid f marks first next r
       → first ≡ coordinate (sampleAt formula n k) → next ≡ coordinate (sampleAt formula n (k + 16))
-      → ((i : ℕ) → 0 < i → i < 16 → f (at places i) ≡ coordinate (sampleAt formula n (k + i))) → Drawn coordinate formula n k r
+      → ((i : ℕ) → 0 < i → i < 16 → f (at marks i) ≡ coordinate (sampleAt formula n (k + i))) → Drawn coordinate formula n k r
   drawn l starts ends each zero h = l .starts ∙ starts ∙ ap (λ (m : ℕ). coordinate (sampleAt formula n m)) (sym (add-zero k))
-  drawn {f} {places} {first} {next} {r} l starts ends each (suc i) h = by (eq-or-lt-of-le h)
+  drawn {f} {marks} {first} {next} {r} l starts ends each (suc i) h = by (eq-or-lt-of-le h)
     where
       by : (suc i ≡ 16) ⊎ (suc i < 16) → at r (suc i) ≡ coordinate (sampleAt formula n (k + suc i))
       by (inl e) = ap (at r) e ∙ l .ends ∙ ends ∙ ap (λ (m : ℕ). coordinate (sampleAt formula n (k + m))) (sym e)

@@ -2,6 +2,7 @@
 pub mod Passing
 pub mod Finding
 pub mod Filling
+pub mod Crossing
 pub mod RowLaws
 pub mod Near
 pub mod Left

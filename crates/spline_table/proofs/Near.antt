@@ -1,4 +1,4 @@
--- The test of every number, place by place. Assumes nothing.
+-- The test of every number, one by one. Assumes nothing.
 use mathlib.Core.Path.{_≡_, refl, sym, ap, _∙_}
 use mathlib.Core.Bool.{Bool, true, false, _&&_}
 use mathlib.Core.List.{List, [], _∷_}

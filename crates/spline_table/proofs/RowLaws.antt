@@ -1,4 +1,4 @@
--- A row of 16 entries: its differences, what their lengths are, and the loop that stores the running lengths. Assumes nothing.
+-- A row of 16 entries: what the lengths of its differences are, and the loop that stores the running lengths. Assumes nothing.
 use mathlib.Core.Path.{_≡_, refl, sym, ap, _∙_, subst}
 use mathlib.Core.List.{List}
 use Prim.Native.Nat.{ℕ, suc, _+_, _≤_, _<_, zero-le}
@@ -13,22 +13,12 @@ use Rattle.math.specs.declared.points.Point.{Point}
 use Rattle.math.specs.Math.{subOf, lengthOf, distanceOf}
 use Rattle.table.specs.Lookup.{at}
 use Rattle.table_samples.specs.Samples.{sampleAt, lengthsOf}
-use Rattle.table_samples.proofs.Crossing.{Crossing}
 use Rattle.table_samples.proofs.Made.{made-count}
 use Rattle.spline_table.specs.declared.rows.Row.{Row}
 use Rattle.spline_table.specs.declared.rows.Walk.{Walk}
 use Rattle.spline_table.specs.Rows.{Walking, Differences, Entered}
 use Rattle.spline_table.proofs.Passing.{lengths-next}
 use Rattle.spline_table.proofs.Filling.{more-written}
-
--- ---- the differences are all in
-pub row-done : {formula : Float → Point} {n k : ℕ} {x y : List Float} {previous : Point} {i : ℕ} → Crossing formula n k x y previous i → i ≡ 16 → Differences formula n k (record { x = x; y = y; next = previous })
-row-done {formula} {n} {k} {x} {y} {previous} {i} c past =
-    record {
-      across = λ j h. c .across .done j (omega arith);
-      along = λ j h. c .along .done j (omega arith);
-      next = c .here ∙ ap (λ (m : ℕ). sampleAt formula n (k + m)) (let u = c .upto in let g : i ≡ 16 = omega arith in g);
-    }
 
 -- ---- the lengths of the differences are the steps
 pub row-step : {formula : Float → Point} {n k : ℕ} {row : Row} → Differences formula n k row → (steps : List Float) → steps ≡ lengths.lengthsOf 16 (row .x) (row .y) → (i : ℕ) → i < 16

@@ -1,4 +1,4 @@
--- A test of every number of a list: points near the origin, and places within a span. Definitions only.
+-- A test of every number of a list: points near the origin, and marks within a span. Definitions only.
 use mathlib.Core.Bool.{Bool, true, _&&_}
 use mathlib.Core.List.{List, [], _∷_}
 use lib.Ieee.{Float, le, lt}

@@ -54,14 +54,14 @@ Grown lengths j k table after = (before : List Float) → Entered lengths before
 
 -- ---- one coordinate of a row
 
--- where the sample i of n is taken
-abbrev pub placeOf : ℕ → ℕ → Float
-placeOf n i = clamp01Of (markOf n i)
+-- the mark at which the sample i of n is taken
+abbrev pub clampedMarkOf : ℕ → ℕ → Float
+clampedMarkOf n i = clamp01Of (markOf n i)
 
 -- the same along this many spans; nothing is said of the row's first sample, which is taken already
-pub record Scaled (places : List Float) (segments : ℕ) (r : List Float) : Type 0 where
+pub record Scaled (marks : List Float) (segments : ℕ) (r : List Float) : Type 0 where
   pub size : length r ≡ 16
-  pub each : (i : ℕ) → 0 < i → i < 16 → at r i ≡ mul binary32 (at places i) (ofInt binary32 (pos segments))
+  pub each : (i : ℕ) → 0 < i → i < 16 → at r i ≡ mul binary32 (at marks i) (ofInt binary32 (pos segments))
 
 -- between four numbers, at what is left of `scaled` past `low`
 abbrev pub blendAt : Float → Float → Float → Float → Float → Float → Float
@@ -69,10 +69,10 @@ blendAt p0 p1 p2 p3 low scaled =
     let t = sub binary32 scaled low in
     blendOf p0 p1 p2 p3 t (mul binary32 t t) (mul binary32 (mul binary32 t t) t)
 
--- 17 samples: the first, what f gives each of the 15 places after it, and the next row's first
-pub record Laid (f : Float → Float) (places : List Float) (first next : Float) (r : List Float) : Type 0 where
+-- 17 samples: the first, what f gives each of the 15 marks after it, and the next row's first
+pub record Laid (f : Float → Float) (marks : List Float) (first next : Float) (r : List Float) : Type 0 where
   pub starts : at r 0 ≡ first
-  pub between : (i : ℕ) → 0 < i → i < 16 → at r i ≡ f (at places i)
+  pub between : (i : ℕ) → 0 < i → i < 16 → at r i ≡ f (at marks i)
   pub ends : at r 16 ≡ next
 
 -- the differences from each of 17 samples to the next

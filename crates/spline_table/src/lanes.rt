@@ -9,27 +9,27 @@ ghost use lib.IntN.{pos};
 ghost use Rattle.math.specs.Math.{lerpOf};
 ghost use Rattle.table.specs.Lookup.{at};
 ghost use Rattle.spline_table.specs.Near.{every, isBetween};
-ghost use Rattle.spline_table.specs.Rows.{placeOf, Scaled, blendAt, Laid, Apart};
+ghost use Rattle.spline_table.specs.Rows.{clampedMarkOf, Scaled, blendAt, Laid, Apart};
 
-// Where sample i of n is taken. A count of 16 bits is converted in lanes.
-fn place(i: usize, n: usize) -> f32
+// The mark at which sample i of n is taken. A count of 16 bits is converted in lanes.
+fn clamped_mark(i: usize, n: usize) -> f32
     requires { ⌜ i < 2 ^ 16 ⌝ }
     requires { ⌜ n < 2 ^ 16 ⌝ }
-    ensures { λ r. ⌜ r ≡ placeOf n i ⌝ }
+    ensures { λ r. ⌜ r ≡ clampedMarkOf n i ⌝ }
 {
     clamp01((i as u16) as f32 / (n as u16) as f32)
 }
 
-// Where the samples from k on are taken.
-pub(crate) fn places(last: usize, k: usize) -> [f32; 16]
+// The marks of the samples from k on.
+pub(crate) fn clamped_marks(last: usize, k: usize) -> [f32; 16]
     requires { ⌜ k + 16 ≤ last ⌝ }
     requires { ⌜ last < 2 ^ 16 ⌝ }
-    ensures { λ r. ⌜ ((i : ℕ) → i < 16 → at r i ≡ placeOf last (k + i)) ⌝ }
+    ensures { λ r. ⌜ ((i : ℕ) → i < 16 → at r i ≡ clampedMarkOf last (k + i)) ⌝ }
 {
     let mut r = [0.0f32; 16];
     let mut i = 0usize;
     while i < 16 {
-        r[i] = place(k + i, last);
+        r[i] = clamped_mark(k + i, last);
         i += 1;
     }
     r
@@ -79,7 +79,7 @@ pub(crate) fn leg_samples(a: f32, b: f32, first: f32, next: f32, own: &[f32; 16]
     r
 }
 
-// The samples between p1 and p2, at what is left of each place past `low`.
+// The samples between p1 and p2, at what is left of each mark past `low`.
 pub(crate) fn span_samples(
     p0: f32,
     p1: f32,

@@ -1,8 +1,8 @@
 // A row of 16 entries, one span. Its samples are taken and its steps measured together, so that the compiler works out several at once.
 use crate::lanes::all_between;
+use crate::lanes::clamped_marks;
 use crate::lanes::differences_of;
 use crate::lanes::leg_samples;
-use crate::lanes::places;
 use crate::lanes::scaled;
 use crate::lanes::span_samples;
 use lengths::inner::half_lengths;
@@ -63,7 +63,7 @@ fn leg_row(points: &[f32], last: usize, k: usize, first: Point) -> Row
     ensures { λ r. ⌜ Differences (splineSampleOf (now (points .entry))) last k r ⌝ }
 {
     let next = sample(points, mark(k + 16, last));
-    let own = places(last, k);
+    let own = clamped_marks(last, k);
     let a = point_at(points, 0);
     let b = point_at(points, 1);
     let across = leg_samples(a.x, b.x, first.x, next.x, &own);
@@ -83,7 +83,7 @@ fn span_row(points: &[f32], last: usize, k: usize, first: Point) -> Row
     let index = k / 16;
     let low = (index as u16) as f32;
     let high = ((index + 1) as u16) as f32;
-    let clamped = places(last, k);
+    let clamped = clamped_marks(last, k);
     let own = scaled(&clamped, points.len() / 2 - 1, low);
     if !all_between(&own, low, high) {
         return one_by_one(points, last, k, first);

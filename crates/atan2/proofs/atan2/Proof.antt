@@ -7,6 +7,7 @@ use mathlib.Core.Bool.{Bool, true, false, cond, _&&_}
 use lib.Dec.{eqb}
 use lib.Ieee.{Float, nan, binary32, binary64, toBits, ofBits, div}
 use lib.Ieee.Scale.{finite}
+use Rattle.floats.specs.Patterns.{wideSignPlace}
 use Rattle.atan2_rule.specs.Steps.{plain, signBit, level, slanted, atan2Of}
 use Rattle.atan2.proofs.atan2.Statement.{statement}
 use Rattle.atan2.proofs.atan2.Tie as tie
@@ -37,19 +38,19 @@ module _ (y x : Float) where
 
   -- c and d are the bits of y and x
   module _ (c d : ℕ) (ec : c ≡ toBits binary64 y) (ed : d ≡ toBits binary64 x) (h : finite y ≡ true) (k : finite x ≡ true) where
-    on-axis : c % 9223372036854775808 ≡ 0 → level y (d % 9223372036854775808) (c / 9223372036854775808) (d / 9223372036854775808) ≡ atan2Of y x
+    on-axis : c % wideSignPlace ≡ 0 → level y (d % wideSignPlace) (c / wideSignPlace) (d / wideSignPlace) ≡ atan2Of y x
     on-axis z =
-        ap (λ (n : ℕ). level y (n % 9223372036854775808) (c / 9223372036854775808) (n / 9223372036854775808)) ed
-        ∙ ap (λ (n : ℕ). level y (plain x) (n / 9223372036854775808) (signBit x)) ec
-        ∙ sym (ap (λ (t : Bool). cond t (level y (plain x) (signBit y) (signBit x)) (slanted y x (plain y) (plain x) (signBit y) (signBit x))) (eq-eqb (plain y) 0 (sym (ap (λ (n : ℕ). n % 9223372036854775808) ec) ∙ z)))
+        ap (λ (n : ℕ). level y (n % wideSignPlace) (c / wideSignPlace) (n / wideSignPlace)) ed
+        ∙ ap (λ (n : ℕ). level y (plain x) (n / wideSignPlace) (signBit x)) ec
+        ∙ sym (ap (λ (t : Bool). cond t (level y (plain x) (signBit y) (signBit x)) (slanted y x (plain y) (plain x) (signBit y) (signBit x))) (eq-eqb (plain y) 0 (sym (ap (λ (n : ℕ). n % wideSignPlace) ec) ∙ z)))
         ∙ both-finite h k
 
-    off-axis : (c % 9223372036854775808 ≡ 0 → ⊥)
-        → slanted y x (c % 9223372036854775808) (d % 9223372036854775808) (c / 9223372036854775808) (d / 9223372036854775808) ≡ atan2Of y x
+    off-axis : (c % wideSignPlace ≡ 0 → ⊥)
+        → slanted y x (c % wideSignPlace) (d % wideSignPlace) (c / wideSignPlace) (d / wideSignPlace) ≡ atan2Of y x
     off-axis z =
-        ap (λ (n : ℕ). slanted y x (c % 9223372036854775808) (n % 9223372036854775808) (c / 9223372036854775808) (n / 9223372036854775808)) ed
-        ∙ ap (λ (n : ℕ). slanted y x (n % 9223372036854775808) (plain x) (n / 9223372036854775808) (signBit x)) ec
-        ∙ sym (ap (λ (t : Bool). cond t (level y (plain x) (signBit y) (signBit x)) (slanted y x (plain y) (plain x) (signBit y) (signBit x))) (ne-eqb (plain y) 0 (λ (e : plain y ≡ 0). z (ap (λ (n : ℕ). n % 9223372036854775808) ec ∙ e))))
+        ap (λ (n : ℕ). slanted y x (c % wideSignPlace) (n % wideSignPlace) (c / wideSignPlace) (n / wideSignPlace)) ed
+        ∙ ap (λ (n : ℕ). slanted y x (n % wideSignPlace) (plain x) (n / wideSignPlace) (signBit x)) ec
+        ∙ sym (ap (λ (t : Bool). cond t (level y (plain x) (signBit y) (signBit x)) (slanted y x (plain y) (plain x) (signBit y) (signBit x))) (ne-eqb (plain y) 0 (λ (e : plain y ≡ 0). z (ap (λ (n : ℕ). n % wideSignPlace) ec ∙ e))))
         ∙ both-finite h k
 
 returns : tie.Need-returns

@@ -6,6 +6,7 @@ use lib.Dec.{T}
 use lib.Ieee.{Float, nan, inf, fin, binary64, fits, isNan}
 use lib.Ieee.Fits.{and-i, fits-widens}
 use lib.Ieee.Scale.{finite}
+use Rattle.floats.specs.Patterns.{wideInfinityBits}
 use Rattle.atan2_rule.specs.Steps.{plain}
 use Rattle.atan2_rule.proofs.Whole.{bits-finite}
 use Rattle.atan2.proofs.wide.Statement.{statement}
@@ -24,7 +25,7 @@ float-to-bits-result : tie.Need-float-to-bits-result
 float-to-bits-result c = no-nan _ (c .before .pre)
 
 returns : tie.Need-returns
-returns c = let x = c .before .args .x in (refl, ltb-true (plain x) 9218868437227405312 (bits-finite x (c .row-known .given) ∙ c .before .pre))
+returns c = let x = c .before .args .x in (refl, ltb-true (plain x) wideInfinityBits (bits-finite x (c .row-known .given) ∙ c .before .pre))
 
 pub wide-spec : {M : Type 1} → statement M
 wide-spec = tie.close (tie.spec float-to-float-result float-to-bits-result returns)

@@ -11,13 +11,13 @@ use lib.Dec.{ltb}
 use Rattle.atan2.proofs.guess.base.Statement.{statement}
 use Rattle.atan2.proofs.guess.base.Tie as tie
 
-flat-one : (u v : ℕ) → u < 2 ^ 30 → v < 2 ^ 30 → u ≤ v → (9223372036854775808 + v - u) / 9223372036854775808 ≡ 1
+flat-one : (u v : ℕ) → u < 2 ^ 30 → v < 2 ^ 30 → u ≤ v → (2 ^ 63 + v - u) / 2 ^ 63 ≡ 1
 flat-one u v h k l = omega arith
 
-flat-none : (u v : ℕ) → u < 2 ^ 30 → v < 2 ^ 30 → v < u → (9223372036854775808 + v - u) / 9223372036854775808 ≡ 0
+flat-none : (u v : ℕ) → u < 2 ^ 30 → v < 2 ^ 30 → v < u → (2 ^ 63 + v - u) / 2 ^ 63 ≡ 0
 flat-none u v h k l = omega arith
 
-flat-le : (u v : ℕ) → u < 2 ^ 30 → v < 2 ^ 30 → (9223372036854775808 + v - u) / 9223372036854775808 ≤ 1
+flat-le : (u v : ℕ) → u < 2 ^ 30 → v < 2 ^ 30 → (2 ^ 63 + v - u) / 2 ^ 63 ≤ 1
 flat-le u v h k = omega arith
 
 at-one : (f l : ℕ) → f ≡ 1 → (1 - f) * 4609753056924675352 + f * l * 4614256656552045848 ≡ l * 4614256656552045848
@@ -36,11 +36,11 @@ pub record Based (u v l r : ℕ) : Type 0 where
   pub is : r ≡ cond (ltb v u) 4609753056924675352 (l * 4614256656552045848)
   pub most : r ≤ 4614256656552045848
 
-based : (u v l : ℕ) → u < 2 ^ 30 → v < 2 ^ 30 → l ≤ 1 → let f = (9223372036854775808 + v - u) / 9223372036854775808 in Based u v l ((1 - f) * 4609753056924675352 + f * l * 4614256656552045848)
+based : (u v l : ℕ) → u < 2 ^ 30 → v < 2 ^ 30 → l ≤ 1 → let f = (2 ^ 63 + v - u) / 2 ^ 63 in Based u v l ((1 - f) * 4609753056924675352 + f * l * 4614256656552045848)
 based u v l h k m = go (decLe u v)
   where
     f : ℕ
-    f = (9223372036854775808 + v - u) / 9223372036854775808
+    f = (2 ^ 63 + v - u) / 2 ^ 63
 
     go : Dec (u ≤ v) → Based u v l ((1 - f) * 4609753056924675352 + f * l * 4614256656552045848)
     go (yes p) =

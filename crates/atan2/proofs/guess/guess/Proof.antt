@@ -1,25 +1,26 @@
 -- The bits that make floats are none of a NaN: a field of 2047 ones is out of reach. Assumes nothing.
 use borrow.Author.Needs.{needs}
-use borrow.Author.Tests.{ne-eqb}
 use native.Mathlib.Omega.{arith}
-use Prim.Native.Nat.{ℕ, _+_, _-_, _*_, _/_, _%_, _≤_, _<_}
-use mathlib.Core.Path.{_≡_, sym, subst}
-use mathlib.Core.Bool.{Bool, true, false, not, cond, _&&_}
-use lib.Dec.{T, ltb, eqb}
+use Prim.Native.Nat.{ℕ, _+_, _-_, _*_, _%_, _≤_, _<_}
+use native.Mathlib.Nat.{le-of-lt}
+use mathlib.Core.Path.{_≡_}
+use mathlib.Core.Bool.{Bool, true, false, not, cond}
+use lib.Dec.{T, ltb}
 use lib.Ieee.{binary64, nanBits}
+use Rattle.floats.specs.Patterns.{wideSignPlace, wideInfinityBits}
+use Rattle.decimal_rounding.proofs.Wide.{no-nan-plain}
 use Rattle.atan2_rule.specs.Steps.{guessOf}
 use Rattle.atan2.proofs.guess.guess.Statement.{statement}
 use Rattle.atan2.proofs.guess.guess.Tie as tie
 
-no-nan : (b : ℕ) → b % 9223372036854775808 < 9218868437227405312 → T (not (nanBits binary64 b))
-unfolding nanBits
-no-nan b h = subst (λ (t : Bool). T (not (t && not (eqb (b % 4503599627370496) 0)))) (sym (ne-eqb (b % 9223372036854775808 / 4503599627370496) 2047 (λ (e : b % 9223372036854775808 / 4503599627370496 ≡ 2047). omega arith))) tt
+no-nan : (b : ℕ) → b % wideSignPlace < wideInfinityBits → T (not (nanBits binary64 b))
+no-nan b h = no-nan-plain binary64 b (le-of-lt h)
 
 picked-le : (t : Bool) (a b p m : ℕ) → p ≡ cond t a b → a ≤ m → b ≤ m → p ≤ m
 picked-le true a b p m e h k = omega arith
 picked-le false a b p m e h k = omega arith
 
-signed : (s p : ℕ) → s ≤ 1 → p ≤ 9218868437227405311 → (s * 9223372036854775808 + p) % 9223372036854775808 < 9218868437227405312
+signed : (s p : ℕ) → s ≤ 1 → p ≤ 9218868437227405311 → (s * wideSignPlace + p) % wideSignPlace < wideInfinityBits
 signed s p h k = omega arith
 
 mul-n : tie.Need-mul-n

@@ -5,12 +5,12 @@ use native.Mathlib.Omega.{arith}
 use native.Mathlib.Nat.{lt-of-le-of-lt}
 use Prim.Native.Nat.{ℕ, _+_, _/_, _%_, _^_, _<_}
 use lib.Pow.{shr-le}
-use Rattle.floats.specs.Patterns.{hidden}
+use Rattle.floats.specs.Patterns.{hidden, wideHidden}
 use Rattle.atan2.proofs.scale.part.Statement.{statement}
 use Rattle.atan2.proofs.scale.part.Tie as tie
 
-few : (b d : ℕ) → (b % 4503599627370496 + 4503599627370496) / hidden / 2 ^ d < 1073741824
-few b d = lt-of-le-of-lt (shr-le ((b % 4503599627370496 + 4503599627370496) / hidden) d) (omega arith)
+few : (b d : ℕ) → (b % wideHidden + wideHidden) / hidden / 2 ^ d < 1073741824
+few b d = lt-of-le-of-lt (shr-le ((b % wideHidden + wideHidden) / hidden) d) (omega arith)
 
 returns : tie.Need-returns
 returns c = (simp (lt-ltb _ _ (c .if1 .taken)), few (c .before .args .b) _)

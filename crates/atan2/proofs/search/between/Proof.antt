@@ -38,9 +38,11 @@ returns-2 c =
 
 returns-3 : tie.Need-returns-3
 returns-3 c =
-    let at = c .before .before .before .before .before .before .args in (
+    let last = c .before .before in
+    let first = last .before .before in
+    let at = first .before .before .args in (
       c .nearer .ensures .0 ∙ ap (nearer (at .u) (at .v) (at .left)) (c .before .climb .ensures .0)
-          ∙ inside (at .u) (at .v) (at .left) (at .from) (at .to) (sym (c .before .before .before .before .before .ahead-at .ensures) ∙ not-false _ (c .before .before .before .before .if1 .left)) (sym (c .before .before .before .ahead-at2 .ensures) ∙ c .before .before .if2 .left),
+          ∙ inside (at .u) (at .v) (at .left) (at .from) (at .to) (sym (first .before .ahead-at .ensures) ∙ not-false _ (first .if1 .left)) (sym (last .before .ahead-at2 .ensures) ∙ last .if2 .left),
       omega arith,
     )
 

@@ -10,7 +10,7 @@ use mathlib.Core.Bool.{Bool, cond}
 use Rattle.trig_rule.specs.Reduction.{turn}
 use Rattle.trig_rule.specs.Steps.{half, fixedOf}
 use Rattle.atan2_rule.specs.Steps.{passesAt, passes}
-use Rattle.atan2_rule.proofs.Places.{under-half}
+use Rattle.atan2_rule.proofs.Fixed.{under-half}
 use Rattle.atan2.proofs.Weighed.{judged-is}
 use Rattle.atan2.proofs.test.passes.Statement.{statement}
 use Rattle.atan2.proofs.test.passes.Tie as tie
@@ -41,18 +41,20 @@ judged-requires-2 c κs = (c .before .before .before .pre .0, c .before .before 
 
 returns : tie.Need-returns
 returns c =
-    let at = c .before .before .before .before .args in
-    let place = c .before .before .before .placed .ensures .0 in
-    c .judged .ensures ∙ judged-is _ _ _ _ _ (c .before .sides .ensures) (at .u) (at .v) (at .left) 0 ∙ ap (passesAt (at .u) (at .v) (at .left) 0) place
-    ∙ straight (at .u) (at .v) (at .left) (at .b) (subst (λ (n : ℕ). n ≤ half) place (c .before .before .if1 .taken))
+    let start = c .before .before .before .before in
+    let at = start .args in
+    let fixed = c .before .before .before .fixed .ensures .0 in
+    c .judged .ensures ∙ judged-is (c .before .sides .ensures) (at .u) (at .v) (at .left) 0 ∙ ap (passesAt (at .u) (at .v) (at .left) 0) fixed
+    ∙ straight (at .u) (at .v) (at .left) (at .b) (subst (λ (n : ℕ). n ≤ half) fixed (c .before .before .if1 .taken))
 
 returns-2 : tie.Need-returns-2
 returns-2 c =
-    let at = c .before .before .before .before .args in
-    let place = c .before .before .before .placed .ensures .0 in
-    let above : half < fixedOf (at .b) = subst (λ (n : ℕ). half < n) place (c .before .before .if1 .left) in
-    c .judged2 .ensures ∙ judged-is _ _ _ _ _ (c .before .past-pi .ensures) (at .u) (at .v) (at .left) 1
-    ∙ ap (λ (n : ℕ). passesAt (at .u) (at .v) (at .left) 1 (turn - fixedOf n)) (sym (only-pi (at .b) (c .before .before .before .before .pre .2) (c .before .before .before .before .pre .3) above)) ∙ flipped (at .u) (at .v) (at .left) (at .b) above
+    let start = c .before .before .before .before in
+    let at = start .args in
+    let above : half < fixedOf (at .b) = subst (λ (n : ℕ). half < n) (c .before .before .before .fixed .ensures .0) (c .before .before .if1 .left) in
+    c .judged2 .ensures ∙ judged-is (c .before .past-pi .ensures) (at .u) (at .v) (at .left) 1
+    ∙ ap (λ (n : ℕ). passesAt (at .u) (at .v) (at .left) 1 (turn - fixedOf n)) (sym (only-pi (at .b) (start .pre .2) (start .pre .3) above))
+    ∙ flipped (at .u) (at .v) (at .left) (at .b) above
 
 pub passes-spec : {M : Type 1} → statement M
 passes-spec =

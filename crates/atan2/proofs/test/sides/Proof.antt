@@ -41,10 +41,10 @@ sums-at r cp cm sp sm h ecp ecm esp esm =
     }
 
 mul-t7 : tie.Need-mul-t7
-mul-t7 c = record { fits = omega (arith, cut-product (c .before .before .before .before .before .args .r) (c .before .before .before .sine-sides .result .plus) (c .before .before .before .before .before .pre) (c .before .before .before .sine-sides .ensures .2)) }
+mul-t7 c = let s = c .before .before .before in let start = s .before .before in record { fits = omega (arith, cut-product (start .args .r) (s .sine-sides .result .plus) (start .pre) (s .sine-sides .ensures .2)) }
 
 mul-t9 : tie.Need-mul-t9
-mul-t9 c = record { fits = omega (arith, cut-product (c .before .before .before .before .before .before .args .r) (c .before .before .before .before .sine-sides .result .minus) (c .before .before .before .before .before .before .pre) (c .before .before .before .before .sine-sides .ensures .3)) }
+mul-t9 c = let s = c .before .before .before .before in let start = s .before .before in record { fits = omega (arith, cut-product (start .args .r) (s .sine-sides .result .minus) (start .pre) (s .sine-sides .ensures .3)) }
 
 returns : tie.Need-returns
 returns c =

@@ -6,10 +6,11 @@ use Rattle.commands.proofs.encoding.put_cubic.Tie as tie
 
 returns : tie.Need-returns
 returns c =
-    let a = c .before .before .before .before .before .before .before .before .before .before .before .before .before .args in
+    let second = c .before .before .before .before .before .before in
+    let first = second .before .before .before .before in
+    let a = first .before .before .before .args in
     six-put (a .numbers .now) (a .at) (a .control1 .x) (a .control1 .y) (a .control2 .x) (a .control2 .y) (a .end .x) (a .end .y)
-    (c .before .before .before .before .before .before .before .before .before .before .put-two .last .0) (c .before .before .before .before .before .before .put-two2 .last .0) _
-    (c .before .before .before .before .before .before .before .before .before .before .put-two .ensures) (c .before .before .before .before .before .before .put-two2 .ensures) (c .before .before .put-two3 .ensures)
+    (first .put-two .ensures) (second .put-two2 .ensures) (c .before .before .put-two3 .ensures)
 
 pub put-cubic-spec : {M : Type 1} → statement M
 put-cubic-spec =

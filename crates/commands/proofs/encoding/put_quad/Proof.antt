@@ -6,8 +6,9 @@ use Rattle.commands.proofs.encoding.put_quad.Tie as tie
 
 returns : tie.Need-returns
 returns c =
-    let a = c .before .before .before .before .before .before .before .before .before .args in
-    four-put (a .numbers .now) (a .at) (a .control .x) (a .control .y) (a .end .x) (a .end .y) (c .before .before .before .before .before .before .put-two .last .0) _ (c .before .before .before .before .before .before .put-two .ensures) (c .before .before .put-two2 .ensures)
+    let first = c .before .before .before .before .before .before in
+    let a = first .before .before .before .args in
+    four-put (a .numbers .now) (a .at) (a .control .x) (a .control .y) (a .end .x) (a .end .y) (first .put-two .last .0) _ (first .put-two .ensures) (c .before .before .put-two2 .ensures)
 
 pub put-quad-spec : {M : Type 1} → statement M
 put-quad-spec =

@@ -7,8 +7,9 @@ use Rattle.commands.proofs.encoding.store.Tie as tie
 
 returns : tie.Need-returns
 returns c =
+    let a = c .before .before .before .before .before .before .before .args in
     record {
-      letter = ap (λ v. set (c .before .before .before .before .before .before .before .args .letters .now) (c .before .before .before .before .before .before .before .args .place) v) (c .before .before .before .before .letter .ensures);
+      letter = ap (set (a .letters .now) (a .letter-at)) (c .before .before .before .before .letter .ensures);
       arguments = c .before .before .store-arguments .ensures;
     }
 

@@ -7,10 +7,10 @@ use lib.Dec.{T}
 use lib.Ieee.{Float, binary64, ne, fits, isNan}
 use lib.Ieee.Fits.{and-i, fits-widens}
 use Rattle.floats.specs.Floats.{zeroF}
-use Rattle.floats.specs.Kinds.{real}
+use Rattle.floats.specs.Kinds.{real, upward}
 use Rattle.floats.proofs.Tests.{failed}
 use Rattle.floats.proofs.Order.{same→real}
-use Rattle.lengths.specs.Length.{squareSumOf, upward}
+use Rattle.lengths.specs.Length.{squareSumOf}
 use Rattle.lengths.proofs.Upward.{squares-upward}
 use Rattle.lengths.proofs.Far.{judged-at}
 use Rattle.lengths.proofs.alone.judged.Statement.{statement}

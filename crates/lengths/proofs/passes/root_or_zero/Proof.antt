@@ -6,6 +6,7 @@ use Prim.Native.Nat.{_+_, _*_, _/_}
 use native.Mathlib.Omega.{arith}
 use denote.Floats.{passes}
 use lib.Ieee.{binary64, toBits}
+use Rattle.floats.specs.Patterns.{narrowStep, narrowHalf}
 use Rattle.floats.specs.Floats.{zeroF}
 use Rattle.floats.proofs.Tests.{passed}
 use Rattle.decimal_rounding.proofs.Wide.{no-nan, no-nan-single}
@@ -27,9 +28,9 @@ returns : tie.Need-returns
 returns c =
     let start = c .before .before .before in
     let e = c .before .before .clamped .ensures in
-    let t = (toBits binary64 (c .before .before .clamped .result) + 268435456) / 536870912 in
+    let t = (toBits binary64 (c .before .before .clamped .result) + narrowHalf) / narrowStep in
     inr (
-      under-far (t * 536870912 + 268435455) (omega (arith, e)) (omega (arith, e)) (start .args .s) (passed (c .if2 .taken)),
+      under-far (t * narrowStep + 268435455) (omega (arith, e)) (omega (arith, e)) (start .args .s) (passed (c .if2 .taken)),
       settled t (omega (arith, e)) (omega (arith, e)) (start .args .s) (passes _ (start .good .0 .1)) (start .pre) (passed (c .before .if1 .taken)) (passed (c .if2 .taken)),
     )
 

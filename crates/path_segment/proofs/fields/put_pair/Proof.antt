@@ -5,7 +5,10 @@ use Rattle.path_segment.proofs.fields.put_pair.Statement.{statement}
 use Rattle.path_segment.proofs.fields.put_pair.Tie as tie
 
 returns : tie.Need-returns
-returns c = let a = c .before .before .before .before .before .before .before .before .before .args in four-put (a .numbers .now) (a .at) (a .p .x) (a .p .y) (a .q .x) (a .q .y) (c .before .before .before .before .before .before .put-two .last .0) _ (c .before .before .before .before .before .before .put-two .ensures) (c .before .before .put-two2 .ensures)
+returns c =
+    let first = c .before .before .before .before .before .before in
+    let a = first .before .before .before .args in
+    four-put (a .fields .now) (a .at) (a .p .x) (a .p .y) (a .q .x) (a .q .y) (first .put-two .last .0) _ (first .put-two .ensures) (c .before .before .put-two2 .ensures)
 
 pub put-pair-spec : {M : Type 1} → statement M
 put-pair-spec =

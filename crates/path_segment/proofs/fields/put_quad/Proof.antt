@@ -9,7 +9,10 @@ use Rattle.path_segment.proofs.fields.put_quad.Statement.{statement}
 use Rattle.path_segment.proofs.fields.put_quad.Tie as tie
 
 returns : tie.Need-returns
-returns c = let a = c .before .before .before .before .before .before .before .before .before .args in then-put (a .numbers .now) (a .at) (xy (a .start) (xy (a .control) [])) (xy (a .end) []) (c .before .before .before .before .before .before .put-pair .last .0) _ (a .at + 4) (c .before .before .before .before .before .before .put-pair .ensures) refl (c .before .before .put-two .ensures)
+returns c =
+    let first = c .before .before .before .before .before .before in
+    let a = first .before .before .before .args in
+    then-put (a .fields .now) (a .at) (xy (a .start) (xy (a .control) [])) (xy (a .end) []) (first .put-pair .ensures) refl (c .before .before .put-two .ensures)
 
 pub put-quad-spec : {M : Type 1} → statement M
 put-quad-spec =

@@ -10,19 +10,27 @@ use borrow.Author.Needs.{needs}
 use Rattle.path_segment.proofs.fields.put_shape.Statement.{statement}
 use Rattle.path_segment.proofs.fields.put_shape.Tie as tie
 
+-- ---- the points
+abbrev ends : tie.After-put-two → tie.After-put-cubic
+ends p = p .before .before .before .before
+
+abbrev start : tie.After-put-cubic → tie.Start
+start p = p .before .before .before
+
+-- ---- the answers
 same-length : tie.Need-same-length
-same-length c = simp length-set (c .before .before .before .put-two .kept .0 ∙ c .before .before .before .before .before .before .before .put-cubic .kept .0)
+same-length c = let two = c .before .before .before in simp length-set (two .put-two .kept .0 ∙ ends two .put-cubic .kept .0)
 
 returns : tie.Need-returns
 returns c =
-    let a = c .before .before .before .before .before .before .before .before .before .before .args in
+    let two = c .before .before .before in
+    let a = start (ends two) .args in
     let s = a .shape in
-    let ends = xy (s .start) (xy (s .end) (xy (s .center) (xy (s .radii) []))) in
+    let points = xy (s .start) (xy (s .end) (xy (s .center) (xy (s .radii) []))) in
     let angles = s .«x_axis_rotation» ∷ s .«start_angle» ∷ [] in
-    then-put (a .numbers .now) (a .at) (ends ++ angles) (c .tidy .result ∷ []) (c .before .before .before .put-two .last .0) _ (a .at + 10)
-    (then-put (a .numbers .now) (a .at) ends angles (c .before .before .before .before .before .before .before .put-cubic .last .0) (c .before .before .before .put-two .last .0) (a .at + 8) (c .before .before .before .before .before .before .before .put-cubic .ensures) refl (c .before .before .before .put-two .ensures))
-    refl refl
-    ∙ ap (λ z. sets (a .numbers .now) (a .at) (ends ++ angles ++ z ∷ [])) (c .tidy .ensures)
+    let put = then-put (a .fields .now) (a .at) points angles (ends two .put-cubic .ensures) refl (two .put-two .ensures) in
+    then-put (a .fields .now) (a .at) (points ++ angles) (c .tidy .result ∷ []) {j = a .at + 10} put refl refl
+    ∙ ap (λ z. sets (a .fields .now) (a .at) (points ++ angles ++ z ∷ [])) (c .tidy .ensures)
 
 pub put-shape-spec : {M : Type 1} → statement M
 put-shape-spec =

@@ -1,13 +1,8 @@
--- `path_segment::fields::segment_at` meets its contract: each arm is a case of `segmentOf`, and what stands from a place on is `drop` of it. Assumes nothing.
-use Rattle.path_segment.proofs.Reading.{fifth, is-line, is-quad, is-cubic, is-arc, is-fallback}
+-- `path_segment::fields::segment_at` meets its contract: each arm is a case of `segmentOf`. Assumes nothing.
+use Rattle.path_segment.proofs.Reading.{fifth, line-at, quad-at, cubic-at, arc-at, fallback-at}
 use Rattle.path_segment.proofs.Runs.{room}
 use Rattle.path_segment.specs.Segments.{widthOf}
-use Rattle.commands.proofs.Decoding.{point-from}
-use lib.ListN.{drop}
 use native.Mathlib.Omega.{arith}
-use native.Mathlib.Nat.{add-zero}
-use mathlib.Core.Path.{refl, sym, _∙_}
-use Prim.Native.Nat.{_+_}
 use borrow.Author.Needs.{needs}
 use Rattle.path_segment.proofs.fields.segment_at.Statement.{statement}
 use Rattle.path_segment.proofs.fields.segment_at.Tie as tie
@@ -58,27 +53,30 @@ shape-at-requires-2 c κs = omega (arith, room _ 4 _ _ (fifth _ (c .match .rest 
 
 returns : tie.Need-returns
 returns c =
-    let a = c .before .before .before .before .args in
-    let n = a .numbers .now in
-    is-line (a .kind) (drop (a .at) n) _ _ (c .before .point-at .ensures ∙ point-from n (a .at) 0 (a .at) (sym (add-zero (a .at)))) (c .point-at2 .ensures ∙ point-from n (a .at) 2 (a .at + 2) refl) (c .before .before .match .keys1)
+    let match = c .before .before in
+    let a = match .before .before .args in
+    line-at (a .fields .now) (a .at) (c .before .point-at .ensures) (c .point-at2 .ensures) (match .match .keys1)
 
 returns-2 : tie.Need-returns-2
 returns-2 c =
-    let a = c .before .before .before .before .before .args in
-    let n = a .numbers .now in
-    is-quad (a .kind) (drop (a .at) n) _ _ _ (c .before .before .point-at3 .ensures ∙ point-from n (a .at) 0 (a .at) (sym (add-zero (a .at)))) (c .before .point-at4 .ensures ∙ point-from n (a .at) 2 (a .at + 2) refl) (c .point-at5 .ensures ∙ point-from n (a .at) 4 (a .at + 4) refl) (c .before .before .before .match .keys2)
+    let match = c .before .before .before in
+    let a = match .before .before .args in
+    quad-at (a .fields .now) (a .at) (c .before .before .point-at3 .ensures) (c .before .point-at4 .ensures) (c .point-at5 .ensures) (match .match .keys2)
 
 returns-3 : tie.Need-returns-3
 returns-3 c =
-    let a = c .before .before .before .before .before .before .args in
-    let n = a .numbers .now in
-    is-cubic (a .kind) (drop (a .at) n) _ _ _ _ (c .before .before .before .point-at6 .ensures ∙ point-from n (a .at) 0 (a .at) (sym (add-zero (a .at)))) (c .before .before .point-at7 .ensures ∙ point-from n (a .at) 2 (a .at + 2) refl) (c .before .point-at8 .ensures ∙ point-from n (a .at) 4 (a .at + 4) refl) (c .point-at9 .ensures ∙ point-from n (a .at) 6 (a .at + 6) refl) (c .before .before .before .before .match .keys3)
+    let match = c .before .before .before .before in
+    let a = match .before .before .args in
+    cubic-at (a .fields .now) (a .at) (c .before .before .before .point-at6 .ensures) (c .before .before .point-at7 .ensures) (c .before .point-at8 .ensures) (c .point-at9 .ensures)
+    (match .match .keys3)
 
 returns-4 : tie.Need-returns-4
-returns-4 c = is-arc _ _ _ (c .shape-at .ensures) (c .before .match .keys4)
+returns-4 c = arc-at _ (c .shape-at .ensures) (c .before .match .keys4)
 
 returns-5 : tie.Need-returns-5
-returns-5 c = let r = c .before .match .rest in is-fallback _ _ _ (c .shape-at2 .ensures) (fifth _ (r .0 .0 .0 .1) (r .0 .0 .1) (r .0 .1) (r .1) (c .before .before .before .pre .0))
+returns-5 c =
+    let r = c .before .match .rest in
+    fallback-at _ (c .shape-at2 .ensures) (fifth _ (r .0 .0 .0 .1) (r .0 .0 .1) (r .0 .1) (r .1) (c .before .before .before .pre .0))
 
 pub segment-at-spec : {M : Type 1} → statement M
 segment-at-spec =

@@ -1,4 +1,4 @@
--- `path_segment::fields::table_at` meets its contract. The invariant: the entries before k are those from the place on. The measure is the entries left. Assumes nothing.
+-- `path_segment::fields::table_at` meets its contract. The invariant: the entries before k are those from `at` on. The measure is the entries left. Assumes nothing.
 use Rattle.path_segment.proofs.Runs.{Copied, copied-more, copied-all}
 use lib.ListN.{length, length-set}
 use native.Mathlib.Omega.{arith}

@@ -1,4 +1,4 @@
--- The invariant: the numbers before i are in, and the rest of the row belongs past them (`Reading`). The measure is the places left. Assumes nothing.
+-- The invariant: the numbers before i are in, and the rest of the row belongs past them (`Reading`). The measure is the numbers left. Assumes nothing.
 use borrow.Author.Needs.{needs}
 use native.Mathlib.Omega.{arith}
 use Prim.Native.Nat.{_-_}
@@ -10,10 +10,10 @@ use Rattle.replay_records.proofs.numbers.read_numbers.Statement.{statem
 use Rattle.replay_records.proofs.numbers.read_numbers.Tie as tie
 
 abbrev Inv-loop : tie.InvT-loop
-Inv-loop text at step out₀ place₀ i₀ out place i = Reading text at step out₀ out place i
+Inv-loop text at step out₀ offset₀ i₀ out offset i = Reading text at step out₀ out offset i
 
 abbrev μ-loop : tie.MeasureT-loop
-μ-loop text at step out₀ place₀ i₀ out place i = length out₀ - i
+μ-loop text at step out₀ offset₀ i₀ out offset i = length out₀ - i
 
 loop-holds : tie.Need-loop-holds Inv-loop μ-loop
 loop-holds c = reading-start _ _ _ _

@@ -7,10 +7,10 @@ use Rattle.replay_records.proofs.numbers.same_numbers.Statement.{statem
 use Rattle.replay_records.proofs.numbers.same_numbers.Tie as tie
 
 abbrev Inv-loop : tie.InvT-loop
-Inv-loop numbers text at step place₀ i₀ place i = Agreeing numbers text at step place i
+Inv-loop numbers text at step offset₀ i₀ offset i = Agreeing numbers text at step offset i
 
 abbrev μ-loop : tie.MeasureT-loop
-μ-loop numbers text at step place₀ i₀ place i = length numbers - i
+μ-loop numbers text at step offset₀ i₀ offset i = length numbers - i
 
 loop-holds : tie.Need-loop-holds Inv-loop μ-loop
 loop-holds c = agreeing-start _ _ _ _

@@ -15,7 +15,10 @@ returns-2 : tie.Need-returns-2
 returns-2 c = c .point-at .ensures ∙ sym (sample-one _ _ (c .before .if2 .taken))
 
 returns-3 : tie.Need-returns-3
-returns-3 c = cc (sample-two (c .before .before .before .before .before .before .before .before .before .args .points .now) (c .before .before .before .before .before .before .before .before .before .args .raw .value) (c .before .before .before .before .before .if3 .taken))
+returns-3 c =
+    let two = c .before .before .before .before .before in
+    let a = two .before .before .before .before .args in
+    cc (sample-two (a .points .now) (a .raw .value) (two .if3 .taken))
 
 returns-4 : tie.Need-returns-4
 returns-4 c = c .curve .ensures ∙ sym (sample-more _ _ (omega arith))

@@ -11,7 +11,9 @@ returns-2 : tie.Need-returns-2
 returns-2 c = check-many _ _ (c .before .if1 .left) (c .if2 .taken)
 
 returns-3 : tie.Need-returns-3
-returns-3 c = check-entries _ _ (c .before .before .before .before .before .if1 .left) (c .before .before .before .before .if2 .left) _ (c .before .before .before .last-entry .ensures) (c .before .before .if3 .taken) _ (c .entries-are-sound .ensures)
+returns-3 c =
+    let ended = c .before .before .before in
+    check-entries _ _ (ended .before .before .if1 .left) (ended .before .if2 .left) _ (ended .last-entry .ensures) (c .before .before .if3 .taken) _ (c .entries-are-sound .ensures)
 
 returns-4 : tie.Need-returns-4
 returns-4 c = check-size _ _ (c .before .before .before .if1 .left) (c .before .before .if2 .left) _ (c .before .last-entry .ensures) (c .if3 .left)

@@ -1,4 +1,4 @@
--- The invariant: the differences before k are in (`Passing`). The measure is the places left. Assumes nothing.
+-- The invariant: the differences before k are in (`Passing`). The measure is the differences left. Assumes nothing.
 use borrow.Author.Needs.{needs}
 use native.Mathlib.Omega.{arith}
 use mathlib.Core.Path.{_≡_, refl}

@@ -1,4 +1,4 @@
--- The invariant: the places before i are in (`Passing`). The measure is the places left. Assumes nothing.
+-- The invariant: the scaled marks before i are in (`Passing`). The measure is the marks left. Assumes nothing.
 use borrow.Author.Needs.{needs}
 use mathlib.Core.Path.{_≡_, refl}
 use Prim.Native.Nat.{ℕ, _-_}

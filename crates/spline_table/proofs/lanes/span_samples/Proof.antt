@@ -1,4 +1,4 @@
--- The invariant: the samples before i are in, and the last (`Laying`). The measure is the places left. Assumes nothing.
+-- The invariant: the samples before i are in, and the last (`Laying`). The measure is the samples left. Assumes nothing.
 use borrow.Author.Needs.{needs}
 use mathlib.Core.Path.{refl}
 use Prim.Native.Nat.{_-_}

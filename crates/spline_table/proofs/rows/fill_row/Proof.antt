@@ -1,4 +1,4 @@
--- The invariant: the entries of the row before i are stored (`Storing`). The measure is the places left. Assumes nothing.
+-- The invariant: the entries of the row before i are stored (`Storing`). The measure is the entries left. Assumes nothing.
 use borrow.Author.Needs.{needs}
 use Prim.Native.Nat.{_-_}
 use Rattle.spline.specs.Formula.{splineSampleOf}

@@ -4,20 +4,20 @@ use native.Mathlib.Nat.{mod-eq-of-lt, mod-le, le-trans, lt-of-le-of-lt}
 use Prim.Native.Nat.{ℕ, _≤_}
 use lib.Dec.{lit≤, lit<}
 use Rattle.trig_rule.specs.Steps.{fixedOf}
-use Rattle.atan2_rule.proofs.Places.{fixed-mono}
-use Rattle.atan2.proofs.test.placed.Statement.{statement}
-use Rattle.atan2.proofs.test.placed.Tie as tie
+use Rattle.atan2_rule.proofs.Fixed.{fixed-mono}
+use Rattle.atan2.proofs.test.fixed.Statement.{statement}
+use Rattle.atan2.proofs.test.fixed.Tie as tie
 
-placed-le : (b : ℕ) → 947912704 ≤ b → b ≤ 1078530011 → fixedOf b ≤ fixedOf 1078530011
-placed-le b l h = fixed-mono b 1078530011 (le-trans (lit≤ tt) l) h
+fixed-le : (b : ℕ) → 947912704 ≤ b → b ≤ 1078530011 → fixedOf b ≤ fixedOf 1078530011
+fixed-le b l h = fixed-mono b 1078530011 (le-trans (lit≤ tt) l) h
 
 returns : tie.Need-returns
 returns c =
-    let h = placed-le (c .args .b) (c .pre .0) (c .pre .1) in
+    let h = fixed-le (c .args .b) (c .pre .0) (c .pre .1) in
     (mod-eq-of-lt (lt-of-le-of-lt h (lit< tt)), lt-of-le-of-lt (mod-le _ _) (lt-of-le-of-lt h (lit< tt)))
 
-pub placed-spec : {M : Type 1} → statement M
-placed-spec =
+pub fixed-spec : {M : Type 1} → statement M
+fixed-spec =
     tie.close
     (tie.spec (λ c. search needs) (λ c. search needs) (λ c. search needs) (λ c. search needs) (λ c. search needs)
     returns)
