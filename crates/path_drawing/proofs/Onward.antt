@@ -44,7 +44,7 @@ pub drew-none : Drew [] [] 0 zeroF freshOf
 unfolding buildOf drawersOf drawersFrom
 drew-none = record { onward = λ rest. onto-nothing (buildFrom rest 0 zeroF freshOf); drawers = λ rest. refl; count = refl }
 
-module _ (commands : List PathCommand) (done : List PathSegment) (k : ℕ) (before : Float) (pen : Pen) (d : Drew commands done k before pen) where
+module _ {commands : List PathCommand} {done : List PathSegment} {k : ℕ} {before : Float} {pen : Pen} (d : Drew commands done k before pen) where
   -- no command is left
   pub drew-all : buildOf commands ≡ path done
   unfolding buildFrom

@@ -1,4 +1,4 @@
--- What an arc comes to where its end is calm: it counts eleven numbers, and a table of 33 unless it fell back to a line. Assumes nothing.
+-- What an arc comes to where its end is calm: it counts eleven fields, and a table of 33 numbers unless it fell back to a line. Assumes nothing.
 use mathlib.Core.Path.{_≡_, refl, sym, ap, _∙_}
 use mathlib.Core.Bool.{true}
 use lib.ListN.{length}

@@ -102,7 +102,7 @@ pub stored-laid :
 unfolding nextOf
 stored-laid s k = record { siteAfter = s; after = k .after }
 
--- ---- a line, whose numbers are known
+-- ---- a line, whose fields are known
 
 pub line-fits : {site : Site} {line : LineSegment} {pen : Pen} {b : Buffers} → Room site (Segment (Line line) pen) b → site .fields + 4 ≤ length (b .fields)
 line-fits room = fields-fit room
@@ -123,7 +123,7 @@ line-laid {site} {n} {line} {pen} {b} f h p = stored-laid (rw (p, h, no-table li
 
 -- ---- a curve, which has a table
 
--- the site after a segment of so many numbers
+-- the site after a segment of so many fields, with so many numbers in its table
 pub after-is :
     (site : Site) (segment : PathSegment) {pen next : Pen} {l : Float} {own more : ℕ}
     → own ≡ length (fieldsOf segment) → more ≡ length (tableStored segment) → l ≡ lengthAfter (site .length) segment → next ≡ pen
