@@ -77,6 +77,16 @@ pub record Answers (built : Built) (drawers : List ℕ) (b : Buffers) (r : Build
 
 -- ---- what the passes ask and leave
 
+-- the places that a path of so many segments needs; kinds, lengths and commands are one a segment
+abbrev pub neededOf : ℕ → ℕ → ℕ → Counts
+neededOf segments fields tables = record { kinds = segments; fields = fields; tables = tables; lengths = segments; commands = segments }
+
+-- what is answered to what a first pass tells, where the buffers have these places
+abbrev pub buildingOf : Size → Counts → Building
+buildingOf (Size.Refused reason) lent = Building.Refused reason
+buildingOf (Size.Counted segments fields tables) lent =
+    cond (isShort (neededOf segments fields tables) lent) (Building.Refused (NoRoom (Five segments fields tables segments segments))) (Building.Built segments fields tables)
+
 -- the counts of what is built, or why it is not
 unfoldable pub measureOf : Built → Size
 measureOf (path list) = Size.Counted (length (kindsOf list)) (length (fieldsOfAll list)) (length (tablesOfAll list))

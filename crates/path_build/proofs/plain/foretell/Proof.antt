@@ -106,7 +106,7 @@ returns-4 c =
     let three = four .before in
     let two = three .before in
     let one = two .before in
-    plain-told _ _ (one .count-of .ensures) (two .count-of2 .ensures) (three .count-of3 .ensures) (four .count-of4 .ensures) (five .count-of5 .ensures)
+    plain-told _ (one .count-of .ensures) (two .count-of2 .ensures) (three .count-of3 .ensures) (four .count-of4 .ensures) (five .count-of5 .ensures)
     (omega (arith, one .before .before .before .before .if1 .left)) (omega (arith, one .before .before .before .if2 .left)) (omega (arith, one .before .if3 .left))
     (c .before .before .before .if4 .taken) (c .before .before .if5 .taken) (sym (c .before .all-near .ensures) ∙ c .if6 .taken)
 
