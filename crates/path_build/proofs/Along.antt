@@ -30,7 +30,7 @@ use Rattle.path_build.specs.Letters.{strideOf, drawnAt}
 use Rattle.path_build.specs.declared.sizes.Size.{Size}
 use Rattle.path_build.specs.declared.sizes.Size.the-variants as Size
 use Rattle.path_build.proofs.Letters.{stride-is, drawn-command}
-use Rattle.path_build.proofs.Lists.{Formed, built-formed, letterAt, decodedAt, Passed, passed-none, passed-builds, all-built, all-drawers, passed-bad, passed-fits, passed-next}
+use Rattle.path_build.proofs.Lists.{Formed, built-formed, letterIn, decodedAt, Passed, passed-none, passed-builds, all-built, all-drawers, passed-bad, passed-fits, passed-next}
 
 -- ---- the counts of what is built
 
@@ -46,31 +46,31 @@ refused-is e = rw e
 
 -- ---- the first pass
 
-pub record Measuring (list : StoredList) (site : Site) (index at : ℕ) : Type 0 where
+pub record Measuring (list : StoredList) (site : Site) (letter-at at : ℕ) : Type 0 where
   pub commands : List PathCommand
   pub rest : List PathCommand
-  pub passed : Passed list index at commands rest
+  pub passed : Passed list letter-at at commands rest
   pub done : List PathSegment
   pub known : At commands done site
 
 pub measuring-none : {list : StoredList} → Formed list → Measuring list startOf 0 0
 measuring-none f = record { commands = []; rest = f .commands; passed = passed-none f; done = []; known = at-none }
 
-module _ {list : StoredList} {site : Site} {index at : ℕ} (k : Measuring list site index at) where
+module _ {list : StoredList} {site : Site} {letter-at at : ℕ} (k : Measuring list site letter-at at) where
   pub measuring-inside : at ≤ length (list .numbers)
   measuring-inside = k .passed .inside
 
-  pub measured-all : length (list .letters) ≤ index → Size.Counted (site .segments) (site .fields) (site .tables) ≡ measureOf (buildListOf list)
+  pub measured-all : length (list .letters) ≤ letter-at → Size.Counted (site .segments) (site .fields) (site .tables) ≡ measureOf (buildListOf list)
   measured-all past = counts-are (k .known) (all-built (k .passed) past ∙ at-all (k .known))
 
-  module _ (here : index < length (list .letters)) where
+  module _ (here : letter-at < length (list .letters)) where
     pub measuring-few : FewAt site
     measuring-few = at-few (k .known) (omega (arith, k .passed .few, k .passed .count))
 
-    pub measuring-bad : decodedAt list index at ≡ Bad → ⊥
+    pub measuring-bad : decodedAt list letter-at at ≡ Bad → ⊥
     measuring-bad = passed-bad (k .passed) here
 
-    module _ {command : PathCommand} (e : decodedAt list index at ≡ Command command) where
+    module _ {command : PathCommand} (e : decodedAt list letter-at at ≡ Command command) where
       pub measuring-fits : at + length (argumentsOf command) ≤ length (list .numbers)
       measuring-fits = passed-fits (k .passed) here e
 
@@ -79,7 +79,7 @@ module _ {list : StoredList} {site : Site} {index at : ℕ} (k : Measuring list 
           let n = passed-next (k .passed) here e refl in
           refused-is (passed-builds (n .1) ∙ at-refused (k .known) command reason a (n .0))
 
-      pub measuring-more : {width : ℕ} {next : Site} → width ≡ length (argumentsOf command) → advanceOf site command ≡ To next → Measuring list next (index + 1) (at + width)
+      pub measuring-more : {width : ℕ} {next : Site} → width ≡ length (argumentsOf command) → advanceOf site command ≡ To next → Measuring list next (letter-at + 1) (at + width)
       measuring-more {width} {next} w a =
           let n = passed-next (k .passed) here e w in
           record {
@@ -92,11 +92,11 @@ module _ {list : StoredList} {site : Site} {index at : ℕ} (k : Measuring list 
 
 -- ---- the first pass, where nothing is measured: a site that the tally is of
 
-pub record Surveying (list : StoredList) (tally : Tally) (index at : ℕ) : Type 0 where
+pub record Surveying (list : StoredList) (tally : Tally) (letter-at at : ℕ) : Type 0 where
   pub site : Site
   pub same : tallyOf site ≡ tally
   pub calm : Calm site
-  pub measuring : Measuring list site index at
+  pub measuring : Measuring list site letter-at at
 
 pub surveying-none : {list : StoredList} → Formed list → Surveying list (tallyOf startOf) 0 0
 surveying-none f = record { site = startOf; same = refl; calm = calm-start; measuring = measuring-none f }
@@ -112,25 +112,25 @@ pub few-in : (site : Site) {tally : Tally} → tallyOf site ≡ tally → FewAt 
 unfolding tallyOf
 few-in site e few = subst FewIn e few
 
-module _ {list : StoredList} {tally : Tally} {index at : ℕ} (k : Surveying list tally index at) where
+module _ {list : StoredList} {tally : Tally} {letter-at at : ℕ} (k : Surveying list tally letter-at at) where
   pub surveying-inside : at ≤ length (list .numbers)
   surveying-inside = k .measuring .passed .inside
 
-  pub surveyed-all : length (list .letters) ≤ index → Size.Counted (tally .segments) (tally .fields) (tally .tables) ≡ measureOf (buildListOf list)
+  pub surveyed-all : length (list .letters) ≤ letter-at → Size.Counted (tally .segments) (tally .fields) (tally .tables) ≡ measureOf (buildListOf list)
   surveyed-all past = counted-at (k .site) (k .same) (measured-all (k .measuring) past)
 
-  module _ (here : index < length (list .letters)) where
+  module _ (here : letter-at < length (list .letters)) where
     few : FewAt (k .site)
     few = measuring-few (k .measuring) here
 
     pub surveying-few : FewIn tally
     surveying-few = few-in (k .site) (k .same) few
 
-    module _ {command : PathCommand} (e : decodedAt list index at ≡ Command command) where
+    module _ {command : PathCommand} (e : decodedAt list letter-at at ≡ Command command) where
       pub surveying-fits : at + length (argumentsOf command) ≤ length (list .numbers)
       surveying-fits = measuring-fits (k .measuring) here e
 
-      pub surveying-more : {width : ℕ} {next : Tally} → width ≡ length (argumentsOf command) → talliedOf tally command ≡ Tallied.To next → Surveying list next (index + 1) (at + width)
+      pub surveying-more : {width : ℕ} {next : Tally} → width ≡ length (argumentsOf command) → talliedOf tally command ≡ Tallied.To next → Surveying list next (letter-at + 1) (at + width)
       surveying-more {width} {next} w a =
           let f = foreseen (k .site) few (k .calm) command next (ap (λ t. talliedOf t command) (k .same) ∙ a) in
           record { site = f .0; same = f .2; calm = f .3; measuring = measuring-more (k .measuring) here e w (f .1) }
@@ -153,10 +153,10 @@ pub filled-is :
 filled-is {built} {drawers} {commands} {site} {b₀} {b} k e d =
     subst (λ (x : Built). Filled x drawers b₀ b) (sym (e ∙ at-all (k .known))) (rw d (k .now))
 
-pub record Storing (list : StoredList) (site : Site) (index at : ℕ) (b₀ b : Buffers) : Type 0 where
+pub record Storing (list : StoredList) (site : Site) (letter-at at : ℕ) (b₀ b : Buffers) : Type 0 where
   pub commands : List PathCommand
   pub rest : List PathCommand
-  pub passed : Passed list index at commands rest
+  pub passed : Passed list letter-at at commands rest
   pub filling : Filling commands site b₀ b
 
 pub storing-none : (list : StoredList) {b : Buffers} → Holding (buildListOf list) b → Storing list startOf 0 0 b b
@@ -164,12 +164,12 @@ storing-none list {b} holding =
     let f = built-formed list (holdable (buildListOf list) holding .is) in
     record { commands = []; rest = f .commands; passed = passed-none f; filling = filling-none b }
 
-module _ {list : StoredList} {site : Site} {index at : ℕ} {b₀ b : Buffers} (k : Storing list site index at b₀ b) (holding : Holding (buildListOf list) b₀) where
+module _ {list : StoredList} {site : Site} {letter-at at : ℕ} {b₀ b : Buffers} (k : Storing list site letter-at at b₀ b) (holding : Holding (buildListOf list) b₀) where
   h : Holdable (buildListOf list) b₀
   h = holdable (buildListOf list) holding
 
   -- what the commands passed and those to come build
-  whole : {index at : ℕ} {commands rest : List PathCommand} → Passed list index at commands rest → buildOf (commands ++ rest) ≡ path (h .list)
+  whole : {letter-at at : ℕ} {commands rest : List PathCommand} → Passed list letter-at at commands rest → buildOf (commands ++ rest) ≡ path (h .list)
   whole p = sym (passed-builds p) ∙ h .is
 
   pub stored-kinds : length (b .kinds) ≡ length (b₀ .kinds)
@@ -187,14 +187,14 @@ module _ {list : StoredList} {site : Site} {index at : ℕ} {b₀ b : Buffers} (
   pub stored-commands : length (b .commands) ≡ length (b₀ .commands)
   stored-commands = same-commands (k .filling) (h .holds) (k .rest) (whole (k .passed))
 
-  pub stored-all : length (list .letters) ≤ index → Filled (buildListOf list) (drawersListOf list) b₀ b
+  pub stored-all : length (list .letters) ≤ letter-at → Filled (buildListOf list) (drawersListOf list) b₀ b
   stored-all past = filled-is (k .filling) (all-built (k .passed) past) (all-drawers (k .passed) past)
 
-  module _ (here : index < length (list .letters)) where
-    pub storing-number : index < 65536
+  module _ (here : letter-at < length (list .letters)) where
+    pub storing-number : letter-at < 65536
     storing-number = omega (arith, k .passed .few)
 
-    module _ {command : PathCommand} (e : decodedAt list index at ≡ Command command) where
+    module _ {command : PathCommand} (e : decodedAt list letter-at at ≡ Command command) where
       -- what `lay` asks
       storing-room : FewAt site × Room site (drawOf (site .pen) command) b
       storing-room =
@@ -203,8 +203,8 @@ module _ {list : StoredList} {site : Site} {index at : ℕ} {b₀ b : Buffers} (
             roomed (k .filling) (h .holds) command (n .0) (whole (n .1)),
           )
 
-      storing-more : {width : ℕ} {next : Site} {b′ : Buffers} → width ≡ length (argumentsOf command) → Laid site index (drawOf (site .pen) command) b next b′
-          → Storing list next (index + 1) (at + width) b₀ b′
+      storing-more : {width : ℕ} {next : Site} {b′ : Buffers} → width ≡ length (argumentsOf command) → Laid site letter-at (drawOf (site .pen) command) b next b′
+          → Storing list next (letter-at + 1) (at + width) b₀ b′
       storing-more {width} {next} {b′} w laid =
           let n = passed-next (k .passed) here e w in
           record {
@@ -216,24 +216,24 @@ module _ {list : StoredList} {site : Site} {index at : ℕ} {b₀ b : Buffers} (
           }
 
     -- the same by its letter
-    decoded : (command : PathCommand) × (decodedAt list index at ≡ Command command)
-    decoded = by (decodedAt list index at) refl
+    decoded : (command : PathCommand) × (decodedAt list letter-at at ≡ Command command)
+    decoded = by (decodedAt list letter-at at) refl
       where
-        by : (d : Decoded) → decodedAt list index at ≡ d → (command : PathCommand) × (decodedAt list index at ≡ Command command)
+        by : (d : Decoded) → decodedAt list letter-at at ≡ d → (command : PathCommand) × (decodedAt list letter-at at ≡ Command command)
         by (Command command) e = (command, e)
         by Bad e = absurd (passed-bad (k .passed) here e)
 
-    stride-here : strideOf (letterAt list index) ≡ length (argumentsOf (decoded .0))
-    stride-here = stride-is (drop at (list .numbers)) (letterAt list index) (decoded .0) (decoded .1)
+    stride-here : strideOf (letterIn list letter-at) ≡ length (argumentsOf (decoded .0))
+    stride-here = stride-is (drop at (list .numbers)) (letterIn list letter-at) (decoded .0) (decoded .1)
 
     -- what `lay_at` asks
-    pub storing-asks : (at + strideOf (letterAt list index) ≤ length (list .numbers)) × FewAt site × Room site (drawnAt (site .pen) (decodedAt list index at)) b
+    pub storing-asks : (at + strideOf (letterIn list letter-at) ≤ length (list .numbers)) × FewAt site × Room site (drawnAt (site .pen) (decodedAt list letter-at at)) b
     storing-asks =
         let d = decoded in
         let r = storing-room (d .1) in
         (omega (arith, passed-fits (k .passed) here (d .1), stride-here), r .0, room-at (sym (drawn-command (site .pen) (d .1))) (r .1))
 
-    pub storing-next : {width : ℕ} {next : Site} {b′ : Buffers} → width ≡ strideOf (letterAt list index)
-        → Laid site index (drawnAt (site .pen) (decodedAt list index at)) b next b′
-        → Storing list next (index + 1) (at + width) b₀ b′
+    pub storing-next : {width : ℕ} {next : Site} {b′ : Buffers} → width ≡ strideOf (letterIn list letter-at)
+        → Laid site letter-at (drawnAt (site .pen) (decodedAt list letter-at at)) b next b′
+        → Storing list next (letter-at + 1) (at + width) b₀ b′
     storing-next w laid = let d = decoded in storing-more (d .1) (w ∙ stride-here) (laid-at (sym (drawn-command (site .pen) (d .1))) laid)

@@ -1,8 +1,8 @@
 -- What building answers, way by way, over what is built. Assumes nothing.
-use Prim.Native.Nat.{ℕ, _≤_}
+use Prim.Native.Nat.{ℕ}
 use mathlib.Core.Path.{_≡_, refl, sym, ap, subst, _∙_}
 use mathlib.Core.Bool.{Bool, true, false, _||_, cond, false≢true}
-use mathlib.Core.List.{List, [], _∷_}
+use mathlib.Core.List.{List}
 use native.Mathlib.Omega.{arith}
 use borrow.Author.Tests.{ltb-false}
 use lib.Dec.{ltb}
@@ -16,7 +16,7 @@ use Rattle.path_stored.specs.Buffers.{Buffers}
 use Rattle.path_stored.specs.Layout.{kindsOf, fieldsOfAll, tablesOfAll, runningOf, lengthsOfAll}
 use Rattle.path_drawing.specs.Building.{Built, path, refusal}
 use Rattle.path_storing.proofs.Layouts.{lengths-count}
-use Rattle.path_build.specs.Answers.{isShort, countsOf, values, roomed, answered, Answers, neededOf, buildingOf, measureOf, Holding, Filled}
+use Rattle.path_build.specs.Answers.{isShort, countsOf, values, roomed, Answers, neededOf, buildingOf, measureOf, Holding, Filled}
 use Rattle.path_build.specs.Paths.{lentOf}
 use Rattle.path_build.specs.declared.sizes.Building.{Building}
 use Rattle.path_build.specs.declared.sizes.Building.the-variants as Building

@@ -1,5 +1,5 @@
 -- The commands of a well-formed list, passed one by one. Assumes nothing.
-use Prim.Native.Nat.{ℕ, suc, _+_, _≤_, _<_}
+use Prim.Native.Nat.{ℕ, _+_, _≤_, _<_}
 use mathlib.Core.Path.{_≡_, refl, sym, ap, _∙_}
 use mathlib.Core.Bool.{Bool, true, false, cond}
 use mathlib.Core.List.{List, [], _∷_, _++_, append-assoc, append-nil}
@@ -89,46 +89,46 @@ module _ (commands : List PathCommand) where
 -- ---- its first commands passed
 
 -- the command whose letter and numbers stand here
-abbrev pub letterAt : StoredList → ℕ → ℕ
-letterAt list index = getD (list .letters) index 0
+abbrev pub letterIn : StoredList → ℕ → ℕ
+letterIn list letter-at = getD (list .letters) letter-at 0
 
 abbrev pub decodedAt : StoredList → ℕ → ℕ → Decoded
-decodedAt list index at = commandOf (letterAt list index) (drop at (list .numbers))
+decodedAt list letter-at at = commandOf (letterIn list letter-at) (drop at (list .numbers))
 
 -- the commands from here on
 abbrev pub listingFrom : StoredList → ℕ → ℕ → Listing
-listingFrom list index at = listedFrom (list .letters) (list .numbers) index at
+listingFrom list letter-at at = listedFrom (list .letters) (list .numbers) letter-at at
 
 -- `commands` are passed, up to a letter and a number, and `rest` is to come
-pub record Passed (list : StoredList) (index at : ℕ) (commands rest : List PathCommand) : Type 0 where
+pub record Passed (list : StoredList) (letter-at at : ℕ) (commands rest : List PathCommand) : Type 0 where
   pub few : length (list .letters) ≤ 65536
   pub whole : listingOf list ≡ wellFormed (commands ++ rest)
-  pub left : listingFrom list index at ≡ wellFormed rest
-  pub count : length commands ≡ index
-  pub within : index ≤ length (list .letters)
+  pub left : listingFrom list letter-at at ≡ wellFormed rest
+  pub count : length commands ≡ letter-at
+  pub within : letter-at ≤ length (list .letters)
   pub inside : at ≤ length (list .numbers)
 
 pub passed-none : {list : StoredList} (f : Formed list) → Passed list 0 0 [] (f .commands)
 unfolding listedFrom
 passed-none f = record { few = f .few; whole = f .is; left = f .is; count = refl; within = omega arith; inside = omega arith }
 
-module _ {list : StoredList} {index at : ℕ} {commands rest : List PathCommand} (p : Passed list index at commands rest) where
+module _ {list : StoredList} {letter-at at : ℕ} {commands rest : List PathCommand} (p : Passed list letter-at at commands rest) where
   pub passed-builds : buildListOf list ≡ buildOf (commands ++ rest)
   passed-builds = formed-builds (record { few = p .few; commands = commands ++ rest; is = p .whole })
 
   -- the letters are passed
-  passed-end : length (list .letters) ≤ index → rest ≡ []
+  passed-end : length (list .letters) ≤ letter-at → rest ≡ []
   passed-end past = by-order (ltb at (length (list .numbers))) refl
     where
       by-order : (b : Bool) → ltb at (length (list .numbers)) ≡ b → rest ≡ []
       by-order true e =
-          let l = sym (from-left-over (list .letters) (list .numbers) index at past (ltb-true at (length (list .numbers)) e)) ∙ p .left in
+          let l = sym (from-left-over (list .letters) (list .numbers) letter-at at past (ltb-true at (length (list .numbers)) e)) ∙ p .left in
           let z : _≡_ {A = ℕ} 0 1 = cc in absurd (omega arith)
       by-order false e =
-          let l = sym (from-end (list .letters) (list .numbers) index at past (ltb-false at (length (list .numbers)) e)) ∙ p .left in
+          let l = sym (from-end (list .letters) (list .numbers) letter-at at past (ltb-false at (length (list .numbers)) e)) ∙ p .left in
           let f : rest ≡ [] = cc in f
 
-  module _ (past : length (list .letters) ≤ index) where
+  module _ (past : length (list .letters) ≤ letter-at) where
     all : commands ++ rest ≡ commands
     all = ap (λ x. commands ++ x) (passed-end past) ∙ append-nil commands
 
@@ -138,25 +138,25 @@ module _ {list : StoredList} {index at : ℕ} {commands rest : List PathCommand}
     pub all-drawers : drawersListOf list ≡ drawersOf commands
     all-drawers = ap drawersBy (p .whole) ∙ ap drawersOf all
 
-  module _ (here : index < length (list .letters)) where
-    pub passed-bad : decodedAt list index at ≡ Bad → ⊥
+  module _ (here : letter-at < length (list .letters)) where
+    pub passed-bad : decodedAt list letter-at at ≡ Bad → ⊥
     passed-bad e =
-        let l = sym (from-bad (list .letters) (list .numbers) index at here e) ∙ p .left in
+        let l = sym (from-bad (list .letters) (list .numbers) letter-at at here e) ∙ p .left in
         let z : _≡_ {A = ℕ} 0 1 = cc in omega arith
 
-    module _ {command : PathCommand} (e : decodedAt list index at ≡ Command command) where
+    module _ {command : PathCommand} (e : decodedAt list letter-at at ≡ Command command) where
       pub passed-fits : at + length (argumentsOf command) ≤ length (list .numbers)
       passed-fits =
-          let h = command-fits (drop at (list .numbers)) (letterAt list index) command e in
+          let h = command-fits (drop at (list .numbers)) (letterIn list letter-at) command e in
           omega (arith, simp length-drop at h, p .inside)
 
-      pub passed-next : {width : ℕ} → width ≡ length (argumentsOf command) → (more : List PathCommand) × Passed list (index + 1) (at + width) (commands ++ (command ∷ [])) more
+      pub passed-next : {width : ℕ} → width ≡ length (argumentsOf command) → (more : List PathCommand) × Passed list (letter-at + 1) (at + width) (commands ++ (command ∷ [])) more
       passed-next {width} w =
-          by-listing (listingFrom list (index + 1) (at + length (argumentsOf command))) refl (sym (from-next (list .letters) (list .numbers) index at here command e) ∙ p .left)
+          by-listing (listingFrom list (letter-at + 1) (at + length (argumentsOf command))) refl (sym (from-next (list .letters) (list .numbers) letter-at at here command e) ∙ p .left)
         where
           by-listing :
-              (l : Listing) → listingFrom list (index + 1) (at + length (argumentsOf command)) ≡ l → prepend command l ≡ wellFormed rest
-              → (more : List PathCommand) × Passed list (index + 1) (at + width) (commands ++ (command ∷ [])) more
+              (l : Listing) → listingFrom list (letter-at + 1) (at + length (argumentsOf command)) ≡ l → prepend command l ≡ wellFormed rest
+              → (more : List PathCommand) × Passed list (letter-at + 1) (at + width) (commands ++ (command ∷ [])) more
           by-listing (wellFormed more) f g =
               let r : rest ≡ command ∷ more = cc in (
                 more,

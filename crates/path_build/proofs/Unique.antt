@@ -1,6 +1,6 @@
 -- The equations of `Answers` settle what building answers and all five buffers. Assumes nothing.
 use Prim.Native.Nat.{ℕ}
-use mathlib.Core.Path.{_≡_, refl, sym, ap, _∙_}
+use mathlib.Core.Path.{_≡_, sym, ap, _∙_}
 use mathlib.Core.List.{List, [], _∷_}
 use Rattle.answers.proofs.Settled.{refused-settled, refused-not-accepted}
 use Rattle.path_stored.specs.Buffers.{Buffers}

@@ -29,10 +29,10 @@ fn survey(letters: &[u8], numbers: &[f32]) -> Outlook
 {
     let size = letters.len();
     let mut tally = opening();
-    let mut index: usize = 0;
+    let mut letter_at: usize = 0;
     let mut at: usize = 0;
-    while index < size {
-        match decode(letters[index], numbers, at) {
+    while letter_at < size {
+        match decode(letters[letter_at], numbers, at) {
             Decoded::Bad => {
                 return Outlook::Unsure;
             }
@@ -42,7 +42,7 @@ fn survey(letters: &[u8], numbers: &[f32]) -> Outlook
                 }
                 Tallied::To(next) => {
                     at += width(command);
-                    index += 1;
+                    letter_at += 1;
                     tally = next;
                 }
             },
@@ -62,12 +62,12 @@ fn judge(letters: &[u8], numbers: &[f32]) -> Size
 {
     let count = letters.len();
     let mut site = start();
-    let mut index: usize = 0;
+    let mut letter_at: usize = 0;
     let mut at: usize = 0;
-    while index < count {
-        match decode(letters[index], numbers, at) {
+    while letter_at < count {
+        match decode(letters[letter_at], numbers, at) {
             Decoded::Bad => {
-                return Size::Refused(Refusal::BadList(index));
+                return Size::Refused(Refusal::BadList(letter_at));
             }
             Decoded::Command(command) => match advance(site, command) {
                 Advanced::Refused(refusal) => {
@@ -75,7 +75,7 @@ fn judge(letters: &[u8], numbers: &[f32]) -> Size
                 }
                 Advanced::To(next) => {
                     at += width(command);
-                    index += 1;
+                    letter_at += 1;
                     site = next;
                 }
             },
@@ -152,11 +152,11 @@ pub(crate) fn fill(
 {
     let count = letters.len();
     let mut site = start();
-    let mut index: usize = 0;
+    let mut letter_at: usize = 0;
     let mut at: usize = 0;
-    while index < count {
-        let number = index as u32;
-        let letter = letters[index];
+    while letter_at < count {
+        let number = letter_at as u32;
+        let letter = letters[letter_at];
         site = lay_at(
             site,
             number,
@@ -170,6 +170,6 @@ pub(crate) fn fill(
             commands,
         );
         at += stride(letter);
-        index += 1;
+        letter_at += 1;
     }
 }

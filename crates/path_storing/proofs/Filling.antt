@@ -18,7 +18,7 @@ use Rattle.path_drawing.specs.declared.strokes.Drawn.{Drawn}
 use Rattle.path_drawing.specs.Building.{path, buildOf, namedBy, drawersOf, drawersFrom}
 use Rattle.path_storing.specs.Sites.{startOf, nextOf, drawnBy, pathWritten, laidAt, Holds, Room, Laid}
 use Rattle.path_storing.specs.declared.sites.Site.{Site}
-use Rattle.path_storing.proofs.Layouts.{kinds-append, fields-append, tables-append, lengths-append, lengths-count, running-count, endOf}
+use Rattle.path_storing.proofs.Layouts.{kinds-append, fields-append, tables-append, lengths-append, lengths-count, endOf}
 use Rattle.path_storing.proofs.Along.{At, at-none, at-within, at-named, at-stored}
 
 -- room for a list is room for what it begins with

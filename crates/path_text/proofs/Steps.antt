@@ -1,7 +1,7 @@
 -- The two passes over a text: what each knows between two commands, and what a step does to that. Assumes nothing.
-use Prim.Native.Nat.{ℕ, suc, _+_, _≤_, _<_}
+use Prim.Native.Nat.{ℕ, _+_, _≤_, _<_}
 use mathlib.Core.Path.{_≡_, refl, sym, ap, subst, _∙_}
-use mathlib.Core.List.{List, [], _∷_, _++_, append-assoc, append-nil}
+use mathlib.Core.List.{List, [], _∷_, _++_}
 use native.Mathlib.Omega.{arith}
 use lib.ListN.{length, length-append}
 use Rattle.answers.specs.declared.refusals.Refusal.{Refusal}
@@ -15,7 +15,7 @@ use Rattle.svg_step.specs.declared.steps.Step.the-variants.{Command, Done, Refu
 use Rattle.svg_step.proofs.Ahead.{step-ahead}
 use Rattle.svg.proofs.PassLaws.{onto as ontoCommands, Known, known-none, known-all, known-refused, known-more}
 use Rattle.path_drawing.specs.Drawing.{drawOf}
-use Rattle.path_drawing.specs.Building.{Built, path, refusal, buildOf}
+use Rattle.path_drawing.specs.Building.{path, refusal, buildOf}
 use Rattle.path_storing.specs.Sites.{startOf, advanceOf, drawnBy, FewAt, Room, Laid}
 use Rattle.path_storing.specs.Tallies.{tallyOf, FewIn, talliedOf}
 use Rattle.path_storing.specs.declared.sites.Site.{Site}

@@ -1,4 +1,4 @@
--- `path_build::passes::fill` meets its contract. The loop keeps that the commands up to its index are passed and what they draw is written; the measure is what
+-- `path_build::passes::fill` meets its contract. The loop keeps that the commands up to its letter are passed and what they draw is written; the measure is what
 -- is left of the letters. Assumes nothing.
 use borrow.Author.Needs.{needs}
 use Prim.Native.Nat.{_-_}
@@ -12,11 +12,11 @@ use Rattle.path_build.proofs.passes.fill.Statement.{statement}
 use Rattle.path_build.proofs.passes.fill.Tie as tie
 
 abbrev Inv-loop : tie.InvT-loop
-Inv-loop letters numbers kinds₀ fields₀ tables₀ lengths₀ commands₀ count site₀ index₀ at₀ kinds fields tables lengths commands site index at =
-    Storing (storedList letters numbers) site index at (buffers kinds₀ fields₀ tables₀ lengths₀ commands₀) (buffers kinds fields tables lengths commands)
+Inv-loop letters numbers kinds₀ fields₀ tables₀ lengths₀ commands₀ count site₀ letter-at₀ at₀ kinds fields tables lengths commands site letter-at at =
+    Storing (storedList letters numbers) site letter-at at (buffers kinds₀ fields₀ tables₀ lengths₀ commands₀) (buffers kinds fields tables lengths commands)
 
 abbrev μ-loop : tie.MeasureT-loop
-μ-loop letters numbers kinds₀ fields₀ tables₀ lengths₀ commands₀ count site₀ index₀ at₀ kinds fields tables lengths commands site index at = length letters - index
+μ-loop letters numbers kinds₀ fields₀ tables₀ lengths₀ commands₀ count site₀ letter-at₀ at₀ kinds fields tables lengths commands site letter-at at = length letters - letter-at
 
 -- ---- the points of the code that the answers look back to
 abbrev start : tie.At-loop Inv-loop μ-loop → tie.Start Inv-loop μ-loop
@@ -56,8 +56,8 @@ add-at c =
     let asks = storing-asks (l .loop .inv) (start l .pre) (tested c .loop-test .taken) in
     omega (arith, asks .0, c .stride .ensures, start l)
 
-add-index : tie.Need-add-index Inv-loop μ-loop
-add-index c = omega (arith, tested c .loop-test .taken, start (looped c))
+add-letter-at : tie.Need-add-letter-at Inv-loop μ-loop
+add-letter-at c = omega (arith, tested c .loop-test .taken, start (looped c))
 
 loop-less : tie.Need-loop-less Inv-loop μ-loop
 loop-less c = omega (arith, tested c .loop-test .taken)
@@ -88,5 +88,5 @@ returns c = let l = c .before in stored-all (l .loop .inv) (start l .pre) (c .lo
 pub fill-spec : {M : Type 1} → statement M
 fill-spec =
     tie.close
-    (tie.spec Inv-loop μ-loop (λ c κs. search needs) loop-holds cast-number (λ c. search needs) lay-at-requires (λ c κs. search needs) add-at add-index loop-less loop-again
+    (tie.spec Inv-loop μ-loop (λ c κs. search needs) loop-holds cast-number (λ c. search needs) lay-at-requires (λ c κs. search needs) add-at add-letter-at loop-less loop-again
     same-length same-length-2 same-length-3 same-length-4 same-length-5 returns)

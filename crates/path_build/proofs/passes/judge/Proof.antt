@@ -1,8 +1,8 @@
--- `path_build::passes::judge` meets its contract. The loop keeps that the commands up to its index are passed and what they draw is counted; the measure is
+-- `path_build::passes::judge` meets its contract. The loop keeps that the commands up to its letter are passed and what they draw is counted; the measure is
 -- what is left of the letters. Assumes nothing.
 use borrow.Author.Needs.{needs}
 use Prim.Native.Nat.{_-_}
-use mathlib.Core.Path.{sym, ap, _∙_}
+use mathlib.Core.Path.{sym, _∙_}
 use native.Mathlib.Omega.{arith}
 use lib.ListN.{length}
 use Rattle.path_build.specs.Lists.{storedList}
@@ -12,10 +12,10 @@ use Rattle.path_build.proofs.passes.judge.Statement.{statement}
 use Rattle.path_build.proofs.passes.judge.Tie as tie
 
 abbrev Inv-loop : tie.InvT-loop
-Inv-loop letters numbers count site₀ index₀ at₀ site index at = Measuring (storedList letters numbers) site index at
+Inv-loop letters numbers count site₀ letter-at₀ at₀ site letter-at at = Measuring (storedList letters numbers) site letter-at at
 
 abbrev μ-loop : tie.MeasureT-loop
-μ-loop letters numbers count site₀ index₀ at₀ site index at = length letters - index
+μ-loop letters numbers count site₀ letter-at₀ at₀ site letter-at at = length letters - letter-at
 
 -- ---- the points of the code that the answers look back to
 abbrev start : tie.At-loop Inv-loop μ-loop → tie.Start Inv-loop μ-loop

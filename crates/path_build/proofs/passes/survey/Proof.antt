@@ -1,8 +1,8 @@
--- `path_build::passes::survey` meets its contract. The loop keeps that the commands up to its index are passed and that the tally is of a calm site; the measure is
+-- `path_build::passes::survey` meets its contract. The loop keeps that the commands up to its letter are passed and that the tally is of a calm site; the measure is
 -- what is left of the letters. Assumes nothing.
 use borrow.Author.Needs.{needs}
 use Prim.Native.Nat.{_-_}
-use mathlib.Core.Path.{sym, ap, _∙_}
+use mathlib.Core.Path.{sym, _∙_}
 use native.Mathlib.Omega.{arith}
 use lib.ListN.{length}
 use Rattle.path_build.specs.Lists.{storedList}
@@ -12,10 +12,10 @@ use Rattle.path_build.proofs.passes.survey.Statement.{statement}
 use Rattle.path_build.proofs.passes.survey.Tie as tie
 
 abbrev Inv-loop : tie.InvT-loop
-Inv-loop letters numbers size tally₀ index₀ at₀ tally index at = Surveying (storedList letters numbers) tally index at
+Inv-loop letters numbers size tally₀ letter-at₀ at₀ tally letter-at at = Surveying (storedList letters numbers) tally letter-at at
 
 abbrev μ-loop : tie.MeasureT-loop
-μ-loop letters numbers size tally₀ index₀ at₀ tally index at = length letters - index
+μ-loop letters numbers size tally₀ letter-at₀ at₀ tally letter-at at = length letters - letter-at
 
 -- ---- the points of the code that the answers look back to
 abbrev start : tie.At-loop Inv-loop μ-loop → tie.Start Inv-loop μ-loop
@@ -57,8 +57,8 @@ add-at c =
     let fits = surveying-fits (l .loop .inv) (d .before .before .loop-test .taken) (sym (d .decode .ensures) ∙ t .command .given .1) in
     omega (arith, fits, c .width .ensures, start l)
 
-add-index : tie.Need-add-index Inv-loop μ-loop
-add-index c = let d = decoded (told c) in omega (arith, d .before .before .loop-test .taken, start (looped d))
+add-letter-at : tie.Need-add-letter-at Inv-loop μ-loop
+add-letter-at c = let d = decoded (told c) in omega (arith, d .before .before .loop-test .taken, start (looped d))
 
 loop-less : tie.Need-loop-less Inv-loop μ-loop
 loop-less c = let d = decoded (told c) in omega (arith, d .before .before .loop-test .taken)
@@ -80,4 +80,4 @@ survey-spec =
     tie.close
     (tie.spec Inv-loop μ-loop (λ c κs. search needs) loop-holds (λ c. search needs) decode-requires
     (λ c. search needs) returns (λ c. search needs) count-requires (λ c. search needs) returns-2 (λ c. search needs)
-    (λ c κs. search needs) add-at add-index loop-less loop-again returns-3)
+    (λ c κs. search needs) add-at add-letter-at loop-less loop-again returns-3)
