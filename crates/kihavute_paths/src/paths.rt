@@ -1,7 +1,8 @@
 // Stored paths built from a command list or from a text.
 ghost use Rattle.path_stored.specs.Buffers.{after, before};
 ghost use Rattle.path_build.specs.Answers.{answerOf};
-ghost use Rattle.path_build.specs.Paths.{lentOf, buildPathOf, drawersPathOf};
+ghost use Rattle.path_build.specs.Lists.{givenList};
+ghost use Rattle.path_build.specs.Paths.{lentOf, drawersListOf, buildPathOf};
 ghost use Rattle.path_text.specs.Builds.{buildTextOf, drawersTextOf};
 ghost use Rattle.c_answer.specs.Given.{Given};
 ghost use Rattle.kihavute_paths.specs.Paths.{PathBuilt};
@@ -38,8 +39,7 @@ pub extern "C" fn kihavute_build(
     commands: &mut [u32],
     answer: &mut [u64],
 ) -> u32
-    ensures { λ r. ⌜ PathBuilt (buildPathOf (now (letters .entry)) (now (numbers .entry)) (lentOf (before kinds fields tables lengths commands)))
-        (drawersPathOf (now (letters .entry)) (now (numbers .entry)))
+    ensures { λ r. ⌜ PathBuilt (buildPathOf (givenList letters numbers) (lentOf (before kinds fields tables lengths commands))) (drawersListOf (givenList letters numbers))
         (before kinds fields tables lengths commands) (now (answer .entry)) r (after kinds fields tables lengths commands) (now (answer .exit)) ⌝ }
 {
     if answer.len() < 8 {
@@ -68,8 +68,7 @@ pub extern "C" fn kihavute_build_text(
     commands: &mut [u32],
     answer: &mut [u64],
 ) -> u32
-    ensures { λ r. ⌜ PathBuilt (buildTextOf (now (text .entry)) (lentOf (before kinds fields tables lengths commands)))
-        (drawersTextOf (now (text .entry)))
+    ensures { λ r. ⌜ PathBuilt (buildTextOf (now (text .entry)) (lentOf (before kinds fields tables lengths commands))) (drawersTextOf (now (text .entry)))
         (before kinds fields tables lengths commands) (now (answer .entry)) r (after kinds fields tables lengths commands) (now (answer .exit)) ⌝ }
 {
     if answer.len() < 8 {

@@ -20,7 +20,7 @@ use Rattle.commands.proofs.Decoding.{point-from, is-line, is-quad, is-cubic}
 use Rattle.path_drawing.specs.Drawing.{drawOf}
 use Rattle.path_drawing.specs.declared.pens.Pen.{Pen}
 use Rattle.path_drawing.specs.declared.strokes.Drawn.the-variants.{OutOfRange}
-use Rattle.path_build.specs.Places.{strideOf, drawnAt}
+use Rattle.path_build.specs.Letters.{strideOf, drawnAt}
 
 -- ---- a letter takes the numbers of its command
 

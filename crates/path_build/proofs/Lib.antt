@@ -4,7 +4,6 @@ pub mod Letters
 pub mod Along
 pub mod Counting
 pub mod Answering
-pub mod Entering
 pub mod Numbering
 pub mod Sound
 pub mod Unique

@@ -4,13 +4,12 @@ use mathlib.Core.Path.{_≡_, refl, sym, ap, subst, _∙_}
 use mathlib.Core.Bool.{Bool, true, false, cond}
 use mathlib.Core.List.{List, [], _∷_}
 use native.Mathlib.Omega.{arith}
-use borrow.Author.Tests.{ltb-false}
-use lib.Dec.{T, ltb}
+use lib.Dec.{T}
 use lib.Ieee.{Float}
 use lib.Ieee.Scale.{finite}
 use lib.ListN.{length, drop}
 use Rattle.answers.specs.declared.refusals.Values.the-variants.{Five}
-use Rattle.answers.specs.declared.refusals.Refusal.the-variants.{NotFinite, NoRoom, Range}
+use Rattle.answers.specs.declared.refusals.Refusal.the-variants.{NotFinite, NoRoom}
 use Rattle.floats.specs.Floats.{zeroF}
 use Rattle.table.specs.Sound.{allFinite}
 use Rattle.commands.specs.Stored.{argumentsOf}
@@ -28,8 +27,10 @@ use Rattle.path_drawing.specs.declared.pens.Pen.{Pen}
 use Rattle.path_drawing.specs.declared.strokes.Drawn.{Drawn}
 use Rattle.path_drawing.specs.declared.strokes.Drawn.the-variants.{Moved, Segment, OutOfRange}
 use Rattle.path_build.specs.Answers.{isShort, countsOf, roomed}
-use Rattle.path_build.specs.Paths.{builtBy, drawersBy, buildPathOf}
+use Rattle.path_build.specs.Lists.{StoredList}
+use Rattle.path_build.specs.Paths.{drawersBy, buildListOf, drawersListOf, buildPathOf}
 use Rattle.path_build.specs.declared.sizes.Counts.{Counts}
+use Rattle.path_build.proofs.Lists.{built-formed, formed-builds}
 use Rattle.path_build.proofs.Numbering.{drawers-count, drawers-rise}
 
 -- ---- no more segments than commands, each with a finite running length
@@ -113,18 +114,9 @@ roomed-path lent (path own) list e = by-room (isShort (countsOf own) lent) e
     by-room false f = f
 
 -- "what it builds always passes check_path"
-pub build-path-stored :
-    (letters : List ℕ) (numbers : List Float) (lent : Counts) (list : List PathSegment) → buildPathOf letters numbers lent ≡ path list
-    → T (isStored (laidOut list (drawersBy (listed 0 letters numbers))))
-unfolding buildPathOf
-build-path-stored letters numbers lent list = by-count (ltb 65536 (length letters)) refl
-  where
-    by-listing : length letters ≤ 65536 → (l : Listing) → listed 0 letters numbers ≡ l → builtBy l ≡ path list → T (isStored (laidOut list (drawersBy l)))
-    by-listing few (wellFormed commands) f g = built-stored commands list (omega (arith, listed-count letters 0 numbers commands f)) g
-    by-listing few (malformed k) f g = let z : _≡_ {A = ℕ} 0 1 = cc in absurd (omega arith)
-
-    by-count :
-        (b : Bool) → ltb 65536 (length letters) ≡ b → cond b (refusal (Range (length letters))) (roomed lent (builtBy (listed 0 letters numbers))) ≡ path list
-        → T (isStored (laidOut list (drawersBy (listed 0 letters numbers))))
-    by-count true f g = let z : _≡_ {A = ℕ} 0 1 = cc in absurd (omega arith)
-    by-count false f g = by-listing (ltb-false 65536 (length letters) f) (listed 0 letters numbers) refl (roomed-path lent (builtBy (listed 0 letters numbers)) list g)
+pub build-path-stored : (list : StoredList) (lent : Counts) (segments : List PathSegment) → buildPathOf list lent ≡ path segments → T (isStored (laidOut segments (drawersListOf list)))
+build-path-stored list lent segments e =
+    let built = roomed-path lent (buildListOf list) segments e in
+    let f = built-formed list built in
+    subst (λ (x : Listing). T (isStored (laidOut segments (drawersBy x)))) (sym (f .is))
+    (built-stored (f .commands) segments (omega (arith, f .few, listed-count (list .letters) 0 (list .numbers) (f .commands) (f .is))) (sym (formed-builds f) ∙ built))

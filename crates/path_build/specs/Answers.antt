@@ -5,7 +5,6 @@ use mathlib.Core.Path.{_≡_}
 use mathlib.Core.Bool.{Bool, _||_, cond}
 use mathlib.Core.List.{List, [], _∷_}
 use lib.Dec.{ltb}
-use lib.Ieee.{Float}
 use lib.ListN.{length}
 use Rattle.answers.specs.Answers.{Answer, refused, accepted}
 use Rattle.answers.specs.declared.refusals.Values.the-variants.{Five}
@@ -76,6 +75,16 @@ pub record Answers (built : Built) (drawers : List ℕ) (b : Buffers) (r : Build
   pub after : b′ ≡ pathWritten (segmentsWritten built) (numbersWritten built drawers) b
 
 -- ---- what the passes ask and leave
+
+-- the places that a path of so many segments needs; kinds, lengths and commands are one a segment
+abbrev pub neededOf : ℕ → ℕ → ℕ → Counts
+neededOf segments fields tables = record { kinds = segments; fields = fields; tables = tables; lengths = segments; commands = segments }
+
+-- what is answered to what a first pass tells, where the buffers have these places
+abbrev pub buildingOf : Size → Counts → Building
+buildingOf (Size.Refused reason) lent = Building.Refused reason
+buildingOf (Size.Counted segments fields tables) lent =
+    cond (isShort (neededOf segments fields tables) lent) (Building.Refused (NoRoom (Five segments fields tables segments segments))) (Building.Built segments fields tables)
 
 -- the counts of what is built, or why it is not
 unfoldable pub measureOf : Built → Size

@@ -1,16 +1,11 @@
 -- What the count of a plain list goes by: how often a letter occurs, and whether every number is near. That such counts are what a list builds is a law.
 -- Definitions only.
 use Prim.Native.Nat.{ℕ, _+_}
-use mathlib.Core.Path.{_≡_}
 use mathlib.Core.Bool.{Bool, true, _&&_, cond}
 use mathlib.Core.List.{List, [], _∷_}
 use lib.Dec.{eqb}
 use lib.Ieee.{Float}
 use Rattle.path_bounds.specs.Calm.{isNear}
-use Rattle.path_storing.specs.declared.tallies.Outlook.{Outlook}
-use Rattle.path_storing.specs.declared.tallies.Outlook.the-variants as Outlook
-use Rattle.path_build.specs.Paths.{Sized}
-use Rattle.path_build.specs.declared.sizes.Size.the-variants as Size
 
 abbrev pub oneIf : Bool → ℕ
 oneIf so = cond so 1 0
@@ -22,8 +17,3 @@ countIn letter (own ∷ letters) = oneIf (eqb own letter) + countIn letter lette
 unfoldable pub allNear : List Float → Bool
 allNear [] = true
 allNear (number ∷ numbers) = isNear number && allNear numbers
-
--- what the count tells, where it tells anything
-abbrev pub PlainTold : List ℕ → List Float → Outlook → Type 0
-PlainTold letters numbers (Outlook.Counted segments fields tables) = Sized letters numbers (Size.Counted segments fields tables)
-PlainTold letters numbers Outlook.Unsure = Unit {0}

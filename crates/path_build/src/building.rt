@@ -1,13 +1,15 @@
 // The entry over a command list.
 ghost use Rattle.path_stored.specs.Buffers.{after, before};
+ghost use Rattle.path_build.specs.Lists.{givenList};
 ghost use Rattle.path_build.specs.Paths.{BuildPath};
-use crate::listed::store_counted;
+use crate::passes::fill;
 use crate::passes::sized;
 use crate::sizes::Building;
-use crate::sizes::Size;
+use crate::sizes::Counts;
+use crate::sizes::room;
 
-// Builds the stored path of a command list: a kind, a running length and the number of its command for each segment, its numbers and
-// its table, each from its buffer's start. A refusal writes nothing, and what stands past the counted places is left as it was.
+// Builds the stored path of a command list: a kind, a running length and the number of its command for each segment, its fields and its
+// table, each from its buffer's start. A refusal writes nothing, and what stands past the counted places is left as it was.
 pub fn build_path(
     letters: &[u8],
     numbers: &[f32],
@@ -17,29 +19,30 @@ pub fn build_path(
     lengths: &mut [f32],
     commands: &mut [u32],
 ) -> Building
-    ensures { λ r. ⌜ BuildPath (now (letters .entry)) (now (numbers .entry)) (before kinds fields tables lengths commands) r (after kinds fields tables lengths commands) ⌝ }
+    ensures { λ r. ⌜ BuildPath (givenList letters numbers) (before kinds fields tables lengths commands) r (after kinds fields tables lengths commands) ⌝ }
 {
-    match sized(letters, numbers) {
-        Size::Refused(refusal) => {
+    let lent = Counts {
+        kinds: kinds.len(),
+        fields: fields.len(),
+        tables: tables.len(),
+        lengths: lengths.len(),
+        commands: commands.len(),
+    };
+    match room(sized(letters, numbers), lent) {
+        Building::Refused(refusal) => {
             return Building::Refused(refusal);
         }
-        Size::Counted {
+        Building::Built {
             segments,
             fields: own,
             tables: more,
         } => {
-            return store_counted(
-                letters,
-                numbers,
+            fill(letters, numbers, kinds, fields, tables, lengths, commands);
+            return Building::Built {
                 segments,
-                own,
-                more,
-                kinds,
-                fields,
-                tables,
-                lengths,
-                commands,
-            );
+                fields: own,
+                tables: more,
+            };
         }
     }
 }

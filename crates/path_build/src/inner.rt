@@ -1,5 +1,4 @@
-// What asks more of its callers than an entry may: handed on to crates that are proved to meet it.
-pub use crate::listed::build_listed;
+// What building from a text shares with building from a list: the places that a path needs, and the answer to them.
 pub use crate::sizes::Counts;
 pub use crate::sizes::Size;
-pub use crate::sizes::is_short;
+pub use crate::sizes::room;

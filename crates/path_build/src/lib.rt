@@ -1,10 +1,9 @@
 // From a command list to a stored path: kinds, fields, tables, running lengths and command numbers in five lent buffers. `build_path`
-// asks nothing and refuses; `inner` has the same for a list that is known to be well formed.
+// asks nothing and refuses; `inner` has what building from a text shares with it.
 mod building;
+mod by_letter;
 pub mod inner;
-mod listed;
 mod passes;
-mod places;
 mod plain;
 mod sizes;
 

@@ -1,14 +1,11 @@
 // The two passes over a command list: the first counts, and measures only where it must, the second stores.
 ghost use mathlib.Core.Path.{_≡_};
-ghost use mathlib.Core.List.{[]};
-ghost use Rattle.answers.specs.Answers.{accepted};
-ghost use Rattle.commands.specs.Listed.{listed};
-ghost use Rattle.commands.specs.Checked.{checkCommandsOf};
 ghost use Rattle.path_stored.specs.Buffers.{after, before, lent};
+ghost use Rattle.path_build.specs.Lists.{lentList, givenList, WellFormed};
 ghost use Rattle.path_build.specs.Answers.{measureOf, Foretells, Holding, Filled};
-ghost use Rattle.path_build.specs.Paths.{builtBy, drawersPathOf, Sized};
-use crate::places::lay_at;
-use crate::places::stride;
+ghost use Rattle.path_build.specs.Paths.{buildListOf, drawersListOf};
+use crate::by_letter::lay_at;
+use crate::by_letter::stride;
 use crate::plain::foretell;
 use crate::sizes::Size;
 use answers::Refusal;
@@ -27,15 +24,15 @@ use path_storing::start;
 
 // What a well-formed list builds, where no length need be measured to tell.
 fn survey(letters: &[u8], numbers: &[f32]) -> Outlook
-    requires { ⌜ checkCommandsOf (now letters) (now numbers) ≡ accepted [] ⌝ }
-    ensures { λ r. ⌜ Foretells (builtBy (listed 0 (now (letters .entry)) (now (numbers .entry)))) r ⌝ }
+    requires { ⌜ WellFormed (lentList letters numbers) ⌝ }
+    ensures { λ r. ⌜ Foretells (buildListOf (givenList letters numbers)) r ⌝ }
 {
     let size = letters.len();
     let mut tally = opening();
-    let mut place: usize = 0;
+    let mut letter_at: usize = 0;
     let mut at: usize = 0;
-    while place < size {
-        match decode(letters[place], numbers, at) {
+    while letter_at < size {
+        match decode(letters[letter_at], numbers, at) {
             Decoded::Bad => {
                 return Outlook::Unsure;
             }
@@ -45,7 +42,7 @@ fn survey(letters: &[u8], numbers: &[f32]) -> Outlook
                 }
                 Tallied::To(next) => {
                     at += width(command);
-                    place += 1;
+                    letter_at += 1;
                     tally = next;
                 }
             },
@@ -60,17 +57,17 @@ fn survey(letters: &[u8], numbers: &[f32]) -> Outlook
 
 // The same with every length measured: the places needed, or the first refusal.
 fn judge(letters: &[u8], numbers: &[f32]) -> Size
-    requires { ⌜ checkCommandsOf (now letters) (now numbers) ≡ accepted [] ⌝ }
-    ensures { λ r. ⌜ r ≡ measureOf (builtBy (listed 0 (now (letters .entry)) (now (numbers .entry)))) ⌝ }
+    requires { ⌜ WellFormed (lentList letters numbers) ⌝ }
+    ensures { λ r. ⌜ r ≡ measureOf (buildListOf (givenList letters numbers)) ⌝ }
 {
     let count = letters.len();
     let mut site = start();
-    let mut place: usize = 0;
+    let mut letter_at: usize = 0;
     let mut at: usize = 0;
-    while place < count {
-        match decode(letters[place], numbers, at) {
+    while letter_at < count {
+        match decode(letters[letter_at], numbers, at) {
             Decoded::Bad => {
-                return Size::Refused(Refusal::BadList(place));
+                return Size::Refused(Refusal::BadList(letter_at));
             }
             Decoded::Command(command) => match advance(site, command) {
                 Advanced::Refused(refusal) => {
@@ -78,7 +75,7 @@ fn judge(letters: &[u8], numbers: &[f32]) -> Size
                 }
                 Advanced::To(next) => {
                     at += width(command);
-                    place += 1;
+                    letter_at += 1;
                     site = next;
                 }
             },
@@ -93,8 +90,8 @@ fn judge(letters: &[u8], numbers: &[f32]) -> Size
 
 // What a well-formed list builds: the places needed, or its first refusal.
 fn measure(letters: &[u8], numbers: &[f32]) -> Size
-    requires { ⌜ checkCommandsOf (now letters) (now numbers) ≡ accepted [] ⌝ }
-    ensures { λ r. ⌜ r ≡ measureOf (builtBy (listed 0 (now (letters .entry)) (now (numbers .entry)))) ⌝ }
+    requires { ⌜ WellFormed (lentList letters numbers) ⌝ }
+    ensures { λ r. ⌜ r ≡ measureOf (buildListOf (givenList letters numbers)) ⌝ }
 {
     match survey(letters, numbers) {
         Outlook::Counted {
@@ -116,7 +113,7 @@ fn measure(letters: &[u8], numbers: &[f32]) -> Size
 
 // The same of any list. A plain one is counted by its letters; any other is checked before it is measured.
 pub(crate) fn sized(letters: &[u8], numbers: &[f32]) -> Size
-    ensures { λ r. ⌜ Sized (now (letters .entry)) (now (numbers .entry)) r ⌝ }
+    ensures { λ r. ⌜ r ≡ measureOf (buildListOf (givenList letters numbers)) ⌝ }
 {
     if let Outlook::Counted {
         segments,
@@ -139,7 +136,7 @@ pub(crate) fn sized(letters: &[u8], numbers: &[f32]) -> Size
     }
 }
 
-// Stores the path of a well-formed list that builds, from the start of each buffer. A command's number is its place in the list.
+// Stores the path of a list that builds, from the start of each buffer. A command's number is its letter's index.
 pub(crate) fn fill(
     letters: &[u8],
     numbers: &[f32],
@@ -149,17 +146,17 @@ pub(crate) fn fill(
     lengths: &mut [f32],
     commands: &mut [u32],
 )
-    requires { ⌜ (checkCommandsOf (now letters) (now numbers) ≡ accepted []) × Holding (builtBy (listed 0 (now letters) (now numbers))) (lent kinds fields tables lengths commands) ⌝ }
-    ensures { λ _. ⌜ Filled (builtBy (listed 0 (now (letters .entry)) (now (numbers .entry)))) (drawersPathOf (now (letters .entry)) (now (numbers .entry)))
+    requires { ⌜ Holding (buildListOf (lentList letters numbers)) (lent kinds fields tables lengths commands) ⌝ }
+    ensures { λ _. ⌜ Filled (buildListOf (givenList letters numbers)) (drawersListOf (givenList letters numbers))
         (before kinds fields tables lengths commands) (after kinds fields tables lengths commands) ⌝ }
 {
     let count = letters.len();
     let mut site = start();
-    let mut place: usize = 0;
+    let mut letter_at: usize = 0;
     let mut at: usize = 0;
-    while place < count {
-        let number = place as u32;
-        let letter = letters[place];
+    while letter_at < count {
+        let number = letter_at as u32;
+        let letter = letters[letter_at];
         site = lay_at(
             site,
             number,
@@ -173,6 +170,6 @@ pub(crate) fn fill(
             commands,
         );
         at += stride(letter);
-        place += 1;
+        letter_at += 1;
     }
 }

@@ -3,7 +3,10 @@
 ghost use mathlib.Core.Path.{_≡_};
 ghost use Prim.Native.Nat.{_≤_};
 ghost use lib.ListN.{length};
-ghost use Rattle.path_build.specs.Plain.{oneIf, countIn, allNear, PlainTold};
+ghost use Rattle.path_build.specs.Lists.{givenList};
+ghost use Rattle.path_build.specs.Answers.{Foretells};
+ghost use Rattle.path_build.specs.Paths.{buildListOf};
+ghost use Rattle.path_build.specs.Plain.{oneIf, countIn, allNear};
 use path_bounds::is_near;
 use path_storing::Outlook;
 
@@ -44,7 +47,7 @@ fn all_near(numbers: &[f32]) -> bool
 
 // What a plain list builds.
 pub(crate) fn foretell(letters: &[u8], numbers: &[f32]) -> Outlook
-    ensures { λ r. ⌜ PlainTold (now (letters .entry)) (now (numbers .entry)) r ⌝ }
+    ensures { λ r. ⌜ Foretells (buildListOf (givenList letters numbers)) r ⌝ }
 {
     let size = letters.len();
     if size == 0 {

@@ -7,7 +7,6 @@ use mathlib.Core.List.{List, [], _∷_, _++_, append-assoc, append-nil}
 use lib.Ieee.{Float}
 use lib.Ieee.Scale.{finite}
 use lib.ListN.{length, length-append}
-use Rattle.answers.specs.declared.refusals.Refusal.{Refusal}
 use Rattle.answers.specs.declared.refusals.Refusal.the-variants.{RotationRange, NotFinite}
 use Rattle.floats.specs.Floats.{zeroF}
 use Rattle.commands.specs.declared.command.PathCommand.{PathCommand}
@@ -44,7 +43,7 @@ pub drew-none : Drew [] [] 0 zeroF freshOf
 unfolding buildOf drawersOf drawersFrom
 drew-none = record { onward = λ rest. onto-nothing (buildFrom rest 0 zeroF freshOf); drawers = λ rest. refl; count = refl }
 
-module _ (commands : List PathCommand) (done : List PathSegment) (k : ℕ) (before : Float) (pen : Pen) (d : Drew commands done k before pen) where
+module _ {commands : List PathCommand} {done : List PathSegment} {k : ℕ} {before : Float} {pen : Pen} (d : Drew commands done k before pen) where
   -- no command is left
   pub drew-all : buildOf commands ≡ path done
   unfolding buildFrom

@@ -1,5 +1,5 @@
 -- The sites along a list of commands go with what the list builds. Assumes nothing.
-use Prim.Native.Nat.{ℕ, suc, _+_, _*_, _≤_, _<_}
+use Prim.Native.Nat.{ℕ, _+_, _*_, _≤_, _<_}
 use mathlib.Core.Path.{_≡_, refl, sym, ap, subst, _∙_}
 use mathlib.Core.Bool.{Bool, true, false, cond}
 use mathlib.Core.List.{List, [], _∷_, _++_, append-nil}
@@ -29,6 +29,10 @@ use Rattle.path_storing.specs.declared.sites.Advanced.{Advanced}
 use Rattle.path_storing.specs.declared.sites.Advanced.the-variants.{To, Refused}
 use Rattle.path_storing.proofs.Layouts.{kinds-append, fields-append, tables-append, endOf, end-append}
 
+-- so many numbers stand in a buffer with those of one segment more
+grows : {whole : List Float} (stood more : List Float) → whole ≡ stood ++ (more ++ []) → length whole ≡ length stood + length more
+grows stood more e = ap length e ∙ length-append stood (more ++ []) ∙ ap (λ l. length stood + length l) (append-nil more)
+
 -- after some commands, which drew some segments, the site is this
 pub record At (commands : List PathCommand) (done : List PathSegment) (site : Site) : Type 0 where
   pub drew : Drew commands done (site .segments) (site .length) (site .pen)
@@ -54,13 +58,13 @@ at-none =
       fewTables = omega arith;
     }
 
-module _ (commands : List PathCommand) (done : List PathSegment) (site : Site) (k : At commands done site) where
+module _ {commands : List PathCommand} {done : List PathSegment} {site : Site} (k : At commands done site) where
   pub at-few : length commands < 65536 → FewAt site
   at-few h = record { segments = omega (arith, k .few); fields = k .fewFields; tables = k .fewTables }
 
   -- no command is left
   pub at-all : buildOf commands ≡ path done
-  at-all = drew-all commands done (site .segments) (site .length) (site .pen) (k .drew)
+  at-all = drew-all (k .drew)
 
   -- what is built begins with what is drawn
   pub at-within : (rest : List PathCommand) (list : List PathSegment) → buildOf (commands ++ rest) ≡ path list → (more : List PathSegment) × (list ≡ done ++ more)
@@ -76,7 +80,7 @@ module _ (commands : List PathCommand) (done : List PathSegment) (site : Site) (
 
     -- the numbers of those that drew, with the next
     pub at-named : drawersOf (commands ++ (command ∷ [])) ≡ drawersOf commands ++ namedBy (length commands) (drawOf (site .pen) command)
-    at-named = drew-named commands done (site .segments) (site .length) (site .pen) (k .drew) command
+    at-named = drew-named (k .drew) command
 
     -- a command that draws nothing
     moves : (next : Pen) → drawOf (site .pen) command ≡ Moved next → At (commands ++ (command ∷ [])) (done ++ []) (movedOf site next)
@@ -84,7 +88,7 @@ module _ (commands : List PathCommand) (done : List PathSegment) (site : Site) (
     moves next e =
         rw (append-nil done)
         (record {
-          drew = drew-moved commands done (site .segments) (site .length) (site .pen) (k .drew) command next e;
+          drew = drew-moved (k .drew) command next e;
           ends = k .ends;
           kinds = k .kinds;
           fields = k .fields;
@@ -100,11 +104,11 @@ module _ (commands : List PathCommand) (done : List PathSegment) (site : Site) (
       unfolding afterOf kindsOf fieldsOfAll tablesOfAll endOf
       draws f =
           record {
-            drew = rw add-one (drew-segment commands done (site .segments) (site .length) (site .pen) (k .drew) command segment next e f);
+            drew = rw add-one (drew-segment (k .drew) command segment next e f);
             ends = ap (λ x. lengthAfter x segment) (k .ends) ∙ sym (end-append zeroF done (segment ∷ []));
             kinds = omega (arith, k .kinds, ap length (kinds-append done (segment ∷ [])) ∙ length-append (kindsOf done) (kindOf segment ∷ []));
-            fields = ap (λ n. n + length (fieldsOf segment)) (k .fields) ∙ sym (ap length (fields-append done (segment ∷ [])) ∙ length-append (fieldsOfAll done) (fieldsOf segment ++ []) ∙ ap (λ l. length (fieldsOfAll done) + length l) (append-nil (fieldsOf segment)));
-            tables = ap (λ n. n + length (tableStored segment)) (k .tables) ∙ sym (ap length (tables-append done (segment ∷ [])) ∙ length-append (tablesOfAll done) (tableStored segment ++ []) ∙ ap (λ l. length (tablesOfAll done) + length l) (append-nil (tableStored segment)));
+            fields = ap (λ n. n + length (fieldsOf segment)) (k .fields) ∙ sym (grows (fieldsOfAll done) (fieldsOf segment) (fields-append done (segment ∷ [])));
+            tables = ap (λ n. n + length (tableStored segment)) (k .tables) ∙ sym (grows (tablesOfAll done) (tableStored segment) (tables-append done (segment ∷ [])));
             few = omega (arith, k .few, more-commands);
             fewFields = omega (arith, k .fewFields, fields-most segment);
             fewTables = omega (arith, k .fewTables, table-most segment);
@@ -141,10 +145,10 @@ module _ (commands : List PathCommand) (done : List PathSegment) (site : Site) (
         by-length true f g = let z : _≡_ {A = ℕ} 0 1 = cc in absurd (omega arith)
         by-length false f g =
             let h : NotFinite (site .segments) ≡ reason = cc in
-            drew-infinite commands done (site .segments) (site .length) (site .pen) (k .drew) command segment pen e f rest ∙ ap refusal h
+            drew-infinite (k .drew) command segment pen e f rest ∙ ap refusal h
     refuses OutOfRange reason e j rest =
         let h : RotationRange (site .segments) ≡ reason = cc in
-        drew-turned commands done (site .segments) (site .length) (site .pen) (k .drew) command e rest ∙ ap refusal h
+        drew-turned (k .drew) command e rest ∙ ap refusal h
 
     pub at-refused : (reason : Refusal) → advanceOf site command ≡ Refused reason → (rest : List PathCommand) → buildOf ((commands ++ (command ∷ [])) ++ rest) ≡ refusal reason
     unfolding advanceOf
@@ -156,7 +160,8 @@ module _ (commands : List PathCommand) (done : List PathSegment) (site : Site) (
       never : (reason : Refusal) → advanceOf site command ≡ Refused reason → ⊥
       never reason e = let f = at-refused reason e rest in let z : _≡_ {A = ℕ} 0 1 = cc in omega arith
 
-      stores : (advanced : Advanced) → advanceOf site command ≡ advanced → (drawn : Drawn) → drawOf (site .pen) command ≡ drawn → judgedOf site drawn ≡ advanced → At (commands ++ (command ∷ [])) (done ++ drawnBy drawn) (nextOf site drawn)
+      stores : (advanced : Advanced) → advanceOf site command ≡ advanced → (drawn : Drawn) → drawOf (site .pen) command ≡ drawn → judgedOf site drawn ≡ advanced
+          → At (commands ++ (command ∷ [])) (done ++ drawnBy drawn) (nextOf site drawn)
       unfolding judgedOf nextOf
       stores (Refused reason) a drawn e j = absurd (never reason a)
       stores (To next) a (Moved pen) e j = moves pen e

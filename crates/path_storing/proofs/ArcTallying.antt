@@ -1,5 +1,5 @@
--- What an arc comes to where its end is calm: it counts eleven numbers, and a table of 33 unless it fell back to a line. Assumes nothing.
-use mathlib.Core.Path.{_≡_, refl, sym, ap, _∙_}
+-- What an arc comes to where its end is calm: it counts eleven fields, and a table of 33 numbers unless it fell back to a line. Assumes nothing.
+use mathlib.Core.Path.{_≡_, refl, ap}
 use mathlib.Core.Bool.{true}
 use lib.ListN.{length}
 use Rattle.ellipse.specs.declared.ends.Chord.{Chord}

@@ -18,7 +18,7 @@ use Rattle.path_drawing.specs.declared.strokes.Drawn.{Drawn}
 use Rattle.path_drawing.specs.Building.{path, buildOf, namedBy, drawersOf, drawersFrom}
 use Rattle.path_storing.specs.Sites.{startOf, nextOf, drawnBy, pathWritten, laidAt, Holds, Room, Laid}
 use Rattle.path_storing.specs.declared.sites.Site.{Site}
-use Rattle.path_storing.proofs.Layouts.{kinds-append, fields-append, tables-append, lengths-append, lengths-count, running-count, endOf}
+use Rattle.path_storing.proofs.Layouts.{kinds-append, fields-append, tables-append, lengths-append, lengths-count, endOf}
 use Rattle.path_storing.proofs.Along.{At, at-none, at-within, at-named, at-stored}
 
 -- room for a list is room for what it begins with
@@ -55,7 +55,7 @@ writes elements vs before {now} {at} {whole} e f g h =
 module _ {commands : List PathCommand} {site : Site} {b₀ b : Buffers} (k : Filling commands site b₀ b) {list : List PathSegment} (holds : Holds list b₀) where
   module _ (rest : List PathCommand) (builds : buildOf (commands ++ rest) ≡ path list) where
     first : Holds (k .done) b₀
-    first = let w = at-within commands (k .done) site (k .known) rest list builds in holds-first (k .done) (w .0) (rw (w .1) at holds)
+    first = let w = at-within (k .known) rest list builds in holds-first (k .done) (w .0) (rw (w .1) at holds)
 
     pub same-kinds : length (b .kinds) ≡ length (b₀ .kinds)
     same-kinds = ap (λ (x : Buffers). length (x .kinds)) (k .now) ∙ length-written (kindsOf (k .done)) (b₀ .kinds) (first .kindsFit)
@@ -82,12 +82,12 @@ module _ {commands : List PathCommand} {site : Site} {b₀ b : Buffers} (k : Fil
     here = ap buildOf (sym (append-assoc commands (command ∷ []) rest)) ∙ builds
 
     stored : At (commands ++ (command ∷ [])) (k .done ++ drawnBy drawn) (nextOf site drawn)
-    stored = at-stored commands (k .done) site (k .known) command rest list builds
+    stored = at-stored (k .known) command rest list builds
 
     held : Holds (k .done ++ drawnBy drawn) b₀
     held =
         let d = k .done ++ drawnBy drawn in
-        let w = at-within (commands ++ (command ∷ [])) d (nextOf site drawn) stored rest list builds in
+        let w = at-within stored rest list builds in
         holds-first d (w .0) (rw (w .1) at holds)
 
     -- what the next command draws has room
@@ -114,7 +114,7 @@ module _ {commands : List PathCommand} {site : Site} {b₀ b : Buffers} (k : Fil
         (writes (fieldsOfAll (k .done)) (fieldsOfAll d) (b₀ .fields) (ap (λ (x : Buffers). x .fields) (k .now)) (k .known .fields) (fields-append (k .done) d) (held .fieldsFit))
         (writes (tablesOfAll (k .done)) (tablesOfAll d) (b₀ .tables) (ap (λ (x : Buffers). x .tables) (k .now)) (k .known .tables) (tables-append (k .done) d) (held .tablesFit))
         (writes (lengthsOfAll (k .done)) (runningOf (site .length) d) (b₀ .lengths) (ap (λ (x : Buffers). x .lengths) (k .now)) (k .known .kinds ∙ sym (lengths-count (k .done))) running (held .lengthsFit))
-        (writes (drawersOf commands) (namedBy (length commands) drawn) (b₀ .commands) (ap (λ (x : Buffers). x .commands) (k .now)) (sym (k .known .drew .count)) (at-named commands (k .done) site (k .known) command)
+        (writes (drawersOf commands) (namedBy (length commands) drawn) (b₀ .commands) (ap (λ (x : Buffers). x .commands) (k .now)) (sym (k .known .drew .count)) (at-named (k .known) command)
         (omega (arith, held .commandsFit, stored .drew .count, stored .kinds)))
 
     pub filling-more : {next : Site} {b′ : Buffers} → Laid site (length commands) drawn b next b′ → Filling (commands ++ (command ∷ [])) next b₀ b′

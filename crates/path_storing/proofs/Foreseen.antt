@@ -1,12 +1,12 @@
 -- A count of calm points is what judging every length comes to: as long as the pen is calm and the running length is within so many times 2^69, no command whose points
 -- are calm is refused for its length. Assumes nothing.
-use Prim.Native.Nat.{ℕ, suc, _+_, _*_, _<_, _^_}
-use mathlib.Core.Path.{_≡_, refl, sym, ap, subst, _∙_}
+use Prim.Native.Nat.{ℕ, _*_, _^_}
+use mathlib.Core.Path.{_≡_, refl, sym, ap, subst}
 use mathlib.Core.Bool.{Bool, true, false, _&&_, cond}
 use native.Mathlib.Omega.{arith}
 use native.Mathlib.Numerals.{add-one}
 use lib.Dec.{T}
-use lib.Ieee.{Float, binary32, ofBits, neg, le, lt, eq}
+use lib.Ieee.{ofBits, neg, le, lt, eq}
 use lib.Ieee.Fits.{and-l, and-r}
 use lib.Ieee.Scale.{finite}
 use lib.ListN.{length}

@@ -1,8 +1,8 @@
 -- What a command comes to, way by way. Assumes nothing.
 use Prim.Native.Nat.{ℕ, _+_, _≤_, _<_}
 use mathlib.Core.Path.{_≡_, refl, sym, ap, subst, _∙_}
-use mathlib.Core.Bool.{Bool, true, false}
-use mathlib.Core.List.{List, [], _∷_, _++_, append-nil}
+use mathlib.Core.Bool.{true, false}
+use mathlib.Core.List.{List, [], _∷_, append-nil}
 use native.Mathlib.Nat.{add-zero}
 use native.Mathlib.Omega.{arith}
 use lib.Ieee.{Float, binary32, add}
@@ -23,11 +23,11 @@ use Rattle.path_stored.specs.Buffers.{Buffers, buffers}
 use Rattle.path_stored.proofs.Buffers.{buffers-are}
 use Rattle.path_stored.specs.Layout.{kindsOf, fieldsOfAll, tablesOfAll, runningOf}
 use Rattle.path_drawing.specs.Drawing.{drawnOf, drawOf}
-use Rattle.path_drawing.specs.Building.{lengthAfter, namedBy}
+use Rattle.path_drawing.specs.Building.{lengthAfter}
 use Rattle.path_drawing.specs.declared.pens.Pen.{Pen}
 use Rattle.path_drawing.specs.declared.strokes.Drawn.{Drawn}
 use Rattle.path_drawing.specs.declared.strokes.Drawn.the-variants.{Moved, Segment, OutOfRange}
-use Rattle.path_storing.specs.Sites.{afterOf, movedOf, nextOf, judgedOf, advanceOf, drawnBy, siteAt, Room, SegmentLaid, Laid}
+use Rattle.path_storing.specs.Sites.{afterOf, movedOf, nextOf, judgedOf, advanceOf, siteAt, Room, SegmentLaid, Laid}
 use Rattle.path_storing.specs.declared.sites.Site.{Site}
 use Rattle.path_storing.specs.declared.sites.Advanced.the-variants.{To, Refused}
 
@@ -102,7 +102,7 @@ pub stored-laid :
 unfolding nextOf
 stored-laid s k = record { siteAfter = s; after = k .after }
 
--- ---- a line, whose numbers are known
+-- ---- a line, whose fields are known
 
 pub line-fits : {site : Site} {line : LineSegment} {pen : Pen} {b : Buffers} → Room site (Segment (Line line) pen) b → site .fields + 4 ≤ length (b .fields)
 line-fits room = fields-fit room
@@ -123,7 +123,7 @@ line-laid {site} {n} {line} {pen} {b} f h p = stored-laid (rw (p, h, no-table li
 
 -- ---- a curve, which has a table
 
--- the site after a segment of so many numbers
+-- the site after a segment of so many fields, with so many numbers in its table
 pub after-is :
     (site : Site) (segment : PathSegment) {pen next : Pen} {l : Float} {own more : ℕ}
     → own ≡ length (fieldsOf segment) → more ≡ length (tableStored segment) → l ≡ lengthAfter (site .length) segment → next ≡ pen

@@ -20,7 +20,7 @@ use Rattle.path_storing.specs.Tallies.{stayedOf, grownOf, strokedOf, isB
 use Rattle.path_storing.specs.declared.tallies.Tally.{Tally}
 use Rattle.path_storing.specs.declared.tallies.Tallied.the-variants.{To, Unsure}
 
--- an arc is judged by its numbers
+-- an arc is judged by its fields
 pub bounded-arc : (segment : PathSegment) (shape : Shape) → segment ≡ Arc shape → isCalmArc shape ≡ isBounded segment
 bounded-arc segment shape e = rw e
 

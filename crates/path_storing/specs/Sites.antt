@@ -68,7 +68,7 @@ drawnBy (Moved next) = []
 drawnBy (Segment segment next) = segment ∷ []
 drawnBy OutOfRange = []
 
--- there are so few segments that every count fits; a segment has at most 11 numbers, its table 33
+-- there are so few segments that every count fits; a segment has at most 11 fields, its table 33 numbers
 pub record Few (m n k : ℕ) : Type 0 where
   pub segments : m < 65536
   pub fields : n ≤ 11 * m
@@ -79,7 +79,7 @@ FewAt site = Few (site .segments) (site .fields) (site .tables)
 
 -- a site of which only the counts and the running length are asked
 abbrev pub siteAt : Float → ℕ → ℕ → ℕ → Site
-siteAt before place own more = record { pen = freshOf; length = before; segments = place; fields = own; tables = more }
+siteAt before index own more = record { pen = freshOf; length = before; segments = index; fields = own; tables = more }
 
 -- ---- in the buffers
 
@@ -111,7 +111,7 @@ pub record Room (site : Site) (drawn : Drawn) (b : Buffers) : Type 0 where
   pub lengthsFit : site .segments + length (kindsOf (drawnBy drawn)) ≤ length (b .lengths)
   pub commandsFit : site .segments + length (kindsOf (drawnBy drawn)) ≤ length (b .commands)
 
--- a segment of the command numbered n is stored at a site, no other place is touched, and the running length up to its end is told
+-- a segment of the command numbered n is stored at a site, nothing else is touched, and the running length up to its end is told
 pub record SegmentLaid (site : Site) (n : ℕ) (segment : PathSegment) (b : Buffers) (r : Float) (b′ : Buffers) : Type 0 where
   pub lengthTold : r ≡ lengthAfter (site .length) segment
   pub after : b′ ≡ laidAt site (segment ∷ []) (n ∷ []) b

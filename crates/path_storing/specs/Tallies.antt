@@ -27,7 +27,7 @@ tallyOf site = record { pen = site .pen; segments = site .segments; fields = sit
 abbrev pub FewIn : Tally → Type 0
 FewIn tally = Few (tally .segments) (tally .fields) (tally .tables)
 
--- after a command that draws no segment, and after one of so many numbers
+-- after a command that draws no segment, and after one of so many fields, with so many numbers in its table
 abbrev pub stayedOf : Tally → Pen → Tally
 stayedOf tally next = record { pen = next; segments = tally .segments; fields = tally .fields; tables = tally .tables }
 

@@ -19,7 +19,7 @@ use math::distance;
 use path_drawing::drawn;
 use path_segment::PathSegment;
 
-// Puts a point that has no NaN at two places.
+// Puts a point that has no NaN at `at` and after it.
 fn put_point(fields: &mut [f32], at: usize, p: Point)
     requires { ⌜ at + 2 ≤ length (now fields) ⌝ }
     ensures { λ _. ⌜ now (fields .exit) ≡ sets (now (fields .entry)) at (p .x ∷ p .y ∷ []) ⌝ }
@@ -46,18 +46,18 @@ fn lay_line(
 {
     let pen = site.pen;
     let start = pen.current;
-    let place = site.segments;
+    let index = site.segments;
     let at = site.fields;
-    kinds[place] = 0;
+    kinds[index] = 0;
     put_point(fields, at, start);
     put_point(fields, at + 2, end);
     let length = site.length + distance(start, end);
-    lengths[place] = length;
-    commands[place] = number;
+    lengths[index] = length;
+    commands[index] = number;
     Site {
         pen: drawn(pen, end),
         length,
-        segments: place + 1,
+        segments: index + 1,
         fields: at + 4,
         tables: site.tables,
     }

@@ -72,11 +72,11 @@ pub fn advance(site: Site, command: PathCommand) -> Advanced
     }
 }
 
-// Stores a segment of the command with this number at places of its buffers, after the running length `passed`, and gives the running
-// length up to its end. No site is passed, so that callers keep theirs in registers.
+// Stores a segment of the command with this number where its kind, its fields and its table stand, after the running length `passed`, and
+// gives the running length up to its end. No site is passed, so that callers keep theirs in registers.
 pub(crate) fn store_segment(
     passed: f32,
-    place: usize,
+    index: usize,
     own: usize,
     more: usize,
     number: u32,
@@ -87,14 +87,14 @@ pub(crate) fn store_segment(
     lengths: &mut [f32],
     commands: &mut [u32],
 ) -> f32
-    requires { ⌜ Room (siteAt passed place own more) (Segment segment freshOf) (lent kinds fields tables lengths commands) ⌝ }
-    ensures { λ r. ⌜ SegmentLaid (siteAt passed place own more) number segment (before kinds fields tables lengths commands) r (after kinds fields tables lengths commands) ⌝ }
+    requires { ⌜ Room (siteAt passed index own more) (Segment segment freshOf) (lent kinds fields tables lengths commands) ⌝ }
+    ensures { λ r. ⌜ SegmentLaid (siteAt passed index own more) number segment (before kinds fields tables lengths commands) r (after kinds fields tables lengths commands) ⌝ }
 {
-    kinds[place] = kind(segment);
+    kinds[index] = kind(segment);
     put_segment(fields, own, segment);
     let length = tidy(passed + store_table(tables, more, segment));
-    lengths[place] = length;
-    commands[place] = number;
+    lengths[index] = length;
+    commands[index] = number;
     length
 }
 

@@ -9,7 +9,7 @@ pub struct Site {
     pub pen: Pen,
     // The running length so far, finite, in path units.
     pub length: f32,
-    // How many segments there are so far, and how many numbers they and their tables store.
+    // How many segments there are so far, how many fields they have, and how many numbers their tables.
     pub segments: usize,
     pub fields: usize,
     pub tables: usize,

@@ -25,7 +25,7 @@ use path_segment::width;
 // A site without its running length.
 pub struct Tally {
     pub pen: Pen,
-    // How many segments there are so far, and how many numbers they and their tables store.
+    // How many segments there are so far, how many fields they have, and how many numbers their tables.
     pub segments: usize,
     pub fields: usize,
     pub tables: usize,
@@ -73,7 +73,7 @@ pub(crate) fn stayed(so_far: Tally, pen: Pen) -> Tally
     }
 }
 
-// The tally after a segment of `own` numbers and `more` in its table.
+// The tally after a segment of `own` fields, with `more` numbers in its table.
 pub(crate) fn grown(so_far: Tally, pen: Pen, own: usize, more: usize) -> Tally
     requires { ⌜ FewIn «so_far» × (own ≤ 11) × (more ≤ 33) ⌝ }
     ensures { λ r. ⌜ r ≡ grownOf «so_far» pen own more ⌝ }
@@ -102,7 +102,7 @@ fn stroked(so_far: Tally, calm: bool, end: Point, own: usize, more: usize) -> Ta
     Tallied::Unsure
 }
 
-// Whether a segment between calm points is not long: an arc is judged by its numbers.
+// Whether a segment between calm points is not long: an arc is judged by its fields.
 fn is_bounded(segment: PathSegment) -> bool
     ensures { λ r. ⌜ r ≡ isBounded segment ⌝ }
 {

@@ -1,11 +1,10 @@
--- What a text builds (source document 002, `try_from_svg`; document 01, "The answers"; document 02, L5): reading it and building its commands after each other. A command's number is its place
+-- What a text builds (source document 002, `try_from_svg`; document 01, "The answers"; document 02, L5): reading it and building its commands after each other. A command's number is its index
 -- in the list that reading gives. Definitions only.
 use Prim.Native.Nat.{ℕ}
 use mathlib.Core.Path.{_≡_}
 use mathlib.Core.Bool.{cond}
 use mathlib.Core.List.{List, []}
 use lib.Dec.{ltb}
-use lib.Ieee.{Float}
 use lib.ListN.{length}
 use Rattle.answers.specs.declared.refusals.Refusal.the-variants.{TooLong}
 use Rattle.commands.specs.declared.command.PathCommand.{PathCommand}
@@ -30,9 +29,13 @@ abbrev pub drawersIn : Outcome → List ℕ
 drawersIn (commands list) = drawersOf list
 drawersIn (unread reason) = []
 
--- 1, 2 to 7 in the whole text, 10 and 11 segment by segment, then 8
-unfoldable pub buildTextOf : List ℕ → Counts → Built
-buildTextOf text lent = cond (ltb 65536 (length text)) (refusal (TooLong (length text))) (roomed lent (builtFrom (commandsOf text)))
+-- 1, 2 to 7 in the whole text, 10 and 11 segment by segment
+unfoldable pub buildReadOf : List ℕ → Built
+buildReadOf text = cond (ltb 65536 (length text)) (refusal (TooLong (length text))) (builtFrom (commandsOf text))
+
+-- then 8
+abbrev pub buildTextOf : List ℕ → Counts → Built
+buildTextOf text lent = roomed lent (buildReadOf text)
 
 abbrev pub drawersTextOf : List ℕ → List ℕ
 drawersTextOf text = drawersIn (commandsOf text)

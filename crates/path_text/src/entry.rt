@@ -1,27 +1,26 @@
 // The entry over a text.
 ghost use mathlib.Core.Path.{_≡_};
-ghost use Prim.Native.Nat.{_≤_};
-ghost use lib.ListN.{length};
-ghost use Rattle.svg.specs.Texts.{commandsOf};
 ghost use Rattle.path_stored.specs.Buffers.{after, before};
 ghost use Rattle.path_build.specs.Answers.{measureOf};
-ghost use Rattle.path_text.specs.Builds.{builtFrom, BuildFromText};
+ghost use Rattle.path_text.specs.Builds.{buildReadOf, BuildFromText};
 use crate::texts::Found;
 use crate::texts::fill;
 use crate::texts::measure;
 use crate::texts::unbuilt;
 use answers::Refusal;
-use answers::Values;
 use path_build::Building;
 use path_build::inner::Counts;
 use path_build::inner::Size;
-use path_build::inner::is_short;
+use path_build::inner::room;
 
 // What a text builds: the places needed, or its first refusal, where any of reading comes before one of building.
 fn size_of(text: &[u8]) -> Size
-    requires { ⌜ length (now text) ≤ 65536 ⌝ }
-    ensures { λ r. ⌜ r ≡ measureOf (builtFrom (commandsOf (now (text .entry)))) ⌝ }
+    ensures { λ r. ⌜ r ≡ measureOf (buildReadOf (now (text .entry))) ⌝ }
 {
+    let size = text.len();
+    if 65536 < size {
+        return Size::Refused(Refusal::TooLong(size));
+    }
     match measure(text) {
         Found::Counted {
             segments,
@@ -44,7 +43,7 @@ fn size_of(text: &[u8]) -> Size
 }
 
 // Builds the stored path of a text: a kind, a running length and the number of its command, in the list that reading gives, for each
-// segment, its numbers and its table, each from its buffer's start. A refusal writes nothing, and what stands past the counted places is
+// segment, its fields and its table, each from its buffer's start. A refusal writes nothing, and what stands past the counted places is
 // left as it was.
 pub fn build_from_text(
     text: &[u8],
@@ -56,42 +55,22 @@ pub fn build_from_text(
 ) -> Building
     ensures { λ r. ⌜ BuildFromText (now (text .entry)) (before kinds fields tables lengths commands) r (after kinds fields tables lengths commands) ⌝ }
 {
-    let size = text.len();
-    if 65536 < size {
-        return Building::Refused(Refusal::TooLong(size));
-    }
-    match size_of(text) {
-        Size::Refused(refusal) => {
+    let lent = Counts {
+        kinds: kinds.len(),
+        fields: fields.len(),
+        tables: tables.len(),
+        lengths: lengths.len(),
+        commands: commands.len(),
+    };
+    match room(size_of(text), lent) {
+        Building::Refused(refusal) => {
             return Building::Refused(refusal);
         }
-        Size::Counted {
+        Building::Built {
             segments,
             fields: own,
             tables: more,
         } => {
-            let needed = Counts {
-                kinds: segments,
-                fields: own,
-                tables: more,
-                lengths: segments,
-                commands: segments,
-            };
-            let lent = Counts {
-                kinds: kinds.len(),
-                fields: fields.len(),
-                tables: tables.len(),
-                lengths: lengths.len(),
-                commands: commands.len(),
-            };
-            if is_short(needed, lent) {
-                return Building::Refused(Refusal::NoRoom(Values::Five(
-                    segments,
-                    own,
-                    more,
-                    segments,
-                    segments,
-                )));
-            }
             fill(text, kinds, fields, tables, lengths, commands);
             return Building::Built {
                 segments,

@@ -5,7 +5,7 @@ ghost use lib.ListN.{length};
 ghost use Rattle.svg.specs.Texts.{commandsOf};
 ghost use Rattle.path_stored.specs.Buffers.{after, before, lent};
 ghost use Rattle.path_build.specs.Answers.{measureOf, Foretells, Holding, Filled};
-ghost use Rattle.path_text.specs.Builds.{builtFrom, drawersTextOf, Finds};
+ghost use Rattle.path_text.specs.Builds.{builtFrom, buildReadOf, drawersTextOf, Finds};
 ghost use Rattle.path_text.specs.declared.texts.Found.the-variants.{Unbuilt};
 use answers::Refusal;
 use path_build::inner::Size;
@@ -153,8 +153,8 @@ pub(crate) fn fill(
     lengths: &mut [f32],
     commands: &mut [u32],
 )
-    requires { ⌜ (length (now text) ≤ 65536) × Holding (builtFrom (commandsOf (now text))) (lent kinds fields tables lengths commands) ⌝ }
-    ensures { λ _. ⌜ Filled (builtFrom (commandsOf (now (text .entry)))) (drawersTextOf (now (text .entry)))
+    requires { ⌜ Holding (buildReadOf (now text)) (lent kinds fields tables lengths commands) ⌝ }
+    ensures { λ _. ⌜ Filled (buildReadOf (now (text .entry))) (drawersTextOf (now (text .entry)))
         (before kinds fields tables lengths commands) (after kinds fields tables lengths commands) ⌝ }
 {
     let mut reader = fresh();

@@ -1,6 +1,6 @@
 -- A list of at most 256 commands: what it builds has room in the tool's buffers. Assumes nothing.
 use Prim.Native.Nat.{ℕ, suc, _*_, _≤_}
-use mathlib.Core.Path.{_≡_, refl, sym, ap}
+use mathlib.Core.Path.{_≡_, refl, sym, ap, _∙_}
 use mathlib.Core.Bool.{Bool, true, false, cond}
 use mathlib.Core.List.{List, [], _∷_}
 use native.Mathlib.Omega.{arith}
@@ -13,7 +13,6 @@ use Rattle.answers.specs.declared.refusals.Refusal.{Refusal}
 use Rattle.answers.specs.declared.refusals.Refusal.the-variants.{NotFinite}
 use Rattle.answers.proofs.Settled.{refused-settled, refused-not-accepted}
 use Rattle.floats.specs.Floats.{zeroF}
-use Rattle.commands.proofs.ReadBack.{read-back}
 use Rattle.commands.specs.Stored.{argumentsOf, lettersOf, numbersOf}
 use Rattle.commands.specs.declared.command.PathCommand.{PathCommand}
 use Rattle.commands.specs.declared.command.PathCommand.the-variants.{MoveTo, LineTo, QuadTo, CubicTo, ArcTo, ClosePath}
@@ -28,8 +27,10 @@ use Rattle.path_drawing.specs.declared.pens.Pen.{Pen}
 use Rattle.path_drawing.specs.declared.strokes.Drawn.{Drawn}
 use Rattle.path_drawing.specs.declared.strokes.Drawn.the-variants.{Moved, Segment, OutOfRange}
 use Rattle.path_build.specs.Answers.{isShort, countsOf, values, roomed, answered}
+use Rattle.path_build.specs.Lists.{listFor}
 use Rattle.path_build.specs.Paths.{buildPathOf}
 use Rattle.path_build.specs.declared.sizes.Counts.{Counts}
+use Rattle.path_build.proofs.Lists.{stored-builds}
 use Rattle.path_storing.proofs.Layouts.{lengths-count}
 use Rattle.station_commands.proofs.PlanLaws.{letters-count}
 
@@ -119,9 +120,8 @@ module _ (list : List PathCommand) (few : length (lettersOf list) ≤ 256) where
   roomed-same (refusal reason) e = refl
 
   -- what the tool's buffers are filled from is what the list builds
-  pub built-as : buildPathOf (lettersOf list) (numbersOf list) lent ≡ buildOf list
-  unfolding buildPathOf
-  built-as = rw (le-ltb 65536 (length (lettersOf list)) (omega arith), read-back 0 list) (roomed-same (buildOf list) refl)
+  pub built-as : buildPathOf (listFor list) lent ≡ buildOf list
+  built-as = ap (roomed lent) (stored-builds list (omega (arith, letters-count list))) ∙ roomed-same (buildOf list) refl
 
 -- ---- the answer tells what is built
 
@@ -129,16 +129,16 @@ pub told-refused : (reason : Refusal) (built : Built) → refused reason ≡ ans
 told-refused reason (path segments) e = absurd (refused-not-accepted reason _ e)
 told-refused reason (refusal other) e = ap refusal (sym (refused-settled reason other e))
 
-pub record BuiltAs (segments fields tables : ℕ) (built : Built) : Type 0 where
+pub record BuiltAs (s f t : ℕ) (built : Built) : Type 0 where
   pub list : List PathSegment
   pub is : built ≡ path list
-  pub kinds : segments ≡ length (kindsOf list)
-  pub numbers : fields ≡ length (fieldsOfAll list)
-  pub entries : tables ≡ length (tablesOfAll list)
-  pub running : segments ≡ length (lengthsOfAll list)
+  pub kinds : s ≡ length (kindsOf list)
+  pub fields : f ≡ length (fieldsOfAll list)
+  pub tables : t ≡ length (tablesOfAll list)
+  pub running : s ≡ length (lengthsOfAll list)
 
-pub told-built : (segments fields tables : ℕ) (built : Built) → accepted (segments ∷ fields ∷ tables ∷ segments ∷ segments ∷ []) ≡ answered built → BuiltAs segments fields tables built
-told-built segments fields tables (path list) e =
-    let v : segments ∷ fields ∷ tables ∷ segments ∷ segments ∷ [] ≡ values (countsOf list) = ap (λ (a : Answer). a .values) e in
-    record { list = list; is = refl; kinds = cc; numbers = cc; entries = cc; running = cc }
-told-built segments fields tables (refusal reason) e = absurd (refused-not-accepted reason _ (sym e))
+pub told-built : (s f t : ℕ) (built : Built) → accepted (s ∷ f ∷ t ∷ s ∷ s ∷ []) ≡ answered built → BuiltAs s f t built
+told-built s f t (path list) e =
+    let v : s ∷ f ∷ t ∷ s ∷ s ∷ [] ≡ values (countsOf list) = ap (λ (a : Answer). a .values) e in
+    record { list = list; is = refl; kinds = cc; fields = cc; tables = cc; running = cc }
+told-built s f t (refusal reason) e = absurd (refused-not-accepted reason _ (sym e))

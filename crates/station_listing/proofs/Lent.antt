@@ -1,18 +1,14 @@
 -- The tool's own buffers: the path of a list that is lent, built in them. Assumes nothing.
 use Prim.Native.Nat.{ℕ, _≤_, _<_}
 use mathlib.Core.Path.{_≡_, refl, sym, ap, subst, _∙_}
-use mathlib.Core.List.{List, []}
+use mathlib.Core.List.{List}
 use native.Mathlib.Omega.{arith}
 use borrow.Author.Tests.{le-ltb}
-use lib.Ieee.{Float}
 use lib.ListN.{length, getD, take, drop}
 use lib.Seq.{take-append-seam}
-use Rattle.answers.specs.Answers.{accepted}
 use Rattle.answers.specs.Report.{written}
 use Rattle.answers.specs.declared.refusals.Refusal.{Refusal}
-use Rattle.commands.proofs.ReadBack.{read-back, stored-passes}
-use Rattle.commands.specs.Checked.{checkCommandsOf}
-use Rattle.commands.specs.Stored.{lettersOf, numbersOf}
+use Rattle.commands.specs.Stored.{lettersOf}
 use Rattle.commands.specs.declared.command.PathCommand.{PathCommand}
 use Rattle.svg.specs.Texts.{offsetsOf}
 use Rattle.path_segment.specs.declared.segments.PathSegment.{PathSegment}
@@ -23,10 +19,12 @@ use Rattle.path_stored.proofs.Buffers.{buffers-are}
 use Rattle.path_stored.proofs.Rule.{stored-rule}
 use Rattle.path_drawing.specs.Building.{Built, path, buildOf, drawersOf}
 use Rattle.path_storing.specs.Sites.{pathWritten}
-use Rattle.path_build.specs.Answers.{answerOf, answered, segmentsWritten, numbersWritten, Answers}
-use Rattle.path_build.specs.Paths.{drawersBy, lentOf, buildPathOf, drawersPathOf}
+use Rattle.path_build.specs.Answers.{answerOf, answered, segmentsWritten, numbersWritten}
+use Rattle.path_build.specs.Lists.{StoredList}
+use Rattle.path_build.specs.Paths.{lentOf, drawersListOf, buildPathOf, BuildPath}
 use Rattle.path_build.specs.declared.sizes.Building.{Building}
 use Rattle.path_build.specs.declared.sizes.Building.the-variants.{Built as Done, Refused}
+use Rattle.path_build.proofs.Lists.{stored-drawers}
 use Rattle.path_build.proofs.Numbering.{drawers-count, made-by}
 use Rattle.path_build.proofs.Sound.{built-stored}
 use Rattle.station_lines.specs.Lines.{refusalLine}
@@ -44,8 +42,8 @@ take-written xs before now n e f =
 
 -- ---- the commands
 
-pub sized : {text letters : List ℕ} {numbers : List Float} → Held text letters numbers → Sized text (length letters)
-sized k = record { short = k .short; list = k .list; reads = k .reads; count = ap length (k .own) ∙ letters-count (k .list); few = k .few }
+pub sized : {text : List ℕ} {held : StoredList} → Held text held → Sized text (length (held .letters))
+sized k = record { short = k .short; list = k .list; reads = k .reads; count = ap (λ (l : StoredList). length (l .letters)) (k .own) ∙ letters-count (k .list); few = k .few }
 
 -- ---- the path
 
@@ -75,32 +73,21 @@ pub record Flight (commands : List PathCommand) (b : Buffers) : Type 0 where
   pub is : buildOf commands ≡ path list
   pub held : b ≡ laidOut list (drawersOf commands)
 
-module _ {text letters : List ℕ} {numbers : List Float} (k : Held text letters numbers) where
-  pub lent-passes : checkCommandsOf letters numbers ≡ accepted []
-  lent-passes =
-      ap (λ (l : List ℕ). checkCommandsOf l numbers) (k .own)
-      ∙ ap (λ (n : List Float). checkCommandsOf (lettersOf (k .list)) n) (k .more)
-      ∙ stored-passes (k .list) (omega (arith, k .few))
-
+module _ {text : List ℕ} {held : StoredList} (k : Held text held) where
   -- what is built of the list is what the plan prints
   told : (count : ℕ) → builtOf count (k .list) (offsetsOf text) (buildOf (k .list)) ≡ planOf count text
   unfolding planOf readOf
   told count = rw (le-ltb 4096 (length text) (k .short), k .reads, le-ltb 256 (length (lettersOf (k .list))) (omega (arith, k .few, letters-count (k .list)))) refl
 
-  module _
-      {b : Buffers} {r : Building} {b′ : Buffers} (a : Answers (buildPathOf letters numbers (lentOf b)) (drawersPathOf letters numbers) b r b′) (full : Full b) where
-    built-in : buildPathOf letters numbers (lentOf b) ≡ buildOf (k .list)
+  module _ {b : Buffers} {r : Building} {b′ : Buffers} (a : BuildPath held b r b′) (full : Full b) where
+    built-in : buildPathOf held (lentOf b) ≡ buildOf (k .list)
     built-in =
-        ap (buildPathOf letters numbers) (lent-as full)
-        ∙ ap (λ (l : List ℕ). buildPathOf l numbers lent) (k .own)
-        ∙ ap (λ (n : List Float). buildPathOf (lettersOf (k .list)) n lent) (k .more)
+        ap (buildPathOf held) (lent-as full)
+        ∙ ap (λ (l : StoredList). buildPathOf l lent) (k .own)
         ∙ built-as (k .list) (omega (arith, k .few, letters-count (k .list)))
 
-    drawers-in : drawersPathOf letters numbers ≡ drawersOf (k .list)
-    drawers-in =
-        ap (λ (l : List ℕ). drawersPathOf l numbers) (k .own)
-        ∙ ap (λ (n : List Float). drawersPathOf (lettersOf (k .list)) n) (k .more)
-        ∙ ap drawersBy (read-back 0 (k .list))
+    drawers-in : drawersListOf held ≡ drawersOf (k .list)
+    drawers-in = ap drawersListOf (k .own) ∙ stored-drawers (k .list)
 
     answer-as : (s : Building) → r ≡ s → answerOf s ≡ answered (buildOf (k .list))
     answer-as s e = ap answerOf (sym e) ∙ a .answer ∙ ap answered built-in
@@ -120,7 +107,7 @@ module _ {text letters : List ℕ} {numbers : List Float} (k : Held text letters
       wrote : b′ ≡ pathWritten (built-here .list) (drawersOf (k .list)) b
       wrote =
           a .after
-          ∙ ap (λ (built : Built). pathWritten (segmentsWritten built) (numbersWritten built (drawersPathOf letters numbers)) b) (built-in ∙ built-here .is)
+          ∙ ap (λ (built : Built). pathWritten (segmentsWritten built) (numbersWritten built (drawersListOf held)) b) (built-in ∙ built-here .is)
           ∙ ap (λ (drawers : List ℕ). pathWritten (built-here .list) drawers b) drawers-in
 
       pub flight : Flight (k .list) (first s f t b′)
@@ -132,8 +119,8 @@ module _ {text letters : List ℕ} {numbers : List Float} (k : Held text letters
             is = h .is;
             held =
                 buffers-are (take-written (kindsOf (h .list)) (b .kinds) (b′ .kinds) s (ap (λ (x : Buffers). x .kinds) wrote) (h .kinds))
-                (take-written (fieldsOfAll (h .list)) (b .fields) (b′ .fields) f (ap (λ (x : Buffers). x .fields) wrote) (h .numbers))
-                (take-written (tablesOfAll (h .list)) (b .tables) (b′ .tables) t (ap (λ (x : Buffers). x .tables) wrote) (h .entries))
+                (take-written (fieldsOfAll (h .list)) (b .fields) (b′ .fields) f (ap (λ (x : Buffers). x .fields) wrote) (h .fields))
+                (take-written (tablesOfAll (h .list)) (b .tables) (b′ .tables) t (ap (λ (x : Buffers). x .tables) wrote) (h .tables))
                 (take-written (lengthsOfAll (h .list)) (b .lengths) (b′ .lengths) s (ap (λ (x : Buffers). x .lengths) wrote) (h .running))
                 (take-written (drawersOf (k .list)) (b .commands) (b′ .commands) s (ap (λ (x : Buffers). x .commands) wrote) d);
           }
@@ -144,8 +131,8 @@ module _ {text letters : List ℕ} {numbers : List Float} (k : Held text letters
           let h = built-here in
           let n = segments-few (k .list) (h .list) (h .is) in (
             omega (arith, h .kinds, kinds-count (h .list), n, k .few),
-            omega (arith, h .numbers, fields-few (h .list), n, k .few),
-            omega (arith, h .entries, tables-few (h .list), n, k .few),
+            omega (arith, h .fields, fields-few (h .list), n, k .few),
+            omega (arith, h .tables, tables-few (h .list), n, k .few),
           )
 
   module _ {b : Buffers} (here : Flight (k .list) b) where

@@ -2,7 +2,7 @@
 -- the last one's 1; and each line has its pair's segment number. The path must have a segment and be longer than 2^-23. What is built are f32 values, so that nothing else is asked.
 -- Assumes nothing.
 use Prim.Native.Nat.{ℕ, _<_}
-use mathlib.Core.Path.{_≡_, refl, ap, _∙_}
+use mathlib.Core.Path.{_≡_, refl}
 use mathlib.Core.List.{List}
 use native.Mathlib.Omega.{arith}
 use borrow.Author.Tests.{le-ltb}

@@ -30,6 +30,7 @@ use Rattle.station_lines.specs.Lines.{refusalLine}
 use Rattle.station_lines.specs.Put.{PutWithin}
 use Rattle.station_lines.proofs.Putting.{within-as}
 use Rattle.station_commands.proofs.PlanLaws.{letters-count}
+use Rattle.path_build.specs.Lists.{storedList}
 use Rattle.station_listing.specs.Stations.{readOf, planOf, judgedOf, stationsOf, Takes, Stations, Held}
 use Rattle.station_listing.proofs.Flying.{numbers-few}
 use Rattle.station_listing.proofs.Lent.{take-written}
@@ -196,14 +197,16 @@ module _ (input : List ℕ) (start : ℕ) where
       numbers-most = omega (arith, known .more, numbers-few (known .list), known .few)
 
       -- the list stands in the first places of the buffers
-      pub held : Held text (take letters (left .letters)) (take numbers (left .numbers))
+      pub held : Held text (storedList (take letters (left .letters)) (take numbers (left .numbers)))
       held =
           let wrote : left ≡ writtenOver (listOf text (known .list)) stood = said .memory ∙ ap (λ (o : Outcome). writtenOver (storedOf text o) stood) (into ∙ known .read) in
           record {
             short = short-text;
             list = known .list;
             reads = known .reads;
-            own = take-written (lettersOf (known .list)) (stood .letters) (left .letters) letters (ap (λ (l : CommandList). l .letters) wrote) (known .own);
-            more = take-written (numbersOf (known .list)) (stood .numbers) (left .numbers) numbers (ap (λ (l : CommandList). l .numbers) wrote) (known .more);
+            own = rw (
+              take-written (lettersOf (known .list)) (stood .letters) (left .letters) letters (ap (λ (l : CommandList). l .letters) wrote) (known .own),
+              take-written (numbersOf (known .list)) (stood .numbers) (left .numbers) numbers (ap (λ (l : CommandList). l .numbers) wrote) (known .more),
+            );
             few = omega (arith, letters-count (known .list), known .few);
           }

@@ -4,7 +4,6 @@ use mathlib.Core.Path.{_≡_}
 use mathlib.Core.Bool.{Bool, cond}
 use mathlib.Core.List.{List, [], _∷_, _++_}
 use lib.Dec.{ltb}
-use lib.Ieee.{Float}
 use lib.ListN.{length, drop}
 use Rattle.answers.specs.Report.{written}
 use Rattle.answers.specs.declared.refusals.Values.the-variants.{Three}
@@ -15,6 +14,7 @@ use Rattle.svg.specs.Texts.{Outcome, commands, refusal, commandsOf, offsetsOf}
 use Rattle.path_stored.specs.Buffers.{Buffers}
 use Rattle.path_stored.specs.Layout.{laidOut}
 use Rattle.path_drawing.specs.Building.{Built, path, refusal as unbuilt, buildOf, drawersOf}
+use Rattle.path_build.specs.Lists.{StoredList, listFor}
 use Rattle.text_reader.specs.Plans.{firstLineOf}
 use Rattle.text_reader.specs.declared.line.FirstLine.{FirstLine}
 use Rattle.text_reader.specs.declared.line.FirstLine.the-variants.{Stations as Asked, Refused}
@@ -83,13 +83,12 @@ pub record Stations (input before : List ℕ) (r : ℕ) (after : List ℕ) : Typ
 
 -- ---- what the parts ask and leave
 
--- the text is short enough and reads, and these are the letters and numbers of its commands, at most 256
-pub record Held (text letters : List ℕ) (numbers : List Float) : Type 0 where
+-- the text is short enough and reads, and this is the list of its commands, at most 256
+pub record Held (text : List ℕ) (held : StoredList) : Type 0 where
   pub short : length text ≤ 4096
   pub list : List PathCommand
   pub reads : commandsOf text ≡ commands list
-  pub own : letters ≡ lettersOf list
-  pub more : numbers ≡ numbersOf list
+  pub own : held ≡ listFor list
   pub few : length list ≤ 256
 
 -- the same of so many commands, wherever they stand

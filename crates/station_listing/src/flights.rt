@@ -3,10 +3,11 @@ ghost use Prim.Native.Nat.{_≤_};
 ghost use lib.ListN.{drop};
 ghost use Rattle.station_lines.specs.Put.{PutWithin};
 ghost use Rattle.path_stored.specs.Buffers.{before, lent};
+ghost use Rattle.path_build.specs.Lists.{lentList};
 ghost use Rattle.station_sections.specs.Sections.{Ready};
 ghost use Rattle.station_listing.specs.Stations.{planOf, Held, Sized, Printed};
 use path_build::Building;
-use path_build::inner::build_listed;
+use path_build::build_path;
 use station_commands::inner::list;
 use station_lines::inner::put_header;
 use station_lines::inner::put_refusal;
@@ -55,7 +56,7 @@ pub fn fly(
     letters: &[u8],
     numbers: &[f32],
 ) -> usize
-    requires { ⌜ Held (drop start (now input)) (now letters) (now numbers) × (2 ≤ count) × (count ≤ 1000) ⌝ }
+    requires { ⌜ Held (drop start (now input)) (lentList letters numbers) × (2 ≤ count) × (count ≤ 1000) ⌝ }
     ensures { λ r. ⌜ PutWithin 69632 (planOf count (drop start (now (input .entry)))) 0 (now (out .entry)) (now (out .exit)) r ⌝ }
 {
     let mut kinds = [0u8; 256];
@@ -63,7 +64,7 @@ pub fn fly(
     let mut tables = [0.0f32; 8448];
     let mut lengths = [0.0f32; 256];
     let mut commands = [0u32; 256];
-    match build_listed(
+    match build_path(
         letters,
         numbers,
         &mut kinds,

@@ -1,6 +1,4 @@
 // The entry.
-ghost use mathlib.Core.Path.{_≡_};
-ghost use lib.ListN.{length};
 ghost use Rattle.station_listing.specs.Stations.{Takes, Stations};
 use crate::plans::tell;
 

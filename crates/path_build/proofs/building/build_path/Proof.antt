@@ -1,17 +1,34 @@
 -- `path_build::build_path` meets its contract: the first pass tells what is built, the second stores it. Assumes nothing.
 use borrow.Author.Needs.{needs}
-use mathlib.Core.Path.{subst}
-use Rattle.path_build.specs.Paths.{Sized}
+use mathlib.Core.Path.{sym, _∙_}
+use Rattle.path_stored.specs.Buffers.{lent}
+use Rattle.path_build.proofs.Answering.{ended-refused, ended-holding, ended-built}
 use Rattle.path_build.proofs.building.build_path.Statement.{statement}
 use Rattle.path_build.proofs.building.build_path.Tie as tie
 
-returns : tie.Need-returns
-returns c = subst (Sized _ _) (c .before .refusal .given .1) (c .before .before .before .sized .ensures) _
+-- ---- the points
+abbrev answered : tie.After-segments → tie.After-room
+answered t = t .before .before
 
-store-counted-requires : tie.Need-store-counted-requires
-store-counted-requires c κs = let told = c .before .before .before .before .before .before in subst (Sized _ _) (told .segments .given .1) (told .before .before .sized .ensures)
+-- ---- the answers
+returns : tie.Need-returns
+returns c = let r = c .before .before .before in ended-refused _ _ (r .before .sized .ensures) (sym (r .room .ensures) ∙ c .before .refusal .given .1)
+
+fill-requires : tie.Need-fill-requires
+fill-requires c κs =
+    let told = c .before .before .before .before .before .before in
+    let r = answered told in
+    let a = r .before .before .before .before .before .before .before .before .before .args in
+    ended-holding (lent (a .kinds) (a .fields) (a .tables) (a .lengths) (a .commands)) _ (r .before .sized .ensures) (sym (r .room .ensures) ∙ told .segments .given .1)
+
+returns-2 : tie.Need-returns-2
+returns-2 c =
+    let filled = c .before .before .before .before .before .before .before .before .before .before in
+    let told = filled .before .before .before .before .before .before .before in
+    let r = answered told in
+    ended-built _ _ (r .before .sized .ensures) (sym (r .room .ensures) ∙ told .segments .given .1) (filled .fill .ensures)
 
 pub build-path-spec : {M : Type 1} → statement M
 build-path-spec =
     tie.close
-    (tie.spec (λ c κs. search needs) (λ c. search needs) returns (λ c. search needs) store-counted-requires (λ c. search needs) (λ c. search needs) (λ c. search needs) (λ c. search needs) (λ c. search needs) (λ c. search needs))
+    (tie.spec (λ c κs. search needs) (λ c κs. search needs) (λ c. search needs) returns (λ c. search needs) fill-requires (λ c. search needs) (λ c. search needs) (λ c. search needs) (λ c. search needs) (λ c. search needs) returns-2)

@@ -1,19 +1,21 @@
--- `path_build::passes::judge` meets its contract. The loop keeps that the commands up to its place are passed and what they draw is counted; the measure is
+-- `path_build::passes::judge` meets its contract. The loop keeps that the commands up to its letter are passed and what they draw is counted; the measure is
 -- what is left of the letters. Assumes nothing.
 use borrow.Author.Needs.{needs}
 use Prim.Native.Nat.{_-_}
-use mathlib.Core.Path.{sym, ap, _∙_}
+use mathlib.Core.Path.{sym, _∙_}
 use native.Mathlib.Omega.{arith}
 use lib.ListN.{length}
+use Rattle.path_build.specs.Lists.{storedList}
+use Rattle.path_build.proofs.Lists.{formed}
 use Rattle.path_build.proofs.Along.{Measuring, measuring-none, measuring-inside, measuring-few, measuring-bad, measuring-fits, measured-refused, measuring-more, measured-all}
 use Rattle.path_build.proofs.passes.judge.Statement.{statement}
 use Rattle.path_build.proofs.passes.judge.Tie as tie
 
 abbrev Inv-loop : tie.InvT-loop
-Inv-loop letters numbers count site₀ place₀ at₀ site place at = Measuring letters numbers site place at
+Inv-loop letters numbers count site₀ letter-at₀ at₀ site letter-at at = Measuring (storedList letters numbers) site letter-at at
 
 abbrev μ-loop : tie.MeasureT-loop
-μ-loop letters numbers count site₀ place₀ at₀ site place at = length letters - place
+μ-loop letters numbers count site₀ letter-at₀ at₀ site letter-at at = length letters - letter-at
 
 -- ---- the points of the code that the answers look back to
 abbrev start : tie.At-loop Inv-loop μ-loop → tie.Start Inv-loop μ-loop
@@ -30,7 +32,7 @@ looped c = c .before .before .before
 
 -- ---- the answers
 loop-holds : tie.Need-loop-holds Inv-loop μ-loop
-loop-holds c = rw (c .start .ensures) (measuring-none _ _ (c .before .before .before .pre))
+loop-holds c = rw (c .start .ensures) (measuring-none (formed _ (c .before .before .before .pre)))
 
 decode-requires : tie.Need-decode-requires Inv-loop μ-loop
 decode-requires c κs = measuring-inside (c .before .before .loop .inv)
@@ -44,14 +46,14 @@ advance-requires : tie.Need-advance-requires Inv-loop μ-loop
 advance-requires c κs =
     let d = decoded (c .before) in
     let l = looped d in
-    measuring-few (l .loop .inv) (d .before .before .loop-test .taken) (start l .pre)
+    measuring-few (l .loop .inv) (d .before .before .loop-test .taken)
 
 returns-2 : tie.Need-returns-2 Inv-loop μ-loop
 returns-2 c =
     let advanced = c .before .before .before in
     let t = advanced .before .before in
     let d = decoded t in
-    measured-refused (looped d .loop .inv) (d .before .before .loop-test .taken) _ (sym (d .decode .ensures) ∙ t .command .given .1) _
+    measured-refused (looped d .loop .inv) (d .before .before .loop-test .taken) (sym (d .decode .ensures) ∙ t .command .given .1)
     (sym (advanced .advance .ensures) ∙ c .before .refusal .given .1)
 
 add-at : tie.Need-add-at Inv-loop μ-loop
@@ -59,7 +61,7 @@ add-at c =
     let t = told c in
     let d = decoded t in
     let l = looped d in
-    let fits = measuring-fits (l .loop .inv) (d .before .before .loop-test .taken) (t .command .given .0 .0) (sym (d .decode .ensures) ∙ t .command .given .1) in
+    let fits = measuring-fits (l .loop .inv) (d .before .before .loop-test .taken) (sym (d .decode .ensures) ∙ t .command .given .1) in
     omega (arith, fits, c .width .ensures, start l)
 
 loop-less : tie.Need-loop-less Inv-loop μ-loop
@@ -70,7 +72,7 @@ loop-again c =
     let t = told c in
     let d = decoded t in
     let next = c .before .before in
-    measuring-more (looped d .loop .inv) (d .before .before .loop-test .taken) _ (sym (d .decode .ensures) ∙ t .command .given .1) _ _ (c .width .ensures)
+    measuring-more (looped d .loop .inv) (d .before .before .loop-test .taken) (sym (d .decode .ensures) ∙ t .command .given .1) (c .width .ensures)
     (sym (next .before .before .advance .ensures) ∙ next .next .given .1)
 
 returns-3 : tie.Need-returns-3 Inv-loop μ-loop

@@ -1,19 +1,21 @@
--- `path_build::passes::survey` meets its contract. The loop keeps that the commands up to its place are passed and that the tally is of a calm site; the measure is
+-- `path_build::passes::survey` meets its contract. The loop keeps that the commands up to its letter are passed and that the tally is of a calm site; the measure is
 -- what is left of the letters. Assumes nothing.
 use borrow.Author.Needs.{needs}
 use Prim.Native.Nat.{_-_}
-use mathlib.Core.Path.{sym, ap, _∙_}
+use mathlib.Core.Path.{sym, _∙_}
 use native.Mathlib.Omega.{arith}
 use lib.ListN.{length}
+use Rattle.path_build.specs.Lists.{storedList}
+use Rattle.path_build.proofs.Lists.{formed}
 use Rattle.path_build.proofs.Along.{Surveying, surveying-none, surveying-inside, surveying-few, surveying-fits, surveying-more, surveyed-all}
 use Rattle.path_build.proofs.passes.survey.Statement.{statement}
 use Rattle.path_build.proofs.passes.survey.Tie as tie
 
 abbrev Inv-loop : tie.InvT-loop
-Inv-loop letters numbers size tally₀ place₀ at₀ tally place at = Surveying letters numbers tally place at
+Inv-loop letters numbers size tally₀ letter-at₀ at₀ tally letter-at at = Surveying (storedList letters numbers) tally letter-at at
 
 abbrev μ-loop : tie.MeasureT-loop
-μ-loop letters numbers size tally₀ place₀ at₀ tally place at = length letters - place
+μ-loop letters numbers size tally₀ letter-at₀ at₀ tally letter-at at = length letters - letter-at
 
 -- ---- the points of the code that the answers look back to
 abbrev start : tie.At-loop Inv-loop μ-loop → tie.Start Inv-loop μ-loop
@@ -30,7 +32,7 @@ looped c = c .before .before .before
 
 -- ---- the answers
 loop-holds : tie.Need-loop-holds Inv-loop μ-loop
-loop-holds c = rw (c .opening .ensures) (surveying-none _ _ (c .before .before .before .pre))
+loop-holds c = rw (c .opening .ensures) (surveying-none (formed _ (c .before .before .before .pre)))
 
 decode-requires : tie.Need-decode-requires Inv-loop μ-loop
 decode-requires c κs = surveying-inside (c .before .before .loop .inv)
@@ -42,7 +44,7 @@ count-requires : tie.Need-count-requires Inv-loop μ-loop
 count-requires c κs =
     let d = decoded (c .before) in
     let l = looped d in
-    surveying-few (l .loop .inv) (d .before .before .loop-test .taken) (start l .pre)
+    surveying-few (l .loop .inv) (d .before .before .loop-test .taken)
 
 returns-2 : tie.Need-returns-2 Inv-loop μ-loop
 returns-2 c = tt
@@ -52,11 +54,11 @@ add-at c =
     let t = told c in
     let d = decoded t in
     let l = looped d in
-    let fits = surveying-fits (l .loop .inv) (d .before .before .loop-test .taken) (start l .pre) (t .command .given .0 .0) (sym (d .decode .ensures) ∙ t .command .given .1) in
+    let fits = surveying-fits (l .loop .inv) (d .before .before .loop-test .taken) (sym (d .decode .ensures) ∙ t .command .given .1) in
     omega (arith, fits, c .width .ensures, start l)
 
-add-place : tie.Need-add-place Inv-loop μ-loop
-add-place c = let d = decoded (told c) in omega (arith, d .before .before .loop-test .taken, start (looped d))
+add-letter-at : tie.Need-add-letter-at Inv-loop μ-loop
+add-letter-at c = let d = decoded (told c) in omega (arith, d .before .before .loop-test .taken, start (looped d))
 
 loop-less : tie.Need-loop-less Inv-loop μ-loop
 loop-less c = let d = decoded (told c) in omega (arith, d .before .before .loop-test .taken)
@@ -67,7 +69,7 @@ loop-again c =
     let d = decoded t in
     let l = looped d in
     let next = c .before .before in
-    surveying-more (l .loop .inv) (d .before .before .loop-test .taken) (start l .pre) _ (sym (d .decode .ensures) ∙ t .command .given .1) _ _ (c .width .ensures)
+    surveying-more (l .loop .inv) (d .before .before .loop-test .taken) (sym (d .decode .ensures) ∙ t .command .given .1) (c .width .ensures)
     (sym (next .before .before .count .ensures) ∙ next .next .given .1)
 
 returns-3 : tie.Need-returns-3 Inv-loop μ-loop
@@ -78,4 +80,4 @@ survey-spec =
     tie.close
     (tie.spec Inv-loop μ-loop (λ c κs. search needs) loop-holds (λ c. search needs) decode-requires
     (λ c. search needs) returns (λ c. search needs) count-requires (λ c. search needs) returns-2 (λ c. search needs)
-    (λ c κs. search needs) add-at add-place loop-less loop-again returns-3)
+    (λ c κs. search needs) add-at add-letter-at loop-less loop-again returns-3)

@@ -1,5 +1,4 @@
 -- `path_drawing::strokes::stroke` meets its contract: each way out is a case of its definition. Assumes nothing.
-use borrow.Author.Needs.{needs}
 use Rattle.path_drawing.proofs.strokes.stroke.Statement.{statement}
 use Rattle.path_drawing.proofs.strokes.stroke.Tie as tie
 

@@ -1,4 +1,4 @@
--- `path_storing::direct::lay_line` meets its contract: four numbers, a kind, a running length and a command number, each in its buffer. Assumes nothing.
+-- `path_storing::direct::lay_line` meets its contract: four fields, a kind, a running length and a command number, each in its buffer. Assumes nothing.
 use mathlib.Core.Path.{ap}
 use native.Mathlib.Omega.{arith}
 use lib.Ieee.{binary32, add}

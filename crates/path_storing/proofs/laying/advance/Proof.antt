@@ -8,17 +8,29 @@ use Rattle.path_storing.proofs.laying.advance.Statement.{statement}
 use Rattle.path_storing.proofs.laying.advance.Tie as tie
 
 after-requires : tie.Need-after-requires
-after-requires c κs = (c .before .before .before .before .before .before .before .before .before .before .pre, c .before .before .tidy .ensures ∙ ap (add binary32 _) (c .before .before .before .before .segment-length .ensures))
+after-requires c κs =
+    let measured = c .before .before .before .before in
+    (measured .before .before .before .before .before .before .pre, c .before .before .tidy .ensures ∙ ap (add binary32 _) (measured .segment-length .ensures))
 
 returns : tie.Need-returns
-returns c = goes-on _ _ _ _ (sym (c .before .before .before .before .before .before .before .before .before .draw .ensures) ∙ c .before .before .before .before .before .before .before .segment .given .1) _ (c .before .before .before .tidy .ensures ∙ ap (add binary32 _) (c .before .before .before .before .before .segment-length .ensures)) (sym (c .before .before .is-finite .ensures) ∙ c .before .if1 .taken) _ (c .after .ensures)
+returns c =
+    let judged = c .before .before in
+    let measured = judged .before .before .before in
+    let told = measured .before .before in
+    goes-on _ _ _ _ (sym (told .before .before .draw .ensures) ∙ told .segment .given .1) _
+    (judged .before .tidy .ensures ∙ ap (add binary32 _) (measured .segment-length .ensures)) (sym (judged .is-finite .ensures) ∙ c .before .if1 .taken) _ (c .after .ensures)
 
 returns-2 : tie.Need-returns-2
 unfolding judgedOf advanceOf
 returns-2 c = rw (sym (c .before .before .before .before .draw .ensures) ∙ c .before .before .next .given .1, c .moved .ensures)
 
 returns-3 : tie.Need-returns-3
-returns-3 c = not-finite _ _ _ _ (sym (c .before .before .before .before .before .before .before .before .draw .ensures) ∙ c .before .before .before .before .before .before .segment .given .1) _ (c .before .before .tidy .ensures ∙ ap (add binary32 _) (c .before .before .before .before .segment-length .ensures)) (sym (c .before .is-finite .ensures) ∙ c .if1 .left)
+returns-3 c =
+    let judged = c .before in
+    let measured = judged .before .before .before in
+    let told = measured .before .before in
+    not-finite _ _ _ _ (sym (told .before .before .draw .ensures) ∙ told .segment .given .1) _
+    (judged .before .tidy .ensures ∙ ap (add binary32 _) (measured .segment-length .ensures)) (sym (judged .is-finite .ensures) ∙ c .if1 .left)
 
 returns-4 : tie.Need-returns-4
 unfolding judgedOf advanceOf

@@ -1,6 +1,6 @@
 -- `path_storing::laying::lay_any` meets its contract: each way out is a case of what is drawn. Assumes nothing.
 use borrow.Author.Needs.{needs}
-use mathlib.Core.Path.{sym, ap, _∙_}
+use mathlib.Core.Path.{sym, _∙_}
 use Rattle.path_storing.proofs.Judged.{moved-laid, turned-laid, room-at, laid-at}
 use Rattle.path_storing.proofs.laying.lay_any.Statement.{statement}
 use Rattle.path_storing.proofs.laying.lay_any.Tie as tie

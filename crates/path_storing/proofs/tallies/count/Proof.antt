@@ -1,5 +1,5 @@
 -- `path_storing::tallies::count` meets its contract: each command is a case of its definition. Assumes nothing.
-use mathlib.Core.Path.{sym, ap, _∙_}
+use mathlib.Core.Path.{sym, _∙_}
 use Rattle.path_drawing.specs.Drawing.{drawOf}
 use Rattle.path_storing.specs.Tallies.{countedOf, talliedOf}
 use Rattle.path_storing.proofs.Tallying.{line-tallied, quad-tallied, cubic-tallied}

@@ -1,4 +1,4 @@
--- `path_text::texts::fill` meets its contract. The loop keeps that the commands up to its place are known and what they draw is written; the measure is what is left
+-- `path_text::texts::fill` meets its contract. The loop keeps that the commands read so far are known and what they draw is written; the measure is what is left
 -- of the text, of which each step passes a byte. Assumes nothing.
 use borrow.Author.Needs.{needs}
 use Prim.Native.Nat.{_-_}
@@ -33,60 +33,60 @@ loop-holds : tie.Need-loop-holds Inv-loop μ-loop
 loop-holds c = rw (c .before .fresh .ensures, c .start .ensures) (storing-none _ _)
 
 same-length : tie.Need-same-length Inv-loop μ-loop
-same-length c = let l = c .before .before .before in stored-kinds (l .loop .inv) (start l .pre .1)
+same-length c = let l = c .before .before .before in stored-kinds (l .loop .inv) (start l .pre)
 
 same-length-2 : tie.Need-same-length-2 Inv-loop μ-loop
-same-length-2 c = let l = c .before .before .before in stored-fields (l .loop .inv) (start l .pre .1)
+same-length-2 c = let l = c .before .before .before in stored-fields (l .loop .inv) (start l .pre)
 
 same-length-3 : tie.Need-same-length-3 Inv-loop μ-loop
-same-length-3 c = let l = c .before .before .before in stored-tables (l .loop .inv) (start l .pre .1)
+same-length-3 c = let l = c .before .before .before in stored-tables (l .loop .inv) (start l .pre)
 
 same-length-4 : tie.Need-same-length-4 Inv-loop μ-loop
-same-length-4 c = let l = c .before .before .before in stored-lengths (l .loop .inv) (start l .pre .1)
+same-length-4 c = let l = c .before .before .before in stored-lengths (l .loop .inv) (start l .pre)
 
 same-length-5 : tie.Need-same-length-5 Inv-loop μ-loop
-same-length-5 c = let l = c .before .before .before in stored-commands (l .loop .inv) (start l .pre .1)
+same-length-5 c = let l = c .before .before .before in stored-commands (l .loop .inv) (start l .pre)
 
 returns : tie.Need-returns Inv-loop μ-loop
 returns c =
     let step = c .before .before in
     let l = step .before in
-    stored-all (l .loop .inv) (start l .pre .1) (sym (step .read-step .ensures) ∙ c .enum-told .given .1)
+    stored-all (l .loop .inv) (start l .pre) (sym (step .read-step .ensures) ∙ c .enum-told .given .1)
 
 same-length-6 : tie.Need-same-length-6 Inv-loop μ-loop
-same-length-6 c = let l = c .before .before .before in stored-kinds (l .loop .inv) (start l .pre .1)
+same-length-6 c = let l = c .before .before .before in stored-kinds (l .loop .inv) (start l .pre)
 
 same-length-7 : tie.Need-same-length-7 Inv-loop μ-loop
-same-length-7 c = let l = c .before .before .before in stored-fields (l .loop .inv) (start l .pre .1)
+same-length-7 c = let l = c .before .before .before in stored-fields (l .loop .inv) (start l .pre)
 
 same-length-8 : tie.Need-same-length-8 Inv-loop μ-loop
-same-length-8 c = let l = c .before .before .before in stored-tables (l .loop .inv) (start l .pre .1)
+same-length-8 c = let l = c .before .before .before in stored-tables (l .loop .inv) (start l .pre)
 
 same-length-9 : tie.Need-same-length-9 Inv-loop μ-loop
-same-length-9 c = let l = c .before .before .before in stored-lengths (l .loop .inv) (start l .pre .1)
+same-length-9 c = let l = c .before .before .before in stored-lengths (l .loop .inv) (start l .pre)
 
 same-length-10 : tie.Need-same-length-10 Inv-loop μ-loop
-same-length-10 c = let l = c .before .before .before in stored-commands (l .loop .inv) (start l .pre .1)
+same-length-10 c = let l = c .before .before .before in stored-commands (l .loop .inv) (start l .pre)
 
 returns-2 : tie.Need-returns-2 Inv-loop μ-loop
 returns-2 c =
     let step = c .before .before in
     let l = step .before in
-    absurd (storing-unread (l .loop .inv) (start l .pre .1) _ (sym (step .read-step .ensures) ∙ c .enum-told2 .given .1))
+    absurd (storing-unread (l .loop .inv) (start l .pre) (sym (step .read-step .ensures) ∙ c .enum-told2 .given .1))
 
 lay-requires : tie.Need-lay-requires Inv-loop μ-loop
 lay-requires c κs =
     let t = c .before .before .before .before .before .before in
     let step = stepped t in
     let l = step .before in
-    storing-room (l .loop .inv) (start l .pre .1) _ _ (sym (step .read-step .ensures) ∙ t .command .given .1) (start l .pre .0)
+    storing-room (l .loop .inv) (start l .pre) (sym (step .read-step .ensures) ∙ t .command .given .1)
 
 add-number : tie.Need-add-number Inv-loop μ-loop
 add-number c =
     let t = told (c .before .before .before .before .before .before .before .before .before .before) in
     let step = stepped t in
     let l = step .before in
-    omega (arith, storing-number (l .loop .inv) (start l .pre .1) _ _ (sym (step .read-step .ensures) ∙ t .command .given .1) (start l .pre .0))
+    omega (arith, storing-number (l .loop .inv) (start l .pre) (sym (step .read-step .ensures) ∙ t .command .given .1))
 
 loop-less : tie.Need-loop-less Inv-loop μ-loop
 loop-less c =
@@ -99,7 +99,7 @@ loop-again c =
     let t = told laid in
     let step = stepped t in
     let l = step .before in
-    storing-more (l .loop .inv) (start l .pre .1) _ _ (sym (step .read-step .ensures) ∙ t .command .given .1) (laid .lay .ensures)
+    storing-more (l .loop .inv) (start l .pre) (sym (step .read-step .ensures) ∙ t .command .given .1) (laid .lay .ensures)
 
 pub fill-spec : {M : Type 1} → statement M
 fill-spec =

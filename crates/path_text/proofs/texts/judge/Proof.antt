@@ -1,4 +1,4 @@
--- `path_text::texts::judge` meets its contract. The loop keeps that the commands up to its place are known and what they draw is counted; the measure is what is
+-- `path_text::texts::judge` meets its contract. The loop keeps that the commands read so far are known and what they draw is counted; the measure is what is
 -- left of the text, of which each step passes a byte. Assumes nothing.
 use borrow.Author.Needs.{needs}
 use Prim.Native.Nat.{_-_}
@@ -23,21 +23,21 @@ returns : tie.Need-returns Inv-loop μ-loop
 returns c = let step = c .before .before in measured-all (step .before .loop .inv) (sym (step .read-step .ensures) ∙ c .enum-told .given .1)
 
 returns-2 : tie.Need-returns-2 Inv-loop μ-loop
-returns-2 c = let step = c .before .before .before in measured-unread (step .before .loop .inv) _ (sym (step .read-step .ensures) ∙ c .before .refusal .given .1)
+returns-2 c = let step = c .before .before .before in measured-unread (step .before .loop .inv) (sym (step .read-step .ensures) ∙ c .before .refusal .given .1)
 
 advance-requires : tie.Need-advance-requires Inv-loop μ-loop
 advance-requires c κs =
     let t = c .before in
     let step = t .before .before in
     let l = step .before in
-    measuring-few (l .loop .inv) _ _ (sym (step .read-step .ensures) ∙ t .command .given .1) (l .before .before .before .before .pre)
+    measuring-few (l .loop .inv) (sym (step .read-step .ensures) ∙ t .command .given .1) (l .before .before .before .before .pre)
 
 returns-3 : tie.Need-returns-3 Inv-loop μ-loop
 returns-3 c =
     let advanced = c .before .before .before in
     let t = advanced .before .before in
     let step = t .before .before in
-    measured-unbuilt (step .before .loop .inv) _ _ (sym (step .read-step .ensures) ∙ t .command .given .1) _ (sym (advanced .advance .ensures) ∙ c .before .refusal2 .given .1)
+    measured-unbuilt (step .before .loop .inv) (sym (step .read-step .ensures) ∙ t .command .given .1) (sym (advanced .advance .ensures) ∙ c .before .refusal2 .given .1)
 
 loop-less : tie.Need-loop-less Inv-loop μ-loop
 loop-less c =
@@ -49,7 +49,7 @@ loop-again c =
     let advanced = c .before .before .before in
     let t = advanced .before .before in
     let step = t .before .before in
-    measuring-more (step .before .loop .inv) _ _ (sym (step .read-step .ensures) ∙ t .command .given .1) _ (sym (advanced .advance .ensures) ∙ c .before .further .given .1)
+    measuring-more (step .before .loop .inv) (sym (step .read-step .ensures) ∙ t .command .given .1) (sym (advanced .advance .ensures) ∙ c .before .further .given .1)
 
 pub judge-spec : {M : Type 1} → statement M
 judge-spec =

@@ -1,4 +1,4 @@
--- `path_text::texts::survey` meets its contract. The loop keeps that the commands up to its place are known and that the tally is of a calm site; the measure is
+-- `path_text::texts::survey` meets its contract. The loop keeps that the commands read so far are known and that the tally is of a calm site; the measure is
 -- what is left of the text, of which each step passes a byte. Assumes nothing.
 use borrow.Author.Needs.{needs}
 use Prim.Native.Nat.{_-_}
@@ -30,7 +30,7 @@ count-requires c κs =
     let t = c .before in
     let step = t .before .before in
     let l = step .before in
-    surveying-few (l .loop .inv) _ _ (sym (step .read-step .ensures) ∙ t .command .given .1) (l .before .before .before .before .pre)
+    surveying-few (l .loop .inv) (sym (step .read-step .ensures) ∙ t .command .given .1) (l .before .before .before .before .pre)
 
 returns-3 : tie.Need-returns-3 Inv-loop μ-loop
 returns-3 c = tt
@@ -46,7 +46,7 @@ loop-again c =
     let t = counted .before .before in
     let step = t .before .before in
     let l = step .before in
-    surveying-more (l .loop .inv) _ _ (sym (step .read-step .ensures) ∙ t .command .given .1) (l .before .before .before .before .pre) _
+    surveying-more (l .loop .inv) (sym (step .read-step .ensures) ∙ t .command .given .1) (l .before .before .before .before .pre)
     (sym (counted .count .ensures) ∙ c .before .further .given .1)
 
 pub survey-spec : {M : Type 1} → statement M

@@ -1,4 +1,4 @@
--- `path_text::texts::unbuilt` meets its contract. The loop keeps that the commands up to its place are known (`Known`); the measure is what
+-- `path_text::texts::unbuilt` meets its contract. The loop keeps that the commands read so far are known (`Known`); the measure is what
 -- is left of the text, of which each step passes a byte. Assumes nothing.
 use borrow.Author.Needs.{needs}
 use Prim.Native.Nat.{_-_}
@@ -26,12 +26,12 @@ returns : tie.Need-returns Inv-loop μ-loop
 returns c =
     let step = c .before .before in
     let k = step .before .loop .inv in
-    unbuilt-size _ _ _ (step .before .before .before .before .pre .1) (known-all _ _ _ (k .1) (sym (step .read-step .ensures) ∙ c .enum-told .given .1))
+    unbuilt-size _ (step .before .before .before .before .pre .1) (known-all _ _ _ (k .1) (sym (step .read-step .ensures) ∙ c .enum-told .given .1))
 
 returns-2 : tie.Need-returns-2 Inv-loop μ-loop
 returns-2 c =
     let step = c .before .before .before in
-    unread-size _ _ (known-refused _ _ _ (step .before .loop .inv .1) _ (sym (step .read-step .ensures) ∙ c .before .first .given .1))
+    unread-size _ (known-refused _ _ _ (step .before .loop .inv .1) _ (sym (step .read-step .ensures) ∙ c .before .first .given .1))
 
 loop-less : tie.Need-loop-less Inv-loop μ-loop
 loop-less c = omega (arith, step-ahead _ _ _ _ (sym (c .before .before .before .read-step .ensures) ∙ c .before .next .given .1))

@@ -1,8 +1,8 @@
--- `path_build::places::stride` meets its contract: each letter is a case of its definition. Assumes nothing.
+-- `path_build::by_letter::stride` meets its contract: each letter is a case of its definition. Assumes nothing.
 use borrow.Author.Tests.{ne-eqb}
-use Rattle.path_build.specs.Places.{strideOf}
-use Rattle.path_build.proofs.places.stride.Statement.{statement}
-use Rattle.path_build.proofs.places.stride.Tie as tie
+use Rattle.path_build.specs.Letters.{strideOf}
+use Rattle.path_build.proofs.by_letter.stride.Statement.{statement}
+use Rattle.path_build.proofs.by_letter.stride.Tie as tie
 
 returns : tie.Need-returns
 unfolding strideOf

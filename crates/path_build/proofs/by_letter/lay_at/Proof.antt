@@ -1,11 +1,11 @@
--- `path_build::places::lay_at` meets its contract: what each letter draws is stored. Assumes nothing.
+-- `path_build::by_letter::lay_at` meets its contract: what each letter draws is stored. Assumes nothing.
 use borrow.Author.Needs.{needs}
 use mathlib.Core.Path.{sym, _∙_}
 use native.Mathlib.Omega.{arith}
 use Rattle.path_storing.proofs.Judged.{room-at, laid-at, turned-laid}
 use Rattle.path_build.proofs.Letters.{drawn-command, drawn-bad, line-wide, quad-wide, cubic-wide, line-at, quad-at, cubic-at}
-use Rattle.path_build.proofs.places.lay_at.Statement.{statement}
-use Rattle.path_build.proofs.places.lay_at.Tie as tie
+use Rattle.path_build.proofs.by_letter.lay_at.Statement.{statement}
+use Rattle.path_build.proofs.by_letter.lay_at.Tie as tie
 
 -- ---- a line
 point-at-requires : tie.Need-point-at-requires

@@ -5,7 +5,7 @@ ghost use lib.ListN.{length, drop};
 ghost use Rattle.commands.specs.Listed.{commandOf};
 ghost use Rattle.path_stored.specs.Buffers.{after, before, lent};
 ghost use Rattle.path_storing.specs.Sites.{FewAt, Room, Laid};
-ghost use Rattle.path_build.specs.Places.{strideOf, drawnAt};
+ghost use Rattle.path_build.specs.Letters.{strideOf, drawnAt};
 use commands::inner::Decoded;
 use commands::inner::decode;
 use commands::inner::point_at;
