@@ -1,6 +1,9 @@
 -- The loop that puts numbers in place, and the passes from the angles of an arc's samples to its steps. Assumes nothing.
-use mathlib.Core.Path.{_≡_, refl, sym, ap, _∙_}
-use Prim.Native.Nat.{ℕ, suc, _+_, _≤_, _<_}
+use mathlib.Core.Path.{_≡_, refl, sym, ap, subst, _∙_}
+use mathlib.Core.Logic.{inl, inr}
+use Prim.Native.Nat.{ℕ, suc, _+_, _-_, _≤_, _<_}
+use native.Mathlib.Nat.{lt-of-not-le}
+use native.Mathlib.Decide.{decLe}
 use native.Mathlib.Numerals.{add-one}
 use native.Mathlib.Omega.{arith}
 use mathlib.Core.List.{List}
@@ -10,6 +13,7 @@ use lib.Ieee.{Float, nan, binary32, sub}
 use Rattle.lengths.specs.Length as lengths
 use Rattle.lengths.proofs.Lists.{Passing, passing-start, passing-more, lengths-count, lengths-at}
 use Rattle.trig.specs.declared.SinCos.{SinCos}
+use Rattle.trig_all.specs.Rows.{Run}
 use Rattle.math.specs.declared.points.Point.{Point}
 use Rattle.table_samples.specs.Samples.{sampleAt, stepsOf}
 use Rattle.table_samples.proofs.Steps.{steps-are}
@@ -39,6 +43,22 @@ module _ {numbers : ℕ → Float} {old row : List Float} {k : ℕ} where
 
   pub replacing-row : {n : ℕ} → Replacing numbers old row k → n ≤ k → Row numbers n row
   replacing-row r past = record { size = r .passing .size; each = λ j l. r .passing .done j (omega arith) }
+
+-- ---- a run of 8 after those before it: `angles` has from `at` on what the first row had
+module _ (f : Float → Float) (first : List Float) {at : ℕ} {angles old row new : List Float} where
+  pub run-after : Replacing (λ (j : ℕ). f (getD first j nan)) old row at → Run f at 8 angles row new → ((j : ℕ) → at ≤ j → getD angles j nan ≡ getD first j nan)
+      → at ≤ 24 → Replacing (λ (j : ℕ). f (getD first j nan)) old new (at + 8)
+  run-after r n same low =
+      record {
+        passing = record { size = n .size; upto = omega arith; done = λ j l. put j (decLe at j) l };
+        rest = λ j g. n .rest j (inr g) ∙ r .rest j (omega arith);
+      }
+    where
+      put : (j : ℕ) → Dec (at ≤ j) → j < at + 8 → getD new j nan ≡ f (getD first j nan)
+      put j (yes l) h =
+          let e : at + (j - at) ≡ j = omega arith in
+          subst (λ (i : ℕ). getD new i nan ≡ f (getD first i nan)) e (n .own (j - at) (omega arith) ∙ ap f (same (at + (j - at)) (omega arith)))
+      put j (no g) h = n .rest j (inl (lt-of-not-le g)) ∙ r .passing .done j (lt-of-not-le g)
 
 -- ---- from angles to steps
 module _

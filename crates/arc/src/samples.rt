@@ -1,6 +1,6 @@
-// The 32 samples of an ellipse's arc, each pass over all of them: a step waits for none before it, and all but the sines are laid over
-// lanes. Two rows of 32 hold what a pass gives, and the next puts its own in place. The functions ask that a row has 32 places, which its
-// type says and the logic does not know.
+// The 32 samples of an ellipse's arc, each pass over all of them, the sines in runs of 8: a step waits for none before it, and they are
+// laid over lanes. Two rows of 32 hold what a pass gives, and the next puts its own in place. The functions ask that a row has 32 places,
+// which its type says and the logic does not know.
 ghost use mathlib.Core.Path.{_≡_};
 ghost use lib.ListN.{length};
 ghost use Rattle.arc.specs.Rows.{Row, angleFor, sineFor, cosineFor, acrossFor, alongFor, stepFor};
@@ -10,7 +10,7 @@ use ellipse::on_ellipse;
 use math::Point;
 use table::inner::mark;
 use trig::SinCos;
-use trig::sin_cos;
+use trig_all::inner::sin_cos_run;
 
 // Puts the angle of each sample.
 pub(crate) fn put_angles(shape: Arc, x: &mut [f32; 32])
@@ -24,19 +24,17 @@ pub(crate) fn put_angles(shape: Arc, x: &mut [f32; 32])
     }
 }
 
-// Puts the sine of each angle in its place, and the cosine beside it.
+// Puts the sine of each angle in its place, and the cosine beside it. Four calls, not a loop: so the rows of a run stand in a frame of
+// their own, and a run's length is not known where it is taken.
 pub(crate) fn put_sines(x: &mut [f32; 32], y: &mut [f32; 32])
     requires { ⌜ (length (now x) ≡ 32) × (length (now y) ≡ 32) ⌝ }
     ensures sines { λ _. ⌜ Row (sineFor (now (x .entry))) 32 (now (x .exit)) ⌝ }
     ensures cosines { λ _. ⌜ Row (cosineFor (now (x .entry))) 32 (now (y .exit)) ⌝ }
 {
-    let mut i = 0usize;
-    while i < 32 {
-        let angle = sin_cos(x[i]);
-        x[i] = angle.sin;
-        y[i] = angle.cos;
-        i += 1;
-    }
+    sin_cos_run(x, y, 0, 8);
+    sin_cos_run(x, y, 8, 16);
+    sin_cos_run(x, y, 16, 24);
+    sin_cos_run(x, y, 24, 32);
 }
 
 // Puts the point of each sine and cosine in their places.
