@@ -147,8 +147,12 @@ loop-again : tie.Need-loop-again Inv-loop μ-loop
 loop-again c =
     let w = sized c in
     let l = looped w in
+    let stored = c .before .before .before .before .before in
+    let marked = stored .before .before .before in
+    let numbered = marked .before in
+    let lettered = numbered .before in
     holding-more (l .loop .inv) _ _ (sym (w .before .before .before .before .read-step .ensures) ∙ w .before .before .command .given .1) _ (w .width .ensures)
-    (omega (arith, c .before .before .before .before .before .before .before .before .before .before .if1 .left)) (omega (arith, c .before .before .before .before .before .before .before .before .before .if2 .left, held-within (l .loop .inv))) (omega (arith, c .before .before .before .before .before .before .before .before .if3 .left)) (c .before .before .before .before .before .store .ensures)
+    (omega (arith, lettered .if1 .left)) (omega (arith, numbered .if2 .left, held-within (l .loop .inv))) (omega (arith, marked .if3 .left)) (stored .store .ensures)
 
 pub fill-spec : {M : Type 1} → statement M
 fill-spec =

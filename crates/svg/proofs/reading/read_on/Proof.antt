@@ -34,7 +34,8 @@ room :
 room c =
     let t = judged c in
     let a = start t .args in
-    has-room (a .text .now) (lent (a .letters) (a .numbers) (a .offsets)) (start t .pre .0) (sym (t .before .before .before .measure-on .ensures) ∙ t .before .places .given .1) (c .before .before .before .if1 .left) (c .before .before .if2 .left) (c .before .if3 .left)
+    has-room (a .text .now) (lent (a .letters) (a .numbers) (a .offsets)) (start t .pre .0) (sym (t .before .before .before .measure-on .ensures) ∙ t .before .places .given .1)
+    (c .before .before .before .if1 .left) (c .before .before .if2 .left) (c .before .if3 .left)
 
 -- ---- the answers
 measure-on-requires : tie.Need-measure-on-requires

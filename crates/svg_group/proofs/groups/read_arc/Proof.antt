@@ -12,19 +12,47 @@ returns c = rw (sym (c .before .before .before .read-pair .ensures) ∙ ap pairO
 
 returns-2 : tie.Need-returns-2
 unfolding readArcOf
-returns-2 c = rw (sym (c .before .before .before .before .before .before .before .read-pair .ensures) ∙ ap pairOf (c .before .before .before .before .before .radii-x .given .1), sym (c .before .before .before .read-number .ensures) ∙ c .before .refusal2 .given .1)
+returns-2 c =
+    let second = c .before .before .before in
+    let first = second .before .before .before .before in
+    rw (sym (first .read-pair .ensures) ∙ ap pairOf (second .before .before .radii-x .given .1), sym (second .read-number .ensures) ∙ c .before .refusal2 .given .1)
 
 returns-3 : tie.Need-returns-3
 unfolding readArcOf
-returns-3 c = rw (sym (c .before .before .before .before .before .before .before .before .before .before .before .read-pair .ensures) ∙ ap pairOf (c .before .before .before .before .before .before .before .before .before .radii-x .given .1), sym (c .before .before .before .before .before .before .before .read-number .ensures) ∙ c .before .before .before .before .before .rotation .given .1, sym (c .before .before .before .read-flags .ensures) ∙ c .before .refusal3 .given .1)
+returns-3 c =
+    let third = c .before .before .before in
+    let second = third .before .before .before .before in
+    let first = second .before .before .before .before in
+    let one = sym (first .read-pair .ensures) ∙ ap pairOf (second .before .before .radii-x .given .1) in
+    let two = sym (second .read-number .ensures) ∙ third .before .before .rotation .given .1 in
+    let three = sym (third .read-flags .ensures) ∙ c .before .refusal3 .given .1 in
+    rw (one, two, three)
 
 returns-4 : tie.Need-returns-4
 unfolding readArcOf
-returns-4 c = rw (sym (c .before .before .before .before .before .before .before .before .before .before .before .before .before .before .before .read-pair .ensures) ∙ ap pairOf (c .before .before .before .before .before .before .before .before .before .before .before .before .before .radii-x .given .1), sym (c .before .before .before .before .before .before .before .before .before .before .before .read-number .ensures) ∙ c .before .before .before .before .before .before .before .before .before .rotation .given .1, sym (c .before .before .before .before .before .before .before .read-flags .ensures) ∙ c .before .before .before .before .before .large .given .1, sym (c .before .before .before .read-pair2 .ensures) ∙ ap pairOf (c .before .refusal4 .given .1))
+returns-4 c =
+    let fourth = c .before .before .before in
+    let third = fourth .before .before .before .before in
+    let second = third .before .before .before .before in
+    let first = second .before .before .before .before in
+    let one = sym (first .read-pair .ensures) ∙ ap pairOf (second .before .before .radii-x .given .1) in
+    let two = sym (second .read-number .ensures) ∙ third .before .before .rotation .given .1 in
+    let three = sym (third .read-flags .ensures) ∙ fourth .before .before .large .given .1 in
+    let four = sym (fourth .read-pair2 .ensures) ∙ ap pairOf (c .before .refusal4 .given .1) in
+    rw (one, two, three, four)
 
 returns-5 : tie.Need-returns-5
 unfolding readArcOf
-returns-5 c = rw (sym (c .before .before .before .before .before .before .before .before .before .before .before .before .before .before .before .read-pair .ensures) ∙ ap pairOf (c .before .before .before .before .before .before .before .before .before .before .before .before .before .radii-x .given .1), sym (c .before .before .before .before .before .before .before .before .before .before .before .read-number .ensures) ∙ c .before .before .before .before .before .before .before .before .before .rotation .given .1, sym (c .before .before .before .before .before .before .before .read-flags .ensures) ∙ c .before .before .before .before .before .large .given .1, sym (c .before .before .before .read-pair2 .ensures) ∙ ap pairOf (c .before .end-x .given .1))
+returns-5 c =
+    let fourth = c .before .before .before in
+    let third = fourth .before .before .before .before in
+    let second = third .before .before .before .before in
+    let first = second .before .before .before .before in
+    let one = sym (first .read-pair .ensures) ∙ ap pairOf (second .before .before .radii-x .given .1) in
+    let two = sym (second .read-number .ensures) ∙ third .before .before .rotation .given .1 in
+    let three = sym (third .read-flags .ensures) ∙ fourth .before .before .large .given .1 in
+    let four = sym (fourth .read-pair2 .ensures) ∙ ap pairOf (c .before .end-x .given .1) in
+    rw (one, two, three, four)
 
 pub read-arc-spec : {M : Type 1} → statement M
 read-arc-spec =

@@ -12,11 +12,17 @@ returns c = rw (sym (c .before .before .before .read-pair .ensures) ∙ ap pairO
 
 returns-2 : tie.Need-returns-2
 unfolding readQuadOf
-returns-2 c = rw (sym (c .before .before .before .before .before .before .before .read-pair .ensures) ∙ ap pairOf (c .before .before .before .before .before .x .given .1), sym (c .before .before .before .read-pair2 .ensures) ∙ ap pairOf (c .before .refusal2 .given .1))
+returns-2 c =
+    let second = c .before .before .before in
+    let first = second .before .before .before .before in
+    rw (sym (first .read-pair .ensures) ∙ ap pairOf (second .before .before .x .given .1), sym (second .read-pair2 .ensures) ∙ ap pairOf (c .before .refusal2 .given .1))
 
 returns-3 : tie.Need-returns-3
 unfolding readQuadOf
-returns-3 c = rw (sym (c .before .before .before .before .before .before .before .read-pair .ensures) ∙ ap pairOf (c .before .before .before .before .before .x .given .1), sym (c .before .before .before .read-pair2 .ensures) ∙ ap pairOf (c .before .end-x .given .1))
+returns-3 c =
+    let second = c .before .before .before in
+    let first = second .before .before .before .before in
+    rw (sym (first .read-pair .ensures) ∙ ap pairOf (second .before .before .x .given .1), sym (second .read-pair2 .ensures) ∙ ap pairOf (c .before .end-x .given .1))
 
 pub read-quad-spec : {M : Type 1} → statement M
 read-quad-spec =

@@ -11,11 +11,17 @@ returns c = rw (sym (c .before .before .before .any-number .ensures) ∙ c .befo
 
 returns-2 : tie.Need-returns-2
 unfolding readPairOf
-returns-2 c = rw (sym (c .before .before .before .before .before .before .before .any-number .ensures) ∙ c .before .before .before .before .before .x .given .1, sym (c .before .before .before .any-number2 .ensures) ∙ c .before .refusal2 .given .1)
+returns-2 c =
+    let second = c .before .before .before in
+    let first = second .before .before .before .before in
+    rw (sym (first .any-number .ensures) ∙ second .before .before .x .given .1, sym (second .any-number2 .ensures) ∙ c .before .refusal2 .given .1)
 
 returns-3 : tie.Need-returns-3
 unfolding readPairOf
-returns-3 c = rw (sym (c .before .before .before .before .before .before .before .before .any-number .ensures) ∙ c .before .before .before .before .before .before .x .given .1, sym (c .before .before .before .before .any-number2 .ensures) ∙ c .before .before .y .given .1, c .moved .ensures)
+returns-3 c =
+    let second = c .before .before .before .before in
+    let first = second .before .before .before .before in
+    rw (sym (first .any-number .ensures) ∙ second .before .before .x .given .1, sym (second .any-number2 .ensures) ∙ c .before .before .y .given .1, c .moved .ensures)
 
 pub any-pair-spec : {M : Type 1} → statement M
 any-pair-spec =

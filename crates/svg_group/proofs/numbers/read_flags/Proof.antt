@@ -11,11 +11,17 @@ returns c = rw (sym (c .before .before .before .read-flag .ensures) ∙ c .befor
 
 returns-2 : tie.Need-returns-2
 unfolding readFlagsOf
-returns-2 c = rw (sym (c .before .before .before .before .before .before .before .read-flag .ensures) ∙ c .before .before .before .before .before .set .given .1, sym (c .before .before .before .read-flag2 .ensures) ∙ c .before .refusal2 .given .1)
+returns-2 c =
+    let second = c .before .before .before in
+    let first = second .before .before .before .before in
+    rw (sym (first .read-flag .ensures) ∙ second .before .before .set .given .1, sym (second .read-flag2 .ensures) ∙ c .before .refusal2 .given .1)
 
 returns-3 : tie.Need-returns-3
 unfolding readFlagsOf
-returns-3 c = rw (sym (c .before .before .before .before .before .before .before .read-flag .ensures) ∙ c .before .before .before .before .before .set .given .1, sym (c .before .before .before .read-flag2 .ensures) ∙ c .before .sweep .given .1)
+returns-3 c =
+    let second = c .before .before .before in
+    let first = second .before .before .before .before in
+    rw (sym (first .read-flag .ensures) ∙ second .before .before .set .given .1, sym (second .read-flag2 .ensures) ∙ c .before .sweep .given .1)
 
 pub read-flags-spec : {M : Type 1} → statement M
 read-flags-spec =

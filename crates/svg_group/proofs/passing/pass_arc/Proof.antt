@@ -11,15 +11,32 @@ returns c = rw (sym (c .before .before .before .pass-pair .ensures) ∙ c .befor
 
 returns-2 : tie.Need-returns-2
 unfolding passArcOf
-returns-2 c = rw (sym (c .before .before .before .before .before .before .before .pass-pair .ensures) ∙ c .before .before .before .before .before .second .given .1, sym (c .before .before .before .pass-number .ensures) ∙ c .before .refusal2 .given .1)
+returns-2 c =
+    let second = c .before .before .before in
+    let first = second .before .before .before .before in
+    rw (sym (first .pass-pair .ensures) ∙ second .before .before .second .given .1, sym (second .pass-number .ensures) ∙ c .before .refusal2 .given .1)
 
 returns-3 : tie.Need-returns-3
 unfolding passArcOf
-returns-3 c = rw (sym (c .before .before .before .before .before .before .before .before .before .before .before .pass-pair .ensures) ∙ c .before .before .before .before .before .before .before .before .before .second .given .1, sym (c .before .before .before .before .before .before .before .pass-number .ensures) ∙ c .before .before .before .before .before .third .given .1, sym (c .before .before .before .read-flags .ensures) ∙ c .before .refusal3 .given .1)
+returns-3 c =
+    let third = c .before .before .before in
+    let second = third .before .before .before .before in
+    let first = second .before .before .before .before in
+    let one = sym (first .pass-pair .ensures) ∙ second .before .before .second .given .1 in
+    let two = sym (second .pass-number .ensures) ∙ third .before .before .third .given .1 in
+    let three = sym (third .read-flags .ensures) ∙ c .before .refusal3 .given .1 in
+    rw (one, two, three)
 
 returns-4 : tie.Need-returns-4
 unfolding passArcOf
-returns-4 c = rw (sym (c .before .before .before .before .before .before .before .before .before .before .before .before .pass-pair .ensures) ∙ c .before .before .before .before .before .before .before .before .before .before .second .given .1, sym (c .before .before .before .before .before .before .before .before .pass-number .ensures) ∙ c .before .before .before .before .before .before .third .given .1, sym (c .before .before .before .before .read-flags .ensures) ∙ c .before .before .next .given .1) (c .pass-pair2 .ensures)
+returns-4 c =
+    let third = c .before .before .before .before in
+    let second = third .before .before .before .before in
+    let first = second .before .before .before .before in
+    let one = sym (first .pass-pair .ensures) ∙ second .before .before .second .given .1 in
+    let two = sym (second .pass-number .ensures) ∙ third .before .before .third .given .1 in
+    let three = sym (third .read-flags .ensures) ∙ c .before .before .next .given .1 in
+    rw (one, two, three) (c .pass-pair2 .ensures)
 
 pub pass-arc-spec : {M : Type 1} → statement M
 pass-arc-spec =

@@ -19,14 +19,23 @@ returns-2 c = simp (sym (c .before .before .before .before .before .before .befo
 
 returns-3 : tie.Need-returns-3
 unfolding passNumberOf
-returns-3 c = simp (sym (c .before .before .before .before .before .before .before .before .before .before .past-separators .ensures), lt-ltb _ _ (c .before .before .before .before .before .before .before .before .before .if1 .left)) (c .pass-scanned2 .ensures)
+returns-3 c =
+    let inside = c .before .before .before .before .before .before .before .before .before in
+    simp (sym (inside .before .past-separators .ensures), lt-ltb _ _ (inside .if1 .left)) (c .pass-scanned2 .ensures)
 
 returns-4 : tie.Need-returns-4
 unfolding passNumberOf
 returns-4 c =
+    let some = c .before .before .before in
+    let mark = some .before in
+    let fraction = mark .before in
+    let point = fraction .before in
+    let whole = point .before in
+    let inside = whole .before in
+    let text = inside .before .before .before .args .text .now in
     let none = ap (λ (x : ℕ). among x exponentMarks) (sym (c .before .before .byte-at .ensures)) ∙ sym (c .before .is-exponent-mark .ensures) ∙ c .if3 .left in
-    simp (sym (c .before .before .before .before .before .before .before .before .before .past-separators .ensures), lt-ltb _ _ (c .before .before .before .before .before .before .before .before .if1 .left))
-    (plain-number (c .before .before .before .before .before .before .before .before .before .before .before .args .text .now) _ _ _ _ _ (c .before .before .before .before .before .before .before .past-sign .ensures) (c .before .before .before .before .before .before .past-digits .ensures) (c .before .before .before .before .before .past-point .ensures) (c .before .before .before .before .past-digits2 .ensures) (c .before .before .before .if2 .left) none)
+    simp (sym (inside .before .past-separators .ensures), lt-ltb _ _ (inside .if1 .left))
+    (plain-number text _ _ _ _ _ (whole .past-sign .ensures) (point .past-digits .ensures) (fraction .past-point .ensures) (mark .past-digits2 .ensures) (some .if2 .left) none)
 
 pub pass-number-spec : {M : Type 1} → statement M
 pass-number-spec =
