@@ -122,13 +122,12 @@ fn moved(relative: bool, current: Point, point: Point) -> Point
     point
 }
 
-// Any two numbers.
-fn any_pair(text: &[u8], at: usize, relative: bool, current: Point) -> Coordinates
+pub fn read_pair(text: &[u8], at: usize, relative: bool, current: Point) -> Coordinates
     ensures { λ r. ⌜ pairOf r ≡ readPairOf (now (text .entry)) at relative current ⌝ }
 {
-    match any_number(text, at) {
+    match read_number(text, at) {
         Read::Refused(refusal) => Coordinates::Refused(refusal),
-        Read::Value(x, next) => match any_number(text, next) {
+        Read::Value(x, next) => match read_number(text, next) {
             Read::Refused(refusal) => Coordinates::Refused(refusal),
             Read::Value(y, end) => {
                 let point = moved(relative, current, Point { x, y });
@@ -140,24 +139,4 @@ fn any_pair(text: &[u8], at: usize, relative: bool, current: Point) -> Coordinat
             }
         },
     }
-}
-
-pub fn read_pair(text: &[u8], at: usize, relative: bool, current: Point) -> Coordinates
-    ensures { λ r. ⌜ pairOf r ≡ readPairOf (now (text .entry)) at relative current ⌝ }
-{
-    let mut x = [0.0f32; 1];
-    let next = quick_number(text, at, &mut x);
-    if 0 < next {
-        let mut y = [0.0f32; 1];
-        let end = quick_number(text, next, &mut y);
-        if 0 < end {
-            let point = moved(relative, current, Point { x: x[0], y: y[0] });
-            return Coordinates::Taken {
-                x: point.x,
-                y: point.y,
-                next: end,
-            };
-        }
-    }
-    any_pair(text, at, relative, current)
 }
