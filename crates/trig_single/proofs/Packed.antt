@@ -15,7 +15,7 @@ use Rattle.trig_single.proofs.Finite.{bits-back}
 use Rattle.trig_single.proofs.Taken.{whole-bits, digits-low, digits-high}
 
 -- ---- the packing, by the place j of the highest digit
-packed-at : (n k j : ℕ) → leadingZeros 64 n + suc j ≡ 64 → (n ≡ 0 → ⊥) → n < 2 ^ suc j → packOf n k ≡ (40 + k + j) * hidden + roundedOf (n * 2 ^ (63 - j))
+pub packed-at : (n k j : ℕ) → leadingZeros 64 n + suc j ≡ 64 → (n ≡ 0 → ⊥) → n < 2 ^ suc j → packOf n k ≡ (40 + k + j) * hidden + roundedOf (n * 2 ^ (63 - j))
 packed-at n k j e some high =
     let z : leadingZeros 64 n ≡ 63 - j = omega arith in
     let f : 103 + k - (63 - j) ≡ 40 + k + j = omega arith in
@@ -33,11 +33,11 @@ pub record Packed (b : ℕ) (s : Bool) (n k : ℕ) : Type 0 where
   pub high : size < 1149 * 4503599627370496
   pub single : singleOf size ≡ packOf n k
 
-sign-below : (s : Bool) → cond s 9223372036854775808 0 ≤ 9223372036854775808
+pub sign-below : (s : Bool) → cond s 9223372036854775808 0 ≤ 9223372036854775808
 sign-below true = omega arith
 sign-below false = omega arith
 
-plain-sign : (s : Bool) (p : ℕ) → p < 9223372036854775808 → (cond s 9223372036854775808 0 + p) % 9223372036854775808 ≡ p
+pub plain-sign : (s : Bool) (p : ℕ) → p < 9223372036854775808 → (cond s 9223372036854775808 0 + p) % 9223372036854775808 ≡ p
 plain-sign true p h = omega arith
 plain-sign false p h = omega arith
 

@@ -1,6 +1,6 @@
 -- An f64's pattern rounded to 24 digits is that of an f32 once 896 is taken off the exponent's field. Assumes nothing.
 use mathlib.Core.Path.{_≡_, refl, sym, ap, _∙_, subst}
-use mathlib.Core.Logic.{_⊎_, inl, ⊎-elim}
+use mathlib.Core.Logic.{inl, ⊎-elim}
 use mathlib.Core.Bool.{Bool, true, false, cond, not, _&&_}
 use Prim.Native.Nat.{ℕ, _+_, _-_, _*_, _/_, _%_, _^_, _≤_, _<_}
 use native.Mathlib.Nat.{lt-of-lt-of-le, mul-assoc}
@@ -15,7 +15,7 @@ use lib.Ieee.Fits.{fits-widens, and-i}
 use Rattle.floats.specs.Patterns.{hidden, signPlace}
 use Rattle.decimal_rounding.proofs.Pattern.{units-bits}
 use Rattle.decimal_rounding.proofs.Values.{value-unique}
-use Rattle.trig_single.specs.Single.{singleOf}
+use Rattle.trig_single.specs.Single.{singleOf, signedSingle, InRange, Ranged}
 use Rattle.trig_single.proofs.Finite.{finite-bits}
 use Rattle.trig_single.proofs.Values.{value-scaled}
 
@@ -69,17 +69,14 @@ module _ (s : Bool) (p : ℕ) (low : 897 * 4503599627370496 ≤ p) (high : p < 1
       ∙ ap (ofBits binary32) (let e : cond s signPlace 0 + x * hidden + m ≡ cond s signPlace 0 + singleOf p = omega arith in e)
 
 -- ---- a pattern with its sign, in the range of f32
-abbrev pub InRange : ℕ → Type 0
-InRange b = (897 * 2 ^ 52 ≤ b % 2 ^ 63) × (b % 2 ^ 63 < 1149 * 2 ^ 52)
-
 module _ (b : ℕ) (fit : b < 2 ^ 64) where
-  signed-single : InRange b → ofBits binary64 (roundedWide b) ≡ ofBits binary32 (b / 2 ^ 63 * 2 ^ 31 + singleOf (b % 2 ^ 63))
+  signed-single : InRange b → ofBits binary64 (roundedWide b) ≡ ofBits binary32 (signedSingle b)
   signed-single r = go (ltb b 9223372036854775808) refl
     where
       p : ℕ
       p = b % 2 ^ 63
 
-      go : (x : Bool) → ltb b 9223372036854775808 ≡ x → ofBits binary64 (roundedWide b) ≡ ofBits binary32 (b / 2 ^ 63 * 2 ^ 31 + singleOf (b % 2 ^ 63))
+      go : (x : Bool) → ltb b 9223372036854775808 ≡ x → ofBits binary64 (roundedWide b) ≡ ofBits binary32 (signedSingle b)
       go true e =
           let h = ltb-true b 9223372036854775808 e in
           ap (ofBits binary64) (let g : roundedWide b ≡ 0 + roundedWide p = omega (arith, r .0, r .1) in g)
@@ -91,25 +88,32 @@ module _ (b : ℕ) (fit : b < 2 ^ 64) where
           ∙ rounded-single true p (r .0) (r .1)
           ∙ ap (ofBits binary32) (let g : signPlace + singleOf p ≡ b / 2 ^ 63 * 2 ^ 31 + singleOf p = omega arith in g)
 
-  zero-single : b ≡ 0 → ofBits binary64 (roundedWide b) ≡ ofBits binary32 (b / 2 ^ 63 * 2 ^ 31 + singleOf (b % 2 ^ 63))
+  zero-single : b % 2 ^ 63 ≡ 0 → ofBits binary64 (roundedWide b) ≡ ofBits binary32 (signedSingle b)
   unfolding ofBits
-  zero-single e = ap (λ (n : ℕ). ofBits binary64 (roundedWide n)) e ∙ sym (ap (λ (n : ℕ). ofBits binary32 (n / 2 ^ 63 * 2 ^ 31 + singleOf (n % 2 ^ 63))) e)
+  zero-single z = go (ltb b 9223372036854775808) refl
+    where
+      at : (n : ℕ) → b ≡ n → ofBits binary64 (roundedWide n) ≡ ofBits binary32 (signedSingle n) → ofBits binary64 (roundedWide b) ≡ ofBits binary32 (signedSingle b)
+      at n e p = subst (λ (n : ℕ). ofBits binary64 (roundedWide n) ≡ ofBits binary32 (signedSingle n)) (sym e) p
 
-  pub wide-single : (b ≡ 0) ⊎ InRange b → ofBits binary64 (roundedWide b) ≡ ofBits binary32 (b / 2 ^ 63 * 2 ^ 31 + singleOf (b % 2 ^ 63))
+      go : (x : Bool) → ltb b 9223372036854775808 ≡ x → ofBits binary64 (roundedWide b) ≡ ofBits binary32 (signedSingle b)
+      go true e = let h = ltb-true b 9223372036854775808 e in at 0 (omega arith) refl
+      go false e = let h = ltb-false b 9223372036854775808 e in at 9223372036854775808 (omega arith) refl
+
+  pub wide-single : Ranged b → ofBits binary64 (roundedWide b) ≡ ofBits binary32 (signedSingle b)
   wide-single = ⊎-elim zero-single signed-single
 
-  pub wide-room : (b ≡ 0) ⊎ InRange b → b + 268435456 < 2 ^ 64
+  pub wide-room : Ranged b → b + 268435456 < 2 ^ 64
   wide-room = ⊎-elim (λ e. omega arith) (λ r. omega (arith, r .0, r .1))
 
-  rounded-plain : (b ≡ 0) ⊎ InRange b → roundedWide b % 9223372036854775808 < 9218868437227405312
+  rounded-plain : Ranged b → roundedWide b % 9223372036854775808 < 9218868437227405312
   rounded-plain = ⊎-elim (λ e. omega arith) (λ r. omega (arith, r .0, r .1))
 
-  pub wide-finite : (b ≡ 0) ⊎ InRange b → T (not (nanBits binary64 (roundedWide b)))
+  pub wide-finite : Ranged b → T (not (nanBits binary64 (roundedWide b)))
   wide-finite r = finite-bits (roundedWide b) (rounded-plain r)
 
   -- the cast loses nothing
-  pub wide-cast : (b ≡ 0) ⊎ InRange b → T (fits binary32 (ofBits binary64 (roundedWide b)) && not (isNan (ofBits binary64 (roundedWide b))))
+  pub wide-cast : Ranged b → T (fits binary32 (ofBits binary64 (roundedWide b)) && not (isNan (ofBits binary64 (roundedWide b))))
   wide-cast r =
       let x = ofBits binary64 (roundedWide b) in
-      and-i (fits binary32 x) (not (isNan x)) (subst (λ (y : Float). T (fits binary32 y)) (sym (wide-single r)) (ofBits-fits binary32 (b / 2 ^ 63 * 2 ^ 31 + singleOf (b % 2 ^ 63))))
+      and-i (fits binary32 x) (not (isNan x)) (subst (λ (y : Float). T (fits binary32 y)) (sym (wide-single r)) (ofBits-fits binary32 (signedSingle b)))
       (subst (λ (t : Bool). T (not t)) (nanBits-is binary64 (roundedWide b)) (wide-finite r))
