@@ -15,18 +15,19 @@ use lib.Ieee.Exact.{HasValue, round-exact}
 use lib.Ieee.Order.{round-mono}
 use lib.Ieee.Positive.{positive, positive-of-value, values-of-le}
 use Rattle.floats.specs.Patterns.{hidden, signPlace}
+use Rattle.decimal_rounding.specs.Wide.{singleStep, singleHalf, narrowedOf}
 use Rattle.decimal_rounding.proofs.Compares.{below-or-not}
 use Rattle.decimal_rounding.proofs.Halves.{near-down, near-up}
 use Rattle.decimal_rounding.proofs.Pattern.{units-pattern}
 use Rattle.decimal_rounding.proofs.Wide.{digitsOf, powerOf, pattern-value}
-use Rattle.decimal.specs.Bits.{Nearest, Tells, narrowedOf}
+use Rattle.decimal.specs.Bits.{Nearest, Tells}
 
 abbrev sized : ℕ → ℕ
 sized c = digitsOf c * 2 ^ powerOf c
 
 -- a pattern with its last 29 digits rounded off, in steps of f32; and a step's 24 digits and the power of two that they are taken with
 abbrev stepOf : ℕ → ℕ
-stepOf b = (b + 268435456) / 536870912
+stepOf b = (b + singleHalf) / singleStep
 
 abbrev singleDigits : ℕ → ℕ
 singleDigits t = t % hidden + hidden
@@ -98,41 +99,41 @@ module _ (w d b : ℕ) (D : 0 < d) (is : round binary64 false w d ≡ ofBits bin
   -- ---- the fraction among the steps of f32
 
   -- the middle of q and q + 1 steps of 2 ^ k smallest values, which a pattern has
-  middle : (c q k : ℕ) → digitsOf c ≡ q * 536870912 + 268435456 → powerOf c ≡ k + 896 → sized c * d ≡ (2 * (q * (d * 2 ^ k)) + d * 2 ^ k) * 2 ^ 924
+  middle : (c q k : ℕ) → digitsOf c ≡ q * singleStep + singleHalf → powerOf c ≡ k + 896 → sized c * d ≡ (2 * (q * (d * 2 ^ k)) + d * 2 ^ k) * 2 ^ 924
   middle c q k e p =
       let P = 2 ^ k in
       let split : 2 ^ (k + 896) ≡ P * 2 ^ 896 = pow-add 2 k 896 in
       ap₂ (λ (x : ℕ) (y : ℕ). x * 2 ^ y * d) e p
-      ∙ ap (λ (z : ℕ). (q * 536870912 + 268435456) * z * d) split
+      ∙ ap (λ (z : ℕ). (q * singleStep + singleHalf) * z * d) split
       ∙ scaled q P (2 ^ 896)
     where
-      scaled : (q P M : ℕ) → (q * 536870912 + 268435456) * (P * M) * d ≡ (2 * (q * (d * P)) + d * P) * (268435456 * M)
+      scaled : (q P M : ℕ) → (q * singleStep + singleHalf) * (P * M) * d ≡ (2 * (q * (d * P)) + d * P) * (singleHalf * M)
       scaled q P M =
-          let u : q * 536870912 + 268435456 ≡ (2 * q + 1) * 268435456 = omega arith in
+          let u : q * singleStep + singleHalf ≡ (2 * q + 1) * singleHalf = omega arith in
           let v : (2 * q + 1) * (d * P) ≡ 2 * (q * (d * P)) + d * P = add-mul (2 * q) 1 (d * P) ∙ ap₂ _+_ (mul-assoc 2 q (d * P)) (one-mul (d * P)) in
-          let swap : 268435456 * (P * M) ≡ P * (268435456 * M) = sym (mul-assoc 268435456 P M) ∙ ap (λ (z : ℕ). z * M) (mul-comm 268435456 P) ∙ mul-assoc P 268435456 M in
+          let swap : singleHalf * (P * M) ≡ P * (singleHalf * M) = sym (mul-assoc singleHalf P M) ∙ ap (λ (z : ℕ). z * M) (mul-comm singleHalf P) ∙ mul-assoc P singleHalf M in
           ap (λ (z : ℕ). z * (P * M) * d) u
-          ∙ ap (λ (z : ℕ). z * d) (mul-assoc (2 * q + 1) 268435456 (P * M))
-          ∙ mul-assoc (2 * q + 1) (268435456 * (P * M)) d
-          ∙ ap (λ (z : ℕ). (2 * q + 1) * z) (mul-comm (268435456 * (P * M)) d ∙ ap (λ (z : ℕ). d * z) swap ∙ sym (mul-assoc d P (268435456 * M)))
-          ∙ sym (mul-assoc (2 * q + 1) (d * P) (268435456 * M))
-          ∙ ap (λ (z : ℕ). z * (268435456 * M)) v
+          ∙ ap (λ (z : ℕ). z * d) (mul-assoc (2 * q + 1) singleHalf (P * M))
+          ∙ mul-assoc (2 * q + 1) (singleHalf * (P * M)) d
+          ∙ ap (λ (z : ℕ). (2 * q + 1) * z) (mul-comm (singleHalf * (P * M)) d ∙ ap (λ (z : ℕ). d * z) swap ∙ sym (mul-assoc d P (singleHalf * M)))
+          ∙ sym (mul-assoc (2 * q + 1) (d * P) (singleHalf * M))
+          ∙ ap (λ (z : ℕ). z * (singleHalf * M)) v
 
   twice : w * 2 ^ 1074 ≡ 2 * (w * 2 ^ 149) * 2 ^ 924
   twice = sym (ap (λ (z : ℕ). z * 2 ^ 924) (mul-comm 2 (w * 2 ^ 149) ∙ mul-assoc w (2 ^ 149) 2) ∙ mul-assoc w (2 ^ 150) (2 ^ 924))
 
-  module _ (no-tie : b % 536870912 ≡ 268435456 → ⊥) where
+  module _ (no-tie : b % singleStep ≡ singleHalf → ⊥) where
     -- past the middle below, and short of the middle above
     past : (q k : ℕ) → q ≡ singleDigits (stepOf b - 1) → k ≡ singlePower (stepOf b - 1) → 2 * (q * (d * 2 ^ k)) + d * 2 ^ k < 2 * (w * 2 ^ 149)
     past q k e f =
-        let c = stepOf b * 536870912 - 268435456 in
+        let c = stepOf b * singleStep - singleHalf in
         let m = middle c q k (omega arith) (omega arith) in
         let a = above c (omega arith) (omega arith) in
         lt-of-mul-lt-mul-right (2 ^ 924) (subst (λ (z : ℕ). (2 * (q * (d * 2 ^ k)) + d * 2 ^ k) * 2 ^ 924 < z) twice (subst (λ (z : ℕ). z < w * 2 ^ 1074) m a))
 
     short : (q k : ℕ) → q ≡ singleDigits (stepOf b) → k ≡ singlePower (stepOf b) → 2 * (w * 2 ^ 149) < 2 * (q * (d * 2 ^ k)) + d * 2 ^ k
     short q k e f =
-        let c = stepOf b * 536870912 + 268435456 in
+        let c = stepOf b * singleStep + singleHalf in
         let m = middle c q k (omega arith) (omega arith) in
         let a = below c (omega arith) (omega arith) in
         lt-of-mul-lt-mul-right (2 ^ 924) (subst (λ (z : ℕ). z < (2 * (q * (d * 2 ^ k)) + d * 2 ^ k) * 2 ^ 924) twice (subst (λ (z : ℕ). w * 2 ^ 1074 < z) m a))

@@ -11,10 +11,11 @@ use lib.Ieee.{Float, binary64, round, toBits, le}
 use lib.Ieee.Exact.{HasValue}
 use lib.Ieee.Order.{round-mono}
 use lib.Ieee.Positive.{num, den, positive, den-pos, own-value, positive-of-value, values-of-le, between}
+use Rattle.decimal_rounding.specs.Wide.{singleStep, singleHalf, narrowedOf}
 use Rattle.decimal_rounding.proofs.Limits.{zero-to}
 use Rattle.decimal_rounding.proofs.Pattern.{zero-bits}
 use Rattle.decimal_rounding.proofs.Sizes.{wideUnits, bits-between}
-use Rattle.decimal.specs.Bits.{Nearest, Tells, narrowedOf}
+use Rattle.decimal.specs.Bits.{Nearest, Tells}
 use Rattle.decimal.proofs.Narrowed.{own, quotient-nearest}
 
 -- ---- the quotient between two powers of two
@@ -66,7 +67,7 @@ module _ (w d : ℕ) (some : 0 < w) (few : w < 2 ^ 53) (D : 0 < d) (small : d �
       (mul-lt-mul-of-pos-right (let computed : 2 ^ 1127 < 2 ^ 1128 = lit< tt in computed) (den-pos x)))
 
   -- the pattern tells the nearest f32 but for a middle
-  pub quotient-tells : (b : ℕ) → b ≡ toBits binary64 x → (b % 536870912 ≡ 268435456 → ⊥) → Tells b
+  pub quotient-tells : (b : ℕ) → b ≡ toBits binary64 x → (b % singleStep ≡ singleHalf → ⊥) → Tells b
   quotient-tells b e n =
       let r = bits-between x above 1043 1128 (lit≤ tt) units-low units-high in
       record { low = omega (arith, e, r .0); high = omega (arith, e, r .1); no-tie = n }
@@ -76,7 +77,7 @@ module _ (w d : ℕ) (some : 0 < w) (few : w < 2 ^ 53) (D : 0 < d) (small : d �
 zero-nearest : (d : ℕ) → 0 < d → Nearest 0 d 0
 zero-nearest d D = record { finite-or-infinite = lit≤ tt; is = λ s. zero-to s 0 d D (subst (λ (n : ℕ). n ≤ d) (sym (zero-mul (2 ^ 150))) zero-le) ∙ zero-bits s }
 
-module _ (d b : ℕ) (D : 0 < d) (small : d ≤ 10 ^ 8) (no-tie : b % 536870912 ≡ 268435456 → ⊥) where
+module _ (d b : ℕ) (D : 0 < d) (small : d ≤ 10 ^ 8) (no-tie : b % singleStep ≡ singleHalf → ⊥) where
   pub quotient-bits : (w : ℕ) → w < 2 ^ 53 → b ≡ toBits binary64 (round binary64 false w d) → Nearest w d (cond (eqb w 0) 0 (narrowedOf b))
   quotient-bits zero few e = zero-nearest d D
   quotient-bits (suc w) few e =

@@ -9,9 +9,10 @@ ghost use lib.Dec.{eqb};
 ghost use lib.Ieee.{binary32, binary64, round, ofBits, toBits};
 ghost use lib.Ieee.Exact.{HasValue};
 ghost use Rattle.floats.specs.Patterns.{signPlace, infinityBits};
+ghost use Rattle.decimal_rounding.specs.Wide.{singleStep, singleHalf, narrowedOf};
 ghost use Rattle.decimal_digits.specs.Digits.{digitsAmong};
 ghost use Rattle.decimal_digits.specs.Exponent.{capped, most};
-ghost use Rattle.decimal.specs.Bits.{Tells, narrowedOf, Sides, Gathered, Rounds, Settles};
+ghost use Rattle.decimal.specs.Bits.{Tells, Sides, Gathered, Rounds, Settles};
 use decimal_product::inner::Near;
 use decimal_product::inner::nearest;
 use decimal_tie::inner::Order;
@@ -60,7 +61,7 @@ pub fn pattern(w: u64, places: u64) -> u64
 
 // Whether a quotient's bits tell the nearest f32: they are no middle of two.
 pub fn tells(b: u64) -> bool
-    ensures { λ r. ⌜ (r ≡ true → b % 536870912 ≡ 268435456 → ⊥) ⌝ }
+    ensures { λ r. ⌜ (r ≡ true → b % singleStep ≡ singleHalf → ⊥) ⌝ }
 {
     b % 536870912 != 268435456
 }

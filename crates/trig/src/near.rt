@@ -6,6 +6,7 @@ use crate::sides::sine_at;
 ghost use mathlib.Core.Path.{_≡_};
 ghost use Prim.Native.Nat.{_+_, _*_, _/_, _%_, _^_, _≤_, _<_};
 ghost use lib.Ieee.{binary32, ofBits};
+ghost use Rattle.decimal_rounding.specs.Wide.{singleStep, singleHalf};
 ghost use Rattle.trig_rule.specs.Steps.{half, gapOf, overOf, packOf, cosineAt};
 ghost use Rattle.trig_single.specs.Single.{Ranged, Stands, signedSingle, sineFrom};
 
@@ -41,7 +42,7 @@ pub(crate) fn cosine_near(r: u64) -> f32
 // the last 22 are cut off.
 fn product(turned: u32, r: u64, sides: Sides) -> u64
     requires { ⌜ (2 ^ 36 ≤ r) × (r ≤ half) × (sides .plus < 2 ^ 32) × (sides .minus < 2 ^ 32) ⌝ }
-    ensures { λ w. ⌜ ((w % 2 ^ 29 ≡ 2 ^ 28 → ⊥) → Stands w (sineFrom turned r (sides .plus) (sides .minus))) ⌝ }
+    ensures { λ w. ⌜ ((w % singleStep ≡ singleHalf → ⊥) → Stands w (sineFrom turned r (sides .plus) (sides .minus))) ⌝ }
 {
     let b = f64::to_bits((r / 32) as f64);
     let head = f64::from_bits(b - b % 0x40_0000);

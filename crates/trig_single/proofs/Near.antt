@@ -2,7 +2,7 @@
 use mathlib.Core.Path.{_≡_, refl, sym, ap, _∙_, subst}
 use mathlib.Core.Logic.{inl, inr, ⊎-elim}
 use mathlib.Core.Bool.{Bool, true, false, cond, not}
-use Prim.Native.Nat.{ℕ, zero, suc, _+_, _-_, _*_, _/_, _%_, _^_, _≤_, _<_}
+use Prim.Native.Nat.{ℕ, _+_, _-_, _*_, _/_, _%_, _^_, _≤_, _<_}
 use native.Mathlib.Nat.{eq-zero-or-pos}
 use native.Mathlib.Omega.{arith}
 use borrow.Author.Tests.{leb-true, leb-false, lt-ltb, le-ltb}
@@ -11,7 +11,9 @@ use lib.Pow.{pow-pos}
 use lib.Ieee.{Float, binary64, sub, round, toBits, ofBits, isNan, units, odd, size}
 use lib.Ieee.Scale.{round-same}
 use Rattle.trig_rule.specs.Steps.{gapOf, overOf, packOf}
-use Rattle.trig_single.specs.Single.{singleOf, signedSingle, Ranged}
+use Rattle.floats.specs.Patterns.{signPlace}
+use Rattle.decimal_rounding.specs.Wide.{wideHidden, wideSign, narrowedOf}
+use Rattle.trig_single.specs.Single.{signedSingle, Ranged}
 use Rattle.trig_single.proofs.Values.{round-number}
 use Rattle.trig_single.proofs.Taken.{carrier, taken}
 use Rattle.trig_single.proofs.Packed.{Packed, whole-packed}
@@ -20,20 +22,20 @@ use Rattle.trig_single.proofs.Packed.{Packed, whole-packed}
 pub record Near (x : Float) (s : Bool) (n k : ℕ) : Type 0 where
   pub number : T (not (isNan x))
   pub range : Ranged (toBits binary64 x)
-  pub sign : toBits binary64 x / 2 ^ 63 ≡ cond s 1 0
-  pub size : singleOf (toBits binary64 x % 2 ^ 63) ≡ packOf n k
+  pub sign : toBits binary64 x / wideSign ≡ cond s 1 0
+  pub size : narrowedOf (toBits binary64 x % wideSign) ≡ packOf n k
 
 pub packed-near : {s : Bool} {n k : ℕ} (x : Float) → T (not (isNan x)) → Packed (toBits binary64 x) s n k → Near x s n k
 packed-near {s} x number h =
     let both = parts s (h .size) (omega (arith, h .high)) (h .bits) in
     record {
       number = number;
-      range = inr (subst (λ (i : ℕ). 897 * 2 ^ 52 ≤ i) (sym (both .1)) (h .low), subst (λ (i : ℕ). i < 1149 * 2 ^ 52) (sym (both .1)) (h .high));
+      range = inr (subst (λ (i : ℕ). 897 * wideHidden ≤ i) (sym (both .1)) (h .low), subst (λ (i : ℕ). i < 1149 * wideHidden) (sym (both .1)) (h .high));
       sign = both .0;
-      size = ap singleOf (both .1) ∙ h .single;
+      size = ap narrowedOf (both .1) ∙ h .single;
     }
   where
-    parts : (s : Bool) (p : ℕ) → p < 2 ^ 63 → toBits binary64 x ≡ cond s 9223372036854775808 0 + p → (toBits binary64 x / 2 ^ 63 ≡ cond s 1 0) × (toBits binary64 x % 2 ^ 63 ≡ p)
+    parts : (s : Bool) (p : ℕ) → p < wideSign → toBits binary64 x ≡ cond s wideSign 0 + p → (toBits binary64 x / wideSign ≡ cond s 1 0) × (toBits binary64 x % wideSign ≡ p)
     parts true p l e = (omega arith, omega arith)
     parts false p l e = (omega arith, omega arith)
 
@@ -79,7 +81,7 @@ module _ (a t : ℕ) (ha : a < 2 ^ 32) (ht : t < 2 ^ 32) where
   pub difference-near : Near differenceOf (ltb a t) (gapOf a t) 58
   difference-near = subst (λ (x : Float). Near x (ltb a t) (gapOf a t) 58) (sym (taken 28 a t (omega arith) ha ht)) rounded-near
 
-  pub difference-answer : signedSingle (toBits binary64 differenceOf) ≡ overOf a t * 2 ^ 31 + packOf (gapOf a t) 58
+  pub difference-answer : signedSingle (toBits binary64 differenceOf) ≡ overOf a t * signPlace + packOf (gapOf a t) 58
   difference-answer =
       let near = difference-near in
-      ap (λ (i : ℕ). i * 2 ^ 31 + singleOf (toBits binary64 differenceOf % 2 ^ 63)) (near .sign ∙ sym over-is) ∙ ap (λ (i : ℕ). overOf a t * 2 ^ 31 + i) (near .size)
+      ap (λ (i : ℕ). i * signPlace + narrowedOf (toBits binary64 differenceOf % wideSign)) (near .sign ∙ sym over-is) ∙ ap (λ (i : ℕ). overOf a t * signPlace + i) (near .size)

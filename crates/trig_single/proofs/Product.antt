@@ -9,13 +9,13 @@ use borrow.Author.Tests.{ltb-true, ltb-false}
 use lib.Dec.{ltb}
 use lib.Count.{leadingZeros, leading-top}
 use lib.Pow.{pow-add, pow-pos, pow-mono, shl-lt}
-use lib.Ieee.{binary64, round, units, nearest, toBits, ofBits}
+use lib.Ieee.{binary64, round, nearest, toBits, ofBits}
 use lib.Ieee.Fits.{nearest-le}
 use lib.Ieee.Nearest.{nearest-ge}
 use Rattle.decimal_rounding.proofs.Cell.{cell}
 use Rattle.decimal_rounding.proofs.Pattern.{units-bits}
+use Rattle.decimal_rounding.specs.Wide.{wideHidden, wideSign, singleStep, singleHalf, narrowedOf}
 use Rattle.trig_rule.specs.Steps.{packOf, roundedOf}
-use Rattle.trig_single.specs.Single.{singleOf}
 use Rattle.trig_single.proofs.Finite.{bits-back}
 use Rattle.trig_single.proofs.Packed.{Packed, packed-at, sign-below, plain-sign, whole-packed}
 
@@ -55,7 +55,7 @@ module _ (s : Bool) (u k n i : ℕ) (units₀ : u + k ≡ 86) (many : 53 ≤ i) 
       let e : suc i + (63 - i) ≡ 64 = omega arith in
       subst (λ (x : ℕ). n * 2 ^ (63 - i) < 2 ^ x) e (shl-lt (suc i) (63 - i) high)
 
-  kept-low : 4503599627370496 ≤ kept
+  kept-low : wideHidden ≤ kept
   kept-low = let a = moved in let b = left-low in let c = moved-low in omega arith
 
   kept-high : kept < 9007199254740992
@@ -82,16 +82,16 @@ module _ (s : Bool) (u k n i : ℕ) (units₀ : u + k ≡ 86) (many : 53 ≤ i) 
   up-ge : kept ≤ up
   up-ge = nearest-ge kept (compare (left * 2 ^ 1074 * 2) (2 ^ u * 2 ^ field))
 
-  round-bits : round binary64 s n (2 ^ u) ≡ ofBits binary64 (cond s 9223372036854775808 0 + field * 4503599627370496 + up)
+  round-bits : round binary64 s n (2 ^ u) ≡ ofBits binary64 (cond s wideSign 0 + field * wideHidden + up)
   round-bits =
       let l : 54 + field ≤ 2098 = omega arith in
       cell binary64 s n (2 ^ u) kept field (left * 2 ^ 1074) (pow-pos u) kept-high in-cell cell-rest (inl kept-low)
       ∙ units-bits binary64 s up field (let a = up-le in let b = kept-high in omega arith) (inl (le-trans kept-low up-ge))
       (lt-of-lt-of-le (shl-lt 54 field (let a = up-le in let b = kept-high in let h : up < 2 ^ 54 = omega arith in h)) (pow-mono l))
 
-  long-packed : (toBits binary64 (round binary64 s n (2 ^ u)) % 536870912 ≡ 268435456 → ⊥) → Packed (toBits binary64 (round binary64 s n (2 ^ u))) s n k
+  long-packed : (toBits binary64 (round binary64 s n (2 ^ u)) % singleStep ≡ singleHalf → ⊥) → Packed (toBits binary64 (round binary64 s n (2 ^ u))) s n k
   long-packed apart =
-      let p = field * 4503599627370496 + up in
+      let p = field * wideHidden + up in
       let a = up-le in
       let b = up-ge in
       let kl = kept-low in
@@ -100,37 +100,37 @@ module _ (s : Bool) (u k n i : ℕ) (units₀ : u + k ≡ 86) (many : 53 ≤ i) 
       let f : 936 ≤ field = omega arith in
       let g : field ≤ 1084 = omega arith in
       let ps = plain-sign s p (omega arith) in
-      let same : cond s 9223372036854775808 0 + field * 4503599627370496 + up ≡ cond s 9223372036854775808 0 + p = omega arith in
-      let bits : toBits binary64 (round binary64 s n (2 ^ u)) ≡ cond s 9223372036854775808 0 + p =
-      ap (toBits binary64) round-bits ∙ ap (λ (x : ℕ). toBits binary64 (ofBits binary64 x)) same ∙ bits-back (cond s 9223372036854775808 0 + p) (omega arith) (omega arith) in
-      record { size = p; bits = bits; low = omega arith; high = omega arith; single = packs (λ e. apart (ap (λ (x : ℕ). x % 536870912) bits ∙ tail s p e)) }
+      let same : cond s wideSign 0 + field * wideHidden + up ≡ cond s wideSign 0 + p = omega arith in
+      let bits : toBits binary64 (round binary64 s n (2 ^ u)) ≡ cond s wideSign 0 + p =
+      ap (toBits binary64) round-bits ∙ ap (λ (x : ℕ). toBits binary64 (ofBits binary64 x)) same ∙ bits-back (cond s wideSign 0 + p) (omega arith) (omega arith) in
+      record { size = p; bits = bits; low = omega arith; high = omega arith; single = packs (λ e. apart (ap (λ (x : ℕ). x % singleStep) bits ∙ tail s p e)) }
     where
-      tail : (s : Bool) (p : ℕ) → p % 536870912 ≡ 268435456 → (cond s 9223372036854775808 0 + p) % 536870912 ≡ 268435456
+      tail : (s : Bool) (p : ℕ) → p % singleStep ≡ singleHalf → (cond s wideSign 0 + p) % singleStep ≡ singleHalf
       tail true p e = omega arith
       tail false p e = omega arith
 
       -- the rounded number's digits past the 24th say what those of n say
       rounds : (m f kept L up x : ℕ) → m ≡ kept * 2048 + L → L < 2048 → kept ≤ up → up ≤ suc kept → f ≡ 896 + x
-          → ((f * 4503599627370496 + up) % 536870912 < 268435456) ⊎ (268435456 < (f * 4503599627370496 + up) % 536870912)
-          → singleOf (f * 4503599627370496 + up) ≡ x * 8388608 + roundedOf m
+          → ((f * wideHidden + up) % singleStep < singleHalf) ⊎ (singleHalf < (f * wideHidden + up) % singleStep)
+          → narrowedOf (f * wideHidden + up) ≡ x * 8388608 + roundedOf m
       rounds m f kept L up x em l a b ef (inl h) = omega arith
       rounds m f kept L up x em l a b ef (inr h) = omega arith
 
-      side : (x : ℕ) → (x ≡ 268435456 → ⊥) → (x < 268435456) ⊎ (268435456 < x)
-      side x differs = go (ltb x 268435456) refl
+      side : (x : ℕ) → (x ≡ singleHalf → ⊥) → (x < singleHalf) ⊎ (singleHalf < x)
+      side x differs = go (ltb x singleHalf) refl
         where
-          go : (b : Bool) → ltb x 268435456 ≡ b → (x < 268435456) ⊎ (268435456 < x)
-          go true e = inl (ltb-true x 268435456 e)
-          go false e = ⊎-elim (λ g. absurd (differs (sym g))) inr (eq-or-lt-of-le (ltb-false x 268435456 e))
+          go : (b : Bool) → ltb x singleHalf ≡ b → (x < singleHalf) ⊎ (singleHalf < x)
+          go true e = inl (ltb-true x singleHalf e)
+          go false e = ⊎-elim (λ g. absurd (differs (sym g))) inr (eq-or-lt-of-le (ltb-false x singleHalf e))
 
-      packs : ((field * 4503599627370496 + up) % 536870912 ≡ 268435456 → ⊥) → singleOf (field * 4503599627370496 + up) ≡ packOf n k
+      packs : ((field * wideHidden + up) % singleStep ≡ singleHalf → ⊥) → narrowedOf (field * wideHidden + up) ≡ packOf n k
       packs differs =
           let f : field ≡ 896 + (40 + k + i) = omega arith in
-          rounds (n * 2 ^ (63 - i)) field kept (left * 2 ^ (63 - i)) up (40 + k + i) moved left-low up-ge up-le f (side ((field * 4503599627370496 + up) % 536870912) differs)
+          rounds (n * 2 ^ (63 - i)) field kept (left * 2 ^ (63 - i)) up (40 + k + i) moved left-low up-ge up-le f (side ((field * wideHidden + up) % singleStep) differs)
           ∙ sym (packed-at n k i zeros (λ e. let p = pow-pos i in omega arith) high)
 
 module _ (s : Bool) (u k n : ℕ) (units₀ : u + k ≡ 86) (some : 0 < n) (few : n < 2 ^ 63) where
-  pub product-packed : (toBits binary64 (round binary64 s n (2 ^ u)) % 536870912 ≡ 268435456 → ⊥) → Packed (toBits binary64 (round binary64 s n (2 ^ u))) s n k
+  pub product-packed : (toBits binary64 (round binary64 s n (2 ^ u)) % singleStep ≡ singleHalf → ⊥) → Packed (toBits binary64 (round binary64 s n (2 ^ u))) s n k
   product-packed apart = go (ltb n (2 ^ 53)) refl
     where
       long : 2 ^ 53 ≤ n → (i : ℕ) → leadingZeros 64 n + suc i ≡ 64 → 2 ^ i ≤ n → n < 2 ^ suc i → Packed (toBits binary64 (round binary64 s n (2 ^ u))) s n k

@@ -1,22 +1,24 @@
 -- The leading 31 digits of an angle times a difference, packed: by the product of two f64. Assumes nothing.
 use mathlib.Core.Path.{_≡_, refl, sym, ap, _∙_, subst}
 use mathlib.Core.Logic.{inl, inr, ⊎-elim}
-use mathlib.Core.Bool.{Bool, true, false, cond, not}
-use Prim.Native.Nat.{ℕ, zero, suc, _+_, _-_, _*_, _/_, _%_, _^_, _≤_, _<_}
+use mathlib.Core.Bool.{Bool, true, false, not}
+use Prim.Native.Nat.{ℕ, suc, _+_, _-_, _*_, _/_, _%_, _^_, _≤_, _<_}
 use native.Mathlib.Nat.{mul-assoc, mul-right-comm, mul-pos, mul-lt-mul-of-pos-right, le-trans, lt-of-le-of-lt, lt-of-lt-of-le, mul-le-mul-left, div-div-eq-div-mul, eq-zero-or-pos, lt-of-not-le, not-le-of-lt, mul-zero, le-of-lt}
 use native.Mathlib.Omega.{arith}
 use lib.Count.{leadingZeros, leading-top}
 use lib.Dec.{T, ltb}
 use lib.IntN.{pos}
-use lib.Pow.{pow-add, pow-pos, pow-mono, shl-lt}
+use lib.Pow.{pow-add, pow-pos, pow-mono}
 use lib.Ieee.{Float, binary64, sub, mul, round, toBits, ofBits, ofInt, isNan, unlike}
 use lib.Ieee.Exact.{HasValue}
 use lib.Ieee.Scale.{round-same}
-use Rattle.trig_rule.specs.Steps.{half, gapOf, overOf, packOf, dropOf}
-use Rattle.trig_single.specs.Single.{singleOf, signedSingle, Ranged, Stands, sineFrom}
+use Rattle.trig_rule.specs.Steps.{half, gapOf, overOf, dropOf}
+use Rattle.floats.specs.Patterns.{signPlace}
+use Rattle.decimal_rounding.specs.Wide.{wideHidden, wideSign, wideInfinity, singleStep, singleHalf, narrowedOf}
+use Rattle.trig_single.specs.Single.{Stands, sineFrom}
 use Rattle.trig_single.proofs.Values.{mul-values, round-number}
 use Rattle.trig_single.proofs.Taken.{carrier, taken}
-use Rattle.trig_single.proofs.Head.{exact-value, number-bits, cut-bits, lead-low, lead-high, head-value}
+use Rattle.trig_single.proofs.Head.{pastLead, exact-value, number-bits, cut-bits, lead-low, lead-high, head-value}
 use Rattle.trig_single.proofs.Product.{product-packed}
 use Rattle.trig_single.proofs.Near.{Near, packed-near, zero-over, gap-below, over-is}
 
@@ -33,7 +35,7 @@ unfolding ofInt
 whole-number r = round-number binary64 false (r / 32) 1
 
 abbrev pub headBits : ℕ → ℕ
-headBits r = wholeBits r - wholeBits r % 4194304
+headBits r = wholeBits r - wholeBits r % pastLead
 
 module _ (r : ℕ) (low : 2 ^ 36 ≤ r) (high : r ≤ half) where
   -- its value, by the leading digits of the definition; `place` is that of the highest digit of r / 32
@@ -44,8 +46,8 @@ module _ (r : ℕ) (low : 2 ^ 36 ≤ r) (high : r ≤ half) where
     pub drop : dropOf r ≡ place - 25
     pub small : r / 2 ^ dropOf r < 2 ^ 31
     pub some : 0 < r / 2 ^ dropOf r
-    pub finite : headBits r < 9218868437227405312
-    pub value : HasValue (ofBits binary64 (headBits r)) false (r / 2 ^ dropOf r * 4194304 * 2 ^ (1022 + place)) (2 ^ 1074)
+    pub finite : headBits r < wideInfinity
+    pub value : HasValue (ofBits binary64 (headBits r)) false (r / 2 ^ dropOf r * pastLead * 2 ^ (1022 + place)) (2 ^ 1074)
 
   at : (i : ℕ) → leadingZeros 64 r + suc i ≡ 64 → 2 ^ i ≤ r → r < 2 ^ suc i → Head
   at i zeros lo hi =
@@ -83,8 +85,8 @@ module _ (r : ℕ) (low : 2 ^ 36 ≤ r) (high : r ≤ half) where
             some = subst (λ (x : ℕ). 0 < x) same (omega arith);
             finite = omega arith;
             value =
-                subst (λ (x : ℕ). HasValue (ofBits binary64 (headBits r)) false (x * 4194304 * 2 ^ (1022 + j)) (2 ^ 1074)) same
-                (subst (λ (x : ℕ). HasValue (ofBits binary64 x) false (lead * 4194304 * 2 ^ (1022 + j)) (2 ^ 1074)) (sym cut) (head-value n j many near nl nh));
+                subst (λ (x : ℕ). HasValue (ofBits binary64 (headBits r)) false (x * pastLead * 2 ^ (1022 + j)) (2 ^ 1074)) same
+                (subst (λ (x : ℕ). HasValue (ofBits binary64 x) false (lead * pastLead * 2 ^ (1022 + j)) (2 ^ 1074)) (sym cut) (head-value n j many near nl nh));
           }
 
   pub head : Head
@@ -112,9 +114,9 @@ module _ (r a t : ℕ) (low : 2 ^ 36 ≤ r) (high : r ≤ half) (ha : a < 2 ^ 32
       let v = 86 - dropOf r in
       let e : 22 + (1022 + j) + v ≡ 1074 + 81 = omega (arith, h .drop, h .near, h .many) in
       mul-values binary64 (ofBits binary64 (headBits r)) (sub binary64 (ofBits binary64 (carrier 81 + a - t)) (ofBits binary64 (carrier 81))) false (ltb a t)
-      (D * 4194304 * 2 ^ (1022 + j)) (2 ^ 1074) g (2 ^ 81) (pow-pos 1074) (pow-pos 81) (h .value) difference-value
-      ∙ ap (λ (s : Bool). round binary64 s (D * 4194304 * 2 ^ (1022 + j) * g) (2 ^ 1074 * 2 ^ 81)) (plain (ltb a t))
-      ∙ round-same binary64 (ltb a t) (D * 4194304 * 2 ^ (1022 + j) * g) (2 ^ 1074 * 2 ^ 81) (D * g) (2 ^ v) (mul-pos (pow-pos 1074) (pow-pos 81)) (pow-pos v)
+      (D * pastLead * 2 ^ (1022 + j)) (2 ^ 1074) g (2 ^ 81) (pow-pos 1074) (pow-pos 81) (h .value) difference-value
+      ∙ ap (λ (s : Bool). round binary64 s (D * pastLead * 2 ^ (1022 + j) * g) (2 ^ 1074 * 2 ^ 81)) (plain (ltb a t))
+      ∙ round-same binary64 (ltb a t) (D * pastLead * 2 ^ (1022 + j) * g) (2 ^ 1074 * 2 ^ 81) (D * g) (2 ^ v) (mul-pos (pow-pos 1074) (pow-pos 81)) (pow-pos v)
       (ap (λ (x : ℕ). x * g * 2 ^ v) (mul-assoc D (2 ^ 22) (2 ^ (1022 + j)) ∙ ap (λ (x : ℕ). D * x) (sym (pow-add 2 22 (1022 + j))))
       ∙ ap (λ (x : ℕ). x * 2 ^ v) (mul-right-comm D (2 ^ (22 + (1022 + j))) g)
       ∙ mul-assoc (D * g) (2 ^ (22 + (1022 + j))) (2 ^ v)
@@ -135,7 +137,7 @@ module _ (r a t : ℕ) (low : 2 ^ 36 ≤ r) (high : r ≤ half) (ha : a < 2 ^ 32
 
   -- away from the middles of two f32 it packs as the whole number does
   abbrev Apart : Type 0
-  Apart = toBits binary64 sineProduct % 536870912 ≡ 268435456 → ⊥
+  Apart = toBits binary64 sineProduct % singleStep ≡ singleHalf → ⊥
 
   product-near : Apart → Near sineProduct (ltb a t) sineWhole (dropOf r)
   product-near apart = subst (λ (y : Float). Near y (ltb a t) sineWhole (dropOf r)) (sym product-is) (⊎-elim none some (eq-zero-or-pos (gapOf a t)))
@@ -153,22 +155,22 @@ module _ (r a t : ℕ) (low : 2 ^ 36 ≤ r) (high : r ≤ half) (ha : a < 2 ^ 32
           let h = head r low high in
           let e : u + dropOf r ≡ 86 = omega (arith, h .drop, h .near) in
           packed-near (round binary64 (ltb a t) sineWhole (2 ^ u)) (round-number binary64 (ltb a t) sineWhole (2 ^ u))
-          (product-packed (ltb a t) u (dropOf r) sineWhole e (mul-pos (h .some) s) whole-below (λ m. apart (ap (λ (y : Float). toBits binary64 y % 536870912) product-is ∙ m)))
+          (product-packed (ltb a t) u (dropOf r) sineWhole e (mul-pos (h .some) s) whole-below (λ m. apart (ap (λ (y : Float). toBits binary64 y % singleStep) product-is ∙ m)))
 
   -- with the sign turned over as often as `turned` says
   abbrev pub turnedOver : ℕ → ℕ
-  turnedOver turned = (toBits binary64 sineProduct + turned % 2 * 2 ^ 63) % 2 ^ 64
+  turnedOver turned = (toBits binary64 sineProduct + turned % 2 * wideSign) % 2 ^ 64
 
-  pub product-stands : (turned : ℕ) → (turnedOver turned % 2 ^ 29 ≡ 2 ^ 28 → ⊥) → Stands (turnedOver turned) (sineFrom turned r a t)
+  pub product-stands : (turned : ℕ) → (turnedOver turned % singleStep ≡ singleHalf → ⊥) → Stands (turnedOver turned) (sineFrom turned r a t)
   product-stands turned apart =
       let b = toBits binary64 sineProduct in
       let near = product-near (λ m. apart (omega arith)) in
-      let plain : turnedOver turned % 2 ^ 63 ≡ b % 2 ^ 63 = omega arith in
-      let sign : turnedOver turned / 2 ^ 63 ≡ (turned + overOf a t) % 2 = signed (near .sign ∙ sym (over-is a t ha ht)) in
+      let plain : turnedOver turned % wideSign ≡ b % wideSign = omega arith in
+      let sign : turnedOver turned / wideSign ≡ (turned + overOf a t) % 2 = signed (near .sign ∙ sym (over-is a t ha ht)) in
       record {
-        range = ⊎-elim (λ e. inl (plain ∙ e)) (λ h. inr (subst (λ (i : ℕ). 897 * 2 ^ 52 ≤ i) (sym plain) (h .0), subst (λ (i : ℕ). i < 1149 * 2 ^ 52) (sym plain) (h .1))) (near .range);
-        single = ap (λ (i : ℕ). i * 2 ^ 31 + singleOf (turnedOver turned % 2 ^ 63)) sign ∙ ap (λ (i : ℕ). (turned + overOf a t) % 2 * 2 ^ 31 + i) (ap singleOf plain ∙ near .size);
+        range = ⊎-elim (λ e. inl (plain ∙ e)) (λ h. inr (subst (λ (i : ℕ). 897 * wideHidden ≤ i) (sym plain) (h .0), subst (λ (i : ℕ). i < 1149 * wideHidden) (sym plain) (h .1))) (near .range);
+        single = ap (λ (i : ℕ). i * signPlace + narrowedOf (turnedOver turned % wideSign)) sign ∙ ap (λ (i : ℕ). (turned + overOf a t) % 2 * signPlace + i) (ap narrowedOf plain ∙ near .size);
       }
     where
-      signed : toBits binary64 sineProduct / 2 ^ 63 ≡ overOf a t → turnedOver turned / 2 ^ 63 ≡ (turned + overOf a t) % 2
+      signed : toBits binary64 sineProduct / wideSign ≡ overOf a t → turnedOver turned / wideSign ≡ (turned + overOf a t) % 2
       signed e = omega arith

@@ -1,7 +1,7 @@
 -- Floats by sign and size: the same size by another fraction, and a difference and a product are the rounded difference and product of the values. Assumes nothing.
 use mathlib.Core.Path.{_≡_, refl, sym, ap, _∙_, subst}
 use Prim.Native.Nat.{ℕ, zero, suc, _+_, _-_, _*_, _^_, _≤_, _<_}
-use native.Mathlib.Nat.{mul-pos, mul-comm, mul-assoc, mul-right-comm, mul-mul-mul-comm, mul-sub, mul-le-mul-right, mul-lt-mul-of-pos-right, lt-of-mul-lt-mul-right, le-of-mul-le-mul-right, not-le-of-lt}
+use native.Mathlib.Nat.{mul-pos, mul-comm, mul-assoc, mul-right-comm, mul-mul-mul-comm, mul-sub, mul-le-mul-right, le-of-mul-le-mul-right, not-le-of-lt}
 use mathlib.Core.Bool.{Bool, true, false, cond, not, true≢false}
 use borrow.Author.Tests.{ltb-true, ltb-false}
 use lib.Dec.{T, ltb}

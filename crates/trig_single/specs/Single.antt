@@ -1,25 +1,22 @@
--- The f32 nearest to an f64, by their patterns, and the sine's pattern from its two sides. Definitions only.
+-- The f32 nearest to an f64 of either sign, by their patterns, and the sine's pattern from its two sides. Definitions only.
 use mathlib.Core.Path.{_≡_}
 use mathlib.Core.Logic.{_⊎_}
-use Prim.Native.Nat.{ℕ, _+_, _-_, _*_, _/_, _%_, _^_, _≤_, _<_}
+use Prim.Native.Nat.{ℕ, _+_, _*_, _/_, _%_, _^_, _≤_, _<_}
 use Rattle.floats.specs.Patterns.{signPlace}
+use Rattle.decimal_rounding.specs.Wide.{wideHidden, wideSign, narrowedOf}
 use Rattle.trig_rule.specs.Steps.{gapOf, overOf, dropOf, packOf}
 
--- the pattern of the f32 nearest to the f64 with the pattern p without a sign, halves away from 0: the last 29 digits are rounded off, and 896 is taken off the exponent's field
-abbrev pub singleOf : ℕ → ℕ
-singleOf p = (p + 268435456) / 536870912 - 7516192768
-
--- the same of a pattern with its sign
+-- the pattern of the f32 nearest to the f64 with the pattern b
 abbrev pub signedSingle : ℕ → ℕ
-signedSingle b = b / 2 ^ 63 * 2 ^ 31 + singleOf (b % 2 ^ 63)
+signedSingle b = b / wideSign * signPlace + narrowedOf (b % wideSign)
 
--- of at least 2 ^ -126 and below 2 ^ 126, of either sign: each f32 about there has 24 digits
+-- of at least 2 ^ -126 and below 2 ^ 126 in size: each f32 about there has 24 digits
 abbrev pub InRange : ℕ → Type 0
-InRange b = (897 * 2 ^ 52 ≤ b % 2 ^ 63) × (b % 2 ^ 63 < 1149 * 2 ^ 52)
+InRange b = (897 * wideHidden ≤ b % wideSign) × (b % wideSign < 1149 * wideHidden)
 
 -- or 0
 abbrev pub Ranged : ℕ → Type 0
-Ranged b = (b % 2 ^ 63 ≡ 0) ⊎ InRange b
+Ranged b = (b % wideSign ≡ 0) ⊎ InRange b
 
 -- the f64 with the pattern b stands for the f32 with the pattern p
 pub record Stands (b p : ℕ) : Type 0 where

@@ -5,6 +5,7 @@ use mathlib.Core.Path.{_≡_, sym, subst}
 use Prim.Native.Nat.{ℕ, _/_, _%_, _^_}
 use lib.Dec.{le→leb}
 use lib.Ieee.{inFloat}
+use Rattle.decimal_rounding.specs.Wide.{singleStep, singleHalf}
 use Rattle.trig_single.specs.Single.{Stands, sineFrom}
 use Rattle.trig_single.proofs.Finite.{finite-bits}
 use Rattle.trig_single.proofs.Sine.{whole-number, head, product-number, product-stands}
@@ -36,7 +37,7 @@ returns : tie.Need-returns
 returns c =
     let start = c .before .before .before .before in
     let given = start .args in
-    subst (λ (w : ℕ). (w % 2 ^ 29 ≡ 2 ^ 28 → ⊥) → Stands w (sineFrom (given .turned) (given .r) (given .sides .plus) (given .sides .minus))) (sym (c .wrapping-add-u64 .ensures))
+    subst (λ (w : ℕ). (w % singleStep ≡ singleHalf → ⊥) → Stands w (sineFrom (given .turned) (given .r) (given .sides .plus) (given .sides .minus))) (sym (c .wrapping-add-u64 .ensures))
     (product-stands (given .r) (given .sides .plus) (given .sides .minus) (start .pre .0) (start .pre .1) (start .pre .2) (start .pre .3) (given .turned))
 
 pub product-spec : {M : Type 1} → statement M
