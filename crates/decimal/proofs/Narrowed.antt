@@ -15,11 +15,12 @@ use lib.Ieee.Exact.{HasValue, round-exact}
 use lib.Ieee.Order.{round-mono}
 use lib.Ieee.Positive.{positive, positive-of-value, values-of-le}
 use Rattle.floats.specs.Patterns.{hidden, signPlace, wideHidden, wideInfinityBits, narrowStep, narrowHalf}
+use Rattle.decimal_rounding.specs.Wide.{narrowedOf}
 use Rattle.decimal_rounding.proofs.Compares.{below-or-not}
 use Rattle.decimal_rounding.proofs.Halves.{near-down, near-up}
 use Rattle.decimal_rounding.proofs.Pattern.{units-pattern}
 use Rattle.decimal_rounding.proofs.Wide.{digitsOf, powerOf, pattern-value}
-use Rattle.decimal.specs.Bits.{Nearest, Tells, narrowedOf}
+use Rattle.decimal.specs.Bits.{Nearest, Tells}
 
 abbrev sized : ℕ → ℕ
 sized c = digitsOf c * 2 ^ powerOf c

@@ -12,10 +12,11 @@ use lib.Ieee.Exact.{HasValue}
 use lib.Ieee.Order.{round-mono}
 use lib.Ieee.Positive.{num, den, positive, den-pos, own-value, positive-of-value, values-of-le, between}
 use Rattle.floats.specs.Patterns.{narrowStep, narrowHalf}
+use Rattle.decimal_rounding.specs.Wide.{narrowedOf}
 use Rattle.decimal_rounding.proofs.Limits.{zero-to}
 use Rattle.decimal_rounding.proofs.Pattern.{zero-bits}
 use Rattle.decimal_rounding.proofs.Sizes.{wideUnits, bits-between}
-use Rattle.decimal.specs.Bits.{Nearest, Tells, narrowedOf}
+use Rattle.decimal.specs.Bits.{Nearest, Tells}
 use Rattle.decimal.proofs.Narrowed.{own, quotient-nearest}
 
 -- ---- the quotient between two powers of two

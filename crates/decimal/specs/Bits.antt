@@ -1,5 +1,5 @@
 -- What the steps on the way to a value know and tell. Definitions only.
-use Prim.Native.Nat.{ℕ, _+_, _-_, _*_, _/_, _%_, _^_, _≤_, _<_, compare}
+use Prim.Native.Nat.{ℕ, _+_, _-_, _*_, _%_, _^_, _≤_, _<_, compare}
 use mathlib.Core.Path.{_≡_}
 use mathlib.Core.Logic.{_⊎_}
 use mathlib.Core.List.{List, [], _∷_}
@@ -27,15 +27,11 @@ pub record Nearest (num den b : ℕ) : Type 0 where
   pub finite-or-infinite : b ≤ infinityBits
   pub is : (s : Bool) → round binary32 s num den ≡ ofBits binary32 (cond s signPlace 0 + b)
 
--- an f64's bits that tell the nearest f32: it lies from 2 ^ -31 to 2 ^ 65, and its last 29 digits are no half
+-- an f64's bits that tell the nearest f32, `narrowedOf`: it lies from 2 ^ -31 to 2 ^ 65, and its last 29 digits are no half
 pub record Tells (b : ℕ) : Type 0 where
   pub low : 0x3E00000000000000 ≤ b
   pub high : b < 0x4400000000000000
   pub no-tie : b % narrowStep ≡ narrowHalf → ⊥
-
--- the bits of that f32
-abbrev pub narrowedOf : ℕ → ℕ
-narrowedOf b = (b + narrowHalf) / narrowStep - 7516192768
 
 -- what is gathered of a number: its digits, of which count stand before the point and places after it, and capped exponents
 pub record Gathered (ds : List ℕ) (count places w dropped rise fall : ℕ) : Type 0 where

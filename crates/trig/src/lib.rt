@@ -5,9 +5,10 @@ mod near;
 mod sides;
 
 use crate::near::cosine_near;
+use crate::near::sine_near;
 use crate::sides::fixed;
 use crate::sides::reduce;
-use crate::sides::sine_at;
+use crate::sides::sine_sides;
 ghost use mathlib.Core.Path.{_≡_};
 ghost use Rattle.trig_rule.specs.Rule.{inReach};
 ghost use Rattle.trig_rule.specs.Steps.{sineOf, cosineOf};
@@ -37,7 +38,8 @@ pub fn sin(x: f32) -> f32
         return x;
     }
     let r = reduce(fixed(a));
-    f32::from_bits(sine_at(b / 0x8000_0000 + r.flip, r.size))
+    let sides = sine_sides(r.size);
+    sine_near(b / 0x8000_0000 + r.flip, r.size, sides)
 }
 
 // The cosine of an angle of at most 64 in size, and NaN for any other.
@@ -71,7 +73,8 @@ pub fn sin_cos(x: f32) -> SinCos
         return SinCos { sin: x, cos: 1.0 };
     }
     let r = reduce(fixed(a));
-    let s = f32::from_bits(sine_at(b / 0x8000_0000 + r.flip, r.size));
+    let sides = sine_sides(r.size);
+    let s = sine_near(b / 0x8000_0000 + r.flip, r.size, sides);
     let c = cosine_near(r.size);
     SinCos { sin: s, cos: c }
 }

@@ -2,7 +2,8 @@
 // asks that its own is small enough.
 ghost use mathlib.Core.Path.{_≡_};
 ghost use Prim.Native.Nat.{_+_, _-_, _*_, _/_, _%_, _^_, _≤_, _<_};
-ghost use Rattle.trig_rule.specs.Steps.{half, fixedOf, restOf, flipOf, squareOf, fourthOf, risen, sinePlus, sineMinus, cosinePlus, cosineMinus, gapOf, overOf, dropOf, packOf, sineAt};
+ghost use Rattle.trig_rule.specs.Steps.{half, fixedOf, restOf, flipOf, squareOf, fourthOf, risen, sinePlus, sineMinus, cosinePlus, cosineMinus, gapOf, overOf, dropOf, packOf};
+ghost use Rattle.trig_single.specs.Single.{sineFrom};
 
 // The size of a float, from its bits without the sign.
 pub fn fixed(a: u32) -> u64
@@ -151,12 +152,11 @@ pub fn pack(w: u64, s: u32) -> u32
     (103 + s - z) * 0x80_0000 + q as u32
 }
 
-// The bits of the sine at r, where `turned` counts what turns its sign over.
-pub fn sine_at(turned: u32, r: u64) -> u32
-    requires { ⌜ (turned ≤ 2) × (r ≤ half) ⌝ }
-    ensures { λ b. ⌜ (b ≡ sineAt turned r) × (b % 2147483648 ≤ 1400000000) ⌝ }
+// The bits of the sine at r from its two sides, where `turned` counts what turns its sign over.
+pub fn sine_at(turned: u32, r: u64, sides: Sides) -> u32
+    requires { ⌜ (turned ≤ 2) × (sides .plus < 2 ^ 32) × (sides .minus < 2 ^ 32) ⌝ }
+    ensures { λ b. ⌜ (b ≡ sineFrom turned r (sides .plus) (sides .minus)) × (b % 2147483648 ≤ 1400000000) ⌝ }
 {
-    let sides = sine_sides(r);
     let s = dropped(r);
     let m = pack((r >> s) * gap(sides.plus, sides.minus), s);
     (turned + over(sides.plus, sides.minus)) % 2 * 0x8000_0000 + m

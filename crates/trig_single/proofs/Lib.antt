@@ -5,3 +5,6 @@ pub mod Single
 pub mod Taken
 pub mod Packed
 pub mod Near
+pub mod Head
+pub mod Product
+pub mod Sine

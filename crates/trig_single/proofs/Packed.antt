@@ -1,21 +1,21 @@
 -- A whole number of 2 ^ -u by its f64: the pattern, rounded to that of an f32, is the packing of the steps. Assumes nothing.
-use mathlib.Core.Path.{_≡_, refl, sym, ap, _∙_, subst}
+use mathlib.Core.Path.{_≡_, sym, ap, _∙_, subst}
 use mathlib.Core.Bool.{Bool, true, false, cond}
-use Prim.Native.Nat.{ℕ, suc, _+_, _-_, _*_, _/_, _%_, _^_, _≤_, _<_}
+use Prim.Native.Nat.{ℕ, suc, _+_, _-_, _*_, _%_, _^_, _≤_, _<_}
 use native.Mathlib.Nat.{mul-assoc, mod-eq-of-lt, le-trans, lt-of-not-le, not-le-of-lt}
 use native.Mathlib.Omega.{arith}
 use borrow.Author.Tests.{ne-eqb}
 use lib.Count.{leadingZeros, leading-top}
 use lib.Pow.{pow-add, pow-mono, shl-lt}
 use lib.Ieee.{binary64, round, toBits, ofBits}
-use Rattle.floats.specs.Patterns.{hidden}
+use Rattle.floats.specs.Patterns.{hidden, wideHidden, wideSignPlace}
+use Rattle.decimal_rounding.specs.Wide.{narrowedOf}
 use Rattle.trig_rule.specs.Steps.{packOf, roundedOf}
-use Rattle.trig_single.specs.Single.{singleOf}
 use Rattle.trig_single.proofs.Finite.{bits-back}
 use Rattle.trig_single.proofs.Taken.{whole-bits, digits-low, digits-high}
 
 -- ---- the packing, by the place j of the highest digit
-packed-at : (n k j : ℕ) → leadingZeros 64 n + suc j ≡ 64 → (n ≡ 0 → ⊥) → n < 2 ^ suc j → packOf n k ≡ (40 + k + j) * hidden + roundedOf (n * 2 ^ (63 - j))
+pub packed-at : (n k j : ℕ) → leadingZeros 64 n + suc j ≡ 64 → (n ≡ 0 → ⊥) → n < 2 ^ suc j → packOf n k ≡ (40 + k + j) * hidden + roundedOf (n * 2 ^ (63 - j))
 packed-at n k j e some high =
     let z : leadingZeros 64 n ≡ 63 - j = omega arith in
     let f : 103 + k - (63 - j) ≡ 40 + k + j = omega arith in
@@ -28,16 +28,16 @@ packed-at n k j e some high =
 -- ---- b is the pattern p with the sign s, in the range of f32, and stands for n packed with k
 pub record Packed (b : ℕ) (s : Bool) (n k : ℕ) : Type 0 where
   pub size : ℕ
-  pub bits : b ≡ cond s 9223372036854775808 0 + size
-  pub low : 897 * 4503599627370496 ≤ size
-  pub high : size < 1149 * 4503599627370496
-  pub single : singleOf size ≡ packOf n k
+  pub bits : b ≡ cond s wideSignPlace 0 + size
+  pub low : 897 * wideHidden ≤ size
+  pub high : size < 1149 * wideHidden
+  pub single : narrowedOf size ≡ packOf n k
 
-sign-below : (s : Bool) → cond s 9223372036854775808 0 ≤ 9223372036854775808
+pub sign-below : (s : Bool) → cond s wideSignPlace 0 ≤ wideSignPlace
 sign-below true = omega arith
 sign-below false = omega arith
 
-plain-sign : (s : Bool) (p : ℕ) → p < 9223372036854775808 → (cond s 9223372036854775808 0 + p) % 9223372036854775808 ≡ p
+pub plain-sign : (s : Bool) (p : ℕ) → p < wideSignPlace → (cond s wideSignPlace 0 + p) % wideSignPlace ≡ p
 plain-sign true p h = omega arith
 plain-sign false p h = omega arith
 
@@ -52,20 +52,20 @@ module _ (s : Bool) (u k n : ℕ) (units : u + k ≡ 86) (some : 0 < n) (few : n
       at j e low high =
           let near : j ≤ 52 = short j low in
           let q = n * 2 ^ (52 - j) in
-          let p = (1022 + j - u) * 4503599627370496 + q in
+          let p = (1022 + j - u) * wideHidden + q in
           let ql = digits-low s u n j (omega arith) near low high in
           let qh = digits-high s u n j (omega arith) near low high in
           let shift : n * 2 ^ (63 - j) ≡ q * 2048 = shifted j near in
           let sb = sign-below s in
           let ps = plain-sign s p (omega arith) in
-          let whole : cond s 9223372036854775808 0 + (1022 + j - u) * 4503599627370496 + q ≡ cond s 9223372036854775808 0 + p = omega arith in
+          let whole : cond s wideSignPlace 0 + (1022 + j - u) * wideHidden + q ≡ cond s wideSignPlace 0 + p = omega arith in
           record {
             size = p;
-            bits = ap (toBits binary64) (whole-bits s u n j (omega arith) near low high) ∙ ap (λ (i : ℕ). toBits binary64 (ofBits binary64 i)) whole ∙ bits-back (cond s 9223372036854775808 0 + p) (omega arith) (omega arith);
+            bits = ap (toBits binary64) (whole-bits s u n j (omega arith) near low high) ∙ ap (λ (i : ℕ). toBits binary64 (ofBits binary64 i)) whole ∙ bits-back (cond s wideSignPlace 0 + p) (omega arith) (omega arith);
             low = omega arith;
             high = omega arith;
             single =
-                (let r : singleOf p ≡ (40 + k + j) * hidden + roundedOf (q * 2048) = omega arith in r)
+                (let r : narrowedOf p ≡ (40 + k + j) * hidden + roundedOf (q * 2048) = omega arith in r)
                 ∙ ap (λ (i : ℕ). (40 + k + j) * hidden + roundedOf i) (sym shift) ∙ sym (packed-at n k j e (λ z. omega arith) high);
           }
         where

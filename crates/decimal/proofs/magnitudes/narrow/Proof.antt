@@ -5,7 +5,7 @@ use mathlib.Core.Bool.{Bool, cond}
 use native.Mathlib.Omega.{arith}
 use borrow.Author.Needs.{needs}
 use borrow.Author.Tests.{eq-eqb, ne-eqb}
-use Rattle.decimal.specs.Bits.{Tells, narrowedOf}
+use Rattle.decimal.specs.Bits.{Tells}
 use Rattle.decimal.proofs.magnitudes.narrow.Statement.{statement}
 use Rattle.decimal.proofs.magnitudes.narrow.Tie as tie
 

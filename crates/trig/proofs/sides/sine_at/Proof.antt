@@ -14,6 +14,6 @@ returns c = (cc, omega arith)
 pub sine-at-spec : {M : Type 1} → statement M
 sine-at-spec =
     tie.close
-    (tie.spec (λ c κs. search needs) (λ c κs. search needs) (λ c. search needs) (λ c. search needs)
+    (tie.spec (λ c κs. search needs) (λ c. search needs) (λ c. search needs)
     (λ c κs. search needs) mul-pack (λ c κs. search needs) (λ c κs. search needs) (λ c. search needs)
     (λ c. search needs) (λ c. search needs) returns)
