@@ -341,7 +341,7 @@ module _ (list : StoredList) (near : allNear (list .numbers) ≡ true) where
         }
 
     plain-step : PlainStep n letter-at at
-    plain-step = by (getD letters letter-at 0) refl (eqb (getD letters letter-at 0) 77) (eqb (getD letters letter-at 0) 76) (eqb (getD letters letter-at 0) 81) (eqb (getD letters letter-at 0) 67) (eqb (getD letters letter-at 0) 90) refl refl refl refl refl
+    plain-step = let x = getD letters letter-at 0 in by x refl (eqb x 77) (eqb x 76) (eqb x 81) (eqb x 67) (eqb x 90) refl refl refl refl refl
       where
         by :
             (x : ℕ) → getD letters letter-at 0 ≡ x

@@ -11,7 +11,10 @@ use Rattle.arc.proofs.arcs.arc_position.Statement.{statement}
 use Rattle.arc.proofs.arcs.arc_position.Tie as tie
 
 returns : tie.Need-returns
-returns c = ap Placed.At (c .line-position .ensures ∙ ap (λ (l : LineSegment). linePositionOf l (c .before .before .before .before .before .args .progress .value)) (c .before .chord-line .ensures)) ∙ placed-on-line _ _ (c .before .before .if1 .taken)
+returns c =
+    let progress = c .before .before .before .before .before .args .progress .value in
+    let on-chord = c .line-position .ensures ∙ ap (λ (l : LineSegment). linePositionOf l progress) (c .before .chord-line .ensures) in
+    ap Placed.At on-chord ∙ placed-on-line _ _ (c .before .before .if1 .taken)
 
 arc-position-requires : tie.Need-arc-position-requires
 arc-position-requires c κs = passes _ (sym (c .before .table-is-sound .ensures) ∙ c .if2 .taken)
