@@ -50,7 +50,11 @@ pub readings :
     ≡ commands (MoveTo (point 0 0) ∷ CubicTo (point 0 0) (point 0x3f80_0000 0x4000_0000) (point 0x4040_0000 0x4080_0000) ∷ []))
     -- `M0 0A1 1 0 2 0 3 4`
     × (read (77 ∷ 48 ∷ 32 ∷ 48 ∷ 65 ∷ 49 ∷ 32 ∷ 49 ∷ 32 ∷ 48 ∷ 32 ∷ 50 ∷ 32 ∷ 48 ∷ 32 ∷ 51 ∷ 32 ∷ 52 ∷ []) ≡ refusal (ExpectedFlag 11))
-unfolding readPathOf commandsOf readFrom offsetsOf offsetsFrom readStepOf offsetAt nextDueOf dueAtOf dueAgainOf dueLetterOf dueGroupOf afterOf repeatedOf needsPointOf firstControlOf takesUpOf isRelativeOf readGroupOf readMoveOf readLineOf readHorizontalOf readVerticalOf readCubicOf readSmoothCubicOf readQuadOf readSmoothQuadOf readArcOf readPairOf movedOf readFlagsOf readFlagOf flagAt readNumberOf meaningOf isLetterOf numberOf valueOf digitsAmong val riseOf fallOf falls addOf round scanNumberOf noExponentDigit noDigit placesOf endOf exponentOf markOf fractionOf pointOf wholeOf pastMarkOf pastAll pastOne stands among scan leading lettersOf numbersOf ofBits ofInt add
+unfolding readPathOf commandsOf readFrom offsetsOf offsetsFrom readStepOf offsetAt nextDueOf dueAtOf dueAgainOf dueLetterOf dueGroupOf afterOf
+    repeatedOf needsPointOf firstControlOf takesUpOf isRelativeOf readGroupOf readMoveOf readLineOf readHorizontalOf readVerticalOf readCubicOf
+    readSmoothCubicOf readQuadOf readSmoothQuadOf readArcOf readPairOf movedOf readFlagsOf readFlagOf flagAt readNumberOf meaningOf isLetterOf
+    numberOf valueOf digitsAmong val riseOf fallOf falls addOf round scanNumberOf noExponentDigit noDigit placesOf endOf exponentOf markOf fractionOf
+    pointOf wholeOf pastMarkOf pastAll pastOne stands among scan leading lettersOf numbersOf ofBits ofInt add
 readings = (refl, refl, refl, refl, refl, refl, refl, refl, refl)
 
 pub smooth-readings :
@@ -80,12 +84,20 @@ pub smooth-readings :
     -- `S1 2 3 4` and `t1 2`: without one it is 7
     × (read (83 ∷ 49 ∷ 32 ∷ 50 ∷ 32 ∷ 51 ∷ 32 ∷ 52 ∷ []) ≡ refusal (MissingMoveTo 1))
     × (read (116 ∷ 49 ∷ 32 ∷ 50 ∷ []) ≡ refusal (MissingMoveTo 1))
-unfolding readPathOf commandsOf readFrom offsetsOf offsetsFrom readStepOf offsetAt nextDueOf dueAtOf dueAgainOf dueLetterOf dueGroupOf afterOf repeatedOf needsPointOf firstControlOf takesUpOf mirroredOf isRelativeOf readGroupOf readMoveOf readLineOf readHorizontalOf readVerticalOf readCubicOf readSmoothCubicOf readQuadOf readSmoothQuadOf readArcOf readPairOf movedOf readFlagsOf readFlagOf flagAt readNumberOf meaningOf isLetterOf numberOf valueOf digitsAmong val riseOf fallOf falls addOf subOf round scanNumberOf noExponentDigit noDigit placesOf endOf exponentOf markOf fractionOf pointOf wholeOf pastMarkOf pastAll pastOne stands among scan leading lettersOf numbersOf ofBits ofInt add sub neg
+unfolding readPathOf commandsOf readFrom offsetsOf offsetsFrom readStepOf offsetAt nextDueOf dueAtOf dueAgainOf dueLetterOf dueGroupOf afterOf
+    repeatedOf needsPointOf firstControlOf takesUpOf mirroredOf isRelativeOf readGroupOf readMoveOf readLineOf readHorizontalOf readVerticalOf
+    readCubicOf readSmoothCubicOf readQuadOf readSmoothQuadOf readArcOf readPairOf movedOf readFlagsOf readFlagOf flagAt readNumberOf meaningOf
+    isLetterOf numberOf valueOf digitsAmong val riseOf fallOf falls addOf subOf round scanNumberOf noExponentDigit noDigit placesOf endOf exponentOf
+    markOf fractionOf pointOf wholeOf pastMarkOf pastAll pastOne stands among scan leading lettersOf numbersOf ofBits ofInt add sub neg
 smooth-readings = (refl, refl, refl, refl, refl, refl)
 
 -- ` M1 2 3 4zL5 6`: the offset of the letter, blanks before it counted; a further pair has that of its M, and a Z its own
 pub offset-readings : offsetsOf (32 ∷ 77 ∷ 49 ∷ 32 ∷ 50 ∷ 32 ∷ 51 ∷ 32 ∷ 52 ∷ 122 ∷ 76 ∷ 53 ∷ 32 ∷ 54 ∷ []) ≡ 1 ∷ 1 ∷ 9 ∷ 10 ∷ []
-unfolding offsetsOf offsetsFrom readStepOf offsetAt nextDueOf dueAtOf dueAgainOf dueLetterOf dueGroupOf afterOf repeatedOf needsPointOf firstControlOf takesUpOf isRelativeOf readGroupOf readMoveOf readLineOf readHorizontalOf readVerticalOf readCubicOf readSmoothCubicOf readQuadOf readSmoothQuadOf readArcOf readPairOf movedOf readFlagsOf readFlagOf flagAt readNumberOf meaningOf isLetterOf numberOf valueOf digitsAmong val riseOf fallOf falls addOf round scanNumberOf noExponentDigit noDigit placesOf endOf exponentOf markOf fractionOf pointOf wholeOf pastMarkOf pastAll pastOne stands among scan leading lettersOf numbersOf ofBits ofInt add
+unfolding offsetsOf offsetsFrom readStepOf offsetAt nextDueOf dueAtOf dueAgainOf dueLetterOf dueGroupOf afterOf repeatedOf needsPointOf firstControlOf
+    takesUpOf isRelativeOf readGroupOf readMoveOf readLineOf readHorizontalOf readVerticalOf readCubicOf readSmoothCubicOf readQuadOf readSmoothQuadOf
+    readArcOf readPairOf movedOf readFlagsOf readFlagOf flagAt readNumberOf meaningOf isLetterOf numberOf valueOf digitsAmong val riseOf fallOf falls
+    addOf round scanNumberOf noExponentDigit noDigit placesOf endOf exponentOf markOf fractionOf pointOf wholeOf pastMarkOf pastAll pastOne stands
+    among scan leading lettersOf numbersOf ofBits ofInt add
 offset-readings = refl
 
 -- p + (p - c) at 0.1 and 0.3, where 2·p - c is another float; and the current point mirrored in itself, where -0 becomes +0 and an infinity a NaN
