@@ -1,4 +1,4 @@
-// One group of each kind, passed without its values: the first pass over a text counts only.
+// One group of each kind, passed without its values: what does not fit into the reader's own buffers is counted before it is read.
 ghost use mathlib.Core.Path.{_≡_};
 ghost use Rattle.scan.specs.Numbers.{scanNumberOf};
 ghost use Rattle.svg_group.specs.Passing.{ended, passNumberOf, passPairOf, passCubicOf, passQuadOf, passArcOf, passGroupOf};
@@ -20,8 +20,8 @@ fn pass_scanned(text: &[u8], start: usize) -> Passed
 {
     match scan::scan_number(text, start) {
         Number::Scanned(places) => Passed::To(places.end),
-        Number::NoDigit(place) => Passed::Refused(Refusal::ExpectedNumber(place)),
-        Number::NoExponentDigit(place) => Passed::Refused(Refusal::InvalidNumber(place)),
+        Number::NoDigit(offset) => Passed::Refused(Refusal::ExpectedNumber(offset)),
+        Number::NoExponentDigit(offset) => Passed::Refused(Refusal::InvalidNumber(offset)),
     }
 }
 

@@ -8,10 +8,10 @@ returns : tie.Need-returns
 returns c = rw (sym (c .before .before .before .scan-number .ensures) ∙ c .before .places .given .1)
 
 returns-2 : tie.Need-returns-2
-returns-2 c = rw (sym (c .before .before .before .scan-number .ensures) ∙ c .before .place .given .1)
+returns-2 c = rw (sym (c .before .before .before .scan-number .ensures) ∙ c .before .offset .given .1)
 
 returns-3 : tie.Need-returns-3
-returns-3 c = rw (sym (c .before .before .before .scan-number .ensures) ∙ c .before .place2 .given .1)
+returns-3 c = rw (sym (c .before .before .before .scan-number .ensures) ∙ c .before .offset2 .given .1)
 
 pub pass-scanned-spec : {M : Type 1} → statement M
 pass-scanned-spec =
