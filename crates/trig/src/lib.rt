@@ -19,7 +19,7 @@ pub struct SinCos {
 }
 
 // Whether x is at most 64 in size. A NaN is not.
-fn in_reach(x: f32) -> bool
+pub fn in_reach(x: f32) -> bool
     ensures { λ r. ⌜ r ≡ inReach x ⌝ }
 {
     -64.0 <= x && x <= 64.0

@@ -20,7 +20,7 @@ fn single(b: u64) -> f32
 }
 
 // (a - t) / 2^28 as an f32. In the bits of 1.5·2^24 the last digit is 2^-28.
-fn near(a: u64, t: u64) -> f32
+pub fn near(a: u64, t: u64) -> f32
     requires { ⌜ (a < 2 ^ 32) × (t < 2 ^ 32) ⌝ }
     ensures { λ r. ⌜ r ≡ ofBits binary32 (overOf a t * 2 ^ 31 + packOf (gapOf a t) 58) ⌝ }
 {

@@ -2,21 +2,14 @@
 // over lanes.
 ghost use mathlib.Core.Path.{_≡_};
 ghost use Prim.Native.Nat.{_+_, _*_, _^_, _≤_, _<_};
-ghost use lib.Ieee.{binary32, ofBits};
-ghost use Rattle.trig_rule.specs.Rule.{inReach};
-ghost use Rattle.trig_rule.specs.Steps.{squareOf, fourthOf, risen, sinePlus, sineMinus, cosinePlus, cosineMinus, gapOf, overOf, packOf, tinyBits, sineOf, cosineOf};
+ghost use Rattle.trig_rule.specs.Steps.{squareOf, fourthOf, risen, sinePlus, sineMinus, cosinePlus, cosineMinus, tinyBits, sineOf, cosineOf};
 ghost use Rattle.trig_all.specs.Rows.{steppedBits, restFor, flipFor};
+use trig::in_reach;
 use trig::inner::dropped;
 use trig::inner::gap;
+use trig::inner::near;
 use trig::inner::over;
 use trig::inner::pack;
-
-// Whether x is at most 64 in size. A NaN is not.
-pub(crate) fn in_reach(x: f32) -> bool
-    ensures { λ r. ⌜ r ≡ inReach x ⌝ }
-{
-    (-64.0 <= x) & (x <= 64.0)
-}
 
 // The bits without the sign of an angle that steps are taken for, and those of 1 for any other.
 pub(crate) fn stepped_bits(x: f32) -> u32
@@ -58,14 +51,6 @@ pub(crate) fn fourth(r: u64) -> u64
     z * z / 0x1_0000_0000
 }
 
-// (plus - minus) / 2^28 as an f32. In the bits of 1.5·2^24 the last digit is 2^-28.
-pub(crate) fn near(plus: u32, minus: u32) -> f32
-    ensures { λ r. ⌜ r ≡ ofBits binary32 (overOf plus minus * 2 ^ 31 + packOf (gapOf plus minus) 58) ⌝ }
-{
-    let d = f64::from_bits(0x4178_0000_0000_0000 + plus as u64 - minus as u64) - 25165824.0;
-    f64::from_bits((f64::to_bits(d) + 0x1000_0000) / 0x2000_0000 * 0x2000_0000) as f32
-}
-
 // The cosine of x from the sums at its rest.
 pub(crate) fn cosine_from(x: f32, plus: u32, minus: u32) -> f32
     requires { ⌜ (plus ≡ cosinePlus (restFor x)) × (minus ≡ cosineMinus (restFor x)) ⌝ }
@@ -77,7 +62,7 @@ pub(crate) fn cosine_from(x: f32, plus: u32, minus: u32) -> f32
     if f32::to_bits(x) % 0x8000_0000 < 0x3980_0000 {
         return 1.0;
     }
-    near(plus, minus)
+    near(plus as u64, minus as u64)
 }
 
 // The sine of x from its rest and the sums there.
