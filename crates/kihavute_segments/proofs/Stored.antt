@@ -23,8 +23,8 @@ use Rattle.path_segment.specs.declared.segments.PathSegment.{PathSegment}
 use Rattle.path_segment.specs.declared.segments.PathSegment.the-variants as Segment
 use Rattle.path_segment.specs.Segments.{kindOf, widthOf, tablesOf, hasTable, segmentOf}
 use Rattle.path_stored.specs.Buffers.{Buffers}
-use Rattle.path_stored.specs.Stored.{before, isStored, Numbered, segmentIn, tableIn}
-use Rattle.path_stored.proofs.Reading.{stored-numbered, stored-tabled, table-in-sound}
+use Rattle.path_stored.specs.Stored.{before, isStored, Fielded, segmentIn, tableIn}
+use Rattle.path_stored.proofs.Reading.{stored-fielded, stored-tabled, table-in-sound}
 use Rattle.path_part.specs.Parts.{quadWith, cubicWith, positionOf, tangentOf}
 
 -- a place, and no refusal
@@ -76,9 +76,9 @@ segment-kind (suc (suc (suc zero))) numbers known = refl
 segment-kind (suc (suc (suc (suc zero)))) numbers known = refl
 segment-kind (suc (suc (suc (suc (suc kind))))) numbers known = absurd (omega arith)
 
-kind-is : (kinds : List ℕ) (fields : List Float) → Numbered kinds fields → (i : ℕ) → i < length kinds → kindOf (segmentIn kinds fields i) ≡ getD kinds i 0
+kind-is : (kinds : List ℕ) (fields : List Float) → Fielded kinds fields → (i : ℕ) → i < length kinds → kindOf (segmentIn kinds fields i) ≡ getD kinds i 0
 unfolding segmentIn
-kind-is kinds fields numbered i inside = segment-kind (getD kinds i 0) (drop (before widthOf kinds i) fields) (numbered .known i inside)
+kind-is kinds fields fielded i inside = segment-kind (getD kinds i 0) (drop (before widthOf kinds i) fields) (fielded .known i inside)
 
 module _ (b : Buffers) (stored : isStored b ≡ true) (i : ℕ) (inside : i < length (b .kinds)) (along : Float) where
   abbrev segment : PathSegment
@@ -89,7 +89,7 @@ module _ (b : Buffers) (stored : isStored b ≡ true) (i : ℕ) (inside : i < le
 
   sound : T (hasTable (kindOf segment)) → T (tableIsSound (own .entries) (own .total))
   sound has =
-      let kind = kind-is (b .kinds) (b .fields) (stored-numbered b (passed stored)) i inside in
+      let kind = kind-is (b .kinds) (b .fields) (stored-fielded b (passed stored)) i inside in
       let curve = same-test (hasTable (getD (b .kinds) i 0)) true (λ _. tt) (λ _. subst (λ (k : ℕ). T (hasTable k)) kind has) in
       table-in-sound (stored-tabled b (passed stored)) i inside curve
 

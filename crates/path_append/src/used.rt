@@ -1,6 +1,6 @@
 // The path in use: the first segments of five buffers.
 use path_stored::check_path;
-use path_stored::inner::numbers_before;
+use path_stored::inner::fields_before;
 use path_stored::inner::tables_before;
 ghost use mathlib.Core.Path.{_≡_};
 ghost use Prim.Native.Nat.{_≤_};
@@ -15,7 +15,7 @@ pub(crate) fn numbers_used(kinds: &[u8], count: usize) -> usize
     requires { ⌜ count ≤ mostSegments ⌝ }
     ensures { λ r. ⌜ r ≡ numbersUsed (now (kinds .entry)) count ⌝ }
 {
-    numbers_before(&kinds[..count], count)
+    fields_before(&kinds[..count], count)
 }
 
 // How many places their tables take.

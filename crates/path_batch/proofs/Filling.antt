@@ -1,11 +1,12 @@
 -- The outputs of a batch, filled progress by progress, and the cursor that is kept from one to the next. Assumes nothing.
-use mathlib.Core.Path.{_≡_, refl, sym, ap, _∙_}
+use mathlib.Core.Path.{_≡_, refl, sym, ap, ap₂, _∙_}
 use Prim.Native.Nat.{ℕ, zero, suc, _+_, _*_, _≤_, _<_}
+use native.Mathlib.Nat.{add-zero}
 use native.Mathlib.Numerals.{add-one}
 use native.Mathlib.Omega.{arith}
 use mathlib.Core.List.{List, [], _∷_, _++_}
-use lib.ListN.{length, getD, take, set, replicate}
-use lib.Seq.{sets, length-take-le}
+use lib.ListN.{length, getD, take, drop, set, replicate}
+use lib.Seq.{sets, length-take-le, take-all, getD-append-add, getD-drop, drop-at}
 use lib.Ieee.{Float, nan}
 use Rattle.answers.specs.Report.{written}
 use Rattle.answers.proofs.Writing.{written-next, written-more, length-written}
@@ -41,18 +42,18 @@ looking-first {kinds} e some = let own = cursor-own kinds 0 e in record { upto =
 pub looking-next : {kinds : List ℕ} {progresses : List Float} {k : ℕ} (at : Cursor) (i : ℕ) → at ≡ cursorOf kinds i → i < length kinds → k < length progresses → Looking kinds progresses at (k + 1)
 looking-next {kinds} at i e inside more = let own = cursor-own kinds i e in record { upto = omega arith; is = own .1; inside = omega arith }
 
-module _ {b : Buffers} {progresses : List Float} {at : Cursor} {k : ℕ} (f : Flyable b) (l : Looking (b .kinds) progresses at k) where
+module _ {b : Buffers} {progresses : List Float} {at : Cursor} {k : ℕ} (f : Flyable b) (l : Looking (b .kinds) progresses at k) (p : Float) {segment : ℕ}
+    (is : segment ≡ spotOf (b .lengths) p .segment) where
   -- the spot's segment is one of the path's
-  pub among : (p : Float) {spot : Spot} → spot ≡ spotOf (b .lengths) p → spot .segment < length (b .kinds)
-  among p e = rw e (spot-among (some-place f) p)
+  pub among : segment < length (b .kinds)
+  among = rw is (spot-among (some-place f) p)
 
-  pub looking-moves : (p : Float) {spot : Spot} → spot ≡ spotOf (b .lengths) p → Moving (b .kinds) at (spot .segment)
-  looking-moves p e = let h = among p e in let few = f .path .few in let stood = l .inside in record { few = few; is = l .is; stood = omega arith; inside = omega arith }
+  pub looking-moves : Moving (b .kinds) at segment
+  looking-moves = let h = among in let few = f .path .few in let stood = l .inside in record { few = few; is = l .is; stood = omega arith; inside = omega arith }
 
   -- from the cursor or a mark
-  pub looking-leaps : {shift : ℕ} {fields tables : List ℕ} → Marks (b .kinds) shift fields tables → (p : Float) {spot : Spot} → spot ≡ spotOf (b .lengths) p
-      → Leap (b .kinds) shift fields tables at (spot .segment)
-  looking-leaps m p e = record { marks = m; move = looking-moves p e; inside = among p e }
+  pub looking-leaps : {shift : ℕ} {fields tables : List ℕ} → Marks (b .kinds) shift fields tables → Leap (b .kinds) shift fields tables at segment
+  looking-leaps m = record { marks = m; move = looking-moves; inside = among }
 
 -- ---- one element for each progress
 
@@ -85,6 +86,46 @@ module _ {A : Type 0} (f : Float → A) where
       ∙ ap (λ (i : ℕ). set (written (each f (take k ps)) before) i v) (sym n)
       ∙ written-next (each f (take k ps)) before v more
       ∙ ap (λ (l : List A). written l before) (ap (λ (x : A). each f (take k ps) ++ x ∷ []) value ∙ sym (each-suc ps k inside) ∙ ap (λ (i : ℕ). each f (take i ps)) (sym (add-one k)))
+
+-- ---- a place of an output that is filled twice
+
+-- what is written for a progress stands in its turn, whatever follows
+pub each-at : {A : Type 0} (f : Float → A) (d : A) (rest : List A) (ps : List Float) (k : ℕ) → k < length ps → getD (each f ps ++ rest) k d ≡ f (getD ps k nan)
+unfolding each
+each-at f d rest [] k inside = absurd (omega arith)
+each-at f d rest (p ∷ ps) zero inside = refl
+each-at f d rest (p ∷ ps) (suc k) inside = each-at f d rest ps k (omega arith)
+
+module _ {A : Type 0} (f : Float → A) (d : A) where
+  -- past what is written all is as it was
+  pub each-past : (ps : List Float) (before : List A) (k : ℕ) → k ≤ length ps → getD (written (each f (take k ps)) before) k d ≡ getD before k d
+  each-past ps before k inside =
+      let n = taken-length f ps k inside in
+      let E = each f (take k ps) in
+      ap (λ (i : ℕ). getD (written E before) i d) (sym n ∙ sym (add-zero (length E)))
+      ∙ getD-append-add E (drop (length E) before) 0 d
+      ∙ getD-drop (length E) before 0 d
+      ∙ ap (λ (i : ℕ). getD before i d) (add-zero (length E) ∙ n)
+
+-- the second filling is what is left
+each-again : {A : Type 0} (f g : Float → A) (ps : List Float) (before : List A) → written (each g ps) (written (each f ps) before) ≡ written (each g ps) before
+each-again {A} f g ps before =
+    let same = each-length f ps ∙ sym (each-length g ps) in
+    ap (λ (l : List A). each g ps ++ l) (drop-at (each f ps) (drop (length (each f ps)) before) (length (each g ps)) same ∙ ap (λ (i : ℕ). drop i before) same)
+
+-- filled whole, over what was filled before
+pub each-left : {A : Type 0} (f g : Float → A) (ps : List Float) (k : ℕ) (before : List A) {between out : List A} → out ≡ written (each g (take k ps)) between → between ≡ written (each f ps) before
+    → length ps ≤ k → out ≡ written (each g ps) before
+each-left {A} f g ps k before {between} p q all =
+    p ∙ ap (λ (l : List Float). written (each g l) between) (take-all k ps all) ∙ ap (λ (l : List A). written (each g ps) l) q ∙ each-again f g ps before
+
+pub each-filled : {A : Type 0} (f : Float → A) (ps : List Float) (before : List A) → length ps ≤ length before → length (written (each f ps) before) ≡ length before
+each-filled f ps before room = let n = each-length f ps in length-written (each f ps) before (omega arith)
+
+pub each-equal : {A : Type 0} (f g : Float → A) → ((p : Float) → f p ≡ g p) → (ps : List Float) → each f ps ≡ each g ps
+unfolding each
+each-equal f g same [] = refl
+each-equal {A} f g same (p ∷ ps) = ap₂ (λ (x : A) (rest : List A). x ∷ rest) (same p) (each-equal f g same ps)
 
 -- ---- four numbers for each progress
 

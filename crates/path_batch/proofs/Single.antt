@@ -9,14 +9,8 @@ use Rattle.flight.specs.Flights.{segmentGiven}
 use Rattle.path_stored.specs.Buffers.{Buffers}
 use Rattle.path_query.specs.Flights.{flightOf}
 use Rattle.path_batch.specs.declared.batches.Batch.{Batch}
-use Rattle.path_batch.specs.Batches.{each, numbersOf, numbersFor, Places, Flights, FilledPlaces, FilledFlights}
-
--- what is written for a progress stands in its turn, whatever follows
-each-at : {A : Type 0} (f : Float → A) (d : A) (rest : List A) (ps : List Float) (k : ℕ) → k < length ps → getD (each f ps ++ rest) k d ≡ f (getD ps k nan)
-unfolding each
-each-at f d rest [] k inside = absurd (omega arith)
-each-at f d rest (p ∷ ps) zero inside = refl
-each-at f d rest (p ∷ ps) (suc k) inside = each-at f d rest ps k (omega arith)
+use Rattle.path_batch.specs.Batches.{numbersOf, numbersFor, Places, Flights, FilledPlaces, FilledFlights}
+use Rattle.path_batch.proofs.Filling.{each-at}
 
 numbers-at : (b : Buffers) (rest ps : List Float) (k : ℕ) → k < length ps → take 4 (drop (4 * k) (numbersFor b ps ++ rest)) ≡ numbersOf (flightOf b (getD ps k nan))
 unfolding numbersFor

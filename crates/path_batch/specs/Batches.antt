@@ -11,10 +11,12 @@ use Rattle.answers.specs.declared.refusals.Values.{Values}
 use Rattle.answers.specs.declared.refusals.Values.the-variants.{Two, Three}
 use Rattle.answers.specs.Answers.{Answer, accepted, refused}
 use Rattle.answers.specs.Report.{written}
+use Rattle.table.specs.Sound.{SoundPath}
+use Rattle.table.specs.Spots.{spotOf}
 use Rattle.flight.specs.declared.Flight.{Flight}
 use Rattle.flight.specs.Flights.{segmentGiven}
 use Rattle.path_stored.specs.Buffers.{Buffers}
-use Rattle.path_stored.specs.Stored.{isStored}
+use Rattle.path_stored.specs.Stored.{isStored, mostSegments}
 use Rattle.path_batch.specs.declared.batches.Batch.{Batch}
 use Rattle.path_batch.specs.declared.batches.Batch.the-variants as Batch
 use Rattle.path_query.specs.Flights.{flightOf, Flyable}
@@ -79,6 +81,23 @@ pub record Flights (b : Buffers) (progresses : List Float) (segments : List ℕ)
   pub outAfter : out′ ≡ written (givenBy (flightsBy b progresses segments raws out) (numbersFor b progresses)) out
 
 -- ---- what the loops ask and leave
+
+-- the segment of each progress, and how far along it
+abbrev pub foundFor : List Float → List Float → List ℕ
+foundFor lengths progresses = each (λ p. spotOf lengths p .segment) progresses
+
+abbrev pub alongsFor : List Float → List Float → List Float
+alongsFor lengths progresses = each (λ p. spotOf lengths p .progress .value) progresses
+
+pub record SpotsRoom (lengths progresses : List Float) (segments : List ℕ) (alongs : List Float) : Type 0 where
+  pub path : SoundPath lengths
+  pub few : length lengths ≤ mostSegments
+  pub segmentsRoom : length progresses ≤ length segments
+  pub alongsRoom : length progresses ≤ length alongs
+
+pub record FilledSpots (lengths progresses : List Float) (segments : List ℕ) (alongs : List Float) (segments′ : List ℕ) (alongs′ : List Float) : Type 0 where
+  pub segmentsAre : segments′ ≡ written (foundFor lengths progresses) segments
+  pub alongsAre : alongs′ ≡ written (alongsFor lengths progresses) alongs
 
 pub record PlacesRoom (b : Buffers) (progresses : List Float) (segments : List ℕ) (raws : List Float) : Type 0 where
   pub path : Flyable b

@@ -1,8 +1,9 @@
 -- Marks of a stored path: the cursors of every so many segments, 256 at most, as two lists of numbers. Segments and marks count from 0. Definitions only.
-use Prim.Native.Nat.{ℕ, _*_, _^_, _≤_, _<_}
+use Prim.Native.Nat.{ℕ, _+_, _*_, _^_, _≤_, _<_}
 use mathlib.Core.Path.{_≡_}
 use mathlib.Core.List.{List}
 use lib.ListN.{length, getD}
+use Rattle.path_stored.specs.Near.{Known}
 use Rattle.path_place.specs.declared.cursors.Cursor.{Cursor}
 use Rattle.path_place.specs.Cursors.{cursorOf, Moving}
 
@@ -35,6 +36,18 @@ pub record Markable (kinds fields tables : List ℕ) : Type 0 where
   pub sized : Sized fields tables
   pub some : 0 < length kinds
   pub few : length kinds ≤ 65536
+
+-- a way of at most 16 segments on, that ends no nearer to the path's start
+pub record Short (from segment : ℕ) : Type 0 where
+  pub later : from ≤ segment
+  pub near : segment ≤ from + 16
+  pub enough : 16 ≤ segment
+
+-- such a way from a cursor, over known kinds
+pub record Reaching (kinds : List ℕ) (from : Cursor) (segment : ℕ) : Type 0 where
+  pub move : Moving kinds from segment
+  pub short : Short (from .segment) segment
+  pub known : Known kinds
 
 -- a way to a segment of a path with marks
 pub record Leap (kinds : List ℕ) (shift : ℕ) (fields tables : List ℕ) (from : Cursor) (segment : ℕ) : Type 0 where

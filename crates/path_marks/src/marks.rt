@@ -3,10 +3,13 @@
 use path_place::Cursor;
 use path_place::first_cursor;
 use path_place::inner::forward;
+use path_stored::inner::fields_near;
+use path_stored::inner::tables_near;
 ghost use mathlib.Core.Path.{_≡_};
 ghost use Prim.Native.Nat.{_≤_};
-ghost use Rattle.path_place.specs.Cursors.{Moving};
-ghost use Rattle.path_marks.specs.Marks.{Leap, Markable, Marks, Reach};
+ghost use mathlib.Core.Bool.{true};
+ghost use Rattle.path_place.specs.Cursors.{Moving, cursorOf};
+ghost use Rattle.path_marks.specs.Marks.{Leap, Markable, Marks, Reach, Reaching, Short};
 
 // The shift of 256 zeros, which are marks of any path: so far apart, the first stands at its first segment and none of the others on it.
 pub const UNSET: usize = 16;
@@ -100,5 +103,36 @@ pub fn nearest(
         segment: start,
         fields: wide(fields[k]),
         tables: wide(tables[k]),
+    }
+}
+
+// Whether the way to a segment is one that two words of kinds count. On a path of up to 1,024 segments marks are four apart at most, and
+// the walk from one is as short.
+pub fn is_near(kinds: &[u8], from: Cursor, segment: usize) -> bool
+    ensures { λ r. ⌜ (r ≡ true → Short (from .segment) segment) ⌝ }
+{
+    let start = from.segment;
+    if kinds.len() <= 1024 {
+        return false;
+    }
+    if segment < 16 {
+        return false;
+    }
+    if segment < start {
+        return false;
+    }
+    segment - start <= 16
+}
+
+// The cursor of such a segment.
+pub fn reached(kinds: &[u8], from: Cursor, segment: usize) -> Cursor
+    requires { ⌜ Reaching (now kinds) from segment ⌝ }
+    ensures { λ r. ⌜ r ≡ cursorOf (now (kinds .entry)) segment ⌝ }
+{
+    let start = from.segment;
+    Cursor {
+        segment,
+        fields: from.fields + fields_near(kinds, start, segment),
+        tables: from.tables + 33 * tables_near(kinds, start, segment),
     }
 }

@@ -17,7 +17,7 @@ use Rattle.table.proofs.Enclosure.{path-within}
 use Rattle.table.proofs.Lengths.{path-sound, total-nonneg}
 use Rattle.table.proofs.Target.{target-real}
 use Rattle.path_place.specs.declared.cursors.Cursor.{Cursor}
-use Rattle.path_place.specs.Cursors.{cursorOf, Onward, Moving}
+use Rattle.path_place.specs.Cursors.{cursorOf, Moving}
 use Rattle.path_place.specs.Places.{tableStart, rawWithin, placed, placeAt, placeIn, SomePlace, Standing}
 
 -- ---- the segment of a spot
@@ -61,9 +61,6 @@ module _ {kinds : List ℕ} {tables lengths : List Float} (f : SomePlace kinds t
 
   pub spot-among : (p : Float) → spotOf lengths p .segment < length kinds
   spot-among p = let one = f .path .one in let h = spot-inside lengths some-path p in omega arith
-
-  pub onward-first : {at : Cursor} {i : ℕ} → at ≡ cursorOf kinds 0 → i < length kinds → Onward kinds at i
-  onward-first e inside = let own = cursor-own kinds 0 e in record { few = f .path .few; is = own .1; later = omega arith; inside = omega arith }
 
   pub moving : {at : Cursor} {i j : ℕ} → at ≡ cursorOf kinds j → j < length kinds → i < length kinds → Moving kinds at i
   moving {at} {i} {j} e stood inside = let own = cursor-own kinds j e in record { few = f .path .few; is = own .1; stood = omega arith; inside = omega arith }

@@ -7,6 +7,7 @@ use lib.ListN.{length, getD}
 use Rattle.path_segment.specs.Segments.{widthOf, tablesOf}
 use Rattle.path_segment.proofs.Widths.{width-most, tables-most}
 use Rattle.path_stored.specs.Stored.{before}
+use Rattle.path_stored.specs.Counts.{Adds}
 use Rattle.path_stored.proofs.Counting.{sum-more, before-most, tables-at-most}
 use Rattle.path_place.specs.declared.cursors.Cursor.{Cursor}
 use Rattle.path_place.specs.Cursors.{cursorOf}
@@ -32,6 +33,14 @@ walked-next {kinds} {at} width table w inside e k =
       fieldsAre = sum-more widthOf kinds at inside (w .fieldsAre) e;
       tablesAre = let h = sum-more tablesOf kinds at inside refl refl in let n = w .tablesAre in omega arith;
     }
+
+-- segments further on, whose fields and tables are counted
+pub walked-on : {kinds : List ℕ} {at fields tables : ℕ} (to width count : ℕ) → Walked kinds at fields tables → Adds widthOf kinds at to width → Adds tablesOf kinds at to count
+    → Walked kinds to (fields + width) (tables + 33 * count)
+walked-on to width count w e k =
+    let n = w .fieldsAre in
+    let t = w .tablesAre in
+    record { fieldsAre = omega arith; tablesAre = omega arith }
 
 -- the segment before, whose fields and table are among those passed
 module _ {kinds : List ℕ} {at fields tables : ℕ} (w : Walked kinds at fields tables) (some : 0 < at) (inside : at ≤ length kinds) where

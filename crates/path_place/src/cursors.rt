@@ -1,9 +1,12 @@
 // A walk over the kinds of a path, which keeps where the next segment's fields and table stand.
-use path_segment::has_table;
+use path_segment::table_width;
 use path_segment::width;
+use path_stored::inner::fields_before;
+use path_stored::inner::tables_before;
 ghost use mathlib.Core.Path.{_≡_};
-ghost use Prim.Native.Nat.{_*_};
-ghost use Rattle.path_segment.specs.Segments.{tablesOf};
+ghost use Prim.Native.Nat.{_≤_};
+ghost use lib.ListN.{length};
+ghost use Rattle.path_stored.specs.Stored.{mostSegments};
 ghost use Rattle.path_place.specs.Cursors.{Backward, Onward, cursorOf};
 
 // A segment, counted from 0, and how many numbers the segments before it have in each buffer.
@@ -24,11 +27,17 @@ pub fn first_cursor(kinds: &[u8]) -> Cursor
     }
 }
 
-// How many numbers the table of a kind has: 32 entries and their total, or none.
-fn table_numbers(kind: u8) -> usize
-    ensures { λ r. ⌜ r ≡ 33 * tablesOf kind ⌝ }
+// A segment, by counting all that stands before it.
+pub fn cursor_at(kinds: &[u8], segment: usize) -> Cursor
+    requires { ⌜ length (now kinds) ≤ mostSegments ⌝ }
+    requires { ⌜ segment ≤ length (now kinds) ⌝ }
+    ensures { λ r. ⌜ r ≡ cursorOf (now (kinds .entry)) segment ⌝ }
 {
-    if has_table(kind) { 33 } else { 0 }
+    Cursor {
+        segment,
+        fields: fields_before(kinds, segment),
+        tables: 33 * tables_before(kinds, segment),
+    }
 }
 
 // From a segment on to a later one.
@@ -42,7 +51,7 @@ pub fn forward(kinds: &[u8], from: Cursor, segment: usize) -> Cursor
     while at < segment {
         let kind = kinds[at];
         fields += width(kind);
-        tables += table_numbers(kind);
+        tables += table_width(kind);
         at += 1;
     }
     Cursor {
@@ -64,7 +73,7 @@ pub fn back(kinds: &[u8], from: Cursor, segment: usize) -> Cursor
         at -= 1;
         let kind = kinds[at];
         fields -= width(kind);
-        tables -= table_numbers(kind);
+        tables -= table_width(kind);
     }
     Cursor {
         segment,

@@ -15,7 +15,7 @@ use Rattle.bezier.specs.Curves.{aheadOf}
 use Rattle.path_segment.specs.declared.segments.PathSegment.{PathSegment}
 use Rattle.path_segment.specs.Segments.{kindOf, widthOf, hasTable, segmentOf}
 use Rattle.path_stored.specs.Buffers.{Buffers}
-use Rattle.path_stored.specs.Stored.{before, Numbered, Stored, segmentIn}
+use Rattle.path_stored.specs.Stored.{before, Fielded, Stored, segmentIn}
 use Rattle.path_place.specs.declared.cursors.Cursor.{Cursor}
 use Rattle.path_place.specs.Cursors.{cursorOf}
 use Rattle.path_place.specs.Places.{placeIn, rawIn, rawWithin, TableThere, SomePlace}
@@ -40,16 +40,16 @@ segment-kind (suc (suc (suc zero))) fields known = refl
 segment-kind (suc (suc (suc (suc zero)))) fields known = refl
 segment-kind (suc (suc (suc (suc (suc kind))))) fields known = absurd (omega arith)
 
-segment-in-kind : (kinds : List ℕ) (fields : List Float) → Numbered kinds fields → (i : ℕ) → i < length kinds → kindOf (segmentIn kinds fields i) ≡ getD kinds i 0
+segment-in-kind : (kinds : List ℕ) (fields : List Float) → Fielded kinds fields → (i : ℕ) → i < length kinds → kindOf (segmentIn kinds fields i) ≡ getD kinds i 0
 unfolding segmentIn
-segment-in-kind kinds fields numbered i inside = segment-kind (getD kinds i 0) (drop (before widthOf kinds i) fields) (numbered .known i inside)
+segment-in-kind kinds fields fielded i inside = segment-kind (getD kinds i 0) (drop (before widthOf kinds i) fields) (fielded .known i inside)
 
 -- the table of the segment that was read is in its place
 pub seated-table : {kinds : List ℕ} {fields tables : List Float} {at : Cursor} → Seated kinds fields tables at → (segment : PathSegment) → segment ≡ segmentIn kinds fields (at .segment)
     → T (hasTable (kindOf segment)) → TableThere tables (at .tables)
 seated-table {kinds} {fields} {tables} {at} s segment same has =
     let here = s .standing in
-    let kind = ap kindOf same ∙ segment-in-kind kinds fields (s .numbered) (at .segment) (here .inside) in
+    let kind = ap kindOf same ∙ segment-in-kind kinds fields (s .fielded) (at .segment) (here .inside) in
     subst (TableThere tables) (sym (cursor-tables kinds (at .segment) (here .is))) (here .tabled (subst (λ (k : ℕ). T (hasTable k)) kind has))
 
 -- ---- a path with a segment
@@ -59,7 +59,7 @@ module _ {b : Buffers} (f : Flyable b) where
   some-place = record { some = f .some; path = findable (f .path) }
 
   pub seated : {at : Cursor} {i : ℕ} → at ≡ cursorOf (b .kinds) i → i < length (b .kinds) → Seated (b .kinds) (b .fields) (b .tables) at
-  seated e inside = record { standing = standing some-place e inside; numbered = record { few = f .path .few; known = f .path .known; numbers = f .path .numbers } }
+  seated e inside = record { standing = standing some-place e inside; fielded = record { few = f .path .few; known = f .path .known; counted = f .path .numbers } }
 
 -- what passes the check and has a segment
 module _ {b : Buffers} (s : Stored b) (some : 0 < length (b .kinds)) where

@@ -11,7 +11,7 @@ use Rattle.math.specs.Math.{originF}
 use Rattle.table.specs.Spots.{spotOf}
 use Rattle.bezier.specs.Curves.{aheadOf}
 use Rattle.path_stored.specs.Buffers.{Buffers}
-use Rattle.path_stored.specs.Stored.{Numbered, Stored, segmentIn}
+use Rattle.path_stored.specs.Stored.{Fielded, Stored, segmentIn}
 use Rattle.path_place.specs.declared.cursors.Cursor.{Cursor}
 use Rattle.path_place.specs.declared.places.Place.{Place}
 use Rattle.path_place.specs.Places.{placed, placeOf, rawIn, rawWithin, tableStart, Standing}
@@ -53,7 +53,7 @@ flightOf b progress = cond (eqb (length (b .kinds)) 0) nowhereF (flownOf b progr
 -- a cursor at a segment, whose fields and table are in their places
 pub record Seated (kinds : List ℕ) (fields tables : List Float) (at : Cursor) : Type 0 where
   pub standing : Standing kinds tables at
-  pub numbered : Numbered kinds fields
+  pub fielded : Fielded kinds fields
 
 -- a stored path with a segment
 pub record Flyable (b : Buffers) : Type 0 where

@@ -6,8 +6,7 @@ use math::tidy_point;
 use path_heading::inner::heading;
 use path_heading::sample;
 use path_place::Cursor;
-use path_place::first_cursor;
-use path_place::inner::forward;
+use path_place::inner::cursor_at;
 use path_place::inner::raw_within;
 use path_segment::PathSegment;
 use path_segment::inner::segment_at;
@@ -65,7 +64,7 @@ fn flown(
 {
     let found = spot(lengths, progress);
     let along = found.progress;
-    let at = forward(kinds, first_cursor(kinds), found.segment);
+    let at = cursor_at(kinds, found.segment);
     flown_within(kinds, fields, tables, at, along)
 }
 

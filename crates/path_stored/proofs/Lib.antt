@@ -2,6 +2,7 @@
 pub mod Buffers
 pub mod Counting
 pub mod Spans
+pub mod Lanes
 pub mod Testing
 pub mod Rule
 pub mod Reading

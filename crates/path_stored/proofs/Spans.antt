@@ -1,4 +1,4 @@
--- The numbers and the tables of a part of a path, kind by kind and part by part. Assumes nothing.
+-- The fields and the tables of a part of a path, kind by kind and part by part. Assumes nothing.
 use Prim.Native.Nat.{ℕ, zero, suc, _+_, _*_, _-_, _≤_, _<_}
 use mathlib.Core.Path.{_≡_, refl, sym, ap, _∙_}
 use mathlib.Core.Bool.{Bool, true, false, cond}
@@ -20,7 +20,7 @@ one-at-most least kind = go (leb least kind)
     go true = omega arith
     go false = omega arith
 
--- the numbers of a kind, from what kinds have more than those before them
+-- the fields of a kind, from what kinds have more than those before them
 width-parts : (kind : ℕ) → widthOf kind + 11 * oneFrom 5 kind ≡ 4 + 2 * oneFrom 1 kind + 2 * oneFrom 2 kind + 3 * oneFrom 3 kind
 unfolding widthOf
 width-parts zero = refl
@@ -36,7 +36,7 @@ width-parts (suc (suc (suc (suc (suc kind))))) =
 
 -- ---- at most 128 segments, of which those before j are counted
 
-pub record Numbering (kinds : List ℕ) (from j from1 from2 from3 from5 : ℕ) : Type 0 where
+pub record FieldCounts (kinds : List ℕ) (from j from1 from2 from3 from5 : ℕ) : Type 0 where
   pub sum : before widthOf kinds from + 4 * (j - from) + 2 * from1 + 2 * from2 + 3 * from3 ≡ before widthOf kinds j + 11 * from5
   pub grows : before widthOf kinds from ≤ before widthOf kinds j
   pub few1 : from1 ≤ j - from
@@ -44,13 +44,13 @@ pub record Numbering (kinds : List ℕ) (from j from1 from2 from3 from5 : ℕ) :
   pub few3 : from3 ≤ j - from
   pub few5 : from5 ≤ j - from
 
-pub numbering-start : (kinds : List ℕ) (from : ℕ) → Numbering kinds from from 0 0 0 0
-numbering-start kinds from = record { sum = omega arith; grows = omega arith; few1 = omega arith; few2 = omega arith; few3 = omega arith; few5 = omega arith }
+pub fields-start : (kinds : List ℕ) (from : ℕ) → FieldCounts kinds from from 0 0 0 0
+fields-start kinds from = record { sum = omega arith; grows = omega arith; few1 = omega arith; few2 = omega arith; few3 = omega arith; few5 = omega arith }
 
-pub numbering-more : {kinds : List ℕ} {from j from1 from2 from3 from5 : ℕ} (one1 one2 one3 one5 : ℕ) → Numbering kinds from j from1 from2 from3 from5 → from ≤ j → j < length kinds
+pub fields-more : {kinds : List ℕ} {from j from1 from2 from3 from5 : ℕ} (one1 one2 one3 one5 : ℕ) → FieldCounts kinds from j from1 from2 from3 from5 → from ≤ j → j < length kinds
     → one1 ≡ oneFrom 1 (getD kinds j 0) → one2 ≡ oneFrom 2 (getD kinds j 0) → one3 ≡ oneFrom 3 (getD kinds j 0) → one5 ≡ oneFrom 5 (getD kinds j 0)
-    → Numbering kinds from (j + 1) (from1 + one1) (from2 + one2) (from3 + one3) (from5 + one5)
-numbering-more {kinds} {from} {j} one1 one2 one3 one5 n order inside e1 e2 e3 e5 =
+    → FieldCounts kinds from (j + 1) (from1 + one1) (from2 + one2) (from3 + one3) (from5 + one5)
+fields-more {kinds} {from} {j} one1 one2 one3 one5 n order inside e1 e2 e3 e5 =
     let kind = getD kinds j 0 in
     let next : before widthOf kinds j + widthOf kind ≡ before widthOf kinds (j + 1) = sum-more widthOf kinds j inside refl refl in
     let parts = width-parts kind in
@@ -69,13 +69,13 @@ numbering-more {kinds} {from} {j} one1 one2 one3 one5 n order inside e1 e2 e3 e5
       few5 = omega (arith, n .few5);
     }
 
-pub numbering-done : {kinds : List ℕ} {from to from1 from2 from3 from5 : ℕ} → Numbering kinds from to from1 from2 from3 from5
+pub fields-done : {kinds : List ℕ} {from to from1 from2 from3 from5 : ℕ} → FieldCounts kinds from to from1 from2 from3 from5
     → Adds widthOf kinds from to (4 * (to - from) + 2 * from1 + 2 * from2 + 3 * from3 - 11 * from5)
-numbering-done n = let s = n .sum in let g = n .grows in omega arith
+fields-done n = let s = n .sum in let g = n .grows in omega arith
 
-pub numbering-enough : {kinds : List ℕ} {from to from1 from2 from3 from5 : ℕ} → Numbering kinds from to from1 from2 from3 from5
+pub fields-enough : {kinds : List ℕ} {from to from1 from2 from3 from5 : ℕ} → FieldCounts kinds from to from1 from2 from3 from5
     → 11 * from5 ≤ 4 * (to - from) + 2 * from1 + 2 * from2 + 3 * from3
-numbering-enough n = let s = n .sum in let g = n .grows in omega arith
+fields-enough n = let s = n .sum in let g = n .grows in omega arith
 
 pub record Tabling (kinds : List ℕ) (from j sum : ℕ) : Type 0 where
   pub adds : Adds tablesOf kinds from j sum
@@ -90,7 +90,7 @@ tabling-more {kinds} {from} {j} one t order inside e =
     let a = t .adds in
     record { adds = omega arith; few = omega (arith, t .few, tables-most (getD kinds j 0)) }
 
--- ---- no sum is larger than 11 numbers for each of 65,536 segments
+-- ---- no sum is larger than 11 fields for each of 65,536 segments
 pub adds-most : (f : ℕ → ℕ) → ((kind : ℕ) → f kind ≤ 11) → (kinds : List ℕ) (from to sum : ℕ) → to ≤ 65536 → Adds f kinds from to sum → sum ≤ 720896
 adds-most f most kinds from to sum few a = let h = before-most f 11 most kinds to in omega arith
 

@@ -1,4 +1,4 @@
--- The numbers and the tables of a part of a path: its segments from one on to before another, counted from 0. Definitions only.
+-- The fields and the tables of a part of a path: its segments from one on to before another, counted from 0. Definitions only.
 use Prim.Native.Nat.{ℕ, _+_, _≤_}
 use mathlib.Core.Path.{_≡_}
 use mathlib.Core.Bool.{cond}

@@ -1,4 +1,4 @@
--- A list of segments in the five buffers of a stored path (document 01, "Lengths, tables and lookup"; document 02, L5): the kinds, the numbers, the tables and the running lengths, in path
+-- A list of segments in the five buffers of a stored path (document 01, "Lengths, tables and lookup"; document 02, L5): the kinds, the fields, the tables and the running lengths, in path
 -- units, and the numbers of the commands that made them, which are told beside the segments. Definitions only.
 use Prim.Native.Nat.{ℕ}
 use mathlib.Core.List.{List, [], _∷_, _++_}

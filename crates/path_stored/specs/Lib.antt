@@ -3,4 +3,5 @@ pub mod Buffers
 pub mod Layout
 pub mod Stored
 pub mod Counts
+pub mod Near
 pub mod Queries

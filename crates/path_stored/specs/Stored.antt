@@ -73,11 +73,11 @@ pub record Stored (b : Buffers) : Type 0 where
 
 -- ---- what is read of a segment
 
--- what its numbers ask of a path
-pub record Numbered (kinds : List ℕ) (fields : List Float) : Type 0 where
+-- what its fields ask of a path
+pub record Fielded (kinds : List ℕ) (fields : List Float) : Type 0 where
   pub few : length kinds ≤ mostSegments
   pub known : (i : ℕ) → i < length kinds → getD kinds i 0 < 5
-  pub numbers : length fields ≡ before widthOf kinds (length kinds)
+  pub counted : length fields ≡ before widthOf kinds (length kinds)
 
 -- what its table asks of it
 pub record Tabled (kinds : List ℕ) (tables : List Float) : Type 0 where
@@ -85,7 +85,7 @@ pub record Tabled (kinds : List ℕ) (tables : List Float) : Type 0 where
   pub counted : length tables ≡ 33 * before tablesOf kinds (length kinds)
   pub each : (n : ℕ) → n < before tablesOf kinds (length kinds) → T (tableIsSound (tableAt tables (33 * n) .entries) (tableAt tables (33 * n) .total))
 
--- segment i, whose numbers stand after those of the segments before it
+-- segment i, whose fields stand after those of the segments before it
 unfoldable pub segmentIn : List ℕ → List Float → ℕ → PathSegment
 unfolding before segmentOf
 segmentIn kinds fields i = segmentOf (getD kinds i 0) (drop (before widthOf kinds i) fields)

@@ -1,5 +1,5 @@
 // The stored path check.
-use crate::parts::numbers_before;
+use crate::parts::fields_before;
 use crate::parts::tables_before;
 use table::inner::row_is_sound;
 use table::lengths_are_sound;
@@ -58,7 +58,7 @@ fn never_fall(commands: &[u32]) -> bool
     rise
 }
 
-// Whether five buffers hold a stored path: at most 65,536 segments of known kinds with exactly their numbers and tables, one running
+// Whether five buffers hold a stored path: at most 65,536 segments of known kinds with exactly their fields and tables, one running
 // length each, lengths and tables that a lookup takes, and one command number each, none below the one before it. Equal ones pass.
 pub fn check_path(
     kinds: &[u8],
@@ -76,7 +76,7 @@ pub fn check_path(
     if !are_known(kinds) {
         return false;
     }
-    if fields.len() != numbers_before(kinds, count) {
+    if fields.len() != fields_before(kinds, count) {
         return false;
     }
     let n = tables_before(kinds, count);

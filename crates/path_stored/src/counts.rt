@@ -1,4 +1,4 @@
-// The numbers and the tables of a part of a path. They are counted in bytes, 128 kinds at a time and without a branch, which is
+// The fields and the tables of a part of a path. They are counted in bytes, 128 kinds at a time and without a branch, which is
 // compiled to counts of sixteen kinds at once.
 use path_segment::has_table;
 ghost use mathlib.Core.Path.{_≡_};
@@ -35,9 +35,9 @@ fn short_end(at: usize, to: usize) -> usize
     if to - at <= 128 { to } else { at + 128 }
 }
 
-// Each segment has 4 numbers, one of a kind from 1 on has 2 more, from 2 on 2 more, and from 3 on 3 more. Unknown kinds, those from 5
+// Each segment has 4 fields, one of a kind from 1 on has 2 more, from 2 on 2 more, and from 3 on 3 more. Unknown kinds, those from 5
 // on, have none of these 11.
-fn numbers_of_few(kinds: &[u8], from: usize, to: usize) -> usize
+fn fields_of_few(kinds: &[u8], from: usize, to: usize) -> usize
     requires { ⌜ ShortSpan (now kinds) from to ⌝ }
     ensures { λ r. ⌜ Adds widthOf (now (kinds .entry)) from to r ⌝ }
 {
@@ -71,8 +71,8 @@ fn tables_of_few(kinds: &[u8], from: usize, to: usize) -> usize
     wide(sum)
 }
 
-// How many numbers the segments from one on to before another have.
-pub fn numbers_between(kinds: &[u8], from: usize, to: usize) -> usize
+// How many fields the segments from one on to before another have.
+pub fn fields_between(kinds: &[u8], from: usize, to: usize) -> usize
     requires { ⌜ Span (now kinds) from to ⌝ }
     ensures { λ r. ⌜ Adds widthOf (now (kinds .entry)) from to r ⌝ }
 {
@@ -80,7 +80,7 @@ pub fn numbers_between(kinds: &[u8], from: usize, to: usize) -> usize
     let mut at = from;
     while at < to {
         let end = short_end(at, to);
-        sum += numbers_of_few(kinds, at, end);
+        sum += fields_of_few(kinds, at, end);
         at = end;
     }
     sum

@@ -1,5 +1,5 @@
 // What is read of a stored path, for callers that know it to be one.
-use crate::counts::numbers_between;
+use crate::counts::fields_between;
 use crate::counts::tables_between;
 use arc::no_table;
 use floats::tidy;
@@ -14,15 +14,15 @@ ghost use Prim.Native.Nat.{_≤_, _<_};
 ghost use lib.ListN.{length};
 ghost use Rattle.table.specs.Spots.{pathTotal};
 ghost use Rattle.path_segment.specs.Segments.{widthOf, tablesOf};
-ghost use Rattle.path_stored.specs.Stored.{before, mostSegments, Numbered, Tabled, segmentIn, tableIn};
+ghost use Rattle.path_stored.specs.Stored.{before, mostSegments, Fielded, Tabled, segmentIn, tableIn};
 
-// How many numbers stand before those of segment i.
-pub fn numbers_before(kinds: &[u8], i: usize) -> usize
+// How many fields stand before those of segment i.
+pub fn fields_before(kinds: &[u8], i: usize) -> usize
     requires { ⌜ length (now kinds) ≤ mostSegments ⌝ }
     requires { ⌜ i ≤ length (now kinds) ⌝ }
     ensures { λ r. ⌜ r ≡ before widthOf (now (kinds .entry)) i ⌝ }
 {
-    numbers_between(kinds, 0, i)
+    fields_between(kinds, 0, i)
 }
 
 // How many tables stand before that of segment i.
@@ -36,11 +36,11 @@ pub fn tables_before(kinds: &[u8], i: usize) -> usize
 
 // Segment i.
 pub fn segment(kinds: &[u8], fields: &[f32], i: usize) -> PathSegment
-    requires { ⌜ Numbered (now kinds) (now fields) ⌝ }
+    requires { ⌜ Fielded (now kinds) (now fields) ⌝ }
     requires { ⌜ i < length (now kinds) ⌝ }
     ensures { λ r. ⌜ r ≡ segmentIn (now (kinds .entry)) (now (fields .entry)) i ⌝ }
 {
-    let at = numbers_before(kinds, i);
+    let at = fields_before(kinds, i);
     segment_at(kinds[i], fields, at)
 }
 

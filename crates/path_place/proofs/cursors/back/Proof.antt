@@ -20,10 +20,10 @@ sub-fields : tie.Need-sub-fields Inv-loop μ-loop
 sub-fields c = let l = c .before .before .before .loop in omega (arith, width-passed (l .inv .2) (omega arith) (l .inv .1) _ (c .width .ensures))
 
 sub-tables : tie.Need-sub-tables Inv-loop μ-loop
-sub-tables c = let l = c .before .before .before .before .loop in omega (arith, table-passed (l .inv .2) (omega arith) (l .inv .1) _ (c .table-numbers .ensures))
+sub-tables c = let l = c .before .before .before .before .loop in omega (arith, table-passed (l .inv .2) (omega arith) (l .inv .1) _ (c .table-width .ensures))
 
 loop-again : tie.Need-loop-again Inv-loop μ-loop
-loop-again c = let l = c .before .before .before .before .loop in (omega arith, omega arith, walked-back (l .inv .2) (omega arith) (l .inv .1) _ _ (c .before .width .ensures) (c .table-numbers .ensures))
+loop-again c = let l = c .before .before .before .before .loop in (omega arith, omega arith, walked-back (l .inv .2) (omega arith) (l .inv .1) _ _ (c .before .width .ensures) (c .table-width .ensures))
 
 returns : tie.Need-returns Inv-loop μ-loop
 returns c = walked-is _ (c .before .loop .inv .2) (omega arith)

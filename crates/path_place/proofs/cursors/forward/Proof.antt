@@ -19,10 +19,10 @@ add-fields : tie.Need-add-fields Inv-loop μ-loop
 add-fields c = omega (arith, walked-fields (c .before .before .before .loop .inv .1) (let h = c .before .before .before .before .before .pre in omega arith), width-at-most _ _ (c .width .ensures))
 
 add-tables : tie.Need-add-tables Inv-loop μ-loop
-add-tables c = omega (arith, walked-tables (c .before .before .before .before .loop .inv .1) (let h = c .before .before .before .before .before .before .pre in omega arith), table-at-most _ _ (c .table-numbers .ensures))
+add-tables c = omega (arith, walked-tables (c .before .before .before .before .loop .inv .1) (let h = c .before .before .before .before .before .before .pre in omega arith), table-at-most _ _ (c .table-width .ensures))
 
 loop-again : tie.Need-loop-again Inv-loop μ-loop
-loop-again c = (omega arith, walked-next _ _ (c .before .before .before .before .loop .inv .1) (omega (arith, c .before .before .before .before .before .before .pre .inside)) (c .before .width .ensures) (c .table-numbers .ensures))
+loop-again c = (omega arith, walked-next _ _ (c .before .before .before .before .loop .inv .1) (omega (arith, c .before .before .before .before .before .before .pre .inside)) (c .before .width .ensures) (c .table-width .ensures))
 
 returns : tie.Need-returns Inv-loop μ-loop
 returns c = walked-is _ (c .before .loop .inv .1) (omega arith)

@@ -37,7 +37,7 @@ abbrev two : tie.Else3 → tie.Else2
 two p = p .before .before
 
 widths : (p : tie.Else3) → let k = kinds (one (two p)) in eqb (length (start (one (two p)) .args .fields .now)) (before widthOf k (length k)) ≡ true
-widths p = agrees _ _ _ (p .if3 .left) (p .before .numbers-before .ensures)
+widths p = agrees _ _ _ (p .if3 .left) (p .before .fields-before .ensures)
 
 abbrev three : tie.Else4 → tie.Else3
 three p = p .before .before
@@ -62,7 +62,7 @@ returns-2 c = simp (few (c .before .before), sym (c .before .are-known .ensures)
 
 returns-3 : tie.Need-returns-3
 unfolding isStored
-returns-3 c = let p = c .before .before in simp (few (one p), known p, differs _ _ _ (c .if3 .taken) (c .before .numbers-before .ensures))
+returns-3 c = let p = c .before .before in simp (few (one p), known p, differs _ _ _ (c .if3 .taken) (c .before .fields-before .ensures))
 
 mul-if4 : tie.Need-mul-if4
 mul-if4 c = let k = kinds (one (two (c .before))) in omega (arith, tables-at-most k (length k), c .tables-before .ensures)

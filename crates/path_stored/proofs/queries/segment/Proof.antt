@@ -1,5 +1,5 @@
 -- `path_stored::segment` meets its contract: each way out is a case of `partOf`. Assumes nothing.
-use Rattle.path_stored.proofs.Reading.{stored-numbered, stored-tabled}
+use Rattle.path_stored.proofs.Reading.{stored-fielded, stored-tabled}
 use Rattle.path_stored.specs.Queries.{partOf}
 use Rattle.floats.proofs.Tests.{passed}
 use borrow.Author.Tests.{lt-ltb, le-ltb}
@@ -10,7 +10,7 @@ use Rattle.path_stored.proofs.queries.segment.Tie as tie
 
 segment-requires : tie.Need-segment-requires
 segment-requires c κs =
-    (stored-numbered _ (passed (sym (c .before .before .check-path .ensures) ∙ c .before .if1 .taken)), c .if2 .taken)
+    (stored-fielded _ (passed (sym (c .before .before .check-path .ensures) ∙ c .before .if1 .taken)), c .if2 .taken)
 
 segment-table-requires : tie.Need-segment-table-requires
 segment-table-requires c κs =
