@@ -518,7 +518,7 @@ uint32_t kihavute_rotation(const uint8_t *kinds, size_t kinds_len, const float *
 /* The segment at each of many progresses, and its raw parameter, in the order of the progresses: segments and raws get one place
  * for each, from their starts, as kihavute_flight gives them: on a path without segments KIHAVUTE_NO_SEGMENT and 0. answer[0]
  * gets the count of progresses. Refused, with nothing written, with 12, then with 8 and the two counts needed. Progresses in
- * rising order pass over the path once; in another order each one walks from the segment before. */
+ * rising order pass over the path once; in another order each one starts at a mark, at most 256 of which are set once. */
 uint32_t kihavute_places(const uint8_t *kinds, size_t kinds_len, const float *fields, size_t fields_len,
                          const float *tables, size_t tables_len, const float *lengths, size_t lengths_len,
                          const uint32_t *commands, size_t commands_len, const float *progresses, size_t progresses_len,
