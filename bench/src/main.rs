@@ -17,7 +17,8 @@ use kihavute::{Chord, Progress};
 use lists::{List, Room};
 use std::cell::RefCell;
 
-const INPUTS: usize = 4096;
+// so many that a processor cannot learn the branches that each takes: of 4,096 it does, round after round
+const INPUTS: usize = 65_536;
 
 type Rows = &'static [(&'static str, fn())];
 
