@@ -8,9 +8,9 @@
  * Limits: 65,536 bytes of text, 65,536 commands, 65,536 segments of a path, 4,096 points of a list; 4,096 bytes, 256 commands
  *         and 2 to 1,000 stations of a plan, whose listing has at most 69,632 bytes; angles of 64 radians for sine and cosine.
  *         What lies beyond is refused, or a NaN where that is said. The rotation of an arc is any finite number of degrees.
- * Stack:  at most 64 KiB, which is kihavute_stations; of the others that take a text kihavute_read some 24 KB,
- *         and the rest, building among them, at most 2 KiB. docs/RUNS.md has the table, and tests/c/stack.c holds each of them to
- *         its limit.
+ * Stack:  at most 64 KiB, which is kihavute_stations; kihavute_read some 24 KB, kihavute_flights at most 3.5 KiB, kihavute_arc_to
+ *         2.5 KiB, and the rest, building among them, 2 KiB. docs/RUNS.md has the table, and tests/c/stack.c holds those that read a
+ *         text, build, append an arc or answer a batch to their limits.
  * Units:  coordinates and lengths are in the unit of the path, times t are pure numbers, angles say theirs.
  * Sizes:  a coordinate is a float of 24 bits, so the larger it is, the further apart its neighbours are: 2^-10 (0.00098) from
  *         8,192 to 16,384, 2^-9 from there, 1/32 from 262,144, 1/2 from 4,194,304, and twice as much at each doubling. A northing

@@ -1,8 +1,9 @@
-/* Measures the stack of each entry that reads a text, and of building from a list, and fails where one takes more than its limit. The call is made on a stack of
- * its own, which was painted before; what it takes is counted from its caller's frame down to the last byte that was written. So each
- * count has a little of the measurement's own, the registers and arguments that the caller puts below its frame: as much as is counted
- * where an empty function stands in the entry's place. It is printed, and not subtracted. What an entry reserves below its last write
- * does not show. tests/c/run compiles and runs it; with a word as its argument it prints every count. */
+/* Measures the stack of each entry that reads a text, of building from a list, of a batch and of appending an arc, and fails where
+ * one takes more than its limit. The call is made on a stack of its own, which was painted before; what it takes is counted from its
+ * caller's frame down to the last byte that was written. So each count has a little of the measurement's own, the registers and
+ * arguments that the caller puts below its frame: as much as is counted where an empty function stands in the entry's place. It is
+ * printed, and not subtracted. What an entry reserves below its last write does not show. tests/c/run compiles and runs it; with a word
+ * as its argument it prints every count. */
 
 #define _GNU_SOURCE
 #include <stdio.h>
@@ -11,12 +12,15 @@
 
 #include "kihavute.h"
 
-enum { STACK = 1 << 18, PAINT = 0xA5, LONG = 65536, PLAN = 4096, LISTING = 69632 };
+enum { STACK = 1 << 18, PAINT = 0xA5, LONG = 65536, PLAN = 4096, LISTING = 69632, ASKED = 64 };
 
 static uint8_t text[LONG + 64], letters[LONG], kinds[LONG], listing[LISTING];
 static uint32_t offsets[LONG], commands[LONG];
 static float numbers[LONG], fields[11 * LONG], tables[33 * LONG], lengths[LONG];
 static size_t size, listed, arguments; /* the bytes of the text, and the letters and numbers of the list that it is read as */
+static float progresses[ASKED], raws[ASKED], flown[4 * ASKED]; /* a batch, in any order */
+static uint32_t segments[ASKED];
+static size_t counts[5]; /* of the path that the text is built as */
 static uint64_t answer[8];
 static uint32_t returned;
 
@@ -41,9 +45,18 @@ static void from_list(void) {
     returned = AS(kihavute_build)(letters, listed, numbers, arguments, LENT(kinds), LENT(fields), LENT(tables), LENT(lengths), LENT(commands),
                                   LENT(answer));
 }
+#define STORED kinds, counts[0], fields, counts[1], tables, counts[2], lengths, counts[3], commands, counts[4]
+static void places(void) { returned = AS(kihavute_places)(STORED, LENT(progresses), LENT(segments), LENT(raws), LENT(answer)); }
+static void flights(void) {
+    returned = AS(kihavute_flights)(STORED, LENT(progresses), LENT(segments), LENT(raws), LENT(flown), LENT(answer));
+}
+static void appending(void) {
+    returned = AS(kihavute_arc_to)(LENT(kinds), LENT(fields), LENT(tables), LENT(lengths), LENT(commands), 0, 0, 0, 0, 5, 3, 30, 1, 0, 4, 1,
+                                   LENT(answer));
+}
 static void stations(void) { returned = AS(kihavute_stations)(text, size, LENT(listing), LENT(answer)); }
 
-enum takes { A_NUMBER, A_PATH, A_LIST, A_PLAN };
+enum takes { A_NUMBER, A_PATH, A_LIST, A_STORED_PATH, A_PLAN };
 
 static struct entry {
     const char *name;
@@ -58,6 +71,9 @@ static struct entry {
     {"kihavute_read_lean", (function)kihavute_read_lean, reading, A_PATH, 2048, 0, ""},
     {"kihavute_build_text", (function)kihavute_build_text, building, A_PATH, 2048, 0, ""},
     {"kihavute_build", (function)kihavute_build, from_list, A_LIST, 2048, 0, ""},
+    {"kihavute_places", (function)kihavute_places, places, A_STORED_PATH, 2048, 0, ""},
+    {"kihavute_flights", (function)kihavute_flights, flights, A_STORED_PATH, 3584, 0, ""},
+    {"kihavute_arc_to", (function)kihavute_arc_to, appending, A_STORED_PATH, 2560, 0, ""},
     {"kihavute_read", (function)kihavute_read, reading, A_PATH, 24 << 10, 0, ""},
     {"kihavute_stations", (function)kihavute_stations, stations, A_PLAN, 64 << 10, 0, ""},
 };
@@ -166,6 +182,11 @@ static void measure(struct entry *entry, const char *what, int right) {
         listed = answer[0];
         arguments = answer[1];
     }
+    if (entry->takes == A_STORED_PATH) {
+        if (kihavute_build_text(text, size, LENT(kinds), LENT(fields), LENT(tables), LENT(lengths), LENT(commands), LENT(answer))) return;
+        for (size_t k = 0; k < 5; k++) counts[k] = answer[k];
+        for (size_t k = 0; k < ASKED; k++) progresses[k] = (float)(k * 37 % ASKED) / (ASKED - 1);
+    }
     size_t needed = deepest(entry->caller, entry->entry);
     if (every) printf("  %s, %s: %zu bytes, returned %u\n", entry->name, what, needed, (unsigned)returned);
     /* a listing and a verdict are given of every text; a path may be too long to be built */
@@ -185,7 +206,7 @@ int main(int count, char **words) {
     (void)words;
     every = count > 1;
     for (struct entry *entry = entries; entry < entries + sizeof entries / sizeof *entries; entry++) {
-        for (size_t k = 0; k < sizeof single / sizeof *single; k++) {
+        for (size_t k = 0; entry->takes != A_STORED_PATH && k < sizeof single / sizeof *single; k++) {
             const struct text *of = single + k;
             if (entry->takes == A_NUMBER) write_text("", of, LONG, LONG, "");
             if (entry->takes == A_PATH || entry->takes == A_LIST) write_text("M", of, LONG, LONG, " 0l1 2");
@@ -194,7 +215,7 @@ int main(int count, char **words) {
         }
         for (size_t k = 0; entry->takes != A_NUMBER && k < sizeof whole / sizeof *whole; k++) {
             const struct text *of = whole + k;
-            if (entry->takes == A_PATH || entry->takes == A_LIST) write_text("", of, LONG, LONG, "");
+            if (entry->takes != A_PLAN) write_text("", of, LONG, LONG, "");
             if (entry->takes == A_PLAN) write_text("1000\n", of, 255, PLAN - 20, "");
             measure(entry, of->what, of->right);
         }
