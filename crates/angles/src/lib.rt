@@ -1,13 +1,13 @@
 // The angles of math.rs: the heading of a tangent, and the signed angle from one vector to another.
 ghost use Rattle.std.specs.Prelude.{◌≡◌};
-ghost use Rattle.angles.specs.Angles.{rotationDegOf, cross_of, sign_of, cosineOfAngle, angleBetweenOf};
+ghost use Rattle.angles.specs.Angles.{rotation_deg_of, cross_of, sign_of, cosine_of_angle, angle_between_of};
 
 use math::Point;
 
 // The heading of a tangent in degrees, counted from the x axis towards the y axis, in [-180, 180].
 // No direction, (0, 0) with zeros of either sign, gives 0.
 pub fn rotation_deg(tangent: Point) -> f32
-    ensures { result ≡ rotationDegOf tangent }
+    ensures { result ≡ rotation_deg_of tangent }
 {
     let x = tangent.x;
     let y = tangent.y;
@@ -32,7 +32,7 @@ fn sign(u: Point, v: Point) -> f32
 
 // The product of u and v over their lengths, held to -1 and 1. A NaN stays.
 fn cosine(u: Point, v: Point) -> f32
-    ensures { result ≡ cosineOfAngle u v }
+    ensures { result ≡ cosine_of_angle u v }
 {
     let denom = floats::max(math::length(u) * math::length(v), floats::EPSILON);
     floats::clamp(math::dot(u, v) / denom, -1.0, 1.0)
@@ -40,7 +40,7 @@ fn cosine(u: Point, v: Point) -> f32
 
 // The angle from u to v in radians, signed, in [-π, π].
 pub fn angle_between(u: Point, v: Point) -> f32
-    ensures { result ≡ angleBetweenOf u v }
+    ensures { result ≡ angle_between_of u v }
 {
     let value = cosine(u, v);
     sign(u, v) * atan2::atan2(root::sqrt(floats::max(1.0 - value * value, 0.0)), value)

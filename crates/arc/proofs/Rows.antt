@@ -15,11 +15,11 @@ use Rattle.lengths.proofs.Lists.{Passing, passing-start, passing-more, lengths-c
 use Rattle.trig.specs.declared.SinCos.{SinCos}
 use Rattle.trig_all.specs.Rows.{Run}
 use Rattle.math.specs.declared.points.Point.{Point}
-use Rattle.table_samples.specs.Samples.{sampleAt, steps_of}
+use Rattle.table_samples.specs.Samples.{sample_at, steps_of}
 use Rattle.table_samples.proofs.Steps.{steps-are}
 use Rattle.ellipse.specs.declared.ends.Arc.{Arc}
-use Rattle.ellipse.specs.Shape.{onEllipse, pointTurned}
-use Rattle.arc.specs.Rows.{Row, angleFor, sineFor, cosineFor, pointFor, acrossFor, alongFor, stepFor}
+use Rattle.ellipse.specs.Shape.{on_ellipse, point_turned}
+use Rattle.arc.specs.Rows.{Row, angle_for, sine_for, cosine_for, point_for, across_for, along_for, step_for}
 
 -- ---- each place before k has its number, and each from k on what it had
 pub record Replacing (numbers : ℕ → Float) (old row : List Float) (k : ℕ) : Type 0 where
@@ -63,25 +63,25 @@ module _ (f : Float → Float) (first : List Float) {at : ℕ} {angles old row n
 -- ---- from angles to steps
 module _
     (shape : Arc) (turn : SinCos) {angles sines cosines across along x y : List Float}
-    (angled : Row (angleFor shape) 32 angles) (s : Row (sineFor angles) 32 sines) (c : Row (cosineFor angles) 32 cosines)
-    (p : Row (acrossFor shape.center shape.radii turn sines cosines) 32 across) (q : Row (alongFor shape.center shape.radii turn sines cosines) 32 along)
-    (dx : Row (stepFor across) 31 x) (dy : Row (stepFor along) 31 y)
+    (angled : Row (angle_for shape) 32 angles) (s : Row (sine_for angles) 32 sines) (c : Row (cosine_for angles) 32 cosines)
+    (p : Row (across_for shape.center shape.radii turn sines cosines) 32 across) (q : Row (along_for shape.center shape.radii turn sines cosines) 32 along)
+    (dx : Row (step_for across) 31 x) (dy : Row (step_for along) 31 y)
   where
-    sample-is : (k : ℕ) → k < 32 → pointFor shape.center shape.radii turn sines cosines k ≡ sampleAt (pointTurned shape turn) 31 k
-    unfolding sampleAt pointTurned
+    sample-is : (k : ℕ) → k < 32 → point_for shape.center shape.radii turn sines cosines k ≡ sample_at (point_turned shape turn) 31 k
+    unfolding sample_at point_turned
     sample-is k l = rw (s.each k l, c.each k l, angled.each k l)
 
-    apart : (coordinate : Point → Float) {row steps : List Float} → Row (λ (k : ℕ). coordinate (pointFor shape.center shape.radii turn sines cosines k)) 32 row → Row (stepFor row) 31 steps
-        → (k : ℕ) → k < 31 → get_or steps k nan ≡ sub binary32 (coordinate (sampleAt (pointTurned shape turn) 31 (suc k))) (coordinate (sampleAt (pointTurned shape turn) 31 k))
+    apart : (coordinate : Point → Float) {row steps : List Float} → Row (λ (k : ℕ). coordinate (point_for shape.center shape.radii turn sines cosines k)) 32 row → Row (step_for row) 31 steps
+        → (k : ℕ) → k < 31 → get_or steps k nan ≡ sub binary32 (coordinate (sample_at (point_turned shape turn) 31 (suc k))) (coordinate (sample_at (point_turned shape turn) 31 k))
     apart coordinate {row} r d k l =
-        let here : get_or row k nan ≡ coordinate (sampleAt (pointTurned shape turn) 31 k) = r.each k (omega arith) ∙ ap coordinate (sample-is k (omega arith)) in
-        let next : get_or row (k + 1) nan ≡ coordinate (sampleAt (pointTurned shape turn) 31 (k + 1)) = r.each (k + 1) (omega arith) ∙ ap coordinate (sample-is (k + 1) (omega arith)) in
-        let there = next ∙ ap (λ (m : ℕ). coordinate (sampleAt (pointTurned shape turn) 31 m)) (add-one k) in
-        d.each k l ∙ ap (λ (v : Float). sub binary32 v (get_or row k nan)) there ∙ ap (sub binary32 (coordinate (sampleAt (pointTurned shape turn) 31 (suc k)))) here
+        let here : get_or row k nan ≡ coordinate (sample_at (point_turned shape turn) 31 k) = r.each k (omega arith) ∙ ap coordinate (sample-is k (omega arith)) in
+        let next : get_or row (k + 1) nan ≡ coordinate (sample_at (point_turned shape turn) 31 (k + 1)) = r.each (k + 1) (omega arith) ∙ ap coordinate (sample-is (k + 1) (omega arith)) in
+        let there = next ∙ ap (λ (m : ℕ). coordinate (sample_at (point_turned shape turn) 31 m)) (add-one k) in
+        d.each k l ∙ ap (λ (v : Float). sub binary32 v (get_or row k nan)) there ∙ ap (sub binary32 (coordinate (sample_at (point_turned shape turn) 31 (suc k)))) here
 
-    pub rows-steps : (steps : List Float) → steps ≡ lengths.lengthsOf 31 x y → steps ≡ steps_of (pointTurned shape turn) 31
+    pub rows-steps : (steps : List Float) → steps ≡ lengths.lengths_of 31 x y → steps ≡ steps_of (point_turned shape turn) 31
     rows-steps steps e =
-        steps-are (pointTurned shape turn) x y steps 31 (ap length e ∙ lengths-count 31 x y)
+        steps-are (point_turned shape turn) x y steps 31 (ap length e ∙ lengths-count 31 x y)
         (apart (λ (point : Point). point.x) p dx)
         (apart (λ (point : Point). point.y) q dy)
         (λ j h. ap (λ (z : List Float). get_or z j nan) e ∙ lengths-at 31 x y j h)

@@ -16,17 +16,17 @@ use Rattle.flight.specs.declared.single.Verdict.TheVariants as Verdict
 use Rattle.bezier.proofs.Steady.{accepted-table, made-last}
 use Rattle.ellipse.specs.declared.ends.Chord.{Chord}
 use Rattle.ellipse.specs.declared.ends.Arc.{Arc}
-use Rattle.ellipse.specs.Ends.{fromEndsOf}
-use Rattle.ellipse.specs.Shape.{pointOn}
+use Rattle.ellipse.specs.Ends.{from_ends_of}
+use Rattle.ellipse.specs.Shape.{point_on}
 use Rattle.arc.specs.declared.arcs.MadeArc.{MadeArc}
-use Rattle.arc.specs.Arcs.{isFallback, fallenBack, fitted, outOfRange, madeArcOf, arcRaw, arcPositionOf}
+use Rattle.arc.specs.Arcs.{is_fallback, fallen_back, fitted, out_of_range, made_arc_of, arc_raw, arc_position_of}
 
 -- ---- a stored table
-pub arc-steady : (table : Table) → F32Table table.entries table.total → Steady (last_of table.entries) table.entries table.total (arcRaw table)
+pub arc-steady : (table : Table) → F32Table table.entries table.total → Steady (last_of table.entries) table.entries table.total (arc_raw table)
 arc-steady table f = steady f
 
-pub arc-at-raw : (shape : Arc) (table : Table) (p : Float) → arcPositionOf shape table p ≡ pointOn shape (arcRaw table p)
-unfolding arcPositionOf
+pub arc-at-raw : (shape : Arc) (table : Table) (p : Float) → arc_position_of shape table p ≡ point_on shape (arc_raw table p)
+unfolding arc_position_of
 arc-at-raw shape table p = refl
 
 -- ---- a made one, by the two tests of `arc`
@@ -37,21 +37,21 @@ record WholeTable (table : Table) : Type 0 where
 abbrev Whole : MadeArc → Type 0
 Whole made = made.verdict ≡ Verdict.Accepted → made.arc.line_fallback ≡ false → WholeTable made.arc.table
 
-whole_by : (chord : Chord) (b d : Bool) → Whole (cond b (fallenBack chord) (cond d (fitted chord) (outOfRange chord)))
-unfolding fallenBack fitted outOfRange
+whole_by : (chord : Chord) (b d : Bool) → Whole (cond b (fallen_back chord) (cond d (fitted chord) (out_of_range chord)))
+unfolding fallen_back fitted out_of_range
 whole_by chord true d accepted curved = absurd (subst T curved tt)
-whole_by chord false true accepted curved = record { held = accepted-table (pointOn (fromEndsOf chord)) accepted; last = made-last (pointOn (fromEndsOf chord)) }
+whole_by chord false true accepted curved = record { held = accepted-table (point_on (from_ends_of chord)) accepted; last = made-last (point_on (from_ends_of chord)) }
 whole_by chord false false accepted curved = let z : ◌≡◌ {A = ℕ} 0 1 = cc in absurd (omega arith)
 
-made-arc-whole : (chord : Chord) → Whole (madeArcOf chord)
-unfolding madeArcOf
-made-arc-whole chord = whole_by chord (isFallback chord) (finite chord.x_axis_rotation)
+made-arc-whole : (chord : Chord) → Whole (made_arc_of chord)
+unfolding made_arc_of
+made-arc-whole chord = whole_by chord (is_fallback chord) (finite chord.x_axis_rotation)
 
-module _ (chord : Chord) (accepted : (madeArcOf chord).verdict ≡ Verdict.Accepted) (curved : (madeArcOf chord).arc.line_fallback ≡ false) where
-  pub made-arc-table : F32Table (madeArcOf chord).arc.table.entries (madeArcOf chord).arc.table.total
+module _ (chord : Chord) (accepted : (made_arc_of chord).verdict ≡ Verdict.Accepted) (curved : (made_arc_of chord).arc.line_fallback ≡ false) where
+  pub made-arc-table : F32Table (made_arc_of chord).arc.table.entries (made_arc_of chord).arc.table.total
   made-arc-table = (made-arc-whole chord accepted curved).held
 
-  pub made-arc-steady : let table = (madeArcOf chord).arc.table in Steady 31 table.entries table.total (arcRaw table)
+  pub made-arc-steady : let table = (made_arc_of chord).arc.table in Steady 31 table.entries table.total (arc_raw table)
   made-arc-steady =
-      let table = (madeArcOf chord).arc.table in
-      subst (λ (n : ℕ). Steady n table.entries table.total (arcRaw table)) (made-arc-whole chord accepted curved).last (steady made-arc-table)
+      let table = (made_arc_of chord).arc.table in
+      subst (λ (n : ℕ). Steady n table.entries table.total (arc_raw table)) (made-arc-whole chord accepted curved).last (steady made-arc-table)

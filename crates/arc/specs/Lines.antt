@@ -1,40 +1,40 @@
 -- `LineSegment` (document 01, "Missing in the text given, so fixed here"), each operation rounded once. Definitions only.
 use Rattle.std.specs.Prelude.{Float}
-use Rattle.floats.specs.Floats.{clamp01Of}
+use Rattle.floats.specs.Floats.{clamp01_of}
 use Rattle.math.specs.declared.points.Point.{Point}
-use Rattle.math.specs.Math.{subOf, distance_of, normalizeOf, lerpPointOf}
-use Rattle.angles.specs.Angles.{rotationDegOf}
-use Rattle.bezier.specs.Curves.{verdictOf}
+use Rattle.math.specs.Math.{sub_of, distance_of, normalize_of, lerp_point_of}
+use Rattle.angles.specs.Angles.{rotation_deg_of}
+use Rattle.bezier.specs.Curves.{verdict_of}
 use Rattle.arc.specs.declared.lines.LineSegment.{LineSegment}
 use Rattle.arc.specs.declared.lines.MadeLine.{MadeLine}
 
 -- "of `LineSegment`, length is `distance` of the ends"
-unfoldable pub lineLengthOf : LineSegment → Float
-lineLengthOf line = distance_of line.start line.end
+unfoldable pub line_length_of : LineSegment → Float
+line_length_of line = distance_of line.start line.end
 
 -- the point at the line's own parameter
-unfoldable pub linePointOf : LineSegment → Float → Point
-linePointOf line raw = lerpPointOf line.start line.end raw
+unfoldable pub line_point_of : LineSegment → Float → Point
+line_point_of line raw = lerp_point_of line.start line.end raw
 
 -- "position `lerp_point` at the clamped t"
-unfoldable pub linePositionOf : LineSegment → Float → Point
-unfolding linePointOf
-linePositionOf line progress = linePointOf line (clamp01Of progress)
+unfoldable pub line_position_of : LineSegment → Float → Point
+unfolding line_point_of
+line_position_of line progress = line_point_of line (clamp01_of progress)
 
 -- "tangent `normalize` of end minus start"
-unfoldable pub lineTangentOf : LineSegment → Point
-lineTangentOf line = normalizeOf (subOf line.end line.start)
+unfoldable pub line_tangent_of : LineSegment → Point
+line_tangent_of line = normalize_of (sub_of line.end line.start)
 
 -- `rotation_deg`: the tangent in degrees
-unfoldable pub lineRotationDegOf : LineSegment → Float
-unfolding lineTangentOf
-lineRotationDegOf line = rotationDegOf (lineTangentOf line)
+unfoldable pub line_rotation_deg_of : LineSegment → Float
+unfolding line_tangent_of
+line_rotation_deg_of line = rotation_deg_of (line_tangent_of line)
 
 -- the line from start to end
 abbrev pub line_of : Point → Point → LineSegment
 line_of start end = record { start = start; end = end }
 
 -- "NotFinite: a running length becomes infinite or NaN"
-unfoldable pub madeLineOf : Point → Point → MadeLine
-unfolding lineLengthOf
-madeLineOf start end = record { verdict = verdictOf (lineLengthOf (line_of start end)); line = line_of start end }
+unfoldable pub made_line_of : Point → Point → MadeLine
+unfolding line_length_of
+made_line_of start end = record { verdict = verdict_of (line_length_of (line_of start end)); line = line_of start end }

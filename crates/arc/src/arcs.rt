@@ -1,8 +1,8 @@
 // An elliptical arc, or the line that it falls back to.
 ghost use Rattle.std.specs.Prelude.{◌≡◌};
 ghost use Rattle.table_samples.specs.Samples.{steps_of, table_of};
-ghost use Rattle.ellipse.specs.Shape.{pointTurned, pointOn, directionOn};
-ghost use Rattle.arc.specs.Arcs.{isFallback, fallbackShape, noTable, chordLine, fallenBack, fitted, outOfRange, madeArcOf, arcLengthOf, arcPlacedOf, arcHeadingOf, inDegrees, arcTurnedOf};
+ghost use Rattle.ellipse.specs.Shape.{point_turned, point_on, direction_on};
+ghost use Rattle.arc.specs.Arcs.{is_fallback, fallback_shape, no_table, chord_line, fallen_back, fitted, out_of_range, made_arc_of, arc_length_of, arc_placed_of, arc_heading_of, in_degrees, arc_turned_of};
 
 use crate::inner;
 use crate::lines::{LineSegment, line_length, line_position, line_tangent};
@@ -36,7 +36,7 @@ pub struct MadeArc {
 
 // Whether an arc is drawn as a line: its ends are within 2^-23 or a radius is that small. A NaN is not.
 pub fn is_fallback(chord: Chord) -> bool
-    ensures { result ≡ isFallback chord }
+    ensures { result ≡ is_fallback chord }
 {
     let start = chord.start;
     let end = chord.end;
@@ -52,14 +52,14 @@ pub fn is_fallback(chord: Chord) -> bool
 
 // The point at a raw parameter.
 pub fn arc_sample(shape: Arc, raw: RawParameter) -> Point
-    ensures { result ≡ pointOn shape raw.value }
+    ensures { result ≡ point_on shape raw.value }
 {
     tidy_point(point(shape, raw))
 }
 
 // The direction at a raw parameter, with the length 1, or (0, 0) where the derivative is too short.
 pub fn arc_heading(shape: Arc, raw: RawParameter) -> Point
-    ensures { result ≡ directionOn shape raw.value }
+    ensures { result ≡ direction_on shape raw.value }
 {
     tidy_point(direction(shape, raw))
 }
@@ -67,7 +67,7 @@ pub fn arc_heading(shape: Arc, raw: RawParameter) -> Point
 // The distances from each of the 32 samples to the next. They share the turn, so that it is taken once for all, and are measured
 // together. The last place of a row leaves no rest in lanes; nothing reads it.
 fn arc_steps(shape: Arc, turn: SinCos) -> [f32; 31]
-    ensures { result ≡ steps_of (pointTurned shape turn) 31 }
+    ensures { result ≡ steps_of (point_turned shape turn) 31 }
 {
     let mut x = [0.0f32; 32];
     let mut y = [0.0f32; 32];
@@ -83,14 +83,14 @@ fn arc_steps(shape: Arc, turn: SinCos) -> [f32; 31]
 
 // The table of an ellipse's arc.
 pub fn arc_table(shape: Arc) -> Table
-    ensures { result ≡ table_of (pointOn shape) }
+    ensures { result ≡ table_of (point_on shape) }
 {
     table_of(arc_steps(shape, turn_of(shape.x_axis_rotation)))
 }
 
 // The numbers of a line fallback: its ends and its rotation, and zeros.
 pub fn fallback_shape(chord: Chord) -> Arc
-    ensures { result ≡ fallbackShape chord }
+    ensures { result ≡ fallback_shape chord }
 {
     let start = chord.start;
     let end = chord.end;
@@ -107,7 +107,7 @@ pub fn fallback_shape(chord: Chord) -> Arc
 
 // What stands for a table where there is none. Its total is not its last entry, so that no lookup takes it.
 pub fn no_table() -> Table
-    ensures { result ≡ noTable }
+    ensures { result ≡ no_table }
 {
     Table {
         entries: [0.0f32; 32],
@@ -117,7 +117,7 @@ pub fn no_table() -> Table
 
 // The line between an arc's ends.
 pub fn chord_line(shape: Arc) -> LineSegment
-    ensures { result ≡ chordLine shape }
+    ensures { result ≡ chord_line shape }
 {
     let start = shape.start;
     let end = shape.end;
@@ -126,7 +126,7 @@ pub fn chord_line(shape: Arc) -> LineSegment
 
 // The line fallback, judged by the length of its line.
 fn fallen_back(chord: Chord) -> MadeArc
-    ensures { result ≡ fallenBack chord }
+    ensures { result ≡ fallen_back chord }
 {
     let shape = fallback_shape(chord);
     let table = no_table();
@@ -156,7 +156,7 @@ fn fitted(chord: Chord) -> MadeArc
 
 // The refusal of a rotation that is infinite or a NaN.
 fn out_of_range(chord: Chord) -> MadeArc
-    ensures { result ≡ outOfRange chord }
+    ensures { result ≡ out_of_range chord }
 {
     let shape = fallback_shape(chord);
     let table = no_table();
@@ -174,7 +174,7 @@ fn out_of_range(chord: Chord) -> MadeArc
 // An arc through both ends, or its line fallback. A rotation that is infinite or a NaN is refused, then such a length; a lone
 // segment is segment 0. Any other rotation is kept as it is given. Where the numbers do not suffice the arc misses its ends, as the Rust's does.
 pub fn arc(chord: Chord) -> MadeArc
-    ensures { result ≡ madeArcOf chord }
+    ensures { result ≡ made_arc_of chord }
 {
     if is_fallback(chord) {
         return fallen_back(chord);
@@ -187,7 +187,7 @@ pub fn arc(chord: Chord) -> MadeArc
 
 // Where an arc is at a progress. A table that is not sound is refused; a line fallback has none.
 pub fn arc_position(arc: EllipticalArc, progress: Progress) -> Placed
-    ensures { result ≡ arcPlacedOf arc progress.value }
+    ensures { result ≡ arc_placed_of arc progress.value }
 {
     let shape = arc.shape;
     let table = arc.table;
@@ -202,7 +202,7 @@ pub fn arc_position(arc: EllipticalArc, progress: Progress) -> Placed
 
 // Where an arc heads at a progress, with the length 1, or (0, 0) where nothing tells. A table that is not sound is refused.
 pub fn arc_tangent(arc: EllipticalArc, progress: Progress) -> Placed
-    ensures { result ≡ arcHeadingOf arc progress.value }
+    ensures { result ≡ arc_heading_of arc progress.value }
 {
     let shape = arc.shape;
     let table = arc.table;
@@ -217,7 +217,7 @@ pub fn arc_tangent(arc: EllipticalArc, progress: Progress) -> Placed
 
 // A direction in degrees.
 fn in_degrees(placed: Placed) -> Turned
-    ensures { result ≡ inDegrees placed }
+    ensures { result ≡ in_degrees placed }
 {
     match placed {
         Placed::At(tangent) => Turned::Degrees(tidy(rotation_deg(tangent))),
@@ -227,14 +227,14 @@ fn in_degrees(placed: Placed) -> Turned
 
 // The heading of an arc at a progress. A table that is not sound is refused.
 pub fn arc_rotation_deg(arc: EllipticalArc, progress: Progress) -> Turned
-    ensures { result ≡ arcTurnedOf arc progress.value }
+    ensures { result ≡ arc_turned_of arc progress.value }
 {
     in_degrees(arc_tangent(arc, progress))
 }
 
 // How long an arc is: its table's total, or the length of the line that it fell back to.
 pub fn arc_length(arc: EllipticalArc) -> f32
-    ensures { result ≡ arcLengthOf arc }
+    ensures { result ≡ arc_length_of arc }
 {
     let shape = arc.shape;
     if arc.line_fallback {

@@ -1,6 +1,6 @@
 // A straight line.
 ghost use Rattle.std.specs.Prelude.{◌≡◌};
-ghost use Rattle.arc.specs.Lines.{lineLengthOf, linePointOf, linePositionOf, lineTangentOf, lineRotationDegOf, madeLineOf};
+ghost use Rattle.arc.specs.Lines.{line_length_of, line_point_of, line_position_of, line_tangent_of, line_rotation_deg_of, made_line_of};
 
 use angles::rotation_deg;
 use bezier::verdict_of;
@@ -26,7 +26,7 @@ pub struct MadeLine {
 
 // How long a line is: the distance of its ends.
 pub fn line_length(line: LineSegment) -> f32
-    ensures { result ≡ lineLengthOf line }
+    ensures { result ≡ line_length_of line }
 {
     let start = line.start;
     let end = line.end;
@@ -35,7 +35,7 @@ pub fn line_length(line: LineSegment) -> f32
 
 // The point at a raw parameter. It may miss the end at 1, as `lerp` does.
 pub fn line_point(line: LineSegment, raw: RawParameter) -> Point
-    ensures { result ≡ linePointOf line raw.value }
+    ensures { result ≡ line_point_of line raw.value }
 {
     let start = line.start;
     let end = line.end;
@@ -44,7 +44,7 @@ pub fn line_point(line: LineSegment, raw: RawParameter) -> Point
 
 // Where a line is at a progress, which is clamped; a NaN is the start. Its table is a single 0.
 pub fn line_position(line: LineSegment, progress: Progress) -> Point
-    ensures { result ≡ linePositionOf line progress.value }
+    ensures { result ≡ line_position_of line progress.value }
 {
     let single = [0.0f32; 1];
     line_point(line, raw_parameter_in(&single, 0.0, progress))
@@ -52,7 +52,7 @@ pub fn line_position(line: LineSegment, progress: Progress) -> Point
 
 // Where a line heads, with the length 1, or (0, 0) where its ends are within 2^-23.
 pub fn line_tangent(line: LineSegment) -> Point
-    ensures { result ≡ lineTangentOf line }
+    ensures { result ≡ line_tangent_of line }
 {
     let start = line.start;
     let end = line.end;
@@ -61,14 +61,14 @@ pub fn line_tangent(line: LineSegment) -> Point
 
 // That heading in degrees.
 pub fn line_rotation_deg(line: LineSegment) -> f32
-    ensures { result ≡ lineRotationDegOf line }
+    ensures { result ≡ line_rotation_deg_of line }
 {
     tidy(rotation_deg(line_tangent(line)))
 }
 
 // A line between two points. A length that is infinite or a NaN is refused; a lone segment is segment 0.
 pub fn line(start: Point, end: Point) -> MadeLine
-    ensures { result ≡ madeLineOf start end }
+    ensures { result ≡ made_line_of start end }
 {
     let made = LineSegment { start, end };
     let verdict = verdict_of(line_length(made));

@@ -1,7 +1,7 @@
 // The queries of an arc without their tests, for callers that know the table to be sound.
 ghost use Rattle.std.specs.Prelude.{◌≡◌, T};
-ghost use Rattle.table.specs.Sound.{tableIsSound};
-ghost use Rattle.arc.specs.Arcs.{arcPositionOf, arcTangentOf};
+ghost use Rattle.table.specs.Sound.{table_is_sound};
+ghost use Rattle.arc.specs.Arcs.{arc_position_of, arc_tangent_of};
 
 use crate::arcs::{arc_heading, arc_sample};
 use ellipse::Arc;
@@ -11,8 +11,8 @@ use table::{Progress, Table};
 
 // Where an arc is at a progress.
 pub fn arc_position(shape: Arc, table: Table, progress: Progress) -> Point
-    requires { T (tableIsSound table.entries table.total) }
-    ensures { result ≡ arcPositionOf shape table progress.value }
+    requires { T (table_is_sound table.entries table.total) }
+    ensures { result ≡ arc_position_of shape table progress.value }
 {
     let raw = raw_parameter(table, progress);
     arc_sample(shape, raw)
@@ -20,8 +20,8 @@ pub fn arc_position(shape: Arc, table: Table, progress: Progress) -> Point
 
 // Where an arc heads at a progress, with the length 1, or (0, 0) where its derivative is too short.
 pub fn arc_tangent(shape: Arc, table: Table, progress: Progress) -> Point
-    requires { T (tableIsSound table.entries table.total) }
-    ensures { result ≡ arcTangentOf shape table progress.value }
+    requires { T (table_is_sound table.entries table.total) }
+    ensures { result ≡ arc_tangent_of shape table progress.value }
 {
     let raw = raw_parameter(table, progress);
     arc_heading(shape, raw)

@@ -2,7 +2,7 @@
 // laid over lanes. Two rows of 32 hold what a pass gives, and the next puts its own in place. The functions ask that a row has 32 places,
 // which its type says and the logic does not know.
 ghost use Rattle.std.specs.Prelude.{◌≡◌, length};
-ghost use Rattle.arc.specs.Rows.{Row, angleFor, sineFor, cosineFor, acrossFor, alongFor, stepFor};
+ghost use Rattle.arc.specs.Rows.{Row, angle_for, sine_for, cosine_for, across_for, along_for, step_for};
 
 use ellipse::{Arc, angle_at, on_ellipse};
 use math::Point;
@@ -13,7 +13,7 @@ use trig_all::inner::sin_cos_run;
 // Puts the angle of each sample.
 pub(crate) fn put_angles(shape: Arc, x: &mut [f32; 32])
     requires { length x.old ≡ 32 }
-    ensures { Row (angleFor shape) 32 x.new }
+    ensures { Row (angle_for shape) 32 x.new }
 {
     let mut i = 0usize;
     while i < 32 {
@@ -26,8 +26,8 @@ pub(crate) fn put_angles(shape: Arc, x: &mut [f32; 32])
 // their own, and a run's length is not known where it is taken.
 pub(crate) fn put_sines(x: &mut [f32; 32], y: &mut [f32; 32])
     requires { (length x.old ≡ 32) × (length y.old ≡ 32) }
-    ensures sines { Row (sineFor x.old) 32 x.new }
-    ensures cosines { Row (cosineFor x.old) 32 y.new }
+    ensures sines { Row (sine_for x.old) 32 x.new }
+    ensures cosines { Row (cosine_for x.old) 32 y.new }
 {
     sin_cos_run(x, y, 0, 8);
     sin_cos_run(x, y, 8, 16);
@@ -44,8 +44,8 @@ pub(crate) fn put_points(
     y: &mut [f32; 32],
 )
     requires { (length x.old ≡ 32) × (length y.old ≡ 32) }
-    ensures across { Row (acrossFor center radii turn x.old y.old) 32 x.new }
-    ensures along { Row (alongFor center radii turn x.old y.old) 32 y.new }
+    ensures across { Row (across_for center radii turn x.old y.old) 32 x.new }
+    ensures along { Row (along_for center radii turn x.old y.old) 32 y.new }
 {
     let mut i = 0usize;
     while i < 32 {
@@ -63,7 +63,7 @@ pub(crate) fn put_points(
 // Puts the difference from each of the first 31 numbers to the next in its place.
 pub(crate) fn put_differences(x: &mut [f32; 32])
     requires { length x.old ≡ 32 }
-    ensures { Row (stepFor x.old) 31 x.new }
+    ensures { Row (step_for x.old) 31 x.new }
 {
     let mut i = 0usize;
     while i < 31 {

@@ -1,11 +1,11 @@
 // The guess, in f64. Any answer in range is safe: the test decides.
 ghost use Rattle.std.specs.Prelude.{◌≡◌, cond, ltb, ◌+◌, ◌-◌, ◌*◌, ◌/◌, ◌%◌, ◌^◌, ◌≤◌, ◌<◌};
-ghost use Rattle.atan2_rule.specs.Steps.{bendOf, nearOf, guessOf};
-ghost use Rattle.floats.specs.Patterns.{wideInfinityBits};
+ghost use Rattle.atan2_rule.specs.Steps.{bend_of, near_of, guess_of};
+ghost use Rattle.floats.specs.Patterns.{wide_infinity_bits};
 
 // e + atan t by a polynomial in t·t, for t from -1 to 1: within 4.4e-10.
 fn bend(e: f64, t: f64) -> f64
-    ensures { result ≡ bendOf e t }
+    ensures { result ≡ bend_of e t }
 {
     let s = t * t;
     let q = s * s;
@@ -21,7 +21,7 @@ fn bend(e: f64, t: f64) -> f64
 
 // The bits of the f32 nearest to g, which is from 2^-14 to PI. For any other g it is PI.
 fn near_bits(g: f64) -> u32
-    ensures { (result ≡ nearOf g) × (947912704 ≤ result) × (result ≤ 1078530011) }
+    ensures { (result ≡ near_of g) × (947912704 ≤ result) × (result ≤ 1078530011) }
 {
     if g != g {
         return 0x4049_0FDB;
@@ -56,8 +56,8 @@ fn base(u: u64, v: u64, l: u64) -> u64
 // The angle from the bits a and b of the sizes of y and x, which u and v are cut from. Where the
 // point is on the left side or y is the larger, but not both, the small angle is taken away.
 pub(crate) fn guess(a: u64, b: u64, u: u64, v: u64, left: u32) -> u32
-    requires { (a < wideInfinityBits) × (b < wideInfinityBits) × (u < 2 ^ 30) × (v < 2 ^ 30) × (left ≤ 1) }
-    ensures { (result ≡ guessOf a b (ltb v u) left) × (947912704 ≤ result) × (result ≤ 1078530011) }
+    requires { (a < wide_infinity_bits) × (b < wide_infinity_bits) × (u < 2 ^ 30) × (v < 2 ^ 30) × (left ≤ 1) }
+    ensures { (result ≡ guess_of a b (ltb v u) left) × (947912704 ≤ result) × (result ≤ 1078530011) }
 {
     let l = left as u64;
     let steep = v < u;

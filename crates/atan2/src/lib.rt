@@ -9,8 +9,8 @@ ghost use Rattle.std.specs.Prelude.{◌≡◌, true, ◌+◌, ◌-◌, ◌*◌, 
 ghost use Rattle.std.specs.Float.{binary64};
 ghost use Rattle.std.specs.Float.Ieee.{to_bits};
 ghost use Rattle.std.specs.Float.Ieee.Scale.{finite};
-ghost use Rattle.atan2_rule.specs.Steps.{angleBits, slanted, level, atan2Of};
-ghost use Rattle.floats.specs.Patterns.{wideInfinityBits};
+ghost use Rattle.atan2_rule.specs.Steps.{angle_bits, slanted, level, atan2_of};
+ghost use Rattle.floats.specs.Patterns.{wide_infinity_bits};
 
 use crate::guess::guess;
 use crate::scale::{larger, part};
@@ -21,7 +21,7 @@ use floats::is_finite;
 // The bits of a finite x as an f64.
 fn wide(x: f32) -> u64
     requires { finite x ≡ true }
-    ensures { (result ≡ to_bits binary64 x) × (result % 2 ^ 63 < wideInfinityBits) }
+    ensures { (result ≡ to_bits binary64 x) × (result % 2 ^ 63 < wide_infinity_bits) }
 {
     f64::to_bits(x as f64)
 }
@@ -29,7 +29,7 @@ fn wide(x: f32) -> u64
 // The bits of the angle's size: the guess, or the search's answer where the guess fails the test.
 fn angle(u: u64, v: u64, left: u32, first: u32) -> u32
     requires { (u < 2 ^ 30) × (v < 2 ^ 30) × (947912704 ≤ first) × (first ≤ 1078530011) }
-    ensures { (result ≡ angleBits u v left first) × (result ≤ 1078530011) }
+    ensures { (result ≡ angle_bits u v left first) × (result ≤ 1078530011) }
 {
     if passes(u, v, left, first) {
         return first;
@@ -39,7 +39,7 @@ fn angle(u: u64, v: u64, left: u32, first: u32) -> u32
 
 // The angle of a point off the x axis. a and b are the bits of y and x without their signs.
 fn slant(y: f32, x: f32, a: u64, b: u64, sign: u32, left: u32) -> f32
-    requires { (a < wideInfinityBits) × (b < wideInfinityBits) × (sign ≤ 1) × (left ≤ 1) }
+    requires { (a < wide_infinity_bits) × (b < wide_infinity_bits) × (sign ≤ 1) × (left ≤ 1) }
     ensures { result ≡ slanted y x a b sign left }
 {
     let top = larger(a, b);
@@ -68,7 +68,7 @@ fn axis(y: f32, b: u64, sign: u32, left: u32) -> f32
 // The angle from the x axis to the point (x, y), from -PI to PI: NaN where one is not finite, and 0
 // where both are zero.
 pub fn atan2(y: f32, x: f32) -> f32
-    ensures { result ≡ atan2Of y x }
+    ensures { result ≡ atan2_of y x }
 {
     if !is_finite(y) {
         return 0.0 / 0.0;

@@ -1,7 +1,7 @@
 // The search for an angle that passes, by bisection over the bits of f32 below PI's.
 ghost use Rattle.std.specs.Prelude.{◌≡◌, cond, ◌&&◌, ◌+◌, ◌-◌, ◌*◌, ◌/◌, ◌%◌, ◌^◌, ◌≤◌, ◌<◌, ltb, eqb};
 ghost use Rattle.trig_rule.specs.Steps.{fixed_of};
-ghost use Rattle.atan2_rule.specs.Steps.{ahead, behind, aheadAt, missAt, climb, nearer, betweenOf, fallbackOf};
+ghost use Rattle.atan2_rule.specs.Steps.{ahead, behind, ahead_at, miss_at, climb, nearer, between_of, fallback_of};
 
 use crate::test::{both, fixed, side, sides};
 
@@ -29,7 +29,7 @@ fn balance(u: u64, v: u64, left: u32, b: u32) -> Weighed
 // Whether u·cos - x·sin is not negative at the angle with the bits b.
 fn ahead_at(u: u64, v: u64, left: u32, b: u32) -> bool
     requires { (u < 2 ^ 30) × (v < 2 ^ 30) × (947912704 ≤ b) × (b ≤ 1078530010) }
-    ensures { result ≡ aheadAt u v left b }
+    ensures { result ≡ ahead_at u v left b }
 {
     let s = balance(u, v, left, b);
     s.behind <= s.ahead
@@ -38,7 +38,7 @@ fn ahead_at(u: u64, v: u64, left: u32, b: u32) -> bool
 // Its size.
 fn miss_at(u: u64, v: u64, left: u32, b: u32) -> u64
     requires { (u < 2 ^ 30) × (v < 2 ^ 30) × (947912704 ≤ b) × (b ≤ 1078530010) }
-    ensures { result ≡ missAt u v left b }
+    ensures { result ≡ miss_at u v left b }
 {
     let s = balance(u, v, left, b);
     if s.behind <= s.ahead {
@@ -51,7 +51,7 @@ fn miss_at(u: u64, v: u64, left: u32, b: u32) -> u64
 // t moved up by 2^k, where that is below `to` and still ahead.
 fn stride(u: u64, v: u64, left: u32, to: u32, t: u32, k: u32) -> u32
     requires { (u < 2 ^ 30) × (v < 2 ^ 30) × (947912704 ≤ t) × (t < to) × (to ≤ 1078530010) × (k < 27) }
-    ensures { (result ≡ cond (ltb (t + 2 ^ k) to && aheadAt u v left (t + 2 ^ k)) (t + 2 ^ k) t) × (947912704 ≤ result) × (result < to) }
+    ensures { (result ≡ cond (ltb (t + 2 ^ k) to && ahead_at u v left (t + 2 ^ k)) (t + 2 ^ k) t) × (947912704 ≤ result) × (result < to) }
 {
     let m = t + (1 << k);
     if m >= to {
@@ -63,7 +63,7 @@ fn stride(u: u64, v: u64, left: u32, to: u32, t: u32, k: u32) -> u32
 // The last pattern from `from` on that strides of 2^26, .., 2, 1 reach.
 fn climb(u: u64, v: u64, left: u32, from: u32, to: u32) -> u32
     requires { (u < 2 ^ 30) × (v < 2 ^ 30) × (947912704 ≤ from) × (from < to) × (to ≤ 1078530010) }
-    ensures { (result ≡ climb (aheadAt u v left) to 27 from) × (947912704 ≤ result) × (result < to) }
+    ensures { (result ≡ climb (ahead_at u v left) to 27 from) × (947912704 ≤ result) × (result < to) }
 {
     let mut t = from;
     let mut k: u32 = 27;
@@ -89,7 +89,7 @@ fn nearer(u: u64, v: u64, left: u32, t: u32) -> u32
 // An angle between two ends: an end itself where the change of sign is not between them.
 fn between(u: u64, v: u64, left: u32, from: u32, to: u32) -> u32
     requires { (u < 2 ^ 30) × (v < 2 ^ 30) × (947912704 ≤ from) × (from < to) × (to ≤ 1078530010) }
-    ensures { (result ≡ betweenOf u v left from to) × (result ≤ 1078530010) }
+    ensures { (result ≡ between_of u v left from to) × (result ≤ 1078530010) }
 {
     if !ahead_at(u, v, left, from) {
         return from;
@@ -103,7 +103,7 @@ fn between(u: u64, v: u64, left: u32, from: u32, to: u32) -> u32
 // The bits of an angle that passes the test, whatever u and v are.
 pub(crate) fn fallback(u: u64, v: u64, left: u32) -> u32
     requires { (u < 2 ^ 30) × (v < 2 ^ 30) }
-    ensures { (result ≡ fallbackOf u v left) × (result ≤ 1078530010) }
+    ensures { (result ≡ fallback_of u v left) × (result ≤ 1078530010) }
 {
     if v < u {
         return between(u, v, left, 0x3F49_0FDB, 0x4016_CBE4);

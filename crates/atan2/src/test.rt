@@ -4,7 +4,7 @@ ghost use Rattle.std.specs.Prelude.{◌≡◌, cond, ◌&&◌, ◌+◌, ◌-◌,
 ghost use Rattle.trig_rule.specs.Reduction.{turn};
 ghost use Rattle.trig_rule.specs.Steps.{half, fixed_of};
 ghost use Rattle.atan2_rule.specs.Steps.{passes};
-ghost use Rattle.atan2.specs.Sums.{SumsAt, Bounded, judgedOf};
+ghost use Rattle.atan2.specs.Sums.{SumsAt, Bounded, judged_of};
 
 use trig::inner::{cosine_sides, sine_sides};
 
@@ -69,7 +69,7 @@ fn near(a: u64, b: u64, l: u64) -> bool
 // The test at an angle with the sides s. It is a negative rest of a turn where `flip` is 1.
 fn judged(u: u64, v: u64, left: u32, flip: u32, s: Sums) -> bool
     requires { (u < 2 ^ 30) × (v < 2 ^ 30) × Bounded s.cosine_up s.cosine_down s.sine_up s.sine_down }
-    ensures { result ≡ judgedOf u v left flip s.cosine_up s.cosine_down s.sine_up s.sine_down }
+    ensures { result ≡ judged_of u v left flip s.cosine_up s.cosine_down s.sine_up s.sine_down }
 {
     let same = left == flip;
     let right = left == 0;

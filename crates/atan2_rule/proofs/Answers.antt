@@ -8,16 +8,16 @@ use lib.Dec.{leb, ltb, eqb, lit≤}
 use lib.Pow.{pow_pos, pow-add}
 use lib.Ieee.{Float, binary32, binary64, to_bits, of_bits, is_nan, div}
 use borrow.Author.Tests.{ltb-false, leb-true, leb-false, le-leb, lt-leb}
-use Rattle.floats.specs.Patterns.{hidden, signPlace, narrowStep, narrowHalf}
+use Rattle.floats.specs.Patterns.{hidden, sign_place, narrow_step, narrow_half}
 use Rattle.trig_rule.specs.Reduction.{turn, Reduced}
 use Rattle.trig_rule.specs.Rule.{Is}
 use Rattle.trig_rule.specs.Sums.{factorial}
-use Rattle.trig_rule.specs.Steps.{half, fixed_of, turnsOf, rest_of, ladder}
+use Rattle.trig_rule.specs.Steps.{half, fixed_of, turns_of, rest_of, ladder}
 use Rattle.trig_rule.proofs.Patterns.{bit, with-sign, normal-value}
 use Rattle.trig_rule.proofs.Turns.{reduced}
 use Rattle.trig_rule.proofs.Little.{little-reduced}
-use Rattle.atan2_rule.specs.Rule.{piUnits, Atan2Rule}
-use Rattle.atan2_rule.specs.Steps.{sineUp, sineDown, along, against, passesAt, passes, piBits, narrowed, nearOf, guessOf, least, fallbackOf, angleBits, tiny}
+use Rattle.atan2_rule.specs.Rule.{pi_units, Atan2Rule}
+use Rattle.atan2_rule.specs.Steps.{sine_up, sine_down, along, against, passes_at, passes, pi_bits, narrowed, near_of, guess_of, least, fallback_of, angle_bits, tiny}
 use Rattle.atan2_rule.proofs.Fixed.{fixed-mono}
 use Rattle.atan2_rule.proofs.Regions.{Ends, ahead-right, behind-right, carry}
 use Rattle.atan2_rule.proofs.Fallback.{Good, fallback-good, good-passes}
@@ -28,7 +28,7 @@ use Rattle.atan2_rule.proofs.Tiny.{tiny-kept}
 use Rattle.atan2_rule.proofs.Quotient.{divided}
 
 -- ---- the angle that bits from 2 ^ -33 up to PI's stand for
-module _ (b : ℕ) (low : least ≤ b) (high : b ≤ piBits) where
+module _ (b : ℕ) (low : least ≤ b) (high : b ≤ pi_bits) where
   wide : 788529152 ≤ b
   wide = le_trans (lit≤ tt) low
 
@@ -41,14 +41,14 @@ module _ (b : ℕ) (low : least ≤ b) (high : b ≤ piBits) where
       value : (b % hidden + hidden) * 2 ^ (b / hidden - 1) ≡ fixed_of b * 2 ^ 93
       value = ap (λ (k : ℕ). (b % hidden + hidden) * 2 ^ k) split ∙ ap (λ (n : ℕ). (b % hidden + hidden) * n) (pow-add 2 (b / hidden - 94) 93) ∙ sym (mul_assoc (b % hidden + hidden) (2 ^ (b / hidden - 94)) (2 ^ 93))
 
-  pub signed-value : (p : Bool) → Is (of_bits binary32 (bit p * signPlace + b)) p (fixed_of b * 2 ^ 93)
+  pub signed-value : (p : Bool) → Is (of_bits binary32 (bit p * sign_place + b)) p (fixed_of b * 2 ^ 93)
   signed-value p = with-sign p b (fixed_of b * 2 ^ 93) (lt_of_le_of_lt high (lit≤ tt)) angle-value
 
-  pub angle-range : fixed_of b * 2 ^ 93 ≤ piUnits
-  angle-range = le_trans (mul-le-mul_right (2 ^ 93) (fixed-mono b piBits wide high)) (lit≤ tt)
+  pub angle-range : fixed_of b * 2 ^ 93 ≤ pi_units
+  angle-range = le_trans (mul-le-mul_right (2 ^ 93) (fixed-mono b pi_bits wide high)) (lit≤ tt)
 
   under-turn : fixed_of b < turn
-  under-turn = lt_of_le_of_lt (fixed-mono b piBits wide high) (lit≤ tt)
+  under-turn = lt_of_le_of_lt (fixed-mono b pi_bits wide high) (lit≤ tt)
 
 -- ---- the reduction up to a turn
 straight : (x : ℕ) → x ≤ half → Reduced (x * 2 ^ 93) (x * 2 ^ 93) false
@@ -56,11 +56,11 @@ straight x h =
     subst (λ (r : ℕ). Reduced (x * 2 ^ 93) (r * 2 ^ 93) false) rest
     (subst (λ (t : Bool). Reduced (x * 2 ^ 93) (rest_of x * 2 ^ 93) (not t)) test (reduced x))
   where
-    none : turnsOf x ≡ 0
+    none : turns_of x ≡ 0
     none = omega arith
 
-    test : leb (turnsOf x) x ≡ true
-    test = le-leb (turnsOf x) x (le_trans (le_of_eq none) (omega arith))
+    test : leb (turns_of x) x ≡ true
+    test = le-leb (turns_of x) x (le_trans (le_of_eq none) (omega arith))
 
     rest : rest_of x ≡ x
     rest = simp test (let n = none in omega arith)
@@ -70,18 +70,18 @@ flipped x h k =
     subst (λ (r : ℕ). Reduced (x * 2 ^ 93) (r * 2 ^ 93) true) rest
     (subst (λ (t : Bool). Reduced (x * 2 ^ 93) (rest_of x * 2 ^ 93) (not t)) test (reduced x))
   where
-    one : turnsOf x ≡ turn
+    one : turns_of x ≡ turn
     one = omega arith
 
-    test : leb (turnsOf x) x ≡ false
-    test = lt-leb (turnsOf x) x (lt_of_lt_of_le k (le_of_eq (sym one)))
+    test : leb (turns_of x) x ≡ false
+    test = lt-leb (turns_of x) x (lt_of_lt_of_le k (le_of_eq (sym one)))
 
     rest : rest_of x ≡ turn - x
     rest = simp test (let n = one in omega arith)
 
 -- ---- bits that pass the test
 module _ (y x : Float) (p q : Bool) (Y X u v : ℕ) (hy : Is y p Y) (hx : Is x q X) (pr : Pair Y X u v) where
-  pub made : (b R : ℕ) (f : Bool) → least ≤ b → b ≤ piBits → R ≤ half → Reduced (fixed_of b * 2 ^ 93) (R * 2 ^ 93) f → Passed u v q f R → Atan2Rule y x (of_bits binary32 (bit p * signPlace + b))
+  pub made : (b R : ℕ) (f : Bool) → least ≤ b → b ≤ pi_bits → R ≤ half → Reduced (fixed_of b * 2 ^ 93) (R * 2 ^ 93) f → Passed u v q f R → Atan2Rule y x (of_bits binary32 (bit p * sign_place + b))
   made b R f low high m red t = record {
     minus = p;
     rise = Y;
@@ -98,11 +98,11 @@ module _ (y x : Float) (p q : Bool) (Y X u v : ℕ) (hy : Is y p Y) (hx : Is x q
     points = points q f Y X (R * 2 ^ 93) (kept-scaled q f Y X R (kept u v Y X pr.scale (2 ^ 925) R m pr.rise pr.run (pow_pos 925) pr.scale-pos pr.large q f t)) p;
   }
 
-  pub passing-rule : (b : ℕ) → least ≤ b → b ≤ piBits → passes u v (bit q) b ≡ true → Atan2Rule y x (of_bits binary32 (bit p * signPlace + b))
+  pub passing-rule : (b : ℕ) → least ≤ b → b ≤ pi_bits → passes u v (bit q) b ≡ true → Atan2Rule y x (of_bits binary32 (bit p * sign_place + b))
   unfolding passes
   passing-rule b low high h = go (leb (fixed_of b) half) refl h
     where
-      go : (t : Bool) → leb (fixed_of b) half ≡ t → cond t (passesAt u v (bit q) 0 (fixed_of b)) (passesAt u v (bit q) 1 (turn - fixed_of b)) ≡ true → Atan2Rule y x (of_bits binary32 (bit p * signPlace + b))
+      go : (t : Bool) → leb (fixed_of b) half ≡ t → cond t (passes_at u v (bit q) 0 (fixed_of b)) (passes_at u v (bit q) 1 (turn - fixed_of b)) ≡ true → Atan2Rule y x (of_bits binary32 (bit p * sign_place + b))
       go true e k = let m = leb-true (fixed_of b) half e in made b (fixed_of b) false low high m (straight (fixed_of b) m) (passed u v q false (fixed_of b) k)
       go false e k =
           let m = leb-false (fixed_of b) half e in
@@ -113,25 +113,25 @@ module _ (y x : Float) (p q : Bool) (Y X u v : ℕ) (hy : Is y p Y) (hx : Is x q
           rest m = omega arith
 
 -- ---- the guess is in range, whatever the f64 operations gave
-narrowed-range : (b : ℕ) → (least ≤ narrowed b) × (narrowed b ≤ piBits)
+narrowed-range : (b : ℕ) → (least ≤ narrowed b) × (narrowed b ≤ pi_bits)
 narrowed-range b = go (ltb b 4544132024016830464) (ltb 4614256656748904448 b) refl refl
   where
     go : (s t : Bool) → ltb b 4544132024016830464 ≡ s → ltb 4614256656748904448 b ≡ t
-        → (least ≤ cond s piBits (cond t piBits ((b - 4035225266123964416 + narrowHalf) / narrowStep))) × (cond s piBits (cond t piBits ((b - 4035225266123964416 + narrowHalf) / narrowStep)) ≤ piBits)
+        → (least ≤ cond s pi_bits (cond t pi_bits ((b - 4035225266123964416 + narrow_half) / narrow_step))) × (cond s pi_bits (cond t pi_bits ((b - 4035225266123964416 + narrow_half) / narrow_step)) ≤ pi_bits)
     go true t e f = (lit≤ tt, lit≤ tt)
     go false true e f = (lit≤ tt, lit≤ tt)
     go false false e f = let l = ltb-false b 4544132024016830464 e in let h = ltb-false 4614256656748904448 b f in omega arith
 
-near-range : (g : Float) → (least ≤ nearOf g) × (nearOf g ≤ piBits)
-unfolding nearOf
+near-range : (g : Float) → (least ≤ near_of g) × (near_of g ≤ pi_bits)
+unfolding near_of
 near-range g = go (is_nan g)
   where
-    go : (t : Bool) → (least ≤ cond t piBits (narrowed (to_bits binary64 g))) × (cond t piBits (narrowed (to_bits binary64 g)) ≤ piBits)
+    go : (t : Bool) → (least ≤ cond t pi_bits (narrowed (to_bits binary64 g))) × (cond t pi_bits (narrowed (to_bits binary64 g)) ≤ pi_bits)
     go true = (lit≤ tt, lit≤ tt)
     go false = narrowed-range (to_bits binary64 g)
 
-pub guess-range : (a b : ℕ) (steep : Bool) (left : ℕ) → (least ≤ guessOf a b steep left) × (guessOf a b steep left ≤ piBits)
-unfolding guessOf
+pub guess-range : (a b : ℕ) (steep : Bool) (left : ℕ) → (least ≤ guess_of a b steep left) × (guess_of a b steep left ≤ pi_bits)
+unfolding guess_of
 guess-range a b steep left = near-range _
 
 -- ---- the guess or the bisection's answer
@@ -140,15 +140,15 @@ not-tiny u v false h e = let k = leb-false (u * 8192 + 0 * 2 ^ 30) v h in omega 
 not-tiny u v true h e = omega arith
 
 module _ (y x : Float) (p q : Bool) (Y X u v : ℕ) (hy : Is y p Y) (hx : Is x q X) (pr : Pair Y X u v) where
-  pub slanted-rule : (g : ℕ) → least ≤ g → g ≤ piBits → tiny u v (bit q) ≡ false → Atan2Rule y x (of_bits binary32 (bit p * signPlace + angleBits u v (bit q) g))
+  pub slanted-rule : (g : ℕ) → least ≤ g → g ≤ pi_bits → tiny u v (bit q) ≡ false → Atan2Rule y x (of_bits binary32 (bit p * sign_place + angle_bits u v (bit q) g))
   slanted-rule g low high far = go (passes u v (bit q) g) refl
     where
-      good : Good u v (eqb (bit q) 0) (fallbackOf u v (bit q))
+      good : Good u v (eqb (bit q) 0) (fallback_of u v (bit q))
       good = fallback-good u v (bit q) (lt_of_lt_of_le (lit≤ tt) pr.large) (not-tiny u v q far)
 
-      go : (t : Bool) → passes u v (bit q) g ≡ t → Atan2Rule y x (of_bits binary32 (bit p * signPlace + cond t g (fallbackOf u v (bit q))))
+      go : (t : Bool) → passes u v (bit q) g ≡ t → Atan2Rule y x (of_bits binary32 (bit p * sign_place + cond t g (fallback_of u v (bit q))))
       go true e = passing-rule y x p q Y X u v hy hx pr g low high e
-      go false e = passing-rule y x p q Y X u v hy hx pr (fallbackOf u v (bit q)) good.low (le_trans good.high (lit≤ tt)) (good-passes u v (bit q) (fallbackOf u v (bit q)) good)
+      go false e = passing-rule y x p q Y X u v hy hx pr (fallback_of u v (bit q)) good.low (le_trans good.high (lit≤ tt)) (good-passes u v (bit q) (fallback_of u v (bit q)) good)
 
 -- ---- a tiny angle
 flat-of : (Y X u v G H : ℕ) → 0 < H → Cut u Y G H → Cut v X G H → 2 ^ 29 ≤ u + v → u * 8192 ≤ v → Y * 2 ^ 29 ≤ X * 65538
@@ -206,21 +206,21 @@ tiny-rule y x p Y X u v hy hx pr t =
     positive h = omega arith
 
 -- ---- y on the axis, x below 0: PI itself
-at-pi : Ends (turn - fixed_of piBits) 5686511060 6760252892 6200181727 6200181607
+at-pi : Ends (turn - fixed_of pi_bits) 5686511060 6760252892 6200181727 6200181607
 unfolding ladder factorial
 at-pi = record { cosine-up = refl; cosine-down = refl; sine-up = refl; sine-down = refl }
 
-along-pi : (v : ℕ) → along 0 v false false (turn - fixed_of piBits) ≡ v * 6760252892 + 0 * 6200181607
+along-pi : (v : ℕ) → along 0 v false false (turn - fixed_of pi_bits) ≡ v * 6760252892 + 0 * 6200181607
 unfolding along
-along-pi v = ap (λ (n : ℕ). v * n + 0 * sineDown (turn - fixed_of piBits)) at-pi.cosine-down ∙ ap (λ (n : ℕ). v * 6760252892 + 0 * n) at-pi.sine-down
+along-pi v = ap (λ (n : ℕ). v * n + 0 * sine_down (turn - fixed_of pi_bits)) at-pi.cosine-down ∙ ap (λ (n : ℕ). v * 6760252892 + 0 * n) at-pi.sine-down
 
-against-pi : (v : ℕ) → against 0 v false false (turn - fixed_of piBits) ≡ v * 5686511060 + 0 * 6200181727
+against-pi : (v : ℕ) → against 0 v false false (turn - fixed_of pi_bits) ≡ v * 5686511060 + 0 * 6200181727
 unfolding against
-against-pi v = ap (λ (n : ℕ). v * n + 0 * sineUp (turn - fixed_of piBits)) at-pi.cosine-up ∙ ap (λ (n : ℕ). v * 5686511060 + 0 * n) at-pi.sine-up
+against-pi v = ap (λ (n : ℕ). v * n + 0 * sine_up (turn - fixed_of pi_bits)) at-pi.cosine-up ∙ ap (λ (n : ℕ). v * 5686511060 + 0 * n) at-pi.sine-up
 
-pi-passed : (v : ℕ) → Passed 0 v true true (turn - fixed_of piBits)
+pi-passed : (v : ℕ) → Passed 0 v true true (turn - fixed_of pi_bits)
 pi-passed v =
-    let R = turn - fixed_of piBits in
+    let R = turn - fixed_of pi_bits in
     let a = ahead-right 0 v at-pi in
     let b = behind-right 0 v at-pi in
     record {
@@ -239,7 +239,7 @@ no-rise (suc u) G H pos c = absurd (none (lt_of_lt_of_le (mul-pos {m = suc u} (o
     none : 0 < 0 → ⊥
     none z = omega arith
 
-pub pi-rule : (y x : Float) (p : Bool) (X u v : ℕ) → Is y p 0 → Is x true X → Pair 0 X u v → Atan2Rule y x (of_bits binary32 (bit p * signPlace + piBits))
+pub pi-rule : (y x : Float) (p : Bool) (X u v : ℕ) → Is y p 0 → Is x true X → Pair 0 X u v → Atan2Rule y x (of_bits binary32 (bit p * sign_place + pi_bits))
 pi-rule y x p X u v hy hx pr =
-    made y x p true 0 X u v hy hx pr piBits (turn - fixed_of piBits) true (lit≤ tt) (le_refl piBits) (lit≤ tt) (flipped (fixed_of piBits) (lit≤ tt) (lit≤ tt))
-    (subst (λ (n : ℕ). Passed n v true true (turn - fixed_of piBits)) (sym (no-rise u pr.scale (2 ^ 925) pr.scale-pos pr.rise)) (pi-passed v))
+    made y x p true 0 X u v hy hx pr pi_bits (turn - fixed_of pi_bits) true (lit≤ tt) (le_refl pi_bits) (lit≤ tt) (flipped (fixed_of pi_bits) (lit≤ tt) (lit≤ tt))
+    (subst (λ (n : ℕ). Passed n v true true (turn - fixed_of pi_bits)) (sym (no-rise u pr.scale (2 ^ 925) pr.scale-pos pr.rise)) (pi-passed v))

@@ -6,10 +6,10 @@ use native.Mathlib.Nat.{add-mul, mul-add, mul_comm, mul_assoc, mul_left_comm, mu
 use native.Mathlib.Nat.{le_refl, le_trans, le_of_eq, le_of_lt, le_of_mul-le-mul_left, lt-div-mul-add, lt_of_lt_of_le, lt_of_le_of_lt, lt_of_not-le, not-le_of_lt}
 use native.Mathlib.Omega.{arith}
 use lib.Dec.{lit≤}
-use Rattle.trig_rule.specs.Sums.{whole, sineAdded, sineTaken, cosineAdded, cosineTaken}
-use Rattle.trig_rule.specs.Steps.{half, sinePlus, sineMinus, cosinePlus, cosineMinus}
+use Rattle.trig_rule.specs.Sums.{whole, sine_added, sine_taken, cosine_added, cosine_taken}
+use Rattle.trig_rule.specs.Steps.{half, sine_plus, sine_minus, cosine_plus, cosine_minus}
 use Rattle.trig_rule.proofs.Near.{sine-near, cosine-near}
-use Rattle.atan2_rule.specs.Steps.{cosineUp, cosineDown, sineUp, sineDown}
+use Rattle.atan2_rule.specs.Steps.{cosine_up, cosine_down, sine_up, sine_down}
 use Rattle.atan2_rule.proofs.Sides.{sine-plus-most, sine-minus-most, cosine-up-most, cosine-down-most, sine-up-most, sine-down-most}
 
 -- the side s by steps, in units of 2 ^ -30, against the side a / w of the sum
@@ -60,17 +60,17 @@ module _ (R : ℕ) (h : R ≤ half) where
   short : R ≤ 2 ^ 58
   short = le_trans h (lit≤ tt)
 
-  pub cosine-up-beside : Beside (cosineUp R) (cosineAdded R (2 ^ 56)) (whole 30 (2 ^ 56))
-  cosine-up-beside = let n = cosine-near R h in four-times (cosinePlus R) (cosineAdded R (2 ^ 56)) (whole 30 (2 ^ 56)) (le_trans (cosine-up-most R h) (lit≤ tt)) n.plus-low n.plus-high
+  pub cosine-up-beside : Beside (cosine_up R) (cosine_added R (2 ^ 56)) (whole 30 (2 ^ 56))
+  cosine-up-beside = let n = cosine-near R h in four-times (cosine_plus R) (cosine_added R (2 ^ 56)) (whole 30 (2 ^ 56)) (le_trans (cosine-up-most R h) (lit≤ tt)) n.plus-low n.plus-high
 
-  pub cosine-down-beside : Beside (cosineDown R) (cosineTaken R (2 ^ 56)) (whole 30 (2 ^ 56))
-  cosine-down-beside = let n = cosine-near R h in four-times (cosineMinus R) (cosineTaken R (2 ^ 56)) (whole 30 (2 ^ 56)) (le_trans (cosine-down-most R h) (lit≤ tt)) n.minus-low n.minus-high
+  pub cosine-down-beside : Beside (cosine_down R) (cosine_taken R (2 ^ 56)) (whole 30 (2 ^ 56))
+  cosine-down-beside = let n = cosine-near R h in four-times (cosine_minus R) (cosine_taken R (2 ^ 56)) (whole 30 (2 ^ 56)) (le_trans (cosine-down-most R h) (lit≤ tt)) n.minus-low n.minus-high
 
-  pub sine-up-beside : Beside (sineUp R) (sineAdded R (2 ^ 56)) (whole 31 (2 ^ 56))
-  sine-up-beside = let n = sine-near R h in times-angle R (sinePlus R) (sineAdded R (2 ^ 56)) (whole 31 (2 ^ 56)) short (le_trans (sine-plus-most R h) (lit≤ tt)) (le_trans (sine-up-most R h) (lit≤ tt)) n.plus-low n.plus-high
+  pub sine-up-beside : Beside (sine_up R) (sine_added R (2 ^ 56)) (whole 31 (2 ^ 56))
+  sine-up-beside = let n = sine-near R h in times-angle R (sine_plus R) (sine_added R (2 ^ 56)) (whole 31 (2 ^ 56)) short (le_trans (sine-plus-most R h) (lit≤ tt)) (le_trans (sine-up-most R h) (lit≤ tt)) n.plus-low n.plus-high
 
-  pub sine-down-beside : Beside (sineDown R) (sineTaken R (2 ^ 56)) (whole 31 (2 ^ 56))
-  sine-down-beside = let n = sine-near R h in times-angle R (sineMinus R) (sineTaken R (2 ^ 56)) (whole 31 (2 ^ 56)) short (le_trans (sine-minus-most R h) (lit≤ tt)) (le_trans (sine-down-most R h) (lit≤ tt)) n.minus-low n.minus-high
+  pub sine-down-beside : Beside (sine_down R) (sine_taken R (2 ^ 56)) (whole 31 (2 ^ 56))
+  sine-down-beside = let n = sine-near R h in times-angle R (sine_minus R) (sine_taken R (2 ^ 56)) (whole 31 (2 ^ 56)) short (le_trans (sine-minus-most R h) (lit≤ tt)) (le_trans (sine-down-most R h) (lit≤ tt)) n.minus-low n.minus-high
 
 -- ---- u is y's size cut to a whole number of G / H
 pub record Cut (u N G H : ℕ) : Type 0 where
@@ -174,11 +174,11 @@ module _ (u v n m G H w z : ℕ) (cu : Cut u n G H) (cv : Cut v m G H) where
   -- q and s are what is added, p and r what is taken away
   pub pointing : (p r q s a b c d : ℕ) → 0 < H → 0 < G → 0 < w → 0 < z → 2 ^ 29 ≤ u + v → Beside p a w → Beside r b z → Beside q c w → Beside s d z → u * p + v * r + 900 * (u + v) ≤ u * q + v * s
       → n * a * z + m * b * w < n * c * z + m * d * w
-  pointing p r q s a b c d posH posG posw posz large ba bb bc bd t =
+  pointing p r q s a b c d pos_h pos_g posw posz large ba bb bc bd t =
       let L = n * a * z + m * b * w in
       let Q = n * c * z + m * d * w in
       let k : suc (u * p + v * r + 92 * (u + v)) ≤ u * q + v * s = omega arith in
       let up = upper p r a b large ba bb in
-      let strict : G * (w * z) * (u * p + v * r + 92 * (u + v)) < G * (w * z) * (u * q + v * s) = mul-lt-mul_of_pos_left k (mul-pos posG (mul-pos posw posz)) in
+      let strict : G * (w * z) * (u * p + v * r + 92 * (u + v)) < G * (w * z) * (u * q + v * s) = mul-lt-mul_of_pos_left k (mul-pos pos_g (mul-pos posw posz)) in
       let g : 2 ^ 30 * (H * L) < 2 ^ 30 * (H * Q) = lt_of_lt_of_le (lt_of_le_of_lt up strict) (lower q s c d bc bd) in
       lt_of_not-le (λ (f : Q ≤ L). not-le_of_lt g (mul-le-mul_left (2 ^ 30) (mul-le-mul_left H f)))

@@ -9,7 +9,7 @@ use mathlib.Core.Bool.{Bool, true, false, cond}
 use lib.Dec.{leb, ltb, eqb, lit≤}
 use borrow.Author.Tests.{ltb-true, ltb-false, leb-true, leb-false, eqb-true, le-leb, lt-leb}
 use Rattle.trig_rule.specs.Steps.{half, fixed_of}
-use Rattle.atan2_rule.specs.Steps.{cosineUp, cosineDown, sineUp, sineDown, ahead, behind, passes, aheadAt, missAt, climb, nearer, betweenOf, fallbackOf, least, quarter, threeQuarters, most}
+use Rattle.atan2_rule.specs.Steps.{cosine_up, cosine_down, sine_up, sine_down, ahead, behind, passes, ahead_at, miss_at, climb, nearer, between_of, fallback_of, least, quarter, three_quarters, most}
 use Rattle.atan2_rule.proofs.Sides.{cosine-up-mono, sine-up-mono, sine-down-mono, cosine-down-moves, sine-up-moves, sine-down-moves}
 use Rattle.atan2_rule.proofs.Fixed.{fixed-mono, under-half, step-up, step-near}
 use Rattle.atan2_rule.proofs.Search.{Held, climb-held, climb-from}
@@ -36,39 +36,39 @@ moved u v a b c d e f g h p q r s =
 both-misses : (u v : ℕ) (right : Bool) (R S : ℕ) → S ≤ half → R ≤ S → S ≤ R + 2 ^ 34 → ahead u v right R + behind u v right S ≤ behind u v right R + ahead u v right S + 1618 * (u + v)
 unfolding ahead behind
 both-misses u v true R S m l n =
-    moved u v (cosineUp R) (cosineUp S) (sineDown R) (sineDown S) (cosineDown S) (cosineDown R) (sineUp S) (sineUp R) (cosine-up-mono R S l) (sine-down-mono R S l) (cosine-down-moves R S m l n) (sine-up-moves R S m l n)
+    moved u v (cosine_up R) (cosine_up S) (sine_down R) (sine_down S) (cosine_down S) (cosine_down R) (sine_up S) (sine_up R) (cosine-up-mono R S l) (sine-down-mono R S l) (cosine-down-moves R S m l n) (sine-up-moves R S m l n)
 both-misses u v false R S m l n =
-    moved u v (cosineUp R) (cosineUp S) (sineUp R) (sineUp S) (cosineDown S) (cosineDown R) (sineDown S) (sineDown R) (cosine-up-mono R S l) (sine-up-mono R S l) (cosine-down-moves R S m l n) (sine-down-moves R S m l n)
+    moved u v (cosine_up R) (cosine_up S) (sine_up R) (sine_up S) (cosine_down S) (cosine_down R) (sine_down S) (sine_down R) (cosine-up-mono R S l) (sine-up-mono R S l) (cosine-down-moves R S m l n) (sine-down-moves R S m l n)
 
 -- ---- an answer between two ends
 module _ (u v left : ℕ) where
   abbrev right : Bool
   right = eqb left 0
 
-  ahead-there : (b : ℕ) → aheadAt u v left b ≡ true → behind u v (eqb left 0) (fixed_of b) ≤ ahead u v (eqb left 0) (fixed_of b)
-  unfolding aheadAt
+  ahead-there : (b : ℕ) → ahead_at u v left b ≡ true → behind u v (eqb left 0) (fixed_of b) ≤ ahead u v (eqb left 0) (fixed_of b)
+  unfolding ahead_at
   ahead-there b h = leb-true (behind u v (eqb left 0) (fixed_of b)) (ahead u v (eqb left 0) (fixed_of b)) h
 
-  behind-there : (b : ℕ) → aheadAt u v left b ≡ false → ahead u v (eqb left 0) (fixed_of b) < behind u v (eqb left 0) (fixed_of b)
-  unfolding aheadAt
+  behind-there : (b : ℕ) → ahead_at u v left b ≡ false → ahead u v (eqb left 0) (fixed_of b) < behind u v (eqb left 0) (fixed_of b)
+  unfolding ahead_at
   behind-there b h = leb-false (behind u v (eqb left 0) (fixed_of b)) (ahead u v (eqb left 0) (fixed_of b)) h
 
-  miss-ahead : (b : ℕ) → aheadAt u v left b ≡ true → missAt u v left b + behind u v (eqb left 0) (fixed_of b) ≡ ahead u v (eqb left 0) (fixed_of b)
-  unfolding missAt
+  miss-ahead : (b : ℕ) → ahead_at u v left b ≡ true → miss_at u v left b + behind u v (eqb left 0) (fixed_of b) ≡ ahead u v (eqb left 0) (fixed_of b)
+  unfolding miss_at
   miss-ahead b h = let k = ahead-there b h in simp (le-leb _ _ k) (omega arith)
 
-  miss-behind : (b : ℕ) → aheadAt u v left b ≡ false → missAt u v left b + ahead u v (eqb left 0) (fixed_of b) ≡ behind u v (eqb left 0) (fixed_of b)
-  unfolding missAt
+  miss-behind : (b : ℕ) → ahead_at u v left b ≡ false → miss_at u v left b + ahead u v (eqb left 0) (fixed_of b) ≡ behind u v (eqb left 0) (fixed_of b)
+  unfolding miss_at
   miss-behind b h = let k = behind-there b h in simp (lt-leb _ _ k) (omega arith)
 
-  settled-ahead : (b : ℕ) → aheadAt u v left b ≡ true → missAt u v left b ≤ 900 * (u + v) → Settled u v (eqb left 0) (fixed_of b)
+  settled-ahead : (b : ℕ) → ahead_at u v left b ≡ true → miss_at u v left b ≤ 900 * (u + v) → Settled u v (eqb left 0) (fixed_of b)
   settled-ahead b h m = let k = ahead-there b h in let e = miss-ahead b h in record { above = omega arith; below = omega arith }
 
-  settled-behind : (b : ℕ) → aheadAt u v left b ≡ false → missAt u v left b ≤ 900 * (u + v) → Settled u v (eqb left 0) (fixed_of b)
+  settled-behind : (b : ℕ) → ahead_at u v left b ≡ false → miss_at u v left b ≤ 900 * (u + v) → Settled u v (eqb left 0) (fixed_of b)
   settled-behind b h m = let k = behind-there b h in let e = miss-behind b h in record { above = omega arith; below = omega arith }
 
   -- t is ahead and t + 1 is behind
-  pair_small : (t : ℕ) → least ≤ t → t < most → aheadAt u v left t ≡ true → aheadAt u v left (t + 1) ≡ false → missAt u v left t + missAt u v left (t + 1) ≤ 1618 * (u + v)
+  pair_small : (t : ℕ) → least ≤ t → t < most → ahead_at u v left t ≡ true → ahead_at u v left (t + 1) ≡ false → miss_at u v left t + miss_at u v left (t + 1) ≤ 1618 * (u + v)
   pair_small t l h a b =
       let p = miss-ahead t a in
       let q = miss-behind (t + 1) b in
@@ -90,63 +90,63 @@ module _ (u v left : ℕ) where
         wide : {c : ℕ} → least ≤ c → 788529152 ≤ c
         wide k = le_trans (lit≤ tt) k
 
-    nearer-good : (t : ℕ) → from ≤ t → t < to → aheadAt u v left t ≡ true → aheadAt u v left (t + 1) ≡ false → Good u v (eqb left 0) (nearer u v left t)
-    nearer-good t l h a b = go (leb (missAt u v left t) (missAt u v left (t + 1))) refl
+    nearer-good : (t : ℕ) → from ≤ t → t < to → ahead_at u v left t ≡ true → ahead_at u v left (t + 1) ≡ false → Good u v (eqb left 0) (nearer u v left t)
+    nearer-good t l h a b = go (leb (miss_at u v left t) (miss_at u v left (t + 1))) refl
       where
-        p : missAt u v left t + missAt u v left (t + 1) ≤ 1618 * (u + v)
+        p : miss_at u v left t + miss_at u v left (t + 1) ≤ 1618 * (u + v)
         p = pair_small t (le_trans low l) (lt_of_lt_of_le h high) a b
 
-        go : (c : Bool) → leb (missAt u v left t) (missAt u v left (t + 1)) ≡ c → Good u v (eqb left 0) (cond c t (t + 1))
-        go true e = let k = leb-true (missAt u v left t) (missAt u v left (t + 1)) e in good t l (le_of_lt h) (settled-ahead t a (omega (arith, p)))
-        go false e = let k = leb-false (missAt u v left t) (missAt u v left (t + 1)) e in good (t + 1) (le_trans l (le-add_right t 1)) (up h) (settled-behind (t + 1) b (omega (arith, p)))
+        go : (c : Bool) → leb (miss_at u v left t) (miss_at u v left (t + 1)) ≡ c → Good u v (eqb left 0) (cond c t (t + 1))
+        go true e = let k = leb-true (miss_at u v left t) (miss_at u v left (t + 1)) e in good t l (le_of_lt h) (settled-ahead t a (omega (arith, p)))
+        go false e = let k = leb-false (miss_at u v left t) (miss_at u v left (t + 1)) e in good (t + 1) (le_trans l (le-add_right t 1)) (up h) (settled-behind (t + 1) b (omega (arith, p)))
           where
             up : t < to → t + 1 ≤ to
             up g = omega arith
 
-    found-good : aheadAt u v left from ≡ true → aheadAt u v left to ≡ false → Good u v (eqb left 0) (nearer u v left (climb (aheadAt u v left) to 27 from))
+    found-good : ahead_at u v left from ≡ true → ahead_at u v left to ≡ false → Good u v (eqb left 0) (nearer u v left (climb (ahead_at u v left) to 27 from))
     found-good a b =
-        let t = climb (aheadAt u v left) to 27 from in
-        let h : Held (aheadAt u v left) to 1 t = climb-held (aheadAt u v left) to 27 from (record { here = a; under = order; past = λ (g : from + 2 ^ 27 < to). absurd (none g) }) in
-        nearer-good t (climb-from (aheadAt u v left) to 27 from) h.under h.here (after t h.under h.past)
+        let t = climb (ahead_at u v left) to 27 from in
+        let h : Held (ahead_at u v left) to 1 t = climb-held (ahead_at u v left) to 27 from (record { here = a; under = order; past = λ (g : from + 2 ^ 27 < to). absurd (none g) }) in
+        nearer-good t (climb-from (ahead_at u v left) to 27 from) h.under h.here (after t h.under h.past)
       where
         none : from + 2 ^ 27 < to → ⊥
         none g = omega arith
 
-        after : (t : ℕ) → t < to → (t + 1 < to → aheadAt u v left (t + 1) ≡ false) → aheadAt u v left (t + 1) ≡ false
+        after : (t : ℕ) → t < to → (t + 1 < to → ahead_at u v left (t + 1) ≡ false) → ahead_at u v left (t + 1) ≡ false
         after t k past = elim (eq-or-lt_of_le (up k)) [
-          | inl e ↦ ap (aheadAt u v left) e ∙ b
+          | inl e ↦ ap (ahead_at u v left) e ∙ b
           | inr l ↦ past l
         ]
           where
             up : t < to → t + 1 ≤ to
             up g = omega arith
 
-    pub between-good : Good u v (eqb left 0) (betweenOf u v left from to)
-    unfolding betweenOf
-    between-good = go (aheadAt u v left from) (aheadAt u v left to) refl refl
+    pub between-good : Good u v (eqb left 0) (between_of u v left from to)
+    unfolding between_of
+    between-good = go (ahead_at u v left from) (ahead_at u v left to) refl refl
       where
-        go : (a b : Bool) → aheadAt u v left from ≡ a → aheadAt u v left to ≡ b → Good u v (eqb left 0) (cond a (cond b to (nearer u v left (climb (aheadAt u v left) to 27 from))) from)
+        go : (a b : Bool) → ahead_at u v left from ≡ a → ahead_at u v left to ≡ b → Good u v (eqb left 0) (cond a (cond b to (nearer u v left (climb (ahead_at u v left) to 27 from))) from)
         go false b e f = good from (le_refl from) (le_of_lt order) (record { above = le_trans (le_of_lt (behind-there from e)) (le-add_right _ _); below = region.low })
         go true true e f = good to (le_of_lt order) (le_refl to) (record { above = region.high; below = le_trans (ahead-there to f) (le-add_right _ _) })
         go true false e f = found-good e f
 
 -- ---- every pair that reaches the bisection
-pub fallback-good : (u v left : ℕ) → 0 < u + v → (left ≡ 0 → v < 8192 * u) → Good u v (eqb left 0) (fallbackOf u v left)
-unfolding fallbackOf
+pub fallback-good : (u v left : ℕ) → 0 < u + v → (left ≡ 0 → v < 8192 * u) → Good u v (eqb left 0) (fallback_of u v left)
+unfolding fallback_of
 fallback-good u v left some wide = go (ltb v u) (eqb left 0) refl refl
   where
     positive : u ≤ v → 0 < v
     positive h = omega arith
 
     go : (s r : Bool) → ltb v u ≡ s → eqb left 0 ≡ r
-        → Good u v (eqb left 0) (cond s (betweenOf u v left quarter threeQuarters) (cond r (betweenOf u v left least quarter) (betweenOf u v left threeQuarters most)))
-    go true r e f = between-good u v left quarter threeQuarters (lit≤ tt) (lit≤ tt) (lit≤ tt) (lit≤ tt) (steep-region u v (eqb left 0) (ltb-true v u e))
+        → Good u v (eqb left 0) (cond s (between_of u v left quarter three_quarters) (cond r (between_of u v left least quarter) (between_of u v left three_quarters most)))
+    go true r e f = between-good u v left quarter three_quarters (lit≤ tt) (lit≤ tt) (lit≤ tt) (lit≤ tt) (steep-region u v (eqb left 0) (ltb-true v u e))
     go false true e f =
         between-good u v left least quarter (lit≤ tt) (lit≤ tt) (lit≤ tt) (lit≤ tt)
         (subst (λ (b : Bool). Region u v b (fixed_of least) (fixed_of quarter)) (sym f) (right-region u v (ltb-false v u e) (wide (eqb-true left 0 f))))
     go false false e f =
-        between-good u v left threeQuarters most (lit≤ tt) (lit≤ tt) (lit≤ tt) (lit≤ tt)
-        (subst (λ (b : Bool). Region u v b (fixed_of threeQuarters) (fixed_of most)) (sym f) (left-region u v (ltb-false v u e) (positive (ltb-false v u e))))
+        between-good u v left three_quarters most (lit≤ tt) (lit≤ tt) (lit≤ tt) (lit≤ tt)
+        (subst (λ (b : Bool). Region u v b (fixed_of three_quarters) (fixed_of most)) (sym f) (left-region u v (ltb-false v u e) (positive (ltb-false v u e))))
 
 -- so the test itself says
 pub good-passes : (u v left b : ℕ) → Good u v (eqb left 0) b → passes u v left b ≡ true

@@ -6,12 +6,12 @@ use mathlib.Core.Bool.{Bool, true, false, not, cond, ◌&&◌}
 use lib.Dec.{T, leb, leb→le, lit≤}
 use lib.Ieee.{unlike}
 use lib.Ieee.Fits.{and_l, and_r}
-use Rattle.trig_rule.specs.Sums.{factorial, whole, sineSide, cosineSide}
+use Rattle.trig_rule.specs.Sums.{factorial, whole, sine_side, cosine_side}
 use Rattle.trig_rule.specs.Steps.{half}
 use Rattle.trig_rule.proofs.Patterns.{bit}
 use Rattle.trig_rule.proofs.Scaled.{whole_scaled, sine-side-scaled, cosine-side-scaled}
-use Rattle.atan2_rule.specs.Rule.{timesCosine, timesSine, over, Points}
-use Rattle.atan2_rule.specs.Steps.{cosineUp, cosineDown, sineUp, sineDown, ahead, behind, along, against, passesAt}
+use Rattle.atan2_rule.specs.Rule.{times_cosine, times_sine, over, Points}
+use Rattle.atan2_rule.specs.Steps.{cosine_up, cosine_down, sine_up, sine_down, ahead, behind, along, against, passes_at}
 use Rattle.atan2_rule.proofs.Exact.{Beside, cosine-up-beside, cosine-down-beside, sine-up-beside, sine-down-beside, Cut, residual, pointing}
 
 abbrev w : ℕ
@@ -32,7 +32,7 @@ z-pos = lit≤ tt
 
 -- one side's sum: n times a side of the cosine, and m times one of the sine
 abbrev pub sum_of : Bool → Bool → ℕ → ℕ → ℕ → ℕ → ℕ
-sum_of c s n m r d = n * cosineSide c r d * whole 31 d + m * sineSide s r d * whole 30 d
+sum_of c s n m r d = n * cosine_side c r d * whole 31 d + m * sine_side s r d * whole 30 d
 
 pub record Kept (q f : Bool) (Y X r d : ℕ) : Type 0 where
   pub above : 2 ^ 20 * sum_of true (unlike f q) Y X r d ≤ 2 ^ 20 * sum_of false (not (unlike f q)) Y X r d + (X + Y) * (whole 30 d * whole 31 d)
@@ -62,7 +62,7 @@ parts u v q f R t =
       forward = leb→le (against u v (not q) (not f) R + 900 * (u + v)) (along u v (not q) (not f) R) (and_r b c (and_r a (b && c) t));
     }
 
-pub passed : (u v : ℕ) (q f : Bool) (R : ℕ) → passesAt u v (bit q) (bit f) R ≡ true → Passed u v q f R
+pub passed : (u v : ℕ) (q f : Bool) (R : ℕ) → passes_at u v (bit q) (bit f) R ≡ true → Passed u v q f R
 passed u v false false R h = parts u v false false R (subst T (sym h) tt)
 passed u v false true R h = parts u v false true R (subst T (sym h) tt)
 passed u v true false R h = parts u v true false R (subst T (sym h) tt)
@@ -70,23 +70,23 @@ passed u v true true R h = parts u v true true R (subst T (sym h) tt)
 
 -- ---- a side by its name, and by its opposite's
 module _ (R : ℕ) (m : R ≤ half) where
-  cosine-is : (b : Bool) → Beside (cond b (cosineUp R) (cosineDown R)) (cosineSide b R (2 ^ 56)) w
+  cosine-is : (b : Bool) → Beside (cond b (cosine_up R) (cosine_down R)) (cosine_side b R (2 ^ 56)) w
   cosine-is true = cosine-up-beside R m
   cosine-is false = cosine-down-beside R m
 
-  cosine-other : (b : Bool) → Beside (cond (not b) (cosineDown R) (cosineUp R)) (cosineSide b R (2 ^ 56)) w
+  cosine-other : (b : Bool) → Beside (cond (not b) (cosine_down R) (cosine_up R)) (cosine_side b R (2 ^ 56)) w
   cosine-other true = cosine-up-beside R m
   cosine-other false = cosine-down-beside R m
 
-  sine-is : (b : Bool) → Beside (cond b (sineUp R) (sineDown R)) (sineSide b R (2 ^ 56)) z
+  sine-is : (b : Bool) → Beside (cond b (sine_up R) (sine_down R)) (sine_side b R (2 ^ 56)) z
   sine-is true = sine-up-beside R m
   sine-is false = sine-down-beside R m
 
-  sine-other : (b : Bool) → Beside (cond (not b) (sineDown R) (sineUp R)) (sineSide b R (2 ^ 56)) z
+  sine-other : (b : Bool) → Beside (cond (not b) (sine_down R) (sine_up R)) (sine_side b R (2 ^ 56)) z
   sine-other true = sine-up-beside R m
   sine-other false = sine-down-beside R m
 
-module _ (u v Y X G H R : ℕ) (m : R ≤ half) (cu : Cut u Y G H) (cv : Cut v X G H) (posH : 0 < H) (posG : 0 < G) (large : 2 ^ 29 ≤ u + v) where
+module _ (u v Y X G H R : ℕ) (m : R ≤ half) (cu : Cut u Y G H) (cv : Cut v X G H) (pos_h : 0 < H) (pos_g : 0 < G) (large : 2 ^ 29 ≤ u + v) where
   pub kept : (q f : Bool) → Passed u v q f R → Kept q f Y X R (2 ^ 56)
   unfolding ahead behind along against
   kept q f t =
@@ -94,9 +94,9 @@ module _ (u v Y X G H R : ℕ) (m : R ≤ half) (cu : Cut u Y G H) (cv : Cut v X
       let up = sine-other R m s in
       let down = sine-is R m (not s) in
       record {
-        above = residual u v Y X G H w z cu cv _ _ _ _ _ _ _ _ posH large (cosine-up-beside R m) up (cosine-down-beside R m) down t.above;
-        below = residual u v Y X G H w z cu cv _ _ _ _ _ _ _ _ posH large (cosine-down-beside R m) down (cosine-up-beside R m) up t.below;
-        forward = pointing v u X Y G H w z cv cu _ _ _ _ _ _ _ _ posH posG w-pos z-pos (le_trans large (le_of_eq (add_comm u v)))
+        above = residual u v Y X G H w z cu cv _ _ _ _ _ _ _ _ pos_h large (cosine-up-beside R m) up (cosine-down-beside R m) down t.above;
+        below = residual u v Y X G H w z cu cv _ _ _ _ _ _ _ _ pos_h large (cosine-down-beside R m) down (cosine-up-beside R m) up t.below;
+        forward = pointing v u X Y G H w z cv cu _ _ _ _ _ _ _ _ pos_h pos_g w-pos z-pos (le_trans large (le_of_eq (add_comm u v)))
             (cosine-other R m q) (sine-other R m f) (cosine-is R m (not q)) (sine-is R m (not f)) (subst (λ (n : ℕ). against u v (not q) (not f) R + 900 * n ≤ along u v (not q) (not f) R) (add_comm u v) t.forward);
       }
 
@@ -113,15 +113,15 @@ factor = (2 ^ 93) ^ 30 * (2 ^ 93) ^ 31
 factor-pos : 0 < factor
 factor-pos = lit≤ tt
 
-cosine-scaled : (n R : ℕ) (b : Bool) → n * cosineSide b (R * 2 ^ 93) (2 ^ 149) * whole 31 (2 ^ 149) ≡ factor * (n * cosineSide b R (2 ^ 56) * z)
+cosine-scaled : (n R : ℕ) (b : Bool) → n * cosine_side b (R * 2 ^ 93) (2 ^ 149) * whole 31 (2 ^ 149) ≡ factor * (n * cosine_side b R (2 ^ 56) * z)
 cosine-scaled n R b =
-    ap (λ (a : ℕ). n * a * whole 31 (2 ^ 149)) (cosine-side-scaled b R) ∙ ap (λ (a : ℕ). n * ((2 ^ 93) ^ 30 * cosineSide b R (2 ^ 56)) * a) (whole_scaled 31 (2 ^ 93) (2 ^ 56))
-    ∙ regroup ((2 ^ 93) ^ 30) ((2 ^ 93) ^ 31) n (cosineSide b R (2 ^ 56)) z
+    ap (λ (a : ℕ). n * a * whole 31 (2 ^ 149)) (cosine-side-scaled b R) ∙ ap (λ (a : ℕ). n * ((2 ^ 93) ^ 30 * cosine_side b R (2 ^ 56)) * a) (whole_scaled 31 (2 ^ 93) (2 ^ 56))
+    ∙ regroup ((2 ^ 93) ^ 30) ((2 ^ 93) ^ 31) n (cosine_side b R (2 ^ 56)) z
 
-sine-scaled : (n R : ℕ) (b : Bool) → n * sineSide b (R * 2 ^ 93) (2 ^ 149) * whole 30 (2 ^ 149) ≡ factor * (n * sineSide b R (2 ^ 56) * w)
+sine-scaled : (n R : ℕ) (b : Bool) → n * sine_side b (R * 2 ^ 93) (2 ^ 149) * whole 30 (2 ^ 149) ≡ factor * (n * sine_side b R (2 ^ 56) * w)
 sine-scaled n R b =
-    ap (λ (a : ℕ). n * a * whole 30 (2 ^ 149)) (sine-side-scaled b R) ∙ ap (λ (a : ℕ). n * ((2 ^ 93) ^ 31 * sineSide b R (2 ^ 56)) * a) (whole_scaled 30 (2 ^ 93) (2 ^ 56))
-    ∙ regroup ((2 ^ 93) ^ 31) ((2 ^ 93) ^ 30) n (sineSide b R (2 ^ 56)) w
+    ap (λ (a : ℕ). n * a * whole 30 (2 ^ 149)) (sine-side-scaled b R) ∙ ap (λ (a : ℕ). n * ((2 ^ 93) ^ 31 * sine_side b R (2 ^ 56)) * a) (whole_scaled 30 (2 ^ 93) (2 ^ 56))
+    ∙ regroup ((2 ^ 93) ^ 31) ((2 ^ 93) ^ 30) n (sine_side b R (2 ^ 56)) w
 
 over-scaled : over ≡ factor * (w * z)
 over-scaled =
@@ -130,7 +130,7 @@ over-scaled =
 
 -- an inequality of the first kind, and one of the second, times k
 grow-close : (k a b c d s o : ℕ) {A B C D O : ℕ} → A ≡ k * a → B ≡ k * b → C ≡ k * c → D ≡ k * d → O ≡ k * o → 2 ^ 20 * (a + b) ≤ 2 ^ 20 * (c + d) + s * o → 2 ^ 20 * (A + B) ≤ 2 ^ 20 * (C + D) + s * O
-grow-close k a b c d s o {A} {B} {C} {D} {O} eA eB eC eD eO h = rw (eA, eB, eC, eD, eO) (le_trans (le_of_eq left) (le_trans (mul-le-mul_left k h) (le_of_eq right)))
+grow-close k a b c d s o {A} {B} {C} {D} {O} e_a e_b e_c e_d e_o h = rw (e_a, e_b, e_c, e_d, e_o) (le_trans (le_of_eq left) (le_trans (mul-le-mul_left k h) (le_of_eq right)))
   where
     left : 2 ^ 20 * (k * a + k * b) ≡ k * (2 ^ 20 * (a + b))
     left = ap (λ (x : ℕ). 2 ^ 20 * x) (sym (mul-add k a b)) ∙ mul_left_comm (2 ^ 20) k (a + b)
@@ -139,7 +139,7 @@ grow-close k a b c d s o {A} {B} {C} {D} {O} eA eB eC eD eO h = rw (eA, eB, eC, 
     right = mul-add k (2 ^ 20 * (c + d)) (s * o) ∙ ap (λ (x : ℕ). x + k * (s * o)) (mul_left_comm k (2 ^ 20) (c + d) ∙ ap (λ (x : ℕ). 2 ^ 20 * x) (mul-add k c d)) ∙ ap (λ (x : ℕ). 2 ^ 20 * (k * c + k * d) + x) (mul_left_comm k s o)
 
 grow-less : (k a b c d : ℕ) {A B C D : ℕ} → 0 < k → A ≡ k * a → B ≡ k * b → C ≡ k * c → D ≡ k * d → a + b < c + d → A + B < C + D
-grow-less k a b c d {A} {B} {C} {D} pos eA eB eC eD h = rw (eA, eB, eC, eD) (lt_of_le_of_lt (le_of_eq (sym (mul-add k a b))) (lt_of_lt_of_le (mul-lt-mul_of_pos_left h pos) (le_of_eq (mul-add k c d))))
+grow-less k a b c d {A} {B} {C} {D} pos e_a e_b e_c e_d h = rw (e_a, e_b, e_c, e_d) (lt_of_le_of_lt (le_of_eq (sym (mul-add k a b))) (lt_of_lt_of_le (mul-lt-mul_of_pos_left h pos) (le_of_eq (mul-add k c d))))
 
 pub kept-scaled : (q f : Bool) (Y X R : ℕ) → Kept q f Y X R (2 ^ 56) → Kept q f Y X (R * 2 ^ 93) (2 ^ 149)
 kept-scaled q f Y X R k =
@@ -201,7 +201,7 @@ both-off true false = refl
 both-off true true = refl
 
 module _ (q f : Bool) (Y X r : ℕ) (k : Kept q f Y X r (2 ^ 149)) where
-  forward-with : (p : Bool) → timesCosine q X r false + timesSine (unlike (unlike p f) p) Y r false < timesCosine q X r true + timesSine (unlike (unlike p f) p) Y r true
+  forward-with : (p : Bool) → times_cosine q X r false + times_sine (unlike (unlike p f) p) Y r false < times_cosine q X r true + times_sine (unlike (unlike p f) p) Y r true
   forward-with p = rw (itself q, both-off p f, opposite q, both-on p f) k.forward
 
   pub points : (p : Bool) → Points p Y q X (unlike p f) r

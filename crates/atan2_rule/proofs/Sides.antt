@@ -7,8 +7,8 @@ use native.Mathlib.Omega.{arith}
 use mathlib.Core.List.{List, [], ◌∷◌}
 use lib.Dec.{lit≤}
 use Rattle.trig_rule.specs.Sums.{factorial}
-use Rattle.trig_rule.specs.Steps.{half, squareOf, fourthOf, coefficient, risen, ladder, sinePlus, sineMinus, cosinePlus, cosineMinus}
-use Rattle.atan2_rule.specs.Steps.{cosineUp, cosineDown, sineUp, sineDown}
+use Rattle.trig_rule.specs.Steps.{half, square_of, fourth_of, coefficient, risen, ladder, sine_plus, sine_minus, cosine_plus, cosine_minus}
+use Rattle.atan2_rule.specs.Steps.{cosine_up, cosine_down, sine_up, sine_down}
 
 -- ---- no side falls
 div_mono : {a b : ℕ} → a ≤ b → a / 2 ^ 32 ≤ b / 2 ^ 32
@@ -25,38 +25,38 @@ ladder-mono U v w (j ∷ js) h = risen-mono (coefficient U j) v w (ladder U v js
 cut-mono : {R S : ℕ} → R ≤ S → R / 2 ^ 26 ≤ S / 2 ^ 26
 cut-mono h = omega arith
 
-square-mono : {R S : ℕ} → R ≤ S → squareOf R ≤ squareOf S
+square-mono : {R S : ℕ} → R ≤ S → square_of R ≤ square_of S
 square-mono h = div_mono (mul-le-mul (cut-mono h) (cut-mono h))
 
-fourth-mono : {R S : ℕ} → R ≤ S → fourthOf R ≤ fourthOf S
+fourth-mono : {R S : ℕ} → R ≤ S → fourth_of R ≤ fourth_of S
 fourth-mono h = div_mono (mul-le-mul (square-mono h) (square-mono h))
 
 module _ (R S : ℕ) (h : R ≤ S) where
   -- a side that begins with r ^ 4, and one that begins with r ^ 2
-  fourth-side-mono : (U : ℕ) (js : List ℕ) → risen U (fourthOf R) (ladder U (fourthOf R) js) ≤ risen U (fourthOf S) (ladder U (fourthOf S) js)
+  fourth-side-mono : (U : ℕ) (js : List ℕ) → risen U (fourth_of R) (ladder U (fourth_of R) js) ≤ risen U (fourth_of S) (ladder U (fourth_of S) js)
   fourth-side-mono U js =
-      risen-mono U (fourthOf R) (fourthOf S) (ladder U (fourthOf R) js) (ladder U (fourthOf S) js) (fourth-mono h) (ladder-mono U (fourthOf R) (fourthOf S) js (fourth-mono h))
+      risen-mono U (fourth_of R) (fourth_of S) (ladder U (fourth_of R) js) (ladder U (fourth_of S) js) (fourth-mono h) (ladder-mono U (fourth_of R) (fourth_of S) js (fourth-mono h))
 
-  square-side-mono : (U : ℕ) (js : List ℕ) → risen 0 (squareOf R) (ladder U (fourthOf R) js) ≤ risen 0 (squareOf S) (ladder U (fourthOf S) js)
+  square-side-mono : (U : ℕ) (js : List ℕ) → risen 0 (square_of R) (ladder U (fourth_of R) js) ≤ risen 0 (square_of S) (ladder U (fourth_of S) js)
   square-side-mono U js =
-      risen-mono 0 (squareOf R) (squareOf S) (ladder U (fourthOf R) js) (ladder U (fourthOf S) js) (square-mono h) (ladder-mono U (fourthOf R) (fourthOf S) js (fourth-mono h))
+      risen-mono 0 (square_of R) (square_of S) (ladder U (fourth_of R) js) (ladder U (fourth_of S) js) (square-mono h) (ladder-mono U (fourth_of R) (fourth_of S) js (fourth-mono h))
 
-  pub sine-plus-mono : sinePlus R ≤ sinePlus S
+  pub sine-plus-mono : sine_plus R ≤ sine_plus S
   sine-plus-mono = fourth-side-mono (2 ^ 30) (5 ∷ 9 ∷ 13 ∷ 17 ∷ [])
 
-  pub sine-minus-mono : sineMinus R ≤ sineMinus S
+  pub sine-minus-mono : sine_minus R ≤ sine_minus S
   sine-minus-mono = square-side-mono (2 ^ 30) (3 ∷ 7 ∷ 11 ∷ 15 ∷ [])
 
-  cosine-plus-mono : cosinePlus R ≤ cosinePlus S
+  cosine-plus-mono : cosine_plus R ≤ cosine_plus S
   cosine-plus-mono = fourth-side-mono (2 ^ 28) (4 ∷ 8 ∷ 12 ∷ 16 ∷ [])
 
-  cosine-minus-mono : cosineMinus R ≤ cosineMinus S
+  cosine-minus-mono : cosine_minus R ≤ cosine_minus S
   cosine-minus-mono = square-side-mono (2 ^ 28) (2 ∷ 6 ∷ 10 ∷ 14 ∷ 18 ∷ [])
 
-  pub cosine-up-mono : cosineUp R ≤ cosineUp S
+  pub cosine-up-mono : cosine_up R ≤ cosine_up S
   cosine-up-mono = mul-le-mul_left 4 cosine-plus-mono
 
-  pub cosine-down-mono : cosineDown R ≤ cosineDown S
+  pub cosine-down-mono : cosine_down R ≤ cosine_down S
   cosine-down-mono = mul-le-mul_left 4 cosine-minus-mono
 
   sized-mono : (g k : ℕ) → g ≤ k → R / 2 ^ 26 * g / 2 ^ 30 ≤ S / 2 ^ 26 * k / 2 ^ 30
@@ -65,48 +65,48 @@ module _ (R S : ℕ) (h : R ≤ S) where
       thirty : {a b : ℕ} → a ≤ b → a / 2 ^ 30 ≤ b / 2 ^ 30
       thirty p = omega arith
 
-  pub sine-up-mono : sineUp R ≤ sineUp S
-  sine-up-mono = sized-mono (sinePlus R) (sinePlus S) sine-plus-mono
+  pub sine-up-mono : sine_up R ≤ sine_up S
+  sine-up-mono = sized-mono (sine_plus R) (sine_plus S) sine-plus-mono
 
-  pub sine-down-mono : sineDown R ≤ sineDown S
-  sine-down-mono = sized-mono (sineMinus R) (sineMinus S) sine-minus-mono
+  pub sine-down-mono : sine_down R ≤ sine_down S
+  sine-down-mono = sized-mono (sine_minus R) (sine_minus S) sine-minus-mono
 
 -- ---- at half a turn
 -- the largest square and fourth power of an angle of at most half a turn
-abbrev mostSquare : ℕ
-mostSquare = 2649351757
+abbrev most_square : ℕ
+most_square = 2649351757
 
-abbrev mostFourth : ℕ
-mostFourth = 1634253359
+abbrev most_fourth : ℕ
+most_fourth = 1634253359
 
-square-most : (R : ℕ) → R ≤ half → squareOf R ≤ mostSquare
+square-most : (R : ℕ) → R ≤ half → square_of R ≤ most_square
 square-most R h = square-mono {S = half} h
 
-fourth-most : (R : ℕ) → R ≤ half → fourthOf R ≤ mostFourth
+fourth-most : (R : ℕ) → R ≤ half → fourth_of R ≤ most_fourth
 fourth-most R h = fourth-mono {S = half} h
 
 module _ (R : ℕ) (h : R ≤ half) where
-  pub sine-plus-most : sinePlus R ≤ 1973579298
+  pub sine-plus-most : sine_plus R ≤ 1973579298
   unfolding ladder factorial
   sine-plus-most = le_trans (sine-plus-mono R half h) (lit≤ tt)
 
-  pub sine-minus-most : sineMinus R ≤ 1973579290
+  pub sine-minus-most : sine_minus R ≤ 1973579290
   unfolding ladder factorial
   sine-minus-most = le_trans (sine-minus-mono R half h) (lit≤ tt)
 
-  pub cosine-up-most : cosineUp R ≤ 5686511600
+  pub cosine-up-most : cosine_up R ≤ 5686511600
   unfolding ladder factorial
   cosine-up-most = le_trans (cosine-up-mono R half h) (lit≤ tt)
 
-  pub cosine-down-most : cosineDown R ≤ 6760253432
+  pub cosine-down-most : cosine_down R ≤ 6760253432
   unfolding ladder factorial
   cosine-down-most = le_trans (cosine-down-mono R half h) (lit≤ tt)
 
-  pub sine-up-most : sineUp R ≤ 6200182223
+  pub sine-up-most : sine_up R ≤ 6200182223
   unfolding ladder factorial
   sine-up-most = le_trans (sine-up-mono R half h) (lit≤ tt)
 
-  pub sine-down-most : sineDown R ≤ 6200182198
+  pub sine-down-most : sine_down R ≤ 6200182198
   unfolding ladder factorial
   sine-down-most = le_trans (sine-down-mono R half h) (lit≤ tt)
 
@@ -134,13 +134,13 @@ risen-rise a v w h k M H e d p q r s = le_trans (add-le-add (le_refl a) (cut-ris
 unfoldable rise : ℕ → ℕ → List ℕ → ℕ
 unfolding ladder
 rise U e [] = 0
-rise U e (j ∷ js) = lift mostFourth (ladder U mostFourth js) e (rise U e js)
+rise U e (j ∷ js) = lift most_fourth (ladder U most_fourth js) e (rise U e js)
 
-ladder-rise : (U v w e : ℕ) (js : List ℕ) → v ≤ mostFourth → w ≤ mostFourth → w ≤ v + e → ladder U w js ≤ ladder U v js + rise U e js
+ladder-rise : (U v w e : ℕ) (js : List ℕ) → v ≤ most_fourth → w ≤ most_fourth → w ≤ v + e → ladder U w js ≤ ladder U v js + rise U e js
 unfolding ladder rise
 ladder-rise U v w e [] a b c = le_refl 0
 ladder-rise U v w e (j ∷ js) a b c =
-    risen-rise (coefficient U j) v w (ladder U v js) (ladder U w js) mostFourth (ladder U mostFourth js) e (rise U e js) a c (ladder-rise U v w e js a b c) (ladder-mono U w mostFourth js b)
+    risen-rise (coefficient U j) v w (ladder U v js) (ladder U w js) most_fourth (ladder U most_fourth js) e (rise U e js) a c (ladder-rise U v w e js a b c) (ladder-mono U w most_fourth js b)
 
 -- ---- a step of at most 2 ^ -22: 2 ^ 34 in units of 2 ^ -56
 module _ (R S : ℕ) (most : S ≤ half) (up : R ≤ S) (near : S ≤ R + 2 ^ 34) where
@@ -153,37 +153,37 @@ module _ (R S : ℕ) (most : S ≤ half) (up : R ≤ S) (near : S ≤ R + 2 ^ 34
   cut_most : {X : ℕ} → X ≤ half → X / 2 ^ 26 ≤ 3373259426
   cut_most h = omega arith
 
-  square-moves : squareOf S ≤ squareOf R + 403
+  square-moves : square_of S ≤ square_of R + 403
   square-moves = cut-rise (R / 2 ^ 26 * (R / 2 ^ 26)) (S / 2 ^ 26 * (S / 2 ^ 26)) (3373259426 * 256 + 256 * 3373259426)
       (product-rise (R / 2 ^ 26) (S / 2 ^ 26) (R / 2 ^ 26) (S / 2 ^ 26) 3373259426 3373259426 256 256 (cut_most below) cut-moves cut-moves (cut_most most))
 
-  fourth-moves : fourthOf S ≤ fourthOf R + 498
-  fourth-moves = cut-rise (squareOf R * squareOf R) (squareOf S * squareOf S) (mostSquare * 403 + 403 * mostSquare)
-      (product-rise (squareOf R) (squareOf S) (squareOf R) (squareOf S) mostSquare mostSquare 403 403 (square-most R below) square-moves square-moves (square-most S most))
+  fourth-moves : fourth_of S ≤ fourth_of R + 498
+  fourth-moves = cut-rise (square_of R * square_of R) (square_of S * square_of S) (most_square * 403 + 403 * most_square)
+      (product-rise (square_of R) (square_of S) (square_of R) (square_of S) most_square most_square 403 403 (square-most R below) square-moves square-moves (square-most S most))
 
-  ladder-moves : (U : ℕ) (js : List ℕ) → ladder U (fourthOf S) js ≤ ladder U (fourthOf R) js + rise U 498 js
-  ladder-moves U js = ladder-rise U (fourthOf R) (fourthOf S) 498 js (fourth-most R below) (fourth-most S most) fourth-moves
+  ladder-moves : (U : ℕ) (js : List ℕ) → ladder U (fourth_of S) js ≤ ladder U (fourth_of R) js + rise U 498 js
+  ladder-moves U js = ladder-rise U (fourth_of R) (fourth_of S) 498 js (fourth-most R below) (fourth-most S most) fourth-moves
 
   -- a side that begins with r ^ 4, and one that begins with r ^ 2
-  fourth-side : (U : ℕ) (js : List ℕ) → risen U (fourthOf S) (ladder U (fourthOf S) js) ≤ risen U (fourthOf R) (ladder U (fourthOf R) js) + lift mostFourth (ladder U mostFourth js) 498 (rise U 498 js)
+  fourth-side : (U : ℕ) (js : List ℕ) → risen U (fourth_of S) (ladder U (fourth_of S) js) ≤ risen U (fourth_of R) (ladder U (fourth_of R) js) + lift most_fourth (ladder U most_fourth js) 498 (rise U 498 js)
   fourth-side U js =
-      risen-rise U (fourthOf R) (fourthOf S) (ladder U (fourthOf R) js) (ladder U (fourthOf S) js) mostFourth (ladder U mostFourth js) 498 (rise U 498 js)
-      (fourth-most R below) fourth-moves (ladder-moves U js) (ladder-mono U (fourthOf S) mostFourth js (fourth-most S most))
+      risen-rise U (fourth_of R) (fourth_of S) (ladder U (fourth_of R) js) (ladder U (fourth_of S) js) most_fourth (ladder U most_fourth js) 498 (rise U 498 js)
+      (fourth-most R below) fourth-moves (ladder-moves U js) (ladder-mono U (fourth_of S) most_fourth js (fourth-most S most))
 
-  square-side : (U : ℕ) (js : List ℕ) → risen 0 (squareOf S) (ladder U (fourthOf S) js) ≤ risen 0 (squareOf R) (ladder U (fourthOf R) js) + lift mostSquare (ladder U mostFourth js) 403 (rise U 498 js)
+  square-side : (U : ℕ) (js : List ℕ) → risen 0 (square_of S) (ladder U (fourth_of S) js) ≤ risen 0 (square_of R) (ladder U (fourth_of R) js) + lift most_square (ladder U most_fourth js) 403 (rise U 498 js)
   square-side U js =
-      risen-rise 0 (squareOf R) (squareOf S) (ladder U (fourthOf R) js) (ladder U (fourthOf S) js) mostSquare (ladder U mostFourth js) 403 (rise U 498 js)
-      (square-most R below) square-moves (ladder-moves U js) (ladder-mono U (fourthOf S) mostFourth js (fourth-most S most))
+      risen-rise 0 (square_of R) (square_of S) (ladder U (fourth_of R) js) (ladder U (fourth_of S) js) most_square (ladder U most_fourth js) 403 (rise U 498 js)
+      (square-most R below) square-moves (ladder-moves U js) (ladder-mono U (fourth_of S) most_fourth js (fourth-most S most))
 
-  pub cosine-down-moves : cosineDown S ≤ cosineDown R + 1488
+  pub cosine-down-moves : cosine_down S ≤ cosine_down R + 1488
   unfolding ladder factorial rise
-  cosine-down-moves = le_trans (mul-le-mul_left 4 (square-side (2 ^ 28) (2 ∷ 6 ∷ 10 ∷ 14 ∷ 18 ∷ []))) (le_of_eq (mul-add 4 (cosineMinus R) 372))
+  cosine-down-moves = le_trans (mul-le-mul_left 4 (square-side (2 ^ 28) (2 ∷ 6 ∷ 10 ∷ 14 ∷ 18 ∷ []))) (le_of_eq (mul-add 4 (cosine_minus R) 372))
 
-  sine-plus-moves : sinePlus S ≤ sinePlus R + 283
+  sine-plus-moves : sine_plus S ≤ sine_plus R + 283
   unfolding ladder factorial rise
   sine-plus-moves = fourth-side (2 ^ 30) (5 ∷ 9 ∷ 13 ∷ 17 ∷ [])
 
-  sine-minus-moves : sineMinus S ≤ sineMinus R + 365
+  sine-minus-moves : sine_minus S ≤ sine_minus R + 365
   unfolding ladder factorial rise
   sine-minus-moves = square-side (2 ^ 30) (3 ∷ 7 ∷ 11 ∷ 15 ∷ [])
 
@@ -194,8 +194,8 @@ module _ (R S : ℕ) (most : S ≤ half) (up : R ≤ S) (near : S ≤ R + 2 ^ 34
       thirty : (x y n : ℕ) → y ≤ x + n → y / 2 ^ 30 ≤ x / 2 ^ 30 + (n / 2 ^ 30 + 1)
       thirty x y n h = omega arith
 
-  pub sine-up-moves : sineUp S ≤ sineUp R + 1618
-  sine-up-moves = le_trans (sized-moves (sinePlus R) (sinePlus S) 1973579298 283 sine-plus-moves (sine-plus-most S most)) (add-le-add (le_refl (sineUp R)) (lit≤ tt))
+  pub sine-up-moves : sine_up S ≤ sine_up R + 1618
+  sine-up-moves = le_trans (sized-moves (sine_plus R) (sine_plus S) 1973579298 283 sine-plus-moves (sine-plus-most S most)) (add-le-add (le_refl (sine_up R)) (lit≤ tt))
 
-  pub sine-down-moves : sineDown S ≤ sineDown R + 1618
-  sine-down-moves = le_trans (sized-moves (sineMinus R) (sineMinus S) 1973579290 365 sine-minus-moves (sine-minus-most S most)) (add-le-add (le_refl (sineDown R)) (lit≤ tt))
+  pub sine-down-moves : sine_down S ≤ sine_down R + 1618
+  sine-down-moves = le_trans (sized-moves (sine_minus R) (sine_minus S) 1973579290 365 sine-minus-moves (sine-minus-most S most)) (add-le-add (le_refl (sine_down R)) (lit≤ tt))

@@ -23,8 +23,8 @@ use Rattle.atan2_rule.proofs.Exact.{Cut}
 abbrev pub dropped : ℕ → ℕ
 dropped n = size n - 53
 
-abbrev pub wideBits : ℕ → ℕ
-wideBits n = dropped n * 2 ^ 52 + n / 2 ^ dropped n
+abbrev pub wide_bits : ℕ → ℕ
+wide_bits n = dropped n * 2 ^ 52 + n / 2 ^ dropped n
 
 few : (N : ℕ) → N < 2 ^ 277 → dropped (N * 2 ^ 925) ≤ 1149
 few N h = let a : size (N * 2 ^ 925) ≤ 1202 = size-le (N * 2 ^ 925) 1202 (shl_lt 277 925 h) in omega arith
@@ -32,14 +32,14 @@ few N h = let a : size (N * 2 ^ 925) ≤ 1202 = size-le (N * 2 ^ 925) 1202 (shl_
 bits-lt : (k q : ℕ) → k ≤ 1149 → q < 2 ^ 53 → k * 2 ^ 52 + q < 1151 * 2 ^ 52
 bits-lt k q h l = omega arith
 
-pub wide-lt : (N : ℕ) → N < 2 ^ 277 → wideBits (N * 2 ^ 925) < 1151 * 2 ^ 52
+pub wide-lt : (N : ℕ) → N < 2 ^ 277 → wide_bits (N * 2 ^ 925) < 1151 * 2 ^ 52
 wide-lt N h = bits-lt (dropped (N * 2 ^ 925)) (N * 2 ^ 925 / 2 ^ dropped (N * 2 ^ 925)) (few N h) (kept-lt 53 (N * 2 ^ 925))
 
 scaled : (m u N d : ℕ) → 0 < d → m * u * 2 ^ 149 ≡ N * d → m * u * 2 ^ 1074 / d ≡ N * 2 ^ 925
 scaled m u N d pos h =
     ap (λ (x : ℕ). x / d) (sym (mul_assoc (m * u) (2 ^ 149) (2 ^ 925)) ∙ ap (λ (x : ℕ). x * 2 ^ 925) h ∙ mul_right_comm N d (2 ^ 925)) ∙ mul-div_cancel (N * 2 ^ 925) pos
 
-bits_are : (x : Float) (s : Bool) (N : ℕ) → Is x s N → to_bits binary64 x ≡ bit s * 2 ^ 63 + wideBits (N * 2 ^ 925)
+bits_are : (x : Float) (s : Bool) (N : ℕ) → Is x s N → to_bits binary64 x ≡ bit s * 2 ^ 63 + wide_bits (N * 2 ^ 925)
 unfolding to_bits
 bits_are nan s N h = absurd h
 bits_are (inf t) s N h = absurd h
@@ -57,11 +57,11 @@ parted true b h = omega arith
 parted false b h = omega arith
 
 module _ (x : Float) (s : Bool) (N : ℕ) (is : Is x s N) (small : N < 2 ^ 277) where
-  pub plain-is : plain x ≡ wideBits (N * 2 ^ 925)
-  plain-is = ap (λ (b : ℕ). b % 2 ^ 63) (bits_are x s N is) ∙ (parted s (wideBits (N * 2 ^ 925)) (wide-lt N small)).0
+  pub plain-is : plain x ≡ wide_bits (N * 2 ^ 925)
+  plain-is = ap (λ (b : ℕ). b % 2 ^ 63) (bits_are x s N is) ∙ (parted s (wide_bits (N * 2 ^ 925)) (wide-lt N small)).0
 
   pub sign-is : sign_bit x ≡ bit s
-  sign-is = ap (λ (b : ℕ). b / 2 ^ 63) (bits_are x s N is) ∙ (parted s (wideBits (N * 2 ^ 925)) (wide-lt N small)).1
+  sign-is = ap (λ (b : ℕ). b / 2 ^ 63) (bits_are x s N is) ∙ (parted s (wide_bits (N * 2 ^ 925)) (wide-lt N small)).1
 
 -- ---- the fields of those bits, for a number n of at least 2 ^ 925
 pow_lt_back : {i j : ℕ} → 2 ^ i < 2 ^ j → i < j
@@ -79,13 +79,13 @@ module _ (n : ℕ) (large : 2 ^ 925 ≤ n) where
       (le-div_iff_mul-le (pow_pos (dropped n))).1
       (le_trans (le_of_eq (sym (pow-add 2 52 (dropped n)))) (size_reaches n (52 + dropped n) (let d = digits in omega arith)))
 
-  pub field_is : field (wideBits n) ≡ suc (dropped n)
+  pub field_is : field (wide_bits n) ≡ suc (dropped n)
   field_is = above (dropped n) (n / 2 ^ dropped n) kept_low (kept-lt 53 n)
     where
       above : (k q : ℕ) → 2 ^ 52 ≤ q → q < 2 ^ 53 → (k * 2 ^ 52 + q) / 2 ^ 52 ≡ suc k
       above k q l h = omega arith
 
-  digits_are : wideBits n % 2 ^ 52 + 2 ^ 52 ≡ n / 2 ^ dropped n
+  digits_are : wide_bits n % 2 ^ 52 + 2 ^ 52 ≡ n / 2 ^ dropped n
   digits_are = below (dropped n) (n / 2 ^ dropped n) kept_low (kept-lt 53 n)
     where
       below : (k q : ℕ) → 2 ^ 52 ≤ q → q < 2 ^ 53 → (k * 2 ^ 52 + q) % 2 ^ 52 + 2 ^ 52 ≡ q
@@ -99,10 +99,10 @@ module _ (n : ℕ) (large : 2 ^ 925 ≤ n) where
   over = size_reaches n (52 + dropped n) (let d = digits in omega arith)
 
   module _ (top : ℕ) (reaches : suc (dropped n) ≤ top) where
-    near-part : top - suc (dropped n) < 30 → part_of (wideBits n) top ≡ n / 2 ^ (top + 22)
+    near-part : top - suc (dropped n) < 30 → part_of (wide_bits n) top ≡ n / 2 ^ (top + 22)
     near-part h =
-        ap (λ (f : ℕ). cond (ltb (top - f) 30) ((wideBits n % 2 ^ 52 + 2 ^ 52) / 2 ^ 23 / 2 ^ (top - f)) 0) field_is
-        ∙ ap (λ (b : Bool). cond b ((wideBits n % 2 ^ 52 + 2 ^ 52) / 2 ^ 23 / 2 ^ (top - suc (dropped n))) 0) (lt-ltb (top - suc (dropped n)) 30 h)
+        ap (λ (f : ℕ). cond (ltb (top - f) 30) ((wide_bits n % 2 ^ 52 + 2 ^ 52) / 2 ^ 23 / 2 ^ (top - f)) 0) field_is
+        ∙ ap (λ (b : Bool). cond b ((wide_bits n % 2 ^ 52 + 2 ^ 52) / 2 ^ 23 / 2 ^ (top - suc (dropped n))) 0) (lt-ltb (top - suc (dropped n)) 30 h)
         ∙ ap (λ (q : ℕ). q / 2 ^ 23 / 2 ^ (top - suc (dropped n))) digits_are
         ∙ ap (λ (q : ℕ). q / 2 ^ (top - suc (dropped n))) (shr-shr n (dropped n) 23)
         ∙ shr-shr n (dropped n + 23) (top - suc (dropped n))
@@ -111,19 +111,19 @@ module _ (n : ℕ) (large : 2 ^ 925 ≤ n) where
         sum : (k : ℕ) → suc k ≤ top → k + 23 + (top - suc k) ≡ top + 22
         sum k l = omega arith
 
-    far-part : 30 ≤ top - suc (dropped n) → part_of (wideBits n) top ≡ n / 2 ^ (top + 22)
+    far-part : 30 ≤ top - suc (dropped n) → part_of (wide_bits n) top ≡ n / 2 ^ (top + 22)
     far-part h =
-        ap (λ (f : ℕ). cond (ltb (top - f) 30) ((wideBits n % 2 ^ 52 + 2 ^ 52) / 2 ^ 23 / 2 ^ (top - f)) 0) field_is
-        ∙ ap (λ (b : Bool). cond b ((wideBits n % 2 ^ 52 + 2 ^ 52) / 2 ^ 23 / 2 ^ (top - suc (dropped n))) 0) (le-ltb (top - suc (dropped n)) 30 h)
+        ap (λ (f : ℕ). cond (ltb (top - f) 30) ((wide_bits n % 2 ^ 52 + 2 ^ 52) / 2 ^ 23 / 2 ^ (top - f)) 0) field_is
+        ∙ ap (λ (b : Bool). cond b ((wide_bits n % 2 ^ 52 + 2 ^ 52) / 2 ^ 23 / 2 ^ (top - suc (dropped n))) 0) (le-ltb (top - suc (dropped n)) 30 h)
         ∙ sym (div-eq_of_lt (lt_of_lt_of_le under (pow_mono (sum (dropped n) h))))
       where
         sum : (k : ℕ) → 30 ≤ top - suc k → 53 + k ≤ top + 22
         sum k l = omega arith
 
-    pub part-is : part_of (wideBits n) top ≡ n / 2 ^ (top + 22)
+    pub part-is : part_of (wide_bits n) top ≡ n / 2 ^ (top + 22)
     part-is = go (dec_le 30 (top - suc (dropped n)))
       where
-        go : Dec (30 ≤ top - suc (dropped n)) → part_of (wideBits n) top ≡ n / 2 ^ (top + 22)
+        go : Dec (30 ≤ top - suc (dropped n)) → part_of (wide_bits n) top ≡ n / 2 ^ (top + 22)
         go (yes h) = far-part h
         go (no f) = near-part (lt_of_not-le f)
 
@@ -140,7 +140,7 @@ module _ (n : ℕ) (large : 2 ^ 925 ≤ n) where
         sum k l = omega arith
 
 -- ---- any number of units, none too
-pub wide-zero : wideBits 0 ≡ 0
+pub wide-zero : wide_bits 0 ≡ 0
 wide-zero = ap (λ (k : ℕ). (k - 53) * 2 ^ 52 + 0 / 2 ^ (k - 53)) none
   where
     none : size 0 ≡ 0
@@ -153,12 +153,12 @@ above-none N h = le_trans (le_of_eq (sym (one-mul (2 ^ 925)))) (mul-le-mul_right
 pub record Part (N top u : ℕ) : Type 0 where
   pub cut : Cut u N (2 ^ (top + 22)) (2 ^ 925)
   pub under : u < 2 ^ 30
-  pub large : field (wideBits (N * 2 ^ 925)) ≡ top → 0 < N → 2 ^ 29 ≤ u
+  pub large : field (wide_bits (N * 2 ^ 925)) ≡ top → 0 < N → 2 ^ 29 ≤ u
 
 cut_of : (N G : ℕ) → 0 < G → Cut (N * 2 ^ 925 / G) N G (2 ^ 925)
 cut_of N G pos = record { low = div-mul-le_self (N * 2 ^ 925) G; high = le_trans (le_of_lt (lt-div-mul-add pos)) (le_of_eq (sym (add-mul (N * 2 ^ 925 / G) 1 G ∙ ap (λ (x : ℕ). N * 2 ^ 925 / G * G + x) (one-mul G)))) }
 
-pub part-of : (N top : ℕ) → field (wideBits (N * 2 ^ 925)) ≤ top → 30 ≤ top → Part N top (part_of (wideBits (N * 2 ^ 925)) top)
+pub part-of : (N top : ℕ) → field (wide_bits (N * 2 ^ 925)) ≤ top → 30 ≤ top → Part N top (part_of (wide_bits (N * 2 ^ 925)) top)
 part-of zero top h l =
     subst (λ (u : ℕ). Part 0 top u) (sym none)
     (record { cut = record { low = le_of_eq (zero-mul (2 ^ (top + 22)) ∙ sym (zero-mul (2 ^ 925))); high = le_trans (le_of_eq (zero-mul (2 ^ 925))) (omega arith) }; under = lit≤ tt; large = λ e p. absurd (no_less p) })
@@ -166,9 +166,9 @@ part-of zero top h l =
     no_less : 0 < 0 → ⊥
     no_less p = omega arith
 
-    none : part_of (wideBits (0 * 2 ^ 925)) top ≡ 0
+    none : part_of (wide_bits (0 * 2 ^ 925)) top ≡ 0
     none =
-        ap (λ (b : ℕ). part_of b top) (ap wideBits (zero-mul (2 ^ 925)) ∙ wide-zero)
+        ap (λ (b : ℕ). part_of b top) (ap wide_bits (zero-mul (2 ^ 925)) ∙ wide-zero)
         ∙ ap (λ (b : Bool). cond b ((0 % 2 ^ 52 + 2 ^ 52) / 2 ^ 23 / 2 ^ (top - 0)) 0) (le-ltb (top - 0) 30 (omega arith))
 part-of (suc N) top h l =
     let n = suc N * 2 ^ 925 in
@@ -187,7 +187,7 @@ pub record Pair (Y X u v : ℕ) : Type 0 where
   pub run-under : v < 2 ^ 30
   pub large : 2 ^ 29 ≤ u + v
 
-pub field-low : (N : ℕ) → 0 < N → 874 ≤ field (wideBits (N * 2 ^ 925))
+pub field-low : (N : ℕ) → 0 < N → 874 ≤ field (wide_bits (N * 2 ^ 925))
 field-low N h = let a = dropped-low (N * 2 ^ 925) (above-none N h) in let e = field_is (N * 2 ^ 925) (above-none N h) in omega arith
 
 -- the larger field, and whose it is
@@ -212,22 +212,22 @@ top-is a b = go (ltb (field a) (field b))
     go true = inr refl
     go false = inl refl
 
-field-pos : (N : ℕ) → 874 ≤ field (wideBits (N * 2 ^ 925)) → 0 < N
-field-pos zero h = absurd (none (le_trans h (le_of_eq (ap field (ap wideBits (zero-mul (2 ^ 925)) ∙ wide-zero)))))
+field-pos : (N : ℕ) → 874 ≤ field (wide_bits (N * 2 ^ 925)) → 0 < N
+field-pos zero h = absurd (none (le_trans h (le_of_eq (ap field (ap wide_bits (zero-mul (2 ^ 925)) ∙ wide-zero)))))
   where
     none : 874 ≤ 0 → ⊥
     none k = omega arith
 field-pos (suc N) h = omega arith
 
-some-field : (Y X : ℕ) → 0 < Y + X → 874 ≤ top_of (wideBits (Y * 2 ^ 925)) (wideBits (X * 2 ^ 925))
-some-field zero X h = le_trans (field-low X (le_trans h (le_of_eq (zero-add X)))) (top-ge-second (wideBits (0 * 2 ^ 925)) (wideBits (X * 2 ^ 925)))
-some-field (suc Y) X h = le_trans (field-low (suc Y) (omega arith)) (top-ge-first (wideBits (suc Y * 2 ^ 925)) (wideBits (X * 2 ^ 925)))
+some-field : (Y X : ℕ) → 0 < Y + X → 874 ≤ top_of (wide_bits (Y * 2 ^ 925)) (wide_bits (X * 2 ^ 925))
+some-field zero X h = le_trans (field-low X (le_trans h (le_of_eq (zero-add X)))) (top-ge-second (wide_bits (0 * 2 ^ 925)) (wide_bits (X * 2 ^ 925)))
+some-field (suc Y) X h = le_trans (field-low (suc Y) (omega arith)) (top-ge-first (wide_bits (suc Y * 2 ^ 925)) (wide_bits (X * 2 ^ 925)))
 
 pub pair : (Y X : ℕ) → 0 < Y + X
-    → Pair Y X (part_of (wideBits (Y * 2 ^ 925)) (top_of (wideBits (Y * 2 ^ 925)) (wideBits (X * 2 ^ 925)))) (part_of (wideBits (X * 2 ^ 925)) (top_of (wideBits (Y * 2 ^ 925)) (wideBits (X * 2 ^ 925))))
+    → Pair Y X (part_of (wide_bits (Y * 2 ^ 925)) (top_of (wide_bits (Y * 2 ^ 925)) (wide_bits (X * 2 ^ 925)))) (part_of (wide_bits (X * 2 ^ 925)) (top_of (wide_bits (Y * 2 ^ 925)) (wide_bits (X * 2 ^ 925))))
 pair Y X some =
-    let a = wideBits (Y * 2 ^ 925) in
-    let b = wideBits (X * 2 ^ 925) in
+    let a = wide_bits (Y * 2 ^ 925) in
+    let b = wide_bits (X * 2 ^ 925) in
     let top = top_of a b in
     let far = some-field Y X some in
     let p = part-of Y top (top-ge-first a b) (le_trans (lit≤ tt) far) in

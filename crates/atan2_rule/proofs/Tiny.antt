@@ -5,7 +5,7 @@ use native.Mathlib.Nat.{le_trans, le_of_eq, lt_of_not-le, add-le-add, mul-add, a
 use native.Mathlib.Omega.{arith}
 use mathlib.Core.Bool.{true, false}
 use lib.Dec.{lit≤}
-use Rattle.trig_rule.specs.Sums.{factorial, whole, sineSide, cosineSide}
+use Rattle.trig_rule.specs.Sums.{factorial, whole, sine_side, cosine_side}
 use Rattle.trig_rule.proofs.Little.{sine-little, cosine-little}
 use Rattle.atan2_rule.proofs.Pointed.{Kept}
 
@@ -90,11 +90,11 @@ module _ (D e k Y X A w z p m a b : ℕ) (same : D ≡ k * 2 ^ 20) (twice : e + 
 
   -- X is not below Y, and e is small against D
   tiny-forward : Y ≤ X → e + e < D → 0 < X → 0 < w * z → X * m * z + Y * b * w < X * p * z + Y * a * w
-  tiny-forward h small posX posW =
+  tiny-forward h small pos_x pos_w =
       lt_of_not-le (λ (f : X * p * z + Y * a * w ≤ X * m * z + Y * b * w). none (mul-le-mul_left D f))
     where
       strict : (e + e) * (X * (w * z)) < D * (X * (w * z))
-      strict = mul-lt-mul_of_pos_right small (mul-pos posX posW)
+      strict = mul-lt-mul_of_pos_right small (mul-pos pos_x pos_w)
 
       none : D * (X * p * z + Y * a * w) ≤ D * (X * m * z + Y * b * w) → ⊥
       none g =
@@ -117,10 +117,10 @@ tiny-kept Y X A small pos order ra rb =
     let c = cosine-little A small in
     let s = sine-little A small in
     let D = 2 ^ 149 in
-    let p = cosineSide true A D in
-    let m = cosineSide false A D in
-    let a = sineSide true A D in
-    let b = sineSide false A D in
+    let p = cosine_side true A D in
+    let m = cosine_side false A D in
+    let a = sine_side true A D in
+    let b = sine_side false A D in
     let w = whole 30 D in
     let z = whole 31 D in
     record {

@@ -10,7 +10,7 @@ use lib.IntN.{ℤ, pos, negsuc}
 use lib.Ieee.{Float, nan, inf, fin, up, down, binary32, fits, to_bits}
 use lib.Ieee.Fits.{down_pos}
 use lib.Ieee.Scale.{finite}
-use Rattle.floats.specs.Patterns.{wideInfinityBits}
+use Rattle.floats.specs.Patterns.{wide_infinity_bits}
 use Rattle.floats.proofs.Held.{fits-bounds}
 use borrow.Author.Tests.{lt-ltb}
 use Rattle.trig_rule.specs.Rule.{Is}
@@ -54,11 +54,11 @@ whole (fin s (suc m) e) f t =
     record { minus = s; units = w.0; is = (refl, w.1); small = few-units (suc m * up e) (down e) w.0 (down_pos e) b.2 w.1 }
 
 -- ---- what is not finite has the bits of an infinity, or more
-pub bits-finite : (x : Float) → T (fits binary32 x) → ltb (plain x) wideInfinityBits ≡ finite x
+pub bits-finite : (x : Float) → T (fits binary32 x) → ltb (plain x) wide_infinity_bits ≡ finite x
 unfolding to_bits
 bits-finite nan f = refl
 bits-finite (inf true) f = refl
 bits-finite (inf false) f = refl
 bits-finite (fin s m e) f =
     let w = whole (fin s m e) f tt in
-    lt-ltb (plain (fin s m e)) wideInfinityBits (lt_of_le_of_lt (le_of_eq (plain-is (fin s m e) w.minus w.units w.is w.small)) (lt_of_lt_of_le (wide-lt w.units w.small) (lit≤ tt)))
+    lt-ltb (plain (fin s m e)) wide_infinity_bits (lt_of_le_of_lt (le_of_eq (plain-is (fin s m e) w.minus w.units w.is w.small)) (lt_of_lt_of_le (wide-lt w.units w.small) (lit≤ tt)))

@@ -5,15 +5,15 @@ use lib.Ieee.{Float}
 use Rattle.answers.specs.declared.refusals.Refusal.TheVariants.{BadPath}
 use Rattle.math.specs.declared.points.Point.{Point}
 use Rattle.table.specs.declared.tables.Table.{Table}
-use Rattle.table.specs.Sound.{tableIsSound}
+use Rattle.table.specs.Sound.{table_is_sound}
 use Rattle.flight.specs.declared.single.Placed.{Placed}
 use Rattle.flight.specs.declared.single.Placed.TheVariants as Placed
 use Rattle.flight.specs.declared.single.Turned.{Turned}
 use Rattle.flight.specs.declared.single.Turned.TheVariants as Turned
-use Rattle.bezier.specs.Curves.{isNothing, secondTry, placed_of, turnedOf}
+use Rattle.bezier.specs.Curves.{is_nothing, second_try, placed_of, turned_of}
 
 -- ---- the table's test, by its result b
-module _ (table : Table) (p : Point) (b : Bool) (tested : b ≡ tableIsSound table.entries table.total) where
+module _ (table : Table) (p : Point) (b : Bool) (tested : b ≡ table_is_sound table.entries table.total) where
   pub placed_at : b ≡ true → Placed.At p ≡ placed_of table p
   unfolding placed_of
   placed_at h = rw (← tested, h)
@@ -22,21 +22,21 @@ module _ (table : Table) (p : Point) (b : Bool) (tested : b ≡ tableIsSound tab
   unfolding placed_of
   placed-refused h = rw (← tested, h)
 
-module _ (table : Table) (degrees : Float) (b : Bool) (tested : b ≡ tableIsSound table.entries table.total) where
-  pub turned_by : b ≡ true → Turned.Degrees degrees ≡ turnedOf table degrees
-  unfolding turnedOf
+module _ (table : Table) (degrees : Float) (b : Bool) (tested : b ≡ table_is_sound table.entries table.total) where
+  pub turned_by : b ≡ true → Turned.Degrees degrees ≡ turned_of table degrees
+  unfolding turned_of
   turned_by h = rw (← tested, h)
 
-  pub turned-refused : b ≡ false → Turned.Refused BadPath ≡ turnedOf table degrees
-  unfolding turnedOf
+  pub turned-refused : b ≡ false → Turned.Refused BadPath ≡ turned_of table degrees
+  unfolding turned_of
   turned-refused h = rw (← tested, h)
 
 -- ---- the direction's test, by its result b
-module _ (first second : Point) (b : Bool) (tested : b ≡ isNothing first) where
-  pub tried-first : b ≡ false → first ≡ secondTry first second
-  unfolding secondTry
+module _ (first second : Point) (b : Bool) (tested : b ≡ is_nothing first) where
+  pub tried-first : b ≡ false → first ≡ second_try first second
+  unfolding second_try
   tried-first h = rw (← tested, h)
 
-  pub tried-second : b ≡ true → second ≡ secondTry first second
-  unfolding secondTry
+  pub tried-second : b ≡ true → second ≡ second_try first second
+  unfolding second_try
   tried-second h = rw (← tested, h)

@@ -11,19 +11,19 @@ use lib.Ieee.{Float}
 use lib.Ieee.Scale.{finite}
 use Rattle.answers.specs.declared.refusals.Refusal.TheVariants.{NotFinite}
 use Rattle.math.specs.declared.points.Point.{Point}
-use Rattle.table.specs.Lookup.{last_of, rawOf}
+use Rattle.table.specs.Lookup.{last_of, raw_of}
 use Rattle.table_order.specs.Stated.{F32Table}
 use Rattle.table_order.specs.Swept.{Steady}
 use Rattle.table_order.proofs.Swept.{steady}
-use Rattle.table_samples.specs.Samples.{total_of, lengthsOf, table_of}
+use Rattle.table_samples.specs.Samples.{total_of, lengths_of, table_of}
 use Rattle.table_samples.proofs.Made.{made-sound, made-fits, made-total-fits, made-count}
 use Rattle.flight.specs.declared.single.Verdict.{Verdict}
 use Rattle.flight.specs.declared.single.Verdict.TheVariants as Verdict
 use Rattle.bezier.specs.declared.quads.QuadBezier.{QuadBezier}
 use Rattle.bezier.specs.declared.cubics.CubicBezierCurve.{CubicBezierCurve}
-use Rattle.bezier.specs.Curves.{verdictOf}
-use Rattle.bezier.specs.Quads.{quadSampleOf, quadOf, madeQuadOf, quadRaw, quadPositionOf}
-use Rattle.bezier.specs.Cubics.{cubicSampleOf, cubicOf, madeCubicOf, cubicRaw, cubicPositionOf}
+use Rattle.bezier.specs.Curves.{verdict_of}
+use Rattle.bezier.specs.Quads.{quad_sample_of, quad_of, made_quad_of, quad_raw, quad_position_of}
+use Rattle.bezier.specs.Cubics.{cubic_sample_of, cubic_of, made_cubic_of, cubic_raw, cubic_position_of}
 
 -- ---- a made table
 abbrev pub Made : (Float → Point) → Type 0
@@ -35,21 +35,21 @@ few n e = omega arith
 made_table : (formula : Float → Point) → T (finite (total_of formula 31)) → Made formula
 unfolding table_of
 made_table formula h = record {
-  table = record { sound = made-sound formula 31 h; counted = few (length (lengthsOf formula 31)) (made-count formula 31) };
+  table = record { sound = made-sound formula 31 h; counted = few (length (lengths_of formula 31)) (made-count formula 31) };
   values = made-fits formula 31;
   total-value = made-total-fits formula 31;
 }
 
 -- a curve is accepted exactly where its total is finite
-accepted-finite : (total : Float) → verdictOf total ≡ Verdict.Accepted → T (finite total)
-unfolding verdictOf
+accepted-finite : (total : Float) → verdict_of total ≡ Verdict.Accepted → T (finite total)
+unfolding verdict_of
 accepted-finite total = go (finite total)
   where
     go : (b : Bool) → cond b Verdict.Accepted (Verdict.Refused (NotFinite 0)) ≡ Verdict.Accepted → T b
     go true e = tt
     go false e = let z : ◌≡◌ {A = ℕ} 0 1 = cc in absurd (omega arith)
 
-pub accepted-table : (formula : Float → Point) → verdictOf (table_of formula).total ≡ Verdict.Accepted → Made formula
+pub accepted-table : (formula : Float → Point) → verdict_of (table_of formula).total ≡ Verdict.Accepted → Made formula
 accepted-table formula e = made_table formula (unfold table_of in accepted-finite (table_of formula).total e)
 
 -- sample i is taken at i/31: the last entry of a made table is number 31
@@ -57,35 +57,35 @@ pub made-last : (formula : Float → Point) → last_of (table_of formula).entri
 unfolding table_of
 made-last formula = let h = made-count formula 31 in omega arith
 
-pub accepted-steady : (formula : Float → Point) → verdictOf (table_of formula).total ≡ Verdict.Accepted
-    → let table = table_of formula in Steady 31 table.entries table.total (rawOf table.entries table.total)
+pub accepted-steady : (formula : Float → Point) → verdict_of (table_of formula).total ≡ Verdict.Accepted
+    → let table = table_of formula in Steady 31 table.entries table.total (raw_of table.entries table.total)
 accepted-steady formula e =
     let table = table_of formula in
-    subst (λ (n : ℕ). Steady n table.entries table.total (rawOf table.entries table.total)) (made-last formula) (steady (accepted-table formula e))
+    subst (λ (n : ℕ). Steady n table.entries table.total (raw_of table.entries table.total)) (made-last formula) (steady (accepted-table formula e))
 
 -- ---- quads and cubics, stored and made
 pub quad-steady : (curve : QuadBezier) → F32Table curve.table.entries curve.table.total
-    → Steady (last_of curve.table.entries) curve.table.entries curve.table.total (quadRaw curve)
+    → Steady (last_of curve.table.entries) curve.table.entries curve.table.total (quad_raw curve)
 quad-steady curve f = steady f
 
-pub quad-at-raw : (curve : QuadBezier) (p : Float) → quadPositionOf curve p ≡ quadSampleOf curve.start curve.control curve.end (quadRaw curve p)
-unfolding quadPositionOf
+pub quad-at-raw : (curve : QuadBezier) (p : Float) → quad_position_of curve p ≡ quad_sample_of curve.start curve.control curve.end (quad_raw curve p)
+unfolding quad_position_of
 quad-at-raw curve p = refl
 
-pub made-quad-steady : (start control end : Point) → (madeQuadOf start control end).verdict ≡ Verdict.Accepted
-    → let curve = (madeQuadOf start control end).curve in Steady 31 curve.table.entries curve.table.total (quadRaw curve)
-unfolding madeQuadOf quadOf
-made-quad-steady start control end e = accepted-steady (quadSampleOf start control end) e
+pub made-quad-steady : (start control end : Point) → (made_quad_of start control end).verdict ≡ Verdict.Accepted
+    → let curve = (made_quad_of start control end).curve in Steady 31 curve.table.entries curve.table.total (quad_raw curve)
+unfolding made_quad_of quad_of
+made-quad-steady start control end e = accepted-steady (quad_sample_of start control end) e
 
 pub cubic-steady : (curve : CubicBezierCurve) → F32Table curve.table.entries curve.table.total
-    → Steady (last_of curve.table.entries) curve.table.entries curve.table.total (cubicRaw curve)
+    → Steady (last_of curve.table.entries) curve.table.entries curve.table.total (cubic_raw curve)
 cubic-steady curve f = steady f
 
-pub cubic-at-raw : (curve : CubicBezierCurve) (p : Float) → cubicPositionOf curve p ≡ cubicSampleOf curve.start curve.control1 curve.control2 curve.end (cubicRaw curve p)
-unfolding cubicPositionOf
+pub cubic-at-raw : (curve : CubicBezierCurve) (p : Float) → cubic_position_of curve p ≡ cubic_sample_of curve.start curve.control1 curve.control2 curve.end (cubic_raw curve p)
+unfolding cubic_position_of
 cubic-at-raw curve p = refl
 
-pub made-cubic-steady : (start control1 control2 end : Point) → (madeCubicOf start control1 control2 end).verdict ≡ Verdict.Accepted
-    → let curve = (madeCubicOf start control1 control2 end).curve in Steady 31 curve.table.entries curve.table.total (cubicRaw curve)
-unfolding madeCubicOf cubicOf
-made-cubic-steady start control1 control2 end e = accepted-steady (cubicSampleOf start control1 control2 end) e
+pub made-cubic-steady : (start control1 control2 end : Point) → (made_cubic_of start control1 control2 end).verdict ≡ Verdict.Accepted
+    → let curve = (made_cubic_of start control1 control2 end).curve in Steady 31 curve.table.entries curve.table.total (cubic_raw curve)
+unfolding made_cubic_of cubic_of
+made-cubic-steady start control1 control2 end e = accepted-steady (cubic_sample_of start control1 control2 end) e

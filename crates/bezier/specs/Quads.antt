@@ -2,77 +2,77 @@
 use Rattle.std.specs.Prelude.{Float}
 use Rattle.std.specs.Float.{binary32}
 use Rattle.std.specs.Float.Ieee.{of_bits, sub, mul}
-use Rattle.floats.specs.Floats.{oneF, clamp01Of}
+use Rattle.floats.specs.Floats.{one_f, clamp01_of}
 use Rattle.math.specs.declared.points.Point.{Point}
-use Rattle.math.specs.Math.{addOf, subOf, scale_of, normalizeOf, lerpPointOf}
-use Rattle.table.specs.Lookup.{rawOf}
+use Rattle.math.specs.Math.{add_of, sub_of, scale_of, normalize_of, lerp_point_of}
+use Rattle.table.specs.Lookup.{raw_of}
 use Rattle.table_samples.specs.Samples.{table_of}
-use Rattle.angles.specs.Angles.{rotationDegOf}
+use Rattle.angles.specs.Angles.{rotation_deg_of}
 use Rattle.flight.specs.declared.single.Placed.{Placed}
 use Rattle.flight.specs.declared.single.Turned.{Turned}
 use Rattle.bezier.specs.declared.quads.MadeQuad.{MadeQuad}
 use Rattle.bezier.specs.declared.quads.QuadBezier.{QuadBezier}
-use Rattle.bezier.specs.Curves.{verdictOf, ahead_of, secondTry, placed_of, turnedOf}
+use Rattle.bezier.specs.Curves.{verdict_of, ahead_of, second_try, placed_of, turned_of}
 
 -- 2
-unfoldable pub twoF : Float
-twoF = of_bits binary32 0x4000_0000
+unfoldable pub two_f : Float
+two_f = of_bits binary32 0x4000_0000
 
 -- `sample` at an already clamped t: between the two points at t of the legs
-abbrev pub quadAt : Point → Point → Point → Float → Point
-quadAt start control end t = lerpPointOf (lerpPointOf start control t) (lerpPointOf control end t) t
+abbrev pub quad_at : Point → Point → Point → Float → Point
+quad_at start control end t = lerp_point_of (lerp_point_of start control t) (lerp_point_of control end t) t
 
 -- `sample`, which clamps what it is given
-unfoldable pub quadSampleOf : Point → Point → Point → Float → Point
-quadSampleOf start control end raw = quadAt start control end (clamp01Of raw)
+unfoldable pub quad_sample_of : Point → Point → Point → Float → Point
+quad_sample_of start control end raw = quad_at start control end (clamp01_of raw)
 
 -- `derivative`: `2.0 * (1.0 - raw_t)` times the first leg, plus `2.0 * raw_t` times the second
-unfoldable pub quadDerivativeOf : Point → Point → Point → Float → Point
-quadDerivativeOf start control end raw =
-    addOf (scale_of (subOf control start) (mul binary32 twoF (sub binary32 oneF raw))) (scale_of (subOf end control) (mul binary32 twoF raw))
+unfoldable pub quad_derivative_of : Point → Point → Point → Float → Point
+quad_derivative_of start control end raw =
+    add_of (scale_of (sub_of control start) (mul binary32 two_f (sub binary32 one_f raw))) (scale_of (sub_of end control) (mul binary32 two_f raw))
 
 -- `new`: the table holds the running lengths of the samples
-unfoldable pub quadOf : Point → Point → Point → QuadBezier
-quadOf start control end = record { start = start; control = control; end = end; table = table_of (quadSampleOf start control end) }
+unfoldable pub quad_of : Point → Point → Point → QuadBezier
+quad_of start control end = record { start = start; control = control; end = end; table = table_of (quad_sample_of start control end) }
 
-unfoldable pub madeQuadOf : Point → Point → Point → MadeQuad
-unfolding quadOf
-madeQuadOf start control end = record { verdict = verdictOf (table_of (quadSampleOf start control end)).total; curve = quadOf start control end }
+unfoldable pub made_quad_of : Point → Point → Point → MadeQuad
+unfolding quad_of
+made_quad_of start control end = record { verdict = verdict_of (table_of (quad_sample_of start control end)).total; curve = quad_of start control end }
 
 -- the raw parameter of a progress along the curve
-abbrev pub quadRaw : QuadBezier → Float → Float
-quadRaw curve progress = rawOf curve.table.entries curve.table.total progress
+abbrev pub quad_raw : QuadBezier → Float → Float
+quad_raw curve progress = raw_of curve.table.entries curve.table.total progress
 
 -- `position`
-unfoldable pub quadPositionOf : QuadBezier → Float → Point
-unfolding quadSampleOf
-quadPositionOf curve progress = quadSampleOf curve.start curve.control curve.end (quadRaw curve progress)
+unfoldable pub quad_position_of : QuadBezier → Float → Point
+unfolding quad_sample_of
+quad_position_of curve progress = quad_sample_of curve.start curve.control curve.end (quad_raw curve progress)
 
 -- the direction at a raw parameter: the derivative's, or where that is (0, 0), the one from the sample there to the sample further on
-unfoldable pub quadDirection : Point → Point → Point → Float → Float → Point
-quadDirection start control end raw further =
-    secondTry (normalizeOf (quadDerivativeOf start control end raw)) (normalizeOf (subOf (quadSampleOf start control end further) (quadSampleOf start control end raw)))
+unfoldable pub quad_direction : Point → Point → Point → Float → Float → Point
+quad_direction start control end raw further =
+    second_try (normalize_of (quad_derivative_of start control end raw)) (normalize_of (sub_of (quad_sample_of start control end further) (quad_sample_of start control end raw)))
 
 -- `tangent` at the raw parameter of a progress: the second try is made from the progress as it was given
-unfoldable pub quadTangentAt : QuadBezier → Float → Float → Point
-unfolding quadDirection
-quadTangentAt curve raw progress = quadDirection curve.start curve.control curve.end raw (quadRaw curve (ahead_of progress))
+unfoldable pub quad_tangent_at : QuadBezier → Float → Float → Point
+unfolding quad_direction
+quad_tangent_at curve raw progress = quad_direction curve.start curve.control curve.end raw (quad_raw curve (ahead_of progress))
 
 -- `tangent`
-unfoldable pub quadTangentOf : QuadBezier → Float → Point
-unfolding quadTangentAt
-quadTangentOf curve progress = quadTangentAt curve (quadRaw curve progress) progress
+unfoldable pub quad_tangent_of : QuadBezier → Float → Point
+unfolding quad_tangent_at
+quad_tangent_of curve progress = quad_tangent_at curve (quad_raw curve progress) progress
 
 -- the two as answers
-unfoldable pub quadPlacedOf : QuadBezier → Float → Placed
-unfolding quadPositionOf
-quadPlacedOf curve progress = placed_of curve.table (quadPositionOf curve progress)
+unfoldable pub quad_placed_of : QuadBezier → Float → Placed
+unfolding quad_position_of
+quad_placed_of curve progress = placed_of curve.table (quad_position_of curve progress)
 
-unfoldable pub quadHeadingOf : QuadBezier → Float → Placed
-unfolding quadTangentOf
-quadHeadingOf curve progress = placed_of curve.table (quadTangentOf curve progress)
+unfoldable pub quad_heading_of : QuadBezier → Float → Placed
+unfolding quad_tangent_of
+quad_heading_of curve progress = placed_of curve.table (quad_tangent_of curve progress)
 
 -- `rotation_deg` of the tangent
-unfoldable pub quadTurnedOf : QuadBezier → Float → Turned
-unfolding quadTangentOf
-quadTurnedOf curve progress = turnedOf curve.table (rotationDegOf (quadTangentOf curve progress))
+unfoldable pub quad_turned_of : QuadBezier → Float → Turned
+unfolding quad_tangent_of
+quad_turned_of curve progress = turned_of curve.table (rotation_deg_of (quad_tangent_of curve progress))

@@ -1,7 +1,7 @@
 // A curve of third degree.
 ghost use Rattle.std.specs.Prelude.{◌≡◌};
 ghost use Rattle.table_samples.specs.Samples.{steps_of, table_of};
-ghost use Rattle.bezier.specs.Cubics.{cubicSampleOf, cubicDerivativeOf, madeCubicOf, cubicPlacedOf, cubicHeadingOf, cubicTurnedOf};
+ghost use Rattle.bezier.specs.Cubics.{cubic_sample_of, cubic_derivative_of, made_cubic_of, cubic_placed_of, cubic_heading_of, cubic_turned_of};
 
 use crate::curves::verdict_of;
 use crate::inner;
@@ -32,7 +32,7 @@ pub fn cubic_sample(
     end: Point,
     raw: RawParameter,
 ) -> Point
-    ensures { result ≡ cubicSampleOf start control1 control2 end raw.value }
+    ensures { result ≡ cubic_sample_of start control1 control2 end raw.value }
 {
     let t = clamp01(number_of(raw));
     let a = lerp_point(start, control1, t);
@@ -51,7 +51,7 @@ pub fn cubic_derivative(
     end: Point,
     raw: RawParameter,
 ) -> Point
-    ensures { result ≡ cubicDerivativeOf start control1 control2 end raw.value }
+    ensures { result ≡ cubic_derivative_of start control1 control2 end raw.value }
 {
     let t = number_of(raw);
     let left = 1.0 - t;
@@ -63,7 +63,7 @@ pub fn cubic_derivative(
 
 // The distances from each of the 32 samples to the next.
 fn cubic_steps(start: Point, control1: Point, control2: Point, end: Point) -> [f32; 31]
-    ensures { result ≡ steps_of (cubicSampleOf start control1 control2 end) 31 }
+    ensures { result ≡ steps_of (cubic_sample_of start control1 control2 end) 31 }
 {
     let x = cubic_differences(start.x, control1.x, control2.x, end.x);
     let y = cubic_differences(start.y, control1.y, control2.y, end.y);
@@ -74,7 +74,7 @@ fn cubic_steps(start: Point, control1: Point, control2: Point, end: Point) -> [f
 
 // The table of the curve.
 pub fn cubic_table(start: Point, control1: Point, control2: Point, end: Point) -> Table
-    ensures { result ≡ table_of (cubicSampleOf start control1 control2 end) }
+    ensures { result ≡ table_of (cubic_sample_of start control1 control2 end) }
 {
     table_of(cubic_steps(start, control1, control2, end))
 }
@@ -88,7 +88,7 @@ pub struct MadeCubic {
 
 // A cubic with its table. A length that is infinite or a NaN is refused; a lone segment is segment 0.
 pub fn cubic(start: Point, control1: Point, control2: Point, end: Point) -> MadeCubic
-    ensures { result ≡ madeCubicOf start control1 control2 end }
+    ensures { result ≡ made_cubic_of start control1 control2 end }
 {
     let table = cubic_table(start, control1, control2, end);
     let verdict = verdict_of(table.total);
@@ -104,7 +104,7 @@ pub fn cubic(start: Point, control1: Point, control2: Point, end: Point) -> Made
 
 // Where a cubic is at a progress. A table that is not sound is refused.
 pub fn cubic_position(curve: CubicBezierCurve, progress: Progress) -> Placed
-    ensures { result ≡ cubicPlacedOf curve progress.value }
+    ensures { result ≡ cubic_placed_of curve progress.value }
 {
     let table = curve.table;
     if table_is_sound(table) {
@@ -115,7 +115,7 @@ pub fn cubic_position(curve: CubicBezierCurve, progress: Progress) -> Placed
 
 // Where a cubic heads at a progress, with the length 1, or (0, 0) where nothing tells. A table that is not sound is refused.
 pub fn cubic_tangent(curve: CubicBezierCurve, progress: Progress) -> Placed
-    ensures { result ≡ cubicHeadingOf curve progress.value }
+    ensures { result ≡ cubic_heading_of curve progress.value }
 {
     let table = curve.table;
     if table_is_sound(table) {
@@ -127,7 +127,7 @@ pub fn cubic_tangent(curve: CubicBezierCurve, progress: Progress) -> Placed
 // Where a cubic heads at a progress, in degrees from the x axis towards the y axis, or 0 where nothing tells. A table that is not
 // sound is refused.
 pub fn cubic_rotation_deg(curve: CubicBezierCurve, progress: Progress) -> Turned
-    ensures { result ≡ cubicTurnedOf curve progress.value }
+    ensures { result ≡ cubic_turned_of curve progress.value }
 {
     let table = curve.table;
     if table_is_sound(table) {

@@ -1,6 +1,6 @@
 // What quads and cubics share: the verdict on a curve, and the second try at a direction.
 ghost use Rattle.std.specs.Prelude.{◌≡◌};
-ghost use Rattle.bezier.specs.Curves.{ahead_of, isNothing, verdictOf};
+ghost use Rattle.bezier.specs.Curves.{ahead_of, is_nothing, verdict_of};
 
 use answers::Refusal;
 use flight::Verdict;
@@ -10,7 +10,7 @@ use table::Progress;
 
 // Whether p is (0, 0), of either sign.
 pub fn is_nothing(p: Point) -> bool
-    ensures { result ≡ isNothing p }
+    ensures { result ≡ is_nothing p }
 {
     if p.x == 0.0 {
         return p.y == 0.0;
@@ -29,7 +29,7 @@ pub fn ahead(progress: Progress) -> Progress
 
 // What a lone curve of this total answers: it is segment 0. Only a finite number less itself is 0.
 pub fn verdict_of(total: f32) -> Verdict
-    ensures { result ≡ verdictOf total }
+    ensures { result ≡ verdict_of total }
 {
     if total - total == 0.0 {
         return Verdict::Accepted;

@@ -1,11 +1,11 @@
 // The directions of quads and cubics at a raw parameter, with the length 1, over the table that is lent: of a lone curve its own, of a
 // stored path a part of the tables.
 ghost use Rattle.std.specs.Prelude.{◌≡◌};
-ghost use Rattle.table.specs.Lookup.{rawOf};
+ghost use Rattle.table.specs.Lookup.{raw_of};
 ghost use Rattle.table.specs.Sound.{SoundTable};
 ghost use Rattle.bezier.specs.Curves.{ahead_of};
-ghost use Rattle.bezier.specs.Cubics.{cubicDirection};
-ghost use Rattle.bezier.specs.Quads.{quadDirection};
+ghost use Rattle.bezier.specs.Cubics.{cubic_direction};
+ghost use Rattle.bezier.specs.Quads.{quad_direction};
 
 use crate::cubics::{cubic_derivative, cubic_sample};
 use crate::curves::{ahead, is_nothing};
@@ -26,7 +26,7 @@ pub fn quad_direction(
     progress: Progress,
 ) -> Point
     requires { SoundTable entries.now total }
-    ensures { result ≡ quadDirection start control end raw.value (rawOf entries.now total (ahead_of progress.value)) }
+    ensures { result ≡ quad_direction start control end raw.value (raw_of entries.now total (ahead_of progress.value)) }
 {
     let first = normalize(quad_derivative(start, control, end, raw));
     if is_nothing(first) {
@@ -50,7 +50,7 @@ pub fn cubic_direction(
     progress: Progress,
 ) -> Point
     requires { SoundTable entries.now total }
-    ensures { result ≡ cubicDirection start control1 control2 end raw.value (rawOf entries.now total (ahead_of progress.value)) }
+    ensures { result ≡ cubic_direction start control1 control2 end raw.value (raw_of entries.now total (ahead_of progress.value)) }
 {
     let first = normalize(cubic_derivative(start, control1, control2, end, raw));
     if is_nothing(first) {

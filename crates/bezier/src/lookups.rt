@@ -1,8 +1,8 @@
 // The queries without their tests, for callers that know the table to be sound.
 ghost use Rattle.std.specs.Prelude.{◌≡◌, T};
-ghost use Rattle.table.specs.Sound.{tableIsSound};
-ghost use Rattle.bezier.specs.Cubics.{cubicPositionOf, cubicTangentAt, cubicTangentOf};
-ghost use Rattle.bezier.specs.Quads.{quadPositionOf, quadTangentAt, quadTangentOf};
+ghost use Rattle.table.specs.Sound.{table_is_sound};
+ghost use Rattle.bezier.specs.Cubics.{cubic_position_of, cubic_tangent_at, cubic_tangent_of};
+ghost use Rattle.bezier.specs.Quads.{quad_position_of, quad_tangent_at, quad_tangent_of};
 
 use crate::cubics::{CubicBezierCurve, cubic_sample};
 use crate::directions::{cubic_direction, quad_direction};
@@ -13,8 +13,8 @@ use table::{Progress, RawParameter};
 
 // Where a quad is at a progress.
 pub fn quad_position(curve: QuadBezier, progress: Progress) -> Point
-    requires { T (tableIsSound curve.table.entries curve.table.total) }
-    ensures { result ≡ quadPositionOf curve progress.value }
+    requires { T (table_is_sound curve.table.entries curve.table.total) }
+    ensures { result ≡ quad_position_of curve progress.value }
 {
     let table = curve.table;
     let raw = raw_parameter(table, progress);
@@ -23,8 +23,8 @@ pub fn quad_position(curve: QuadBezier, progress: Progress) -> Point
 
 // Where a quad heads at the raw parameter of a progress.
 pub fn quad_tangent_at(curve: QuadBezier, raw: RawParameter, progress: Progress) -> Point
-    requires { T (tableIsSound curve.table.entries curve.table.total) }
-    ensures { result ≡ quadTangentAt curve raw.value progress.value }
+    requires { T (table_is_sound curve.table.entries curve.table.total) }
+    ensures { result ≡ quad_tangent_at curve raw.value progress.value }
 {
     let table = curve.table;
     let total = table.total;
@@ -41,8 +41,8 @@ pub fn quad_tangent_at(curve: QuadBezier, raw: RawParameter, progress: Progress)
 
 // Where a quad heads at a progress.
 pub fn quad_tangent(curve: QuadBezier, progress: Progress) -> Point
-    requires { T (tableIsSound curve.table.entries curve.table.total) }
-    ensures { result ≡ quadTangentOf curve progress.value }
+    requires { T (table_is_sound curve.table.entries curve.table.total) }
+    ensures { result ≡ quad_tangent_of curve progress.value }
 {
     let table = curve.table;
     quad_tangent_at(curve, raw_parameter(table, progress), progress)
@@ -50,8 +50,8 @@ pub fn quad_tangent(curve: QuadBezier, progress: Progress) -> Point
 
 // Where a cubic is at a progress.
 pub fn cubic_position(curve: CubicBezierCurve, progress: Progress) -> Point
-    requires { T (tableIsSound curve.table.entries curve.table.total) }
-    ensures { result ≡ cubicPositionOf curve progress.value }
+    requires { T (table_is_sound curve.table.entries curve.table.total) }
+    ensures { result ≡ cubic_position_of curve progress.value }
 {
     let table = curve.table;
     let raw = raw_parameter(table, progress);
@@ -60,8 +60,8 @@ pub fn cubic_position(curve: CubicBezierCurve, progress: Progress) -> Point
 
 // Where a cubic heads at the raw parameter of a progress.
 pub fn cubic_tangent_at(curve: CubicBezierCurve, raw: RawParameter, progress: Progress) -> Point
-    requires { T (tableIsSound curve.table.entries curve.table.total) }
-    ensures { result ≡ cubicTangentAt curve raw.value progress.value }
+    requires { T (table_is_sound curve.table.entries curve.table.total) }
+    ensures { result ≡ cubic_tangent_at curve raw.value progress.value }
 {
     let table = curve.table;
     let total = table.total;
@@ -79,8 +79,8 @@ pub fn cubic_tangent_at(curve: CubicBezierCurve, raw: RawParameter, progress: Pr
 
 // Where a cubic heads at a progress.
 pub fn cubic_tangent(curve: CubicBezierCurve, progress: Progress) -> Point
-    requires { T (tableIsSound curve.table.entries curve.table.total) }
-    ensures { result ≡ cubicTangentOf curve progress.value }
+    requires { T (table_is_sound curve.table.entries curve.table.total) }
+    ensures { result ≡ cubic_tangent_of curve progress.value }
 {
     let table = curve.table;
     cubic_tangent_at(curve, raw_parameter(table, progress), progress)

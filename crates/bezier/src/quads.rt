@@ -1,7 +1,7 @@
 // A curve of second degree.
 ghost use Rattle.std.specs.Prelude.{◌≡◌};
 ghost use Rattle.table_samples.specs.Samples.{steps_of, table_of};
-ghost use Rattle.bezier.specs.Quads.{quadSampleOf, quadDerivativeOf, madeQuadOf, quadPlacedOf, quadHeadingOf, quadTurnedOf};
+ghost use Rattle.bezier.specs.Quads.{quad_sample_of, quad_derivative_of, made_quad_of, quad_placed_of, quad_heading_of, quad_turned_of};
 
 use crate::curves::verdict_of;
 use crate::inner;
@@ -25,7 +25,7 @@ pub struct QuadBezier {
 
 // The point at a raw parameter, by three interpolations.
 pub fn quad_sample(start: Point, control: Point, end: Point, raw: RawParameter) -> Point
-    ensures { result ≡ quadSampleOf start control end raw.value }
+    ensures { result ≡ quad_sample_of start control end raw.value }
 {
     let t = clamp01(number_of(raw));
     let a = lerp_point(start, control, t);
@@ -35,7 +35,7 @@ pub fn quad_sample(start: Point, control: Point, end: Point, raw: RawParameter) 
 
 // The direction and speed at a raw parameter.
 pub fn quad_derivative(start: Point, control: Point, end: Point, raw: RawParameter) -> Point
-    ensures { result ≡ quadDerivativeOf start control end raw.value }
+    ensures { result ≡ quad_derivative_of start control end raw.value }
 {
     let t = number_of(raw);
     let a = scale(sub(control, start), 2.0 * (1.0 - t));
@@ -46,7 +46,7 @@ pub fn quad_derivative(start: Point, control: Point, end: Point, raw: RawParamet
 // The distances from each of the 32 samples to the next. Both rows of differences are worked out in one loop, each sample's place for
 // both at once; the last place of a row leaves no rest in lanes, and nothing reads it.
 fn quad_steps(start: Point, control: Point, end: Point) -> [f32; 31]
-    ensures { result ≡ steps_of (quadSampleOf start control end) 31 }
+    ensures { result ≡ steps_of (quad_sample_of start control end) 31 }
 {
     let mut x = [0.0f32; 32];
     let mut y = [0.0f32; 32];
@@ -67,7 +67,7 @@ fn quad_steps(start: Point, control: Point, end: Point) -> [f32; 31]
 
 // The table of the curve.
 pub fn quad_table(start: Point, control: Point, end: Point) -> Table
-    ensures { result ≡ table_of (quadSampleOf start control end) }
+    ensures { result ≡ table_of (quad_sample_of start control end) }
 {
     table_of(quad_steps(start, control, end))
 }
@@ -81,7 +81,7 @@ pub struct MadeQuad {
 
 // A quad with its table. A length that is infinite or a NaN is refused; a lone segment is segment 0.
 pub fn quad(start: Point, control: Point, end: Point) -> MadeQuad
-    ensures { result ≡ madeQuadOf start control end }
+    ensures { result ≡ made_quad_of start control end }
 {
     let table = quad_table(start, control, end);
     let verdict = verdict_of(table.total);
@@ -96,7 +96,7 @@ pub fn quad(start: Point, control: Point, end: Point) -> MadeQuad
 
 // Where a quad is at a progress. A table that is not sound is refused.
 pub fn quad_position(curve: QuadBezier, progress: Progress) -> Placed
-    ensures { result ≡ quadPlacedOf curve progress.value }
+    ensures { result ≡ quad_placed_of curve progress.value }
 {
     let table = curve.table;
     if table_is_sound(table) {
@@ -107,7 +107,7 @@ pub fn quad_position(curve: QuadBezier, progress: Progress) -> Placed
 
 // Where a quad heads at a progress, with the length 1, or (0, 0) where nothing tells. A table that is not sound is refused.
 pub fn quad_tangent(curve: QuadBezier, progress: Progress) -> Placed
-    ensures { result ≡ quadHeadingOf curve progress.value }
+    ensures { result ≡ quad_heading_of curve progress.value }
 {
     let table = curve.table;
     if table_is_sound(table) {
@@ -119,7 +119,7 @@ pub fn quad_tangent(curve: QuadBezier, progress: Progress) -> Placed
 // Where a quad heads at a progress, in degrees from the x axis towards the y axis, or 0 where nothing tells. A table that is not
 // sound is refused.
 pub fn quad_rotation_deg(curve: QuadBezier, progress: Progress) -> Turned
-    ensures { result ≡ quadTurnedOf curve progress.value }
+    ensures { result ≡ quad_turned_of curve progress.value }
 {
     let table = curve.table;
     if table_is_sound(table) {

@@ -1,7 +1,7 @@
 // One coordinate of a curve's samples, and a cubic's row of its differences from each sample to the next. No step of a row waits for
 // another and none branches, so that the compiler works out several at once.
 ghost use Rattle.std.specs.Prelude.{◌≡◌, ◌≤◌};
-ghost use Rattle.bezier.specs.Rows.{quadCoordinate, cubicCoordinate, sampleMark, DifferencesOf};
+ghost use Rattle.bezier.specs.Rows.{quad_coordinate, cubic_coordinate, sample_mark, DifferencesOf};
 
 use floats::clamp01;
 use math::lerp;
@@ -9,19 +9,19 @@ use math::lerp;
 // Where sample i is taken: i/31, and the one beyond the last at the end. A count of 16 bits is converted in lanes.
 pub(crate) fn sample_mark(i: usize) -> f32
     requires { i ≤ 32 }
-    ensures { result ≡ sampleMark i }
+    ensures { result ≡ sample_mark i }
 {
     clamp01((i as u16) as f32 / 31.0)
 }
 
 pub(crate) fn quad_coordinate(a: f32, b: f32, c: f32, t: f32) -> f32
-    ensures { result ≡ quadCoordinate a b c t }
+    ensures { result ≡ quad_coordinate a b c t }
 {
     lerp(lerp(a, b, t), lerp(b, c, t), t)
 }
 
 fn cubic_coordinate(a: f32, b: f32, c: f32, d: f32, t: f32) -> f32
-    ensures { result ≡ cubicCoordinate a b c d t }
+    ensures { result ≡ cubic_coordinate a b c d t }
 {
     lerp(quad_coordinate(a, b, c, t), quad_coordinate(b, c, d, t), t)
 }
@@ -29,7 +29,7 @@ fn cubic_coordinate(a: f32, b: f32, c: f32, d: f32, t: f32) -> f32
 // The row of a cubic with the coordinates a, b, c and d: each sample once, and then the differences. The last place leaves no rest in
 // lanes; nothing reads it.
 pub(crate) fn cubic_differences(a: f32, b: f32, c: f32, d: f32) -> [f32; 32]
-    ensures { DifferencesOf (cubicCoordinate a b c d) result 31 }
+    ensures { DifferencesOf (cubic_coordinate a b c d) result 31 }
 {
     let mut samples = [d; 33];
     let mut i = 0usize;

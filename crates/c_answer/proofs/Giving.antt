@@ -21,9 +21,9 @@ use Rattle.flight.specs.declared.single.Turned.TheVariants as Turned
 use Rattle.flight.specs.declared.Flight.{Flight}
 use Rattle.flight.specs.declared.Flown.{Flown}
 use Rattle.flight.specs.declared.Flown.TheVariants as Flown
-use Rattle.flight.specs.Flights.{segmentGiven, flightGiven}
+use Rattle.flight.specs.Flights.{segment_given, flight_given}
 use Rattle.c_answer.specs.Given.{Given}
-use Rattle.c_answer.specs.Places.{placeGiven, turnGiven}
+use Rattle.c_answer.specs.Places.{place_given, turn_given}
 
 pub given-same : {before after : List ℕ} {returned : ℕ} (given other : Answer) → given ≡ other → Given given before returned after → Given other before returned after
 given-same {before} {after} {returned} given other same = subst (λ (a : Answer). Given a before returned after) same
@@ -61,17 +61,17 @@ module _ {before after : List ℕ} {returned : ℕ} where
       refused-not-accepted refusal values (ap (λ (n : ℕ). record { number = n; values = values }) (given-whole (refused refusal) g zero).0)
 
 -- ---- a place and a heading
-pub place-given : (placed : Placed) (p : Point) (x y : ℕ) → x ≡ bits_of p.x → y ≡ bits_of p.y → Placed.At p ≡ placed → accepted (x ∷ y ∷ []) ≡ placeGiven placed
-place-given placed p x y own_x own-y at = ap (λ (b : ℕ). accepted (b ∷ y ∷ [])) own_x ∙ ap (λ (b : ℕ). accepted (bits_of p.x ∷ b ∷ [])) own-y ∙ ap placeGiven at
+pub place-given : (placed : Placed) (p : Point) (x y : ℕ) → x ≡ bits_of p.x → y ≡ bits_of p.y → Placed.At p ≡ placed → accepted (x ∷ y ∷ []) ≡ place_given placed
+place-given placed p x y own_x own-y at = ap (λ (b : ℕ). accepted (b ∷ y ∷ [])) own_x ∙ ap (λ (b : ℕ). accepted (bits_of p.x ∷ b ∷ [])) own-y ∙ ap place_given at
 
-pub place-refused : (placed : Placed) (refusal : Refusal) → Placed.Refused refusal ≡ placed → refused refusal ≡ placeGiven placed
-place-refused placed refusal is = ap placeGiven is
+pub place-refused : (placed : Placed) (refusal : Refusal) → Placed.Refused refusal ≡ placed → refused refusal ≡ place_given placed
+place-refused placed refusal is = ap place_given is
 
-pub turn-given : (turned : Turned) (degrees : Float) (bits : ℕ) → bits ≡ bits_of degrees → Turned.Degrees degrees ≡ turned → accepted (bits ∷ []) ≡ turnGiven turned
-turn-given turned degrees bits own at = ap (λ (b : ℕ). accepted (b ∷ [])) own ∙ ap turnGiven at
+pub turn-given : (turned : Turned) (degrees : Float) (bits : ℕ) → bits ≡ bits_of degrees → Turned.Degrees degrees ≡ turned → accepted (bits ∷ []) ≡ turn_given turned
+turn-given turned degrees bits own at = ap (λ (b : ℕ). accepted (b ∷ [])) own ∙ ap turn_given at
 
-pub turn-refused : (turned : Turned) (refusal : Refusal) → Turned.Refused refusal ≡ turned → refused refusal ≡ turnGiven turned
-turn-refused turned refusal is = ap turnGiven is
+pub turn-refused : (turned : Turned) (refusal : Refusal) → Turned.Refused refusal ≡ turned → refused refusal ≡ turn_given turned
+turn-refused turned refusal is = ap turn_given is
 
 -- ---- what is flown
 pub flight-given :
@@ -80,11 +80,11 @@ pub flight-given :
     → y ≡ bits_of flight.position.y
     → u ≡ bits_of flight.tangent.x
     → v ≡ bits_of flight.tangent.y
-    → s ≡ segmentGiven flight.segment
+    → s ≡ segment_given flight.segment
     → r ≡ bits_of flight.raw.value
     → Flown.At flight ≡ flown
-    → accepted (x ∷ y ∷ u ∷ v ∷ s ∷ r ∷ []) ≡ flightGiven flown
-flight-given flown flight x y u v s r own_x own-y own-u own-v own-s own-r at = rw (own_x, own-y, own-u, own-v, own-s, own-r) (ap flightGiven at)
+    → accepted (x ∷ y ∷ u ∷ v ∷ s ∷ r ∷ []) ≡ flight_given flown
+flight-given flown flight x y u v s r own_x own-y own-u own-v own-s own-r at = rw (own_x, own-y, own-u, own-v, own-s, own-r) (ap flight_given at)
 
-pub flight-refused : (flown : Flown) (refusal : Refusal) → Flown.Refused refusal ≡ flown → refused refusal ≡ flightGiven flown
-flight-refused flown refusal is = ap flightGiven is
+pub flight-refused : (flown : Flown) (refusal : Refusal) → Flown.Refused refusal ≡ flown → refused refusal ≡ flight_given flown
+flight-refused flown refusal is = ap flight_given is

@@ -8,11 +8,11 @@ use Rattle.flight.specs.declared.single.Turned.{Turned}
 use Rattle.flight.specs.declared.single.Turned.TheVariants as Turned
 
 -- a place or a direction: x, then y
-abbrev pub placeGiven : Placed → Answer
-placeGiven (Placed.At p) = accepted (bits_of p.x ∷ bits_of p.y ∷ [])
-placeGiven (Placed.Refused refusal) = refused refusal
+abbrev pub place_given : Placed → Answer
+place_given (Placed.At p) = accepted (bits_of p.x ∷ bits_of p.y ∷ [])
+place_given (Placed.Refused refusal) = refused refusal
 
 -- a heading in degrees
-abbrev pub turnGiven : Turned → Answer
-turnGiven (Turned.Degrees degrees) = accepted (bits_of degrees ∷ [])
-turnGiven (Turned.Refused refusal) = refused refusal
+abbrev pub turn_given : Turned → Answer
+turn_given (Turned.Degrees degrees) = accepted (bits_of degrees ∷ [])
+turn_given (Turned.Refused refusal) = refused refusal

@@ -1,14 +1,14 @@
 // What is flown at a progress, or the refusal.
 ghost use Rattle.std.specs.Prelude.{◌≡◌};
 ghost use Rattle.c_answer.specs.Given.{Given};
-ghost use Rattle.flight.specs.Flights.{segmentGiven, flightGiven};
+ghost use Rattle.flight.specs.Flights.{segment_given, flight_given};
 
 use flight::{Flown, Found};
 use table::number_of;
 
 // The number of a segment, or 4294967295 where there is none.
 fn segment_number(found: Found) -> usize
-    ensures { result ≡ segmentGiven found }
+    ensures { result ≡ segment_given found }
 {
     match found {
         Found::Segment(number) => number,
@@ -18,7 +18,7 @@ fn segment_number(found: Found) -> usize
 
 // The bits of the position and of the tangent, the segment, and the bits of the raw parameter.
 pub fn give_flight(flown: Flown, answer: &mut [u64]) -> u32
-    ensures { Given (flightGiven flown) answer.old result answer.new }
+    ensures { Given (flight_given flown) answer.old result answer.new }
 {
     match flown {
         Flown::At(flight) => {

@@ -1,13 +1,13 @@
 // A place and a heading, found or refused.
 ghost use Rattle.c_answer.specs.Given.{Given};
-ghost use Rattle.c_answer.specs.Places.{placeGiven, turnGiven};
+ghost use Rattle.c_answer.specs.Places.{place_given, turn_given};
 
 use answers::Values;
 use flight::{Placed, Turned};
 
 // The bits of x and of y.
 pub fn give_place(placed: Placed, answer: &mut [u64]) -> u32
-    ensures { Given (placeGiven placed) answer.old result answer.new }
+    ensures { Given (place_given placed) answer.old result answer.new }
 {
     match placed {
         Placed::At(p) => {
@@ -21,7 +21,7 @@ pub fn give_place(placed: Placed, answer: &mut [u64]) -> u32
 
 // The bits of the degrees.
 pub fn give_turn(turned: Turned, answer: &mut [u64]) -> u32
-    ensures { Given (turnGiven turned) answer.old result answer.new }
+    ensures { Given (turn_given turned) answer.old result answer.new }
 {
     match turned {
         Turned::Degrees(degrees) => {

@@ -14,23 +14,23 @@ use Rattle.answers.specs.Report.{Report, written, short}
 use Rattle.answers.proofs.Writing.{written_next}
 use Rattle.flight.specs.declared.single.Verdict.{Verdict}
 use Rattle.flight.specs.declared.single.Verdict.TheVariants as Verdict
-use Rattle.c_output.specs.Filling.{Filled, fillAnswer, fillOutput}
+use Rattle.c_output.specs.Filling.{Filled, fill_answer, fill_output}
 
--- the output of an answer that is long enough is the one of `fillOutput`
+-- the output of an answer that is long enough is the one of `fill_output`
 long-output :
     (verdict : Verdict) (numbers out : List Float) (answer : List ℕ) {o : List Float}
     → 8 ≤ length answer
-    → o ≡ fillOutput verdict numbers out
-    → o ≡ cond (short answer) out (fillOutput verdict numbers out)
-long-output verdict numbers out answer enough is = is ∙ ap (λ (b : Bool). cond b out (fillOutput verdict numbers out)) (sym (le-ltb _ _ enough))
+    → o ≡ fill_output verdict numbers out
+    → o ≡ cond (short answer) out (fill_output verdict numbers out)
+long-output verdict numbers out answer enough is = is ∙ ap (λ (b : Bool). cond b out (fill_output verdict numbers out)) (sym (le-ltb _ _ enough))
 
 module _ {values : List ℕ} {numbers out : List Float} {answer : List ℕ} where
   pub filled-short : (verdict : Verdict) → length answer < 8 → Filled verdict values numbers out answer 255 out answer
   filled-short verdict few =
       let is : true ≡ short answer = sym (lt-ltb _ _ few) in
       record {
-        answers = record { code = ap (λ (b : Bool). cond b 255 (fillAnswer verdict values numbers out).number) is; places = ap (λ (b : Bool). cond b answer (written (fillAnswer verdict values numbers out).values answer)) is };
-        output = ap (λ (b : Bool). cond b out (fillOutput verdict numbers out)) is;
+        answers = record { code = ap (λ (b : Bool). cond b 255 (fill_answer verdict values numbers out).number) is; places = ap (λ (b : Bool). cond b answer (written (fill_answer verdict values numbers out).values answer)) is };
+        output = ap (λ (b : Bool). cond b out (fill_output verdict numbers out)) is;
       }
 
   module _ {returned : ℕ} {after : List ℕ} where
@@ -84,13 +84,13 @@ last-put entries total d is =
 
 -- what is filled depends on the made thing alone
 pub filled-made :
-    {M : Type 0} (verdict : M → Verdict) (values : M → List ℕ) (numbersOf : M → List Float) {made due : M} {numbers out o : List Float} {held answer after : List ℕ} {returned : ℕ}
+    {M : Type 0} (verdict : M → Verdict) (values : M → List ℕ) (numbers_of : M → List Float) {made due : M} {numbers out o : List Float} {held answer after : List ℕ} {returned : ℕ}
     → made ≡ due
     → held ≡ values made
-    → numbers ≡ numbersOf made
+    → numbers ≡ numbers_of made
     → Filled (verdict made) held numbers out answer returned o after
-    → Filled (verdict due) (values due) (numbersOf due) out answer returned o after
-filled-made {M} verdict values numbersOf {made} {due} {numbers} {out} {o} {held} {answer} {after} {returned} same own is filled =
-    subst (λ (m : M). Filled (verdict m) (values m) (numbersOf m) out answer returned o after) same
-    (subst (λ (v : List ℕ). Filled (verdict made) v (numbersOf made) out answer returned o after) own
+    → Filled (verdict due) (values due) (numbers_of due) out answer returned o after
+filled-made {M} verdict values numbers_of {made} {due} {numbers} {out} {o} {held} {answer} {after} {returned} same own is filled =
+    subst (λ (m : M). Filled (verdict m) (values m) (numbers_of m) out answer returned o after) same
+    (subst (λ (v : List ℕ). Filled (verdict made) v (numbers_of made) out answer returned o after) own
     (subst (λ (n : List Float). Filled (verdict made) held n out answer returned o after) is filled))

@@ -10,27 +10,27 @@ use Rattle.flight.specs.declared.single.Verdict.TheVariants as Verdict
 use Rattle.ellipse.specs.declared.ends.Arc.{Arc}
 
 -- "NoRoom: all else is right and a lent output is too short"; it carries "the count needed of each output"
-abbrev pub fillAnswer : Verdict → List ℕ → List Float → List Float → Answer
-fillAnswer Verdict.Accepted values numbers out = cond (ltb (length out) (length numbers)) (refused (NoRoom (One (length numbers)))) (accepted values)
-fillAnswer (Verdict.Refused refusal) values numbers out = refused refusal
+abbrev pub fill_answer : Verdict → List ℕ → List Float → List Float → Answer
+fill_answer Verdict.Accepted values numbers out = cond (ltb (length out) (length numbers)) (refused (NoRoom (One (length numbers)))) (accepted values)
+fill_answer (Verdict.Refused refusal) values numbers out = refused refusal
 
 -- "A refusal writes to no output. An accepted call writes the counted places from each output's start and no others."
-abbrev pub fillOutput : Verdict → List Float → List Float → List Float
-fillOutput Verdict.Accepted numbers out = cond (ltb (length out) (length numbers)) out (written numbers out)
-fillOutput (Verdict.Refused refusal) numbers out = out
+abbrev pub fill_output : Verdict → List Float → List Float → List Float
+fill_output Verdict.Accepted numbers out = cond (ltb (length out) (length numbers)) out (written numbers out)
+fill_output (Verdict.Refused refusal) numbers out = out
 
 -- an answer of fewer than 8 places is judged before all else, and then nothing is written at all
-pub record Filled (verdict : Verdict) (values : List ℕ) (numbers out : List Float) (answer : List ℕ) (returned : ℕ) (outAfter : List Float) (answerAfter : List ℕ) : Type 0 where
-  pub answers : Report (fillAnswer verdict values numbers out).number (fillAnswer verdict values numbers out).values answer returned answerAfter
-  pub output : outAfter ≡ cond (short answer) out (fillOutput verdict numbers out)
+pub record Filled (verdict : Verdict) (values : List ℕ) (numbers out : List Float) (answer : List ℕ) (returned : ℕ) (out_after : List Float) (answer_after : List ℕ) : Type 0 where
+  pub answers : Report (fill_answer verdict values numbers out).number (fill_answer verdict values numbers out).values answer returned answer_after
+  pub output : out_after ≡ cond (short answer) out (fill_output verdict numbers out)
 
 -- "32 running lengths and their total together": the entries, then the total
-abbrev pub tableNumbers : Table → List Float
-tableNumbers table = table.entries ++ table.total ∷ []
+abbrev pub table_numbers : Table → List Float
+table_numbers table = table.entries ++ table.total ∷ []
 
 -- "the Rust's fields without `length` and `line_fallback`", in their order
-abbrev pub arcNumbers : Arc → List Float
-arcNumbers shape =
+abbrev pub arc_numbers : Arc → List Float
+arc_numbers shape =
     shape.start.x
     ∷ shape.start.y
     ∷ shape.end.x

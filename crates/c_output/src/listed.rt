@@ -1,6 +1,6 @@
 // The numbers of a table and of an arc, in the order in which they are stored.
 ghost use Rattle.std.specs.Prelude.{◌≡◌};
-ghost use Rattle.c_output.specs.Filling.{tableNumbers, arcNumbers};
+ghost use Rattle.c_output.specs.Filling.{table_numbers, arc_numbers};
 
 use crate::outputs::copy;
 use ellipse::Arc;
@@ -8,7 +8,7 @@ use table::Table;
 
 // The 32 entries of a table, then its total.
 pub fn table_numbers(table: Table) -> [f32; 33]
-    ensures { result ≡ tableNumbers table }
+    ensures { result ≡ table_numbers table }
 {
     let entries = table.entries;
     let mut numbers = [0.0f32; 33];
@@ -19,7 +19,7 @@ pub fn table_numbers(table: Table) -> [f32; 33]
 
 // The ends of an arc, its centre, its radii, its rotation in degrees and its two angles in radians.
 pub fn arc_numbers(shape: Arc) -> [f32; 11]
-    ensures { result ≡ arcNumbers shape }
+    ensures { result ≡ arc_numbers shape }
 {
     let start = shape.start;
     let end = shape.end;

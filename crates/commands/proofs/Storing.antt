@@ -8,7 +8,7 @@ use native.Mathlib.Numerals.{add-one}
 use lib.Ieee.{Float}
 use lib.ListN.{length, set}
 use lib.Seq.{sets}
-use Rattle.commands.specs.Stored.{flagOf}
+use Rattle.commands.specs.Stored.{flag_of}
 
 sets-on : (l : List Float) (i j : ℕ) (vs ws : List Float) → j ≡ i + length vs → sets (sets l i vs) j ws ≡ sets l i (vs ++ ws)
 sets-on l i j [] ws e = ap (λ k. sets l k ws) (let f : j ≡ i = omega arith in f)
@@ -34,10 +34,10 @@ module _ (l : List Float) (i : ℕ) where
   pub arc-put :
       (a b r x y : Float) (large sweep : Bool) {f g z : Float} {l₁ l₂ l₃ : List Float}
       → l₁ ≡ sets l i (a ∷ b ∷ []) → l₂ ≡ sets l₁ (i + 2) (r ∷ f ∷ []) → l₃ ≡ sets l₂ (i + 4) (g ∷ x ∷ [])
-      → f ≡ flagOf large → g ≡ flagOf sweep → z ≡ y
-      → set l₃ (i + 6) z ≡ sets l i (a ∷ b ∷ r ∷ flagOf large ∷ flagOf sweep ∷ x ∷ y ∷ [])
+      → f ≡ flag_of large → g ≡ flag_of sweep → z ≡ y
+      → set l₃ (i + 6) z ≡ sets l i (a ∷ b ∷ r ∷ flag_of large ∷ flag_of sweep ∷ x ∷ y ∷ [])
   arc-put a b r x y large sweep {f} {g} {z} e₁ e₂ e₃ ef eg ez =
       then-put (a ∷ b ∷ r ∷ f ∷ g ∷ x ∷ []) (z ∷ []) {j = i + 6} (six-put a b r f g x e₁ e₂ e₃) refl refl
       ∙ ap (λ m. sets l i (a ∷ b ∷ r ∷ m ∷ g ∷ x ∷ z ∷ [])) ef
-      ∙ ap (λ m. sets l i (a ∷ b ∷ r ∷ flagOf large ∷ m ∷ x ∷ z ∷ [])) eg
-      ∙ ap (λ m. sets l i (a ∷ b ∷ r ∷ flagOf large ∷ flagOf sweep ∷ x ∷ m ∷ [])) ez
+      ∙ ap (λ m. sets l i (a ∷ b ∷ r ∷ flag_of large ∷ m ∷ x ∷ z ∷ [])) eg
+      ∙ ap (λ m. sets l i (a ∷ b ∷ r ∷ flag_of large ∷ flag_of sweep ∷ x ∷ m ∷ [])) ez

@@ -2,7 +2,7 @@
 use Rattle.std.specs.Prelude.{ℕ, cond, List, [], ltb, Float, length}
 use Rattle.answers.specs.Answers.{Answer, refused, accepted}
 use Rattle.answers.specs.declared.refusals.Refusal.TheVariants.{BadList, Range}
-use Rattle.commands.specs.Listed.{Listing, wellFormed, malformed, listed}
+use Rattle.commands.specs.Listed.{Listing, well_formed, malformed, listed}
 use Rattle.commands.specs.declared.checking.Checked.{Checked}
 use Rattle.commands.specs.declared.checking.Checked.TheVariants.{WellFormed, Refused}
 
@@ -12,9 +12,9 @@ answer_of WellFormed = accepted []
 answer_of (Refused refusal) = refused refusal
 
 abbrev pub judged : Listing → Answer
-judged (wellFormed commands) = accepted []
+judged (well_formed commands) = accepted []
 judged (malformed k) = refused (BadList k)
 
 -- "In building: 13, 9 over the whole list": "a command list above 65,536" is 13 with its number
-unfoldable pub checkCommandsOf : List ℕ → List Float → Answer
-checkCommandsOf letters numbers = cond (ltb 65536 (length letters)) (refused (Range (length letters))) (judged (listed 0 letters numbers))
+unfoldable pub check_commands_of : List ℕ → List Float → Answer
+check_commands_of letters numbers = cond (ltb 65536 (length letters)) (refused (Range (length letters))) (judged (listed 0 letters numbers))

@@ -4,7 +4,7 @@ use Rattle.std.specs.Prelude.{ℕ, suc, ◌+◌, Bool, ◌&&◌, ◌||◌, cond,
 use Rattle.std.specs.Float.{nan}
 use Rattle.math.specs.declared.points.Point.{Point}
 use Rattle.floats.specs.Floats.{bits_of}
-use Rattle.commands.specs.Stored.{argumentsOf}
+use Rattle.commands.specs.Stored.{arguments_of}
 use Rattle.commands.specs.declared.command.PathCommand.{PathCommand}
 use Rattle.commands.specs.declared.command.PathCommand.TheVariants.{MoveTo, LineTo, QuadTo, CubicTo, ArcTo, ClosePath}
 use Rattle.commands.specs.declared.encoding.Decoded.{Decoded}
@@ -14,54 +14,54 @@ use Rattle.commands.specs.declared.encoding.Decoded.TheVariants.{Command, Bad}
 abbrev pub number_at : List Float → ℕ → Float
 number_at numbers i = get_or numbers i nan
 
-abbrev pub pointAt : List Float → ℕ → Point
-pointAt numbers i = record { x = number_at numbers i; y = number_at numbers (i + 1) }
+abbrev pub point_at : List Float → ℕ → Point
+point_at numbers i = record { x = number_at numbers i; y = number_at numbers (i + 1) }
 
 -- "flags are +0 or 1 (-0 is another)": a number is judged by its bits
-abbrev pub isFlag : ℕ → Bool
-isFlag bits = eqb bits 0 || eqb bits 0x3f80_0000
+abbrev pub is_flag : ℕ → Bool
+is_flag bits = eqb bits 0 || eqb bits 0x3f80_0000
 
 abbrev pub is_set : ℕ → Bool
 is_set bits = eqb bits 0x3f80_0000
 
 -- an arc's numbers, in which two flags stand
-unfoldable pub arcOf : List Float → Decoded
-arcOf numbers =
+unfoldable pub arc_of : List Float → Decoded
+arc_of numbers =
     let large = bits_of (number_at numbers 3) in
     let sweep = bits_of (number_at numbers 4) in
-    cond (isFlag large && isFlag sweep) (Command (ArcTo (pointAt numbers 0) (number_at numbers 2) (is_set large) (is_set sweep) (pointAt numbers 5))) Bad
+    cond (is_flag large && is_flag sweep) (Command (ArcTo (point_at numbers 0) (number_at numbers 2) (is_set large) (is_set sweep) (point_at numbers 5))) Bad
 
 -- "missing number": what needs so many numbers is bad where there are fewer
 abbrev pub enough : ℕ → List Float → Decoded → Decoded
 enough count numbers decoded = cond (ltb (length numbers) count) Bad decoded
 
 -- the command of a letter and of the numbers from its first on
-unfoldable pub commandOf : ℕ → List Float → Decoded
-commandOf letter numbers =
-    cond (eqb letter 77) (enough 2 numbers (Command (MoveTo (pointAt numbers 0))))
-    (cond (eqb letter 76) (enough 2 numbers (Command (LineTo (pointAt numbers 0))))
-    (cond (eqb letter 81) (enough 4 numbers (Command (QuadTo (pointAt numbers 0) (pointAt numbers 2))))
-    (cond (eqb letter 67) (enough 6 numbers (Command (CubicTo (pointAt numbers 0) (pointAt numbers 2) (pointAt numbers 4))))
-    (cond (eqb letter 65) (enough 7 numbers (arcOf numbers))
+unfoldable pub command_of : ℕ → List Float → Decoded
+command_of letter numbers =
+    cond (eqb letter 77) (enough 2 numbers (Command (MoveTo (point_at numbers 0))))
+    (cond (eqb letter 76) (enough 2 numbers (Command (LineTo (point_at numbers 0))))
+    (cond (eqb letter 81) (enough 4 numbers (Command (QuadTo (point_at numbers 0) (point_at numbers 2))))
+    (cond (eqb letter 67) (enough 6 numbers (Command (CubicTo (point_at numbers 0) (point_at numbers 2) (point_at numbers 4))))
+    (cond (eqb letter 65) (enough 7 numbers (arc_of numbers))
     (cond (eqb letter 90) (Command ClosePath)
     Bad)))))
 
 -- a stored list: its commands, or the number of the command at which it is malformed
 pub data Listing : Type 0 where
-  wellFormed : List PathCommand → Listing
+  well_formed : List PathCommand → Listing
   malformed : ℕ → Listing
 
 abbrev pub prepend : PathCommand → Listing → Listing
-prepend command (wellFormed commands) = wellFormed (command ∷ commands)
+prepend command (well_formed commands) = well_formed (command ∷ commands)
 prepend command (malformed k) = malformed k
 
 -- what follows the command numbered k, where the rest is read from the numbers past its own
 abbrev pub follow : ℕ → List Float → Decoded → (List Float → Listing) → Listing
-follow k numbers (Command command) rest = prepend command (rest (drop (length (argumentsOf command)) numbers))
+follow k numbers (Command command) rest = prepend command (rest (drop (length (arguments_of command)) numbers))
 follow k numbers Bad rest = malformed k
 
 -- the list whose first command is numbered k
 unfoldable pub listed : ℕ → List ℕ → List Float → Listing
-listed k [] [] = wellFormed []
+listed k [] [] = well_formed []
 listed k [] (number ∷ numbers) = malformed k
-listed k (letter ∷ letters) numbers = follow k numbers (commandOf letter numbers) (listed (suc k) letters)
+listed k (letter ∷ letters) numbers = follow k numbers (command_of letter numbers) (listed (suc k) letters)

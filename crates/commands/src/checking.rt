@@ -1,6 +1,6 @@
 // The check of a stored command list.
 ghost use Rattle.std.specs.Prelude.{◌≡◌};
-ghost use Rattle.commands.specs.Checked.{answer_of, checkCommandsOf};
+ghost use Rattle.commands.specs.Checked.{answer_of, check_commands_of};
 
 use crate::command::width;
 use crate::encoding::{Decoded, decode};
@@ -16,7 +16,7 @@ pub enum Checked {
 // Whether the letters and numbers are a command list of at most 65,536 commands: each letter known,
 // with all its numbers, flags +0 or 1, and no number left over.
 pub fn check_commands(letters: &[u8], numbers: &[f32]) -> Checked
-    ensures { answer_of result ≡ checkCommandsOf letters.now numbers.now }
+    ensures { answer_of result ≡ check_commands_of letters.now numbers.now }
 {
     let count = letters.len();
     if 65536 < count {

@@ -1,6 +1,6 @@
 // The decoded command.
 ghost use Rattle.std.specs.Prelude.{◌≡◌, length};
-ghost use Rattle.commands.specs.Stored.{letterOf, argumentsOf};
+ghost use Rattle.commands.specs.Stored.{letter_of, arguments_of};
 
 use math::Point;
 
@@ -30,7 +30,7 @@ pub enum PathCommand {
 
 // The letter under which a command is stored.
 pub fn letter(command: PathCommand) -> u8
-    ensures { result ≡ letterOf command }
+    ensures { result ≡ letter_of command }
 {
     match command {
         PathCommand::MoveTo(_) => b'M',
@@ -54,7 +54,7 @@ pub fn letter(command: PathCommand) -> u8
 
 // How many numbers a command stores.
 pub fn width(command: PathCommand) -> usize
-    ensures { result ≡ length (argumentsOf command) }
+    ensures { result ≡ length (arguments_of command) }
 {
     match command {
         PathCommand::MoveTo(_) => 2,

@@ -1,14 +1,14 @@
 // One command in the two buffers of a list: stored, and read back.
 ghost use Rattle.std.specs.Prelude.{◌≡◌, ◌+◌, ◌≤◌, ◌<◌, length, drop, [], ◌∷◌};
 ghost use Rattle.std.proofs.lemmas.List.Edits.{sets};
-ghost use Rattle.commands.specs.Stored.{argumentsOf, flagOf, Store};
-ghost use Rattle.commands.specs.Listed.{pointAt, isFlag, is_set, arcOf, commandOf};
+ghost use Rattle.commands.specs.Stored.{arguments_of, flag_of, Store};
+ghost use Rattle.commands.specs.Listed.{point_at, is_flag, is_set, arc_of, command_of};
 
 use crate::command::{PathCommand, letter};
 use math::Point;
 
 fn flag_number(flag: bool) -> f32
-    ensures { result ≡ flagOf flag }
+    ensures { result ≡ flag_of flag }
 {
     if flag { 1.0 } else { 0.0 }
 }
@@ -24,7 +24,7 @@ pub fn put_two(numbers: &mut [f32], at: usize, x: f32, y: f32)
 
 fn put_quad(numbers: &mut [f32], at: usize, control: Point, end: Point)
     requires { at + 4 ≤ length numbers.old }
-    ensures { numbers.new ≡ sets numbers.old at (argumentsOf (PathCommand.QuadTo control end)) }
+    ensures { numbers.new ≡ sets numbers.old at (arguments_of (PathCommand.QuadTo control end)) }
 {
     put_two(numbers, at, control.x, control.y);
     put_two(numbers, at + 2, end.x, end.y);
@@ -32,7 +32,7 @@ fn put_quad(numbers: &mut [f32], at: usize, control: Point, end: Point)
 
 fn put_cubic(numbers: &mut [f32], at: usize, control1: Point, control2: Point, end: Point)
     requires { at + 6 ≤ length numbers.old }
-    ensures { numbers.new ≡ sets numbers.old at (argumentsOf (PathCommand.CubicTo control1 control2 end)) }
+    ensures { numbers.new ≡ sets numbers.old at (arguments_of (PathCommand.CubicTo control1 control2 end)) }
 {
     put_two(numbers, at, control1.x, control1.y);
     put_two(numbers, at + 2, control2.x, control2.y);
@@ -49,7 +49,7 @@ fn put_arc(
     end: Point,
 )
     requires { at + 7 ≤ length numbers.old }
-    ensures { numbers.new ≡ sets numbers.old at (argumentsOf (PathCommand.ArcTo radii rotation large sweep end)) }
+    ensures { numbers.new ≡ sets numbers.old at (arguments_of (PathCommand.ArcTo radii rotation large sweep end)) }
 {
     put_two(numbers, at, radii.x, radii.y);
     put_two(numbers, at + 2, rotation, flag_number(large));
@@ -59,8 +59,8 @@ fn put_arc(
 
 // Stores a command's numbers from `at` on.
 fn store_arguments(numbers: &mut [f32], at: usize, command: PathCommand)
-    requires { at + length (argumentsOf command) ≤ length numbers.old }
-    ensures { numbers.new ≡ sets numbers.old at (argumentsOf command) }
+    requires { at + length (arguments_of command) ≤ length numbers.old }
+    ensures { numbers.new ≡ sets numbers.old at (arguments_of command) }
 {
     match command {
         PathCommand::MoveTo(end) => put_two(numbers, at, end.x, end.y),
@@ -90,7 +90,7 @@ pub fn store(
     at: usize,
     command: PathCommand,
 )
-    requires { (letter_at < length letters.old) × (at + length (argumentsOf command) ≤ length numbers.old) }
+    requires { (letter_at < length letters.old) × (at + length (arguments_of command) ≤ length numbers.old) }
     ensures { Store letter_at at command letters.old numbers.old letters.new numbers.new }
 {
     letters[letter_at] = letter(command);
@@ -99,7 +99,7 @@ pub fn store(
 
 // Whether bits are those of +0 or 1.
 fn is_flag(bits: u32) -> bool
-    ensures { result ≡ isFlag bits }
+    ensures { result ≡ is_flag bits }
 {
     (bits == 0) | (bits == 0x3f80_0000)
 }
@@ -122,7 +122,7 @@ pub enum Decoded {
 // The point of the two numbers from `at` on.
 pub fn point_at(numbers: &[f32], at: usize) -> Point
     requires { at + 2 ≤ length numbers.now }
-    ensures { result ≡ pointAt numbers.now at }
+    ensures { result ≡ point_at numbers.now at }
 {
     Point {
         x: numbers[at],
@@ -132,7 +132,7 @@ pub fn point_at(numbers: &[f32], at: usize) -> Point
 
 fn arc_at(numbers: &[f32], at: usize) -> Decoded
     requires { at + 7 ≤ length numbers.now }
-    ensures { result ≡ arcOf (drop at numbers.now) }
+    ensures { result ≡ arc_of (drop at numbers.now) }
 {
     let large = floats::bits(numbers[at + 3]);
     let sweep = floats::bits(numbers[at + 4]);
@@ -153,7 +153,7 @@ fn arc_at(numbers: &[f32], at: usize) -> Decoded
 // The command of a letter, whose numbers stand from `at` on.
 pub fn decode(letter: u8, numbers: &[f32], at: usize) -> Decoded
     requires { at ≤ length numbers.now }
-    ensures { result ≡ commandOf letter (drop at numbers.now) }
+    ensures { result ≡ command_of letter (drop at numbers.now) }
 {
     let left = numbers.len() - at;
     match letter {

@@ -8,7 +8,7 @@ use native.Mathlib.Omega.{arith}
 use lib.Dec.{eqb}
 use lib.ListN.{get_or}
 use lib.Ieee.{Float, binary32, round}
-use Rattle.scan.specs.Runs.{pastDigitsOf, pastSignOf, pastPointOf}
+use Rattle.scan.specs.Runs.{past_digits_of, past_sign_of, past_point_of}
 use Rattle.scan.specs.declared.numbers.Places.{Places}
 use Rattle.decimal_digits.specs.Leading.{Gathers, Fills}
 use Rattle.decimal_digits.specs.declared.gathering.Leading.{Leading}
@@ -41,7 +41,7 @@ fills-all text from w r f few = gathers-on text from w r.at r.w 0 _ f.takes (gat
 -- ---- the number
 
 module _ {text : List ℕ} (at : ℕ) {whole fraction : ℕ} {first all : Leading}
-    (w-is : whole ≡ pastSignOf text at) (before : Gathers text whole 0 0 first) (f-is : fraction ≡ pastPointOf text first.at) (after : Gathers text fraction first.w first.dropped all)
+    (w-is : whole ≡ past_sign_of text at) (before : Gathers text whole 0 0 first) (f-is : fraction ≡ past_point_of text first.at) (after : Gathers text fraction first.w first.dropped all)
     (some : (eqb whole first.at && eqb fraction all.at) ≡ false) (end : Plain text all.at) (few : all.w < 2 ^ 53) where
   abbrev own : Bool
   own = eqb (get_or text at 0) minus

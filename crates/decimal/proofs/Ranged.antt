@@ -11,11 +11,11 @@ use lib.Ieee.{Float, binary64, round, to_bits, le}
 use lib.Ieee.Exact.{HasValue}
 use lib.Ieee.Order.{round_mono}
 use lib.Ieee.Positive.{num, den, positive, den_pos, own_value, positive_of_value, values_of_le, between}
-use Rattle.floats.specs.Patterns.{narrowStep, narrowHalf}
-use Rattle.decimal_rounding.specs.Wide.{narrowedOf}
+use Rattle.floats.specs.Patterns.{narrow_step, narrow_half}
+use Rattle.decimal_rounding.specs.Wide.{narrowed_of}
 use Rattle.decimal_rounding.proofs.Limits.{zero-to}
 use Rattle.decimal_rounding.proofs.Pattern.{zero_bits}
-use Rattle.decimal_rounding.proofs.Sizes.{wideUnits, bits-between}
+use Rattle.decimal_rounding.proofs.Sizes.{wide_units, bits-between}
 use Rattle.decimal.specs.Bits.{Nearest, Tells}
 use Rattle.decimal.proofs.Narrowed.{own, quotient-nearest}
 
@@ -56,19 +56,19 @@ module _ (w d : ℕ) (some : 0 < w) (few : w < 2 ^ 53) (D : 0 < d) (small : d �
   above : T (positive x)
   above = between least x most least-positive most-positive from-least to-most
 
-  units-low : 2 ^ 1043 ≤ wideUnits x
+  units-low : 2 ^ 1043 ≤ wide_units x
   units-low =
       (le-div_iff_mul-le (den_pos x)).1
       (values_of_le least x (2 ^ 1043) (2 ^ 1074) (num x) (den x) least-positive above least-value (own_value x above) from-least)
 
-  units-high : wideUnits x < 2 ^ 1128
+  units-high : wide_units x < 2 ^ 1128
   units-high =
       (div-lt_iff_lt-mul (den_pos x)).1
       (lt_of_le_of_lt (values_of_le x most (num x) (den x) (2 ^ 1127) (2 ^ 1074) above most-positive (own_value x above) most-value to-most)
       (mul-lt-mul_of_pos_right (let computed : 2 ^ 1127 < 2 ^ 1128 = lit< tt in computed) (den_pos x)))
 
   -- the pattern tells the nearest f32 but for a middle
-  pub quotient-tells : (b : ℕ) → b ≡ to_bits binary64 x → (b % narrowStep ≡ narrowHalf → ⊥) → Tells b
+  pub quotient-tells : (b : ℕ) → b ≡ to_bits binary64 x → (b % narrow_step ≡ narrow_half → ⊥) → Tells b
   quotient-tells b e n =
       let r = bits-between x above 1043 1128 (lit≤ tt) units-low units-high in
       record { low = omega (arith, e, r.0); high = omega (arith, e, r.1); no_tie = n }
@@ -78,9 +78,9 @@ module _ (w d : ℕ) (some : 0 < w) (few : w < 2 ^ 53) (D : 0 < d) (small : d �
 zero-nearest : (d : ℕ) → 0 < d → Nearest 0 d 0
 zero-nearest d D = record { finite_or_infinite = lit≤ tt; is = λ s. zero-to s 0 d D (subst (λ (n : ℕ). n ≤ d) (sym (zero-mul (2 ^ 150))) zero-le) ∙ zero_bits s }
 
-module _ (d b : ℕ) (D : 0 < d) (small : d ≤ 10 ^ 8) (no_tie : b % narrowStep ≡ narrowHalf → ⊥) where
-  pub quotient-bits : (w : ℕ) → w < 2 ^ 53 → b ≡ to_bits binary64 (round binary64 false w d) → Nearest w d (cond (eqb w 0) 0 (narrowedOf b))
+module _ (d b : ℕ) (D : 0 < d) (small : d ≤ 10 ^ 8) (no_tie : b % narrow_step ≡ narrow_half → ⊥) where
+  pub quotient-bits : (w : ℕ) → w < 2 ^ 53 → b ≡ to_bits binary64 (round binary64 false w d) → Nearest w d (cond (eqb w 0) 0 (narrowed_of b))
   quotient-bits zero few e = zero-nearest d D
   quotient-bits (suc w) few e =
-      subst (λ (t : Bool). Nearest (suc w) d (cond t 0 (narrowedOf b))) (sym (ne_eqb (suc w) 0 (λ (z : suc w ≡ 0). omega arith)))
+      subst (λ (t : Bool). Nearest (suc w) d (cond t 0 (narrowed_of b))) (sym (ne_eqb (suc w) 0 (λ (z : suc w ≡ 0). omega arith)))
       (quotient-nearest (suc w) d b D e (quotient-tells (suc w) d (omega arith) few D small b e no_tie))

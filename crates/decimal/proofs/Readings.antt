@@ -5,25 +5,25 @@ use mathlib.Core.List.{List, [], ◌∷◌}
 use lib.Count.{count_trailing_zeros}
 use lib.Ieee.{binary32, round, size, units, odd, of_bits, of_fields}
 use Rattle.answers.specs.declared.refusals.Refusal.TheVariants.{ExpectedNumber, InvalidNumber}
-use Rattle.floats.specs.Patterns.{signPlace, infinityBits}
+use Rattle.floats.specs.Patterns.{sign_place, infinity_bits}
 use Rattle.scan.specs.Scan.{leading, scan}
 use Rattle.scan.specs.Bytes.{among}
-use Rattle.scan.specs.Runs.{stands, pastOne, pastAll, pastMarkOf}
-use Rattle.scan.specs.Numbers.{whole_of, point_of, fractionOf, mark_of, exponentOf, end_of, places_of, noDigit, noExponentDigit, scanNumberOf}
+use Rattle.scan.specs.Runs.{stands, past_one, past_all, past_mark_of}
+use Rattle.scan.specs.Numbers.{whole_of, point_of, fraction_of, mark_of, exponent_of, end_of, places_of, no_digit, no_exponent_digit, scan_number_of}
 use Rattle.scan.specs.declared.numbers.Number.{Number}
-use Rattle.decimal_digits.specs.Digits.{digitsAmong, val}
-use Rattle.decimal.specs.Decimal.{falls, riseOf, fallOf, value_of, number_of}
+use Rattle.decimal_digits.specs.Digits.{digits_among, val}
+use Rattle.decimal.specs.Decimal.{falls, rise_of, fall_of, value_of, number_of}
 use Rattle.decimal.specs.declared.numbers.Read.{Read}
 use Rattle.decimal.specs.declared.numbers.Read.TheVariants.{Value, Refused}
 
 -- the places that are scanned at the start of a text
 pub scanned : List ℕ → Number
-unfolding scanNumberOf places_of noDigit noExponentDigit end_of exponentOf mark_of fractionOf point_of whole_of pastMarkOf pastOne pastAll scan leading stands among
-scanned text = scanNumberOf text 0
+unfolding scan_number_of places_of no_digit no_exponent_digit end_of exponent_of mark_of fraction_of point_of whole_of past_mark_of past_one past_all scan leading stands among
+scanned text = scan_number_of text 0
 
 -- what is read there
 pub read : List ℕ → Read
-unfolding scanned digitsAmong val falls riseOf fallOf value_of number_of round size units odd count_trailing_zeros
+unfolding scanned digits_among val falls rise_of fall_of value_of number_of round size units odd count_trailing_zeros
 read text = number_of text 0
 
 -- `16777217`: a tie goes to the even significand
@@ -47,12 +47,12 @@ unfolding read of_bits of_fields
 largest-reads = refl
 
 -- `3.4028236e38`: the last middle is passed, so it is the infinity
-pub infinite-reads : read (51 ∷ 46 ∷ 52 ∷ 48 ∷ 50 ∷ 56 ∷ 50 ∷ 51 ∷ 54 ∷ 101 ∷ 51 ∷ 56 ∷ []) ≡ Value (of_bits binary32 infinityBits) 12
+pub infinite-reads : read (51 ∷ 46 ∷ 52 ∷ 48 ∷ 50 ∷ 56 ∷ 50 ∷ 51 ∷ 54 ∷ 101 ∷ 51 ∷ 56 ∷ []) ≡ Value (of_bits binary32 infinity_bits) 12
 unfolding read of_bits of_fields
 infinite-reads = refl
 
 -- `-0`: the sign of zero
-pub minus-zero-reads : read (45 ∷ 48 ∷ []) ≡ Value (of_bits binary32 signPlace) 2
+pub minus-zero-reads : read (45 ∷ 48 ∷ []) ≡ Value (of_bits binary32 sign_place) 2
 unfolding read of_bits of_fields
 minus-zero-reads = refl
 

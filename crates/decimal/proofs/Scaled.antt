@@ -9,7 +9,7 @@ use native.Mathlib.Nat.{le_refl, le_trans, le_of_eq, add-mul, add-zero, zero-add
 use native.Mathlib.Omega.{arith}
 use lib.Dec.{lit≤, lit<}
 use lib.Pow.{pow-add}
-use Rattle.floats.specs.Patterns.{infinityBits}
+use Rattle.floats.specs.Patterns.{infinity_bits}
 use Rattle.decimal_rounding.proofs.Compares.{below_or_not}
 use Rattle.decimal_rounding.proofs.Limits.{infinite-from, zero-to}
 use Rattle.decimal_rounding.proofs.Pattern.{infinite-bits, zero_bits}
@@ -134,13 +134,13 @@ module _ (w u num below : ℕ) (z : Sized w u num) where
           one : (w m : ℕ) → w < 2 ^ 64 → m ≡ 1 → w + m ≤ 2 ^ 64
           one w m h e = omega arith
 
-  pub too-high : 0 < w → below + 102 < u → Nearest num (10 ^ below) infinityBits
+  pub too-high : 0 < w → below + 102 < u → Nearest num (10 ^ below) infinity_bits
   too-high h l =
       let power : 10 ^ below * 10 ^ 103 ≤ 10 ^ u = le_trans (le_of_eq (sym (pow-add 10 below 103))) (ten-mono (below + 103) u (omega arith)) in
       let digits : 10 ^ below * 10 ^ 103 ≤ num * 10 ^ 64 = le_trans power (le_trans (le_trans (le_of_eq (sym (one-mul (10 ^ u)))) (mul-le-mul_right (10 ^ u) h)) z.at_least) in
       let large : 10 ^ below * 10 ^ 39 ≤ num = le_of_mul-le-mul_right (le_trans (le_of_eq (mul_assoc (10 ^ below) (10 ^ 39) (10 ^ 64))) digits) (lit< tt) in
       record {
-        finite_or_infinite = le_refl infinityBits;
+        finite_or_infinite = le_refl infinity_bits;
         is = λ s. infinite-from s num (10 ^ below) (ten-pos below) (le_trans (le_of_eq (mul_comm (2 ^ 128 - 2 ^ 103) (10 ^ below))) (le_trans (mul-le-mul_left (10 ^ below) (lit≤ tt)) large)) ∙ infinite-bits s;
       }
 

@@ -9,7 +9,7 @@ use native.Mathlib.Omega.{arith}
 use lib.Pow.{pow-add}
 use lib.ListN.{length}
 use lib.Ieee.{binary32, units, round, of_bits}
-use Rattle.floats.specs.Patterns.{hidden, signPlace, infinityBits}
+use Rattle.floats.specs.Patterns.{hidden, sign_place, infinity_bits}
 use Rattle.decimal_rounding.proofs.Compares.{compare-scale, lt-of-compare, eq-of-compare, gt-of-compare}
 use Rattle.decimal_rounding.proofs.Halves.{near_down, near_up}
 use Rattle.decimal_rounding.proofs.Pattern.{units-pattern}
@@ -76,20 +76,20 @@ module _ (num den m k : ℕ) (d : 0 < den) (cell : Cell m k num den) where
   down h =
       record {
         finite_or_infinite = small m k cell.few cell.low;
-        is = λ s. h s ∙ units-pattern s m k few cell.full cell.low ∙ ap (λ (z : ℕ). of_bits binary32 z) (add_assoc (cond s signPlace 0) (k * hidden) m);
+        is = λ s. h s ∙ units-pattern s m k few cell.full cell.low ∙ ap (λ (z : ℕ). of_bits binary32 z) (add_assoc (cond s sign_place 0) (k * hidden) m);
       }
     where
-      small : (m k : ℕ) → m < 2 ^ 24 → k ≤ 253 → k * hidden + m ≤ infinityBits
+      small : (m k : ℕ) → m < 2 ^ 24 → k ≤ 253 → k * hidden + m ≤ infinity_bits
       small m k h l = omega arith
 
   up : ((s : Bool) → round binary32 s num den ≡ units binary32 s (suc m) k) → Nearest num den (k * hidden + m + 1)
   up h =
       record {
         finite_or_infinite = small m k cell.few cell.low;
-        is = λ s. h s ∙ units-pattern s (suc m) k cell.few fuller cell.low ∙ ap (λ (z : ℕ). of_bits binary32 z) (shift (cond s signPlace 0) k m);
+        is = λ s. h s ∙ units-pattern s (suc m) k cell.few fuller cell.low ∙ ap (λ (z : ℕ). of_bits binary32 z) (shift (cond s sign_place 0) k m);
       }
     where
-      small : (m k : ℕ) → m < 2 ^ 24 → k ≤ 253 → k * hidden + m + 1 ≤ infinityBits
+      small : (m k : ℕ) → m < 2 ^ 24 → k ≤ 253 → k * hidden + m + 1 ≤ infinity_bits
       small m k h l = omega arith
 
       shift : (c k m : ℕ) → c + k * hidden + suc m ≡ c + (k * hidden + m + 1)

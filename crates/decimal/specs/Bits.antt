@@ -3,8 +3,8 @@ use Prim.Native.Nat.{ℕ, ◌+◌, ◌-◌, ◌*◌, ◌%◌, ◌^◌, ◌≤◌
 use Rattle.std.specs.Prelude.{◌≡◌, ◌⊎◌, List, [], ◌∷◌, Bool, cond, length, Float}
 use Rattle.std.specs.Float.{binary32}
 use Rattle.std.specs.Float.Ieee.{round, of_bits}
-use Rattle.floats.specs.Patterns.{signPlace, infinityBits, narrowStep, narrowHalf}
-use Rattle.scan.specs.Numbers.{scanNumberOf}
+use Rattle.floats.specs.Patterns.{sign_place, infinity_bits, narrow_step, narrow_half}
+use Rattle.scan.specs.Numbers.{scan_number_of}
 use Rattle.scan.specs.declared.numbers.Places.{Places}
 use Rattle.scan.specs.declared.numbers.Number.TheVariants.{Scanned}
 use Rattle.decimal_digits.specs.Digits.{val}
@@ -13,7 +13,7 @@ use Rattle.decimal_digits.specs.Exponent.{most, capped}
 use Rattle.decimal_product.specs.Near.{Cell}
 use Rattle.decimal_tie.specs.Weighing.{order_of}
 use Rattle.decimal_tie.specs.declared.scales.Order.{Order}
-use Rattle.decimal.specs.Decimal.{digitsOf, places_of, riseOf, fallOf, number_of}
+use Rattle.decimal.specs.Decimal.{digits_of, places_of, rise_of, fall_of, number_of}
 use Rattle.decimal.specs.declared.numbers.Read.{Read}
 use Rattle.decimal.specs.declared.numbers.Read.TheVariants.{Value, Refused}
 use Rattle.decimal.specs.declared.numbers.Found.{Found}
@@ -21,14 +21,14 @@ use Rattle.decimal.specs.declared.numbers.Found.TheVariants.{Number, Nothing}
 
 -- the bits b of the nearest f32, but for the sign s
 pub record Nearest (num den b : ℕ) : Type 0 where
-  pub finite_or_infinite : b ≤ infinityBits
-  pub is : (s : Bool) → round binary32 s num den ≡ of_bits binary32 (cond s signPlace 0 + b)
+  pub finite_or_infinite : b ≤ infinity_bits
+  pub is : (s : Bool) → round binary32 s num den ≡ of_bits binary32 (cond s sign_place 0 + b)
 
--- an f64's bits that tell the nearest f32, `narrowedOf`: it lies from 2 ^ -31 to 2 ^ 65, and its last 29 digits are no half
+-- an f64's bits that tell the nearest f32, `narrowed_of`: it lies from 2 ^ -31 to 2 ^ 65, and its last 29 digits are no half
 pub record Tells (b : ℕ) : Type 0 where
   pub low : 0x3E00000000000000 ≤ b
   pub high : b < 0x4400000000000000
-  pub no_tie : b % narrowStep ≡ narrowHalf → ⊥
+  pub no_tie : b % narrow_step ≡ narrow_half → ⊥
 
 -- what is gathered of a number: its digits, of which count stand before the point and places after it, and capped exponents
 pub record Gathered (ds : List ℕ) (count places w dropped rise fall : ℕ) : Type 0 where
@@ -59,14 +59,14 @@ pub record Held (text : List ℕ) (p : Places) (w dropped rise fall : ℕ) : Typ
   pub between : p.point ≤ p.fraction
   pub inside : p.mark ≤ length text
   pub few : dropped ≤ p.mark
-  pub leads : Leads (digitsOf text p) w dropped
-  pub count : length (digitsOf text p) ≡ (p.point - p.whole) + places_of p
-  pub rises : rise ≡ capped (riseOf text p)
-  pub drops : fall ≡ capped (fallOf text p)
+  pub leads : Leads (digits_of text p) w dropped
+  pub count : length (digits_of text p) ≡ (p.point - p.whole) + places_of p
+  pub rises : rise ≡ capped (rise_of text p)
+  pub drops : fall ≡ capped (fall_of text p)
 
 -- what is found where a number is due: a scanned number with all that its value needs, or the refusal
 abbrev pub SaysFound : Found → List ℕ → ℕ → Type 0
-SaysFound (Number q) text at = (Scanned q.places ≡ scanNumberOf text at) × Held text q.places q.w q.dropped q.rise q.fall
+SaysFound (Number q) text at = (Scanned q.places ≡ scan_number_of text at) × Held text q.places q.w q.dropped q.rise q.fall
 SaysFound (Nothing refusal) text at = Refused refusal ≡ number_of text at
 
 pub record Finds (text : List ℕ) (at : ℕ) (r : Found) : Type 0 where

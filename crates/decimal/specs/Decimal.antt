@@ -6,11 +6,11 @@ use Rattle.std.specs.Float.{binary32}
 use Rattle.std.specs.Float.Ieee.{round}
 use Rattle.answers.specs.declared.refusals.Refusal.{Refusal}
 use Rattle.answers.specs.declared.refusals.Refusal.TheVariants.{ExpectedNumber, InvalidNumber}
-use Rattle.scan.specs.Numbers.{scanNumberOf}
+use Rattle.scan.specs.Numbers.{scan_number_of}
 use Rattle.scan.specs.declared.numbers.Places.{Places}
 use Rattle.scan.specs.declared.numbers.Number.{Number}
 use Rattle.scan.specs.declared.numbers.Number.TheVariants.{Scanned, NoDigit, NoExponentDigit}
-use Rattle.decimal_digits.specs.Digits.{digitsIn, val}
+use Rattle.decimal_digits.specs.Digits.{digits_in, val}
 use Rattle.decimal.specs.declared.numbers.Read.{Read}
 use Rattle.decimal.specs.declared.numbers.Read.TheVariants.{Value, Refused}
 
@@ -21,33 +21,33 @@ minus = 45
 -- ---- the exact fraction
 
 -- all digits before the exponent, the point left out
-abbrev pub digitsOf : List ℕ → Places → List ℕ
-digitsOf text p = digitsIn text p.whole p.mark
+abbrev pub digits_of : List ℕ → Places → List ℕ
+digits_of text p = digits_in text p.whole p.mark
 
 -- how many of them stand after the point
 abbrev pub places_of : Places → ℕ
 places_of p = p.mark - p.fraction
 
 -- the number after the e, of any count of digits; 0 where there is no e
-abbrev pub powerOf : List ℕ → Places → ℕ
-powerOf text p = val (digitsIn text p.exponent p.end)
+abbrev pub power_of : List ℕ → Places → ℕ
+power_of text p = val (digits_in text p.exponent p.end)
 
 -- there is an e, and a minus after it
 unfoldable pub falls : List ℕ → Places → Bool
 falls text p = ltb p.mark p.exponent && eqb (get_or text (p.mark + 1) 0) minus
 
 -- the exponent by its sign: by how many places the point moves to the right, and by how many to the left
-unfoldable pub riseOf : List ℕ → Places → ℕ
-riseOf text p = cond (falls text p) 0 (powerOf text p)
+unfoldable pub rise_of : List ℕ → Places → ℕ
+rise_of text p = cond (falls text p) 0 (power_of text p)
 
-unfoldable pub fallOf : List ℕ → Places → ℕ
-fallOf text p = cond (falls text p) (powerOf text p) 0
+unfoldable pub fall_of : List ℕ → Places → ℕ
+fall_of text p = cond (falls text p) (power_of text p) 0
 
 abbrev pub numerator : List ℕ → Places → ℕ
-numerator text p = val (digitsOf text p) * 10 ^ riseOf text p
+numerator text p = val (digits_of text p) * 10 ^ rise_of text p
 
 abbrev pub denominator : List ℕ → Places → ℕ
-denominator text p = 10 ^ (places_of p + fallOf text p)
+denominator text p = 10 ^ (places_of p + fall_of text p)
 
 -- ---- the value
 
@@ -67,4 +67,4 @@ read_of text (NoDigit at) = Refused (ExpectedNumber at)
 read_of text (NoExponentDigit at) = Refused (InvalidNumber at)
 
 unfoldable pub number_of : List ℕ → ℕ → Read
-number_of text at = read_of text (scanNumberOf text at)
+number_of text at = read_of text (scan_number_of text at)

@@ -5,9 +5,9 @@ ghost use Rattle.std.specs.Prelude.{◌≡◌, ◌⊎◌, false, true, cond, ℕ
 ghost use Rattle.std.specs.Float.{binary32, binary64};
 ghost use Rattle.std.specs.Float.Ieee.{round, of_bits, to_bits};
 ghost use Rattle.std.specs.Float.Ieee.Exact.{HasValue};
-ghost use Rattle.floats.specs.Patterns.{signPlace, infinityBits, narrowStep, narrowHalf};
-ghost use Rattle.decimal_rounding.specs.Wide.{narrowedOf};
-ghost use Rattle.decimal_digits.specs.Digits.{digitsAmong};
+ghost use Rattle.floats.specs.Patterns.{sign_place, infinity_bits, narrow_step, narrow_half};
+ghost use Rattle.decimal_rounding.specs.Wide.{narrowed_of};
+ghost use Rattle.decimal_digits.specs.Digits.{digits_among};
 ghost use Rattle.decimal_digits.specs.Exponent.{capped, most};
 ghost use Rattle.decimal.specs.Bits.{Tells, Sides, Gathered, Rounds, Settles};
 
@@ -57,7 +57,7 @@ pub fn pattern(w: u64, places: u64) -> u64
 
 // Whether a quotient's bits tell the nearest f32: they are no middle of two.
 pub fn tells(b: u64) -> bool
-    ensures { result ≡ true → b % narrowStep ≡ narrowHalf → ⊥ }
+    ensures { result ≡ true → b % narrow_step ≡ narrow_half → ⊥ }
 {
     b % 536870912 != 268435456
 }
@@ -66,7 +66,7 @@ pub fn tells(b: u64) -> bool
 // nothing foretells that, so that it is no branch.
 pub fn narrow(w: u64, b: u64) -> u64
     requires { 0 < w → Tells b }
-    ensures { result ≡ cond (eqb w 0) 0 (narrowedOf b) }
+    ensures { result ≡ cond (eqb w 0) 0 (narrowed_of b) }
 {
     if w == 0 {
         return 0;
@@ -76,15 +76,15 @@ pub fn narrow(w: u64, b: u64) -> u64
 
 // A sign's bit: a number and no branch.
 fn sign_of(negative: bool) -> u64
-    ensures { result ≡ cond negative signPlace 0 }
+    ensures { result ≡ cond negative sign_place 0 }
 {
     if negative { SIGN_PLACE } else { 0 }
 }
 
 // The f32 of the bits and the sign.
 pub fn signed(bits: u64, negative: bool) -> f32
-    requires { bits ≤ infinityBits }
-    ensures { result ≡ of_bits binary32 (cond negative signPlace 0 + bits) }
+    requires { bits ≤ infinity_bits }
+    ensures { result ≡ of_bits binary32 (cond negative sign_place 0 + bits) }
 {
     f32::from_bits((sign_of(negative) + bits) as u32)
 }
@@ -105,7 +105,7 @@ fn sum(a: u64, b: u64) -> u64
 // fall.
 fn side(part: &[u8], count: u64, rise: u64, fall: u64, m: u64, k: u64) -> Order
     requires { (m < 2 ^ 24) × (k ≤ 253) × (count + rise < 2 ^ 64) }
-    ensures { Sides (digitsAmong part.now) count rise fall m k result }
+    ensures { Sides (digits_among part.now) count rise fall m k result }
 {
     let whole = count + rise;
     if fall <= whole {
@@ -117,7 +117,7 @@ fn side(part: &[u8], count: u64, rise: u64, fall: u64, m: u64, k: u64) -> Order
 // The bits where the number lies between m and m + 1 such steps: at the middle the even one's.
 fn between(part: &[u8], count: u64, rise: u64, fall: u64, m: u64, k: u64) -> u64
     requires { (m < 2 ^ 24) × (k ≤ 253) × (count + rise < 2 ^ 64) }
-    ensures { Settles (digitsAmong part.now) count rise fall m k result }
+    ensures { Settles (digits_among part.now) count rise fall m k result }
 {
     match side(part, count, rise, fall, m, k) {
         Order::Less => k * HIDDEN + m,
@@ -137,8 +137,8 @@ pub fn magnitude(
     rise: u64,
     fall: u64,
 ) -> u64
-    requires { Gathered (digitsAmong part.now) count places w dropped rise fall }
-    ensures { Rounds (digitsAmong part.now) places rise fall result }
+    requires { Gathered (digits_among part.now) count places w dropped rise fall }
+    ensures { Rounds (digits_among part.now) places rise fall result }
 {
     if w == 0 {
         return 0;

@@ -2,7 +2,7 @@
 // the middle of two floats, is not told, and left to `number`. The value goes into memory and the place is returned, so
 // that what stands behind the number does not wait for its value.
 ghost use Rattle.std.specs.Prelude.{◌≡◌, ℕ, ◌≤◌, ◌<◌, length};
-ghost use Rattle.scan.specs.Runs.{byteAtOf, pastSignOf};
+ghost use Rattle.scan.specs.Runs.{byte_at_of, past_sign_of};
 ghost use Rattle.decimal.specs.Decimal.{number_of};
 ghost use Rattle.decimal.specs.Bits.{Settled, Quick};
 
@@ -19,7 +19,7 @@ pub struct Front {
 
 // Past a sign. The byte is read in either case, which makes the sign a branch: the place past it waits for no byte.
 fn lead(text: &[u8], at: usize) -> Front
-    ensures { (result.at ≡ pastSignOf text.now at) × (result.byte ≡ byteAtOf text.now result.at) }
+    ensures { (result.at ≡ past_sign_of text.now at) × (result.byte ≡ byte_at_of text.now result.at) }
 {
     let byte = byte_at(text, at);
     if is_sign(byte) {

@@ -1,9 +1,9 @@
 -- A capped number, a digit more of it, and an exponent's size by its digits. Assumes nothing.
 use Rattle.std.proofs.Common.{◌≡◌, ℕ, ◌+◌, ◌-◌, ◌*◌, ◌<◌, ◌≤◌, Bool, true, false, cond, ltb, ◌⊎◌, List, [], ◌∷◌, ◌++◌, length, get_or, sym, refl, ap, ◌∙◌, inl, inr, arith, ltb-false, ltb-true, le-ltb, lt-ltb}
 use Rattle.scan.specs.Bytes.{among, digits}
-use Rattle.scan.specs.Runs.{pastDigitsOf}
-use Rattle.decimal_digits.specs.Digits.{digitsIn, val}
-use Rattle.decimal_digits.specs.Exponent.{most, capped, exponentOf}
+use Rattle.scan.specs.Runs.{past_digits_of}
+use Rattle.decimal_digits.specs.Digits.{digits_in, val}
+use Rattle.decimal_digits.specs.Exponent.{most, capped, exponent_of}
 use Rattle.decimal_digits.proofs.Values.{val-append, val-one}
 use Rattle.decimal_digits.proofs.Places.{none_in, join-in, digit-in}
 
@@ -39,20 +39,20 @@ longer-capped size digit n e h = go (capped-either n)
 
 -- ---- the size of an exponent
 
-pub size-start : (text : List ℕ) (at : ℕ) → 0 ≡ capped (val (digitsIn text at at))
+pub size-start : (text : List ℕ) (at : ℕ) → 0 ≡ capped (val (digits_in text at at))
 unfolding capped val
 size-start text at = rw (none_in text at)
 
 module _ (text : List ℕ) (from at : ℕ) (past : from ≤ at) where
   -- a digit more of the run
-  pub size-digit : at < length text → among (get_or text at 0) digits ≡ true → val (digitsIn text from at) * 10 + (get_or text at 0 - 48) ≡ val (digitsIn text from (at + 1))
+  pub size-digit : at < length text → among (get_or text at 0) digits ≡ true → val (digits_in text from at) * 10 + (get_or text at 0 - 48) ≡ val (digits_in text from (at + 1))
   size-digit h e =
       sym
-      (ap val (join-in text from at (at + 1) past (omega arith) ∙ ap (λ (ds : List ℕ). digitsIn text from at ++ ds) (digit-in text at h e))
-      ∙ val-append (digitsIn text from at) ((get_or text at 0 - 48) ∷ [])
-      ∙ ap (λ (z : ℕ). val (digitsIn text from at) * 10 + z) (val-one (get_or text at 0 - 48)))
+      (ap val (join-in text from at (at + 1) past (omega arith) ∙ ap (λ (ds : List ℕ). digits_in text from at ++ ds) (digit-in text at h e))
+      ∙ val-append (digits_in text from at) ((get_or text at 0 - 48) ∷ [])
+      ∙ ap (λ (z : ℕ). val (digits_in text from at) * 10 + z) (val-one (get_or text at 0 - 48)))
 
   -- the run ends here
-  pub power-is : (size : ℕ) → pastDigitsOf text at ≡ pastDigitsOf text from → pastDigitsOf text at ≡ at → size ≡ capped (val (digitsIn text from at)) → record { at = at; size = size } ≡ exponentOf text from
-  unfolding exponentOf
-  power-is size e f g = let h : at ≡ pastDigitsOf text from = sym f ∙ e in rw (← h, g)
+  pub power-is : (size : ℕ) → past_digits_of text at ≡ past_digits_of text from → past_digits_of text at ≡ at → size ≡ capped (val (digits_in text from at)) → record { at = at; size = size } ≡ exponent_of text from
+  unfolding exponent_of
+  power-is size e f g = let h : at ≡ past_digits_of text from = sym f ∙ e in rw (← h, g)

@@ -2,7 +2,7 @@
 use Rattle.std.proofs.Common.{◌≡◌, ℕ, zero, suc, ◌+◌, ◌-◌, ◌*◌, ◌^◌, ◌<◌, ◌≤◌, Bool, true, false, List, [], ◌∷◌, ◌++◌, length, get_or, sym, refl, ap, ◌∙◌, subst, append-nil, mul_assoc, add-mul, mul-one, arith, lit<, pow-add}
 use lib.Arith.{digits_lt}
 use Rattle.scan.specs.Bytes.{among, digits}
-use Rattle.decimal_digits.specs.Digits.{digitsIn, val}
+use Rattle.decimal_digits.specs.Digits.{digits_in, val}
 use Rattle.decimal_digits.specs.Leading.{Leads}
 use Rattle.decimal_digits.proofs.Values.{val-append, val-one, val-lt, digit_lt}
 use Rattle.decimal_digits.proofs.Places.{none_in, join-in, digit-in, other-in, run_in}
@@ -12,7 +12,7 @@ nothing : Leads [] 0 0
 unfolding val
 nothing = record { rest = 0; is = refl; small = lit< tt; early = λ h. refl }
 
-pub leads-start : (text : List ℕ) (at : ℕ) → Leads (digitsIn text at at) 0 0
+pub leads-start : (text : List ℕ) (at : ℕ) → Leads (digits_in text at at) 0 0
 leads-start text at = subst (λ (ds : List ℕ). Leads ds 0 0) (sym (none_in text at)) nothing
 
 -- a digit more is taken
@@ -41,20 +41,20 @@ many_more ds ys w dropped k h l =
       early = λ f. absurd (omega (arith, h, f));
     }
 
-module _ (text : List ℕ) (start at w dropped : ℕ) (from : start ≤ at) (k : Leads (digitsIn text start at) w dropped) where
-  pub leads-digit : at < length text → among (get_or text at 0) digits ≡ true → w < 10 ^ 18 → Leads (digitsIn text start (at + 1)) (w * 10 + (get_or text at 0 - 48)) dropped
+module _ (text : List ℕ) (start at w dropped : ℕ) (from : start ≤ at) (k : Leads (digits_in text start at) w dropped) where
+  pub leads-digit : at < length text → among (get_or text at 0) digits ≡ true → w < 10 ^ 18 → Leads (digits_in text start (at + 1)) (w * 10 + (get_or text at 0 - 48)) dropped
   leads-digit h e l =
       subst (λ (ds : List ℕ). Leads ds (w * 10 + (get_or text at 0 - 48)) dropped)
-      (sym (join-in text start at (at + 1) from (omega arith) ∙ ap (λ (ds : List ℕ). digitsIn text start at ++ ds) (digit-in text at h e)))
-      (one_more (digitsIn text start at) w dropped (get_or text at 0 - 48) k l)
+      (sym (join-in text start at (at + 1) from (omega arith) ∙ ap (λ (ds : List ℕ). digits_in text start at ++ ds) (digit-in text at h e)))
+      (one_more (digits_in text start at) w dropped (get_or text at 0 - 48) k l)
 
-  pub leads-run : (end : ℕ) → at ≤ end → end ≤ length text → ((i : ℕ) → at ≤ i → i < end → among (get_or text i 0) digits ≡ true) → 10 ^ 18 ≤ w → Leads (digitsIn text start end) w (dropped + (end - at))
+  pub leads-run : (end : ℕ) → at ≤ end → end ≤ length text → ((i : ℕ) → at ≤ i → i < end → among (get_or text i 0) digits ≡ true) → 10 ^ 18 ≤ w → Leads (digits_in text start end) w (dropped + (end - at))
   leads-run end h l d g =
       subst (λ (ds : List ℕ). Leads ds w (dropped + (end - at))) (sym (join-in text start at end from h))
-      (subst (λ (n : ℕ). Leads (digitsIn text start at ++ digitsIn text at end) w (dropped + n)) (run_in text at end h l d)
-      (many_more (digitsIn text start at) (digitsIn text at end) w dropped k g (val-lt _)))
+      (subst (λ (n : ℕ). Leads (digits_in text start at ++ digits_in text at end) w (dropped + n)) (run_in text at end h l d)
+      (many_more (digits_in text start at) (digits_in text at end) w dropped k g (val-lt _)))
 
   -- a byte that is no digit is passed
-  pub leads-other : at < length text → among (get_or text at 0) digits ≡ false → Leads (digitsIn text start (at + 1)) w dropped
+  pub leads-other : at < length text → among (get_or text at 0) digits ≡ false → Leads (digits_in text start (at + 1)) w dropped
   leads-other h e =
-      subst (λ (ds : List ℕ). Leads ds w dropped) (sym (join-in text start at (at + 1) from (omega arith) ∙ ap (λ (ds : List ℕ). digitsIn text start at ++ ds) (other-in text at h e) ∙ append-nil (digitsIn text start at))) k
+      subst (λ (ds : List ℕ). Leads ds w dropped) (sym (join-in text start at (at + 1) from (omega arith) ∙ ap (λ (ds : List ℕ). digits_in text start at ++ ds) (other-in text at h e) ∙ append-nil (digits_in text start at))) k

@@ -8,7 +8,7 @@ use lib.Count.{count_trailing_zeros, under}
 use Rattle.scan.specs.Bytes.{among, digits}
 use Rattle.decimal_digits.specs.Digits.{val}
 use Rattle.decimal_digits.proofs.Values.{digit_lt}
-use Rattle.decimal_digits.specs.Words.{laid, eightOf, begun, each, othersOf, Below}
+use Rattle.decimal_digits.specs.Words.{laid, eight_of, begun, each, others_of, Below}
 
 -- ---- lanes of any width, joined two by two
 
@@ -143,8 +143,8 @@ next : (n : ℕ) → 2 ^ (8 * suc n) ≡ 2 ^ (8 * n) * 256
 next n = let e : 8 * suc n ≡ 8 * n + 8 = omega arith in ap (λ (i : ℕ). 2 ^ i) e ∙ pow-add 2 (8 * n) 8
 
 -- a lane up to 9 has no mark and carries nothing into the next
-others-pass : (n X v : ℕ) → v < 10 → othersOf (suc n) (X * 256 + v) ≡ othersOf n X * 256
-unfolding othersOf each
+others-pass : (n X v : ℕ) → v < 10 → others_of (suc n) (X * 256 + v) ≡ others_of n X * 256
+unfolding others_of each
 others-pass n X v h =
     let A = each 118 n in
     let Y = (X + A) % 2 ^ (8 * n) in
@@ -164,8 +164,8 @@ others-pass n X v h =
     ∙ add-zero _
 
 -- a lane above 9 has one
-others-stop : (n X v : ℕ) → 10 ≤ v → v < 256 → othersOf (suc n) (X * 256 + v) % 256 ≡ 128
-unfolding othersOf each
+others-stop : (n X v : ℕ) → 10 ≤ v → v < 256 → others_of (suc n) (X * 256 + v) % 256 ≡ 128
+unfolding others_of each
 others-stop n X v h byte =
     let A = each 118 n in
     let S = X * 256 + v + (A * 256 + 118) in
@@ -187,17 +187,17 @@ lanes (byte ∷ rest) = bit_xor byte 48 ∷ lanes rest
 record Marked (bs ds : List ℕ) : Type 0 where
   few : length ds < length bs
   above : ℕ
-  is : othersOf (length bs) (laid 8 (lanes bs)) ≡ above * 2 ^ (8 * length ds)
+  is : others_of (length bs) (laid 8 (lanes bs)) ≡ above * 2 ^ (8 * length ds)
   lowest : above % 256 ≡ 128
 
 record Split (bs ds : List ℕ) : Type 0 where
   rest : ℕ
   is : laid 8 (lanes bs) ≡ rest * 2 ^ (8 * length ds) + laid 8 ds
   small : Below 256 ds
-  marks : ((length ds ≡ length bs) × (othersOf (length bs) (laid 8 (lanes bs)) ≡ 0)) ⊎ Marked bs ds
+  marks : ((length ds ≡ length bs) × (others_of (length bs) (laid 8 (lanes bs)) ≡ 0)) ⊎ Marked bs ds
 
-none_of : othersOf 0 0 ≡ 0
-unfolding othersOf each
+none_of : others_of 0 0 ≡ 0
+unfolding others_of each
 none_of = and_zero_r (bit_or (0 % 2 ^ 0) 0)
 
 split-of : (bs : List ℕ) → Below 256 bs → Split bs (begun bs)
@@ -212,7 +212,7 @@ split-of (b ∷ bs) h = go (among b digits) refl (split-of bs h.1)
         let n = length (begun bs) in
         let lane : v ≡ b - 48 = digit-lane b h.0 e in
         let low : b - 48 < 10 = digit_lt b e in
-        let pass : othersOf (suc (length bs)) (X * 256 + v) ≡ othersOf (length bs) X * 256 = others-pass (length bs) X v (omega arith) in
+        let pass : others_of (suc (length bs)) (X * 256 + v) ≡ others_of (length bs) X * 256 = others-pass (length bs) X v (omega arith) in
         let up : (x : ℕ) → x * 2 ^ (8 * n) * 256 ≡ x * 2 ^ (8 * suc n) = λ x. mul_assoc x (2 ^ (8 * n)) 256 ∙ ap (λ (z : ℕ). x * z) (sym (next n)) in
         record {
           rest = s.rest;
@@ -229,7 +229,7 @@ split-of (b ∷ bs) h = go (among b digits) refl (split-of bs h.1)
           rest = X * 256 + v;
           is = omega arith;
           small = tt;
-          marks = inr (record { few = omega arith; above = othersOf (suc (length bs)) (X * 256 + v); is = sym (mul-one _); lowest = others-stop (length bs) X v (other-lane b h.0 e) byte });
+          marks = inr (record { few = omega arith; above = others_of (suc (length bs)) (X * 256 + v); is = sym (mul-one _); lowest = others-stop (length bs) X v (other-lane b h.0 e) byte });
         }
 
 -- ---- eight bytes
@@ -312,16 +312,16 @@ module _ (bs : List ℕ) (size : length bs ≡ 8) (bytes : Below 256 bs) (x : �
   x-is : x ≡ laid 8 (lanes bs)
   x-is = is ∙ ap (λ (i : ℕ). bit_xor (laid 8 bs) (each 48 i)) (sym size) ∙ values-is bs bytes
 
-  marks-are : othersOf 8 x ≡ othersOf (length bs) (laid 8 (lanes bs))
-  marks-are = ap₂ othersOf (sym size) x-is
+  marks-are : others_of 8 x ≡ others_of (length bs) (laid 8 (lanes bs))
+  marks-are = ap₂ others_of (sym size) x-is
 
-  marked-pos : Marked bs (begun bs) → 0 < othersOf 8 x
+  marked-pos : Marked bs (begun bs) → 0 < others_of 8 x
   marked-pos m = subst (λ (z : ℕ). 0 < z) (sym (marks-are ∙ m.is)) (mul-pos (omega (arith, m.lowest)) (pow_pos (8 * n)))
 
-  pub none_other : othersOf 8 x ≡ 0 → n ≡ 8
+  pub none_other : others_of 8 x ≡ 0 → n ≡ 8
   none_other z = ⊎_elim (λ q. q.0 ∙ size) (λ m. absurd (omega (arith, marked-pos m))) (split-of bs bytes).marks
 
-  pub some-other : (othersOf 8 x ≡ 0 → ⊥) → (count_trailing_zeros 64 (othersOf 8 x) ≡ 8 * n + 7) × (n < 8)
+  pub some-other : (others_of 8 x ≡ 0 → ⊥) → (count_trailing_zeros 64 (others_of 8 x) ≡ 8 * n + 7) × (n < 8)
   some-other z =
       ⊎_elim (λ q. absurd (z (marks-are ∙ q.1)))
       (λ (m : Marked bs (begun bs)). let few : n < 8 = omega (arith, m.few) in (ap (count_trailing_zeros 64) (marks-are ∙ m.is) ∙ mark-place m.above n m.lowest few, few))
@@ -360,5 +360,5 @@ module _ (bs : List ℕ) (size : length bs ≡ 8) (bytes : Below 256 bs) (x : �
         none_left : (a b p : ℕ) → p ≡ 2 ^ 64 → a * p + b < 2 ^ 64 → a * p + b ≡ b
         none_left a b p e h = let f : a * p ≡ a * 18446744073709551616 = ap (λ (z : ℕ). a * z) e in omega arith
 
-pub eight-below : (text : List ℕ) (at : ℕ) → ((i : ℕ) → get_or text i 0 < 256) → Below 256 (eightOf text at)
+pub eight-below : (text : List ℕ) (at : ℕ) → ((i : ℕ) → get_or text i 0 < 256) → Below 256 (eight_of text at)
 eight-below text at h = (h at, (h (at + 1), (h (at + 2), (h (at + 3), (h (at + 4), (h (at + 5), (h (at + 6), (h (at + 7), tt))))))))

@@ -2,11 +2,11 @@
 use Rattle.std.proofs.Common.{◌≡◌, ℕ, suc, ◌+◌, ◌-◌, ◌*◌, ◌^◌, ◌<◌, ◌≤◌, Bool, true, false, cond, ltb, List, [], ◌∷◌, length, get_or, sym, refl, ap, ◌∙◌, subst, le_trans, le_refl, lt_of_lt_of_le, le_of_lt, mul_assoc, mul_comm, add-mul, mul-le-mul_left, pow-suc, mul-one, arith, pow-add, ltb-false, ltb-true}
 use lib.Arith.{digits_lt}
 use Rattle.scan.specs.Bytes.{among, digits}
-use Rattle.scan.specs.Runs.{pastDigitsOf}
+use Rattle.scan.specs.Runs.{past_digits_of}
 use Rattle.scan.proofs.RunLaws.{all_pass, all-stop, all_end, all-onward, all-within, all-passed}
-use Rattle.decimal_digits.specs.Digits.{digitsIn, val}
+use Rattle.decimal_digits.specs.Digits.{digits_in, val}
 use Rattle.decimal_digits.specs.Leading.{Leads, Takes, Gathers}
-use Rattle.decimal_digits.specs.Words.{eightOf, begun}
+use Rattle.decimal_digits.specs.Words.{eight_of, begun}
 use Rattle.decimal_digits.specs.declared.gathering.Leading.{Leading}
 use Rattle.decimal_digits.proofs.Values.{ten-pos, digit_lt}
 use Rattle.decimal_digits.proofs.Holding.{leads-digit, leads-run}
@@ -76,32 +76,32 @@ module _ (text : List ℕ) where
       go false e rest = takes-nothing at w
 
   -- fewer digits than bytes: the run ends with them
-  ends-begun : (bs : List ℕ) (at : ℕ) → Standing at bs → at + length bs ≤ length text → length (begun bs) < length bs → pastDigitsOf text (at + length (begun bs)) ≡ at + length (begun bs)
+  ends-begun : (bs : List ℕ) (at : ℕ) → Standing at bs → at + length bs ≤ length text → length (begun bs) < length bs → past_digits_of text (at + length (begun bs)) ≡ at + length (begun bs)
   unfolding begun
   ends-begun [] at s h l = absurd (omega arith)
   ends-begun (b ∷ bs) at s h l = go (among b digits) refl l (λ m. ends-begun bs (at + 1) s.1 (omega arith) m)
     where
       go : (t : Bool) → among b digits ≡ t → length (cond t ((b - 48) ∷ begun bs) []) < length (b ∷ bs)
-          → (length (begun bs) < length bs → pastDigitsOf text (at + 1 + length (begun bs)) ≡ at + 1 + length (begun bs))
-          → pastDigitsOf text (at + length (cond t ((b - 48) ∷ begun bs) [])) ≡ at + length (cond t ((b - 48) ∷ begun bs) [])
-      go true e m rest = let place : at + 1 + length (begun bs) ≡ at + suc (length (begun bs)) = omega arith in subst (λ (z : ℕ). pastDigitsOf text z ≡ z) place (rest (omega arith))
-      go false e m rest = let place : at ≡ at + 0 = omega arith in subst (λ (z : ℕ). pastDigitsOf text z ≡ z) place (all-stop digits text at (omega arith) (ap (λ (z : ℕ). among z digits) s.0 ∙ e))
+          → (length (begun bs) < length bs → past_digits_of text (at + 1 + length (begun bs)) ≡ at + 1 + length (begun bs))
+          → past_digits_of text (at + length (cond t ((b - 48) ∷ begun bs) [])) ≡ at + length (cond t ((b - 48) ∷ begun bs) [])
+      go true e m rest = let place : at + 1 + length (begun bs) ≡ at + suc (length (begun bs)) = omega arith in subst (λ (z : ℕ). past_digits_of text z ≡ z) place (rest (omega arith))
+      go false e m rest = let place : at ≡ at + 0 = omega arith in subst (λ (z : ℕ). past_digits_of text z ≡ z) place (all-stop digits text at (omega arith) (ap (λ (z : ℕ). among z digits) s.0 ∙ e))
 
-  eight-stand : (at : ℕ) → Standing at (eightOf text at)
+  eight-stand : (at : ℕ) → Standing at (eight_of text at)
   eight-stand at = (refl, (refl, (far 2 (omega arith), (far 3 (omega arith), (far 4 (omega arith), (far 5 (omega arith), (far 6 (omega arith), (far 7 (omega arith), tt))))))))
     where
       far : {i : ℕ} (j : ℕ) → i ≡ at + j → get_or text i 0 ≡ get_or text (at + j) 0
       far j e = ap (λ (i : ℕ). get_or text i 0) e
 
   -- the digits that eight bytes begin with
-  module _ (at : ℕ) (inside : at + 8 ≤ length text) (n : ℕ) (count : n ≡ length (begun (eightOf text at))) where
-    pub takes_run : (w v : ℕ) → w < 10 ^ 11 → v ≡ val (begun (eightOf text at)) → Takes text at w (at + n) (w * 10 ^ n + v)
-    takes_run w v l value = rw (count, value) (takes-begun (eightOf text at) at w (eight-stand at) inside (omega arith) l)
+  module _ (at : ℕ) (inside : at + 8 ≤ length text) (n : ℕ) (count : n ≡ length (begun (eight_of text at))) where
+    pub takes_run : (w v : ℕ) → w < 10 ^ 11 → v ≡ val (begun (eight_of text at)) → Takes text at w (at + n) (w * 10 ^ n + v)
+    takes_run w v l value = rw (count, value) (takes-begun (eight_of text at) at w (eight-stand at) inside (omega arith) l)
 
-    pub run-ended : n < 8 → pastDigitsOf text (at + n) ≡ at + n
-    run-ended l = rw count (ends-begun (eightOf text at) at (eight-stand at) inside (subst (λ (z : ℕ). z < 8) count l))
+    pub run-ended : n < 8 → past_digits_of text (at + n) ≡ at + n
+    run-ended l = rw count (ends-begun (eight_of text at) at (eight-stand at) inside (subst (λ (z : ℕ). z < 8) count l))
 
-    pub run-same : pastDigitsOf text (at + n) ≡ pastDigitsOf text at
+    pub run-same : past_digits_of text (at + n) ≡ past_digits_of text at
     run-same = (takes_run 0 _ (omega arith) refl).same-run
 
   -- ---- all the digits from a place on
@@ -115,12 +115,12 @@ module _ (text : List ℕ) where
       }
 
   -- no digit stands at the place
-  pub gathers-none : (at w dropped : ℕ) → pastDigitsOf text at ≡ at → dropped ≤ at → Gathers text at w dropped (record { at = at; w = w; dropped = dropped })
+  pub gathers-none : (at w dropped : ℕ) → past_digits_of text at ≡ at → dropped ≤ at → Gathers text at w dropped (record { at = at; w = w; dropped = dropped })
   gathers-none at w dropped e h = record { passed = sym e; held = λ start from k. k; few = h }
 
   -- the number is full, and the rest is dropped
   pub gathers-rest : (at w dropped : ℕ) → 10 ^ 18 ≤ w → dropped ≤ at
-      → Gathers text at w dropped (record { at = pastDigitsOf text at; w = w; dropped = dropped + (pastDigitsOf text at - at) })
+      → Gathers text at w dropped (record { at = past_digits_of text at; w = w; dropped = dropped + (past_digits_of text at - at) })
   gathers-rest at w dropped g h =
       let on = all-onward digits text at in
       record {
@@ -129,13 +129,13 @@ module _ (text : List ℕ) where
         few = omega arith;
       }
     where
-      go : (start : ℕ) → start ≤ at → Leads (digitsIn text start at) w dropped → (t : Bool) → ltb at (length text) ≡ t
-          → Leads (digitsIn text start (pastDigitsOf text at)) w (dropped + (pastDigitsOf text at - at))
+      go : (start : ℕ) → start ≤ at → Leads (digits_in text start at) w dropped → (t : Bool) → ltb at (length text) ≡ t
+          → Leads (digits_in text start (past_digits_of text at)) w (dropped + (past_digits_of text at - at))
       go start from k true e =
-          leads-run text start at w dropped from k (pastDigitsOf text at) (all-onward digits text at) (all-within digits text at (le_of_lt (ltb-true at (length text) e)))
+          leads-run text start at w dropped from k (past_digits_of text at) (all-onward digits text at) (all-within digits text at (le_of_lt (ltb-true at (length text) e)))
           (λ i after upto. all-passed digits text at i after upto) g
       go start from k false e =
-          let end : pastDigitsOf text at ≡ at = all_end digits text at (ltb-false at (length text) e) in
+          let end : past_digits_of text at ≡ at = all_end digits text at (ltb-false at (length text) e) in
           let none : dropped + (at - at) ≡ dropped = omega arith in
           rw (end, none) k
 
@@ -165,9 +165,9 @@ pub record Bounds (w n p v : ℕ) : Type 0 where
   pub value : v < 100000000
 
 -- what a run of eight bytes is, and what it makes of a number
-pub run-bounds : (text : List ℕ) (at w n p v : ℕ) → n ≡ length (begun (eightOf text at)) → v ≡ val (begun (eightOf text at)) → p ≡ 10 ^ n → Bounds w n p v
+pub run-bounds : (text : List ℕ) (at w n p v : ℕ) → n ≡ length (begun (eight_of text at)) → v ≡ val (begun (eight_of text at)) → p ≡ 10 ^ n → Bounds w n p v
 run-bounds text at w n p v count value power =
-    let bs = eightOf text at in
+    let bs = eight_of text at in
     let few : n ≤ 8 = subst (λ (z : ℕ). z ≤ 8) (sym count) (begun-le bs) in
     let most : p ≤ 10 ^ 8 = subst (λ (z : ℕ). z ≤ 10 ^ 8) (sym power) (ten-mono n 8 few) in
     let small : v < p = subst (λ (z : ℕ). v < z) (sym (power ∙ ap (λ (z : ℕ). 10 ^ z) count)) (subst (λ (z : ℕ). z < 10 ^ length (begun bs)) (sym value) (begun-lt bs)) in

@@ -3,7 +3,7 @@ use Rattle.std.proofs.Common.{◌≡◌, ℕ, zero, suc, ◌+◌, ◌-◌, ◌*�
 use lib.Arith.{digits_lt}
 use Rattle.scan.specs.Bytes.{among, digits}
 use Rattle.scan.proofs.ByteLaws.{digit-range}
-use Rattle.decimal_digits.specs.Digits.{digitsAmong, val}
+use Rattle.decimal_digits.specs.Digits.{digits_among, val}
 
 pub ten-pos : (k : ℕ) → 0 < 10 ^ k
 ten-pos zero = lit< tt
@@ -26,21 +26,21 @@ val-one x = omega arith
 pub digit_lt : (byte : ℕ) → among byte digits ≡ true → byte - 48 < 10
 digit_lt byte e = let r = digit-range byte e in omega arith
 
-pub val-lt : (bytes : List ℕ) → val (digitsAmong bytes) < 10 ^ length (digitsAmong bytes)
-unfolding val digitsAmong
+pub val-lt : (bytes : List ℕ) → val (digits_among bytes) < 10 ^ length (digits_among bytes)
+unfolding val digits_among
 val-lt [] = lit< tt
 val-lt (byte ∷ rest) = go (among byte digits) refl (val-lt rest)
   where
-    go : (x : Bool) → among byte digits ≡ x → val (digitsAmong rest) < 10 ^ length (digitsAmong rest)
-        → val (cond x ((byte - 48) ∷ digitsAmong rest) (digitsAmong rest)) < 10 ^ length (cond x ((byte - 48) ∷ digitsAmong rest) (digitsAmong rest))
-    go true e w = subst (λ (z : ℕ). (byte - 48) * 10 ^ length (digitsAmong rest) + val (digitsAmong rest) < z) (mul_comm 10 (10 ^ length (digitsAmong rest)) ∙ sym (pow-suc 10 (length (digitsAmong rest)))) (digits_lt (digit_lt byte e) w)
+    go : (x : Bool) → among byte digits ≡ x → val (digits_among rest) < 10 ^ length (digits_among rest)
+        → val (cond x ((byte - 48) ∷ digits_among rest) (digits_among rest)) < 10 ^ length (cond x ((byte - 48) ∷ digits_among rest) (digits_among rest))
+    go true e w = subst (λ (z : ℕ). (byte - 48) * 10 ^ length (digits_among rest) + val (digits_among rest) < z) (mul_comm 10 (10 ^ length (digits_among rest)) ∙ sym (pow-suc 10 (length (digits_among rest)))) (digits_lt (digit_lt byte e) w)
     go false e w = w
 
-pub among-append : (xs ys : List ℕ) → digitsAmong (xs ++ ys) ≡ digitsAmong xs ++ digitsAmong ys
-unfolding digitsAmong
+pub among-append : (xs ys : List ℕ) → digits_among (xs ++ ys) ≡ digits_among xs ++ digits_among ys
+unfolding digits_among
 among-append [] ys = refl
 among-append (x ∷ xs) ys = go (among x digits) (among-append xs ys)
   where
-    go : (b : Bool) → digitsAmong (xs ++ ys) ≡ digitsAmong xs ++ digitsAmong ys → cond b ((x - 48) ∷ digitsAmong (xs ++ ys)) (digitsAmong (xs ++ ys)) ≡ cond b ((x - 48) ∷ digitsAmong xs) (digitsAmong xs) ++ digitsAmong ys
+    go : (b : Bool) → digits_among (xs ++ ys) ≡ digits_among xs ++ digits_among ys → cond b ((x - 48) ∷ digits_among (xs ++ ys)) (digits_among (xs ++ ys)) ≡ cond b ((x - 48) ∷ digits_among xs) (digits_among xs) ++ digits_among ys
     go true e = ap (λ (l : List ℕ). (x - 48) ∷ l) e
     go false e = e

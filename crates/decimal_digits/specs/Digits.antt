@@ -3,13 +3,13 @@ use Rattle.std.specs.Prelude.{ℕ, ◌+◌, ◌-◌, ◌*◌, ◌^◌, cond, Lis
 use Rattle.scan.specs.Bytes.{among, digits}
 
 -- the digits among bytes; any other byte, as the point, is passed over
-unfoldable pub digitsAmong : List ℕ → List ℕ
-digitsAmong [] = []
-digitsAmong (byte ∷ rest) = cond (among byte digits) ((byte - 48) ∷ digitsAmong rest) (digitsAmong rest)
+unfoldable pub digits_among : List ℕ → List ℕ
+digits_among [] = []
+digits_among (byte ∷ rest) = cond (among byte digits) ((byte - 48) ∷ digits_among rest) (digits_among rest)
 
 -- the digits of a text from one place up to another
-abbrev pub digitsIn : List ℕ → ℕ → ℕ → List ℕ
-digitsIn text from to = digitsAmong (take (to - from) (drop from text))
+abbrev pub digits_in : List ℕ → ℕ → ℕ → List ℕ
+digits_in text from to = digits_among (take (to - from) (drop from text))
 
 -- the number that digits stand for, the first of them counting most
 unfoldable pub val : List ℕ → ℕ

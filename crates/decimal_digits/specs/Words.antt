@@ -10,8 +10,8 @@ laid bits [] = 0
 laid bits (lane ∷ rest) = laid bits rest * 2 ^ bits + lane
 
 -- eight bytes from a place on
-abbrev pub eightOf : List ℕ → ℕ → List ℕ
-eightOf text at =
+abbrev pub eight_of : List ℕ → ℕ → List ℕ
+eight_of text at =
     slice_index text at
     ∷ slice_index text (at + 1)
     ∷ slice_index text (at + 2)
@@ -33,8 +33,8 @@ each number zero = 0
 each number (suc lanes) = each number lanes * 256 + number
 
 -- the highest binary digit of each lane above 9, right up to the first of them: 118 is 128 - 10
-unfoldable pub othersOf : ℕ → ℕ → ℕ
-othersOf lanes x = bit_and (bit_or ((x + each 118 lanes) % 2 ^ (8 * lanes)) x) (each 128 lanes)
+unfoldable pub others_of : ℕ → ℕ → ℕ
+others_of lanes x = bit_and (bit_or ((x + each 118 lanes) % 2 ^ (8 * lanes)) x) (each 128 lanes)
 
 -- all numbers of a list are below one
 abbrev pub Below : ℕ → List ℕ → Type 0
@@ -43,5 +43,5 @@ Below most (x ∷ xs) = (x < most) × Below most xs
 
 -- how many of eight bytes are digits before the first that is none, and their number
 pub record Runs (text : List ℕ) (at : ℕ) (r : Run) : Type 0 where
-  pub count : r.count ≡ length (begun (eightOf text at))
-  pub value : r.value ≡ val (begun (eightOf text at))
+  pub count : r.count ≡ length (begun (eight_of text at))
+  pub value : r.value ≡ val (begun (eight_of text at))

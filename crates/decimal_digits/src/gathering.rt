@@ -1,8 +1,8 @@
 // The numbers of digit runs, gathered while the run is passed.
 ghost use Rattle.std.specs.Prelude.{◌≡◌, ℕ, ◌+◌, ◌-◌, ◌*◌, ◌^◌, ◌<◌, ◌≤◌, true, length};
-ghost use Rattle.scan.specs.Runs.{byteAtOf, pastDigitsOf};
+ghost use Rattle.scan.specs.Runs.{byte_at_of, past_digits_of};
 ghost use Rattle.decimal_digits.specs.Leading.{Fills, Gathers};
-ghost use Rattle.decimal_digits.specs.Exponent.{capped, exponentOf};
+ghost use Rattle.decimal_digits.specs.Exponent.{capped, exponent_of};
 
 use crate::words::{all_digits, power, run_at};
 use scan::{is_digit, past_digits};
@@ -65,7 +65,7 @@ fn has(text: &[u8], at: usize, count: usize) -> bool
 
 // The place past the digits from a place on: faster than `past_digits` where there are many.
 fn past_many_digits(text: &[u8], from: usize) -> usize
-    ensures { result ≡ pastDigitsOf text.now from }
+    ensures { result ≡ past_digits_of text.now from }
 {
     let mut at = from;
     while has(text, at, 16) {
@@ -80,7 +80,7 @@ fn past_many_digits(text: &[u8], from: usize) -> usize
 
 // Passes the digits that are left where w has 19.
 fn pass_rest(text: &[u8], taken: Taken, dropped: usize) -> Leading
-    requires { (dropped ≤ taken.at) × (taken.w < 10 ^ 18 → pastDigitsOf text.now taken.at ≡ taken.at) }
+    requires { (dropped ≤ taken.at) × (taken.w < 10 ^ 18 → past_digits_of text.now taken.at ≡ taken.at) }
     ensures { Gathers text.now taken.at taken.w dropped result }
 {
     let at = taken.at;
@@ -135,7 +135,7 @@ pub fn gather_many(text: &[u8], from: usize, w: u64, dropped: usize) -> Leading
 
 // A number's digits from a place on whose byte is known.
 pub fn whole_digits(text: &[u8], from: usize, byte: u8) -> Taken
-    requires { byte ≡ byteAtOf text.now from }
+    requires { byte ≡ byte_at_of text.now from }
     ensures { Fills text.now from 0 result }
 {
     if is_digit(byte) {
@@ -175,7 +175,7 @@ pub struct Power {
 
 // The exponent whose digits start at a place.
 pub fn exponent(text: &[u8], from: usize) -> Power
-    ensures { result ≡ exponentOf text.now from }
+    ensures { result ≡ exponent_of text.now from }
 {
     let mut at = from;
     let mut size = 0;

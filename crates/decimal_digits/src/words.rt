@@ -1,7 +1,7 @@
 // Eight bytes of a text at once: how many digits they begin with, and the number of these.
 ghost use Rattle.std.specs.Prelude.{◌≡◌, ℕ, ◌+◌, ◌*◌, ◌/◌, ◌^◌, ◌<◌, ◌≤◌, true, List, length, bit_and, bit_xor};
 ghost use Rattle.decimal_digits.specs.Digits.{val};
-ghost use Rattle.decimal_digits.specs.Words.{laid, eightOf, begun, each, othersOf, Below, Runs};
+ghost use Rattle.decimal_digits.specs.Words.{laid, eight_of, begun, each, others_of, Below, Runs};
 
 fn wide(byte: u8) -> u64
     ensures { (result ≡ byte) × (result < 256) }
@@ -12,7 +12,7 @@ fn wide(byte: u8) -> u64
 // The eight bytes from a place on: one load in the compiled code.
 fn word_at(text: &[u8], at: usize) -> u64
     requires { at + 8 ≤ length text.now }
-    ensures { result ≡ laid 8 (eightOf text.now at) }
+    ensures { result ≡ laid 8 (eight_of text.now at) }
 {
     wide(text[at])
         + wide(text[at + 1]) * 256
@@ -33,7 +33,7 @@ fn values(word: u64) -> u64
 
 // The highest binary digit of each lane above 9, right up to the first of them.
 fn others(x: u64) -> u64
-    ensures { result ≡ othersOf 8 x }
+    ensures { result ≡ others_of 8 x }
 {
     (std::num::wrapping_add_u64(x, 0x7676_7676_7676_7676) | x) & 0x8080_8080_8080_8080
 }
@@ -105,7 +105,7 @@ pub(crate) fn power(count: u64) -> u64
 // Whether the eight bytes from a place on are digits.
 pub(crate) fn all_digits(text: &[u8], at: usize) -> bool
     requires { at + 8 ≤ length text.now }
-    ensures { result ≡ true → length (begun (eightOf text.now at)) ≡ 8 }
+    ensures { result ≡ true → length (begun (eight_of text.now at)) ≡ 8 }
 {
     others(values(word_at(text, at))) == 0
 }

@@ -12,11 +12,11 @@ use lib.Count.{count_trailing_zeros}
 use lib.Ieee.{inf, fin, binary32, binary64, round, size, units, odd, of_bits, of_fields, to_bits, fits}
 use Rattle.scan.specs.Scan.{leading, scan}
 use Rattle.scan.specs.Bytes.{among}
-use Rattle.scan.specs.Runs.{stands, pastOne, pastAll, pastMarkOf}
-use Rattle.scan.specs.Numbers.{whole_of, point_of, fractionOf, mark_of, exponentOf, end_of, places_of, noDigit, noExponentDigit, scanNumberOf}
+use Rattle.scan.specs.Runs.{stands, past_one, past_all, past_mark_of}
+use Rattle.scan.specs.Numbers.{whole_of, point_of, fraction_of, mark_of, exponent_of, end_of, places_of, no_digit, no_exponent_digit, scan_number_of}
 use Rattle.scan.specs.declared.numbers.Number.TheVariants.{Scanned}
-use Rattle.decimal_digits.specs.Digits.{digitsAmong, val}
-use Rattle.decimal.specs.Decimal.{falls, riseOf, fallOf, value_of, read_of, number_of}
+use Rattle.decimal_digits.specs.Digits.{digits_among, val}
+use Rattle.decimal.specs.Decimal.{falls, rise_of, fall_of, value_of, read_of, number_of}
 use Rattle.decimal.specs.declared.numbers.Read.TheVariants.{Value}
 use Rattle.decimal.proofs.Said.{again, through-binary64}
 use Rattle.decimal_nearest.specs.Nearest.{NearestTo, ValueAt}
@@ -57,25 +57,25 @@ sign-refused n = let e = n.signed in let z : ◌≡◌ {A = ℕ} 0 1 = cc in ome
 -- ---- "Tempting and wrong: rounding a decimal through f64"
 
 -- `16777217.000000001`
-abbrev farPast : List ℕ
-farPast = 49 ∷ 54 ∷ 55 ∷ 55 ∷ 55 ∷ 50 ∷ 49 ∷ 55 ∷ 46 ∷ 48 ∷ 48 ∷ 48 ∷ 48 ∷ 48 ∷ 48 ∷ 48 ∷ 48 ∷ 49 ∷ []
+abbrev far_past : List ℕ
+far_past = 49 ∷ 54 ∷ 55 ∷ 55 ∷ 55 ∷ 50 ∷ 49 ∷ 55 ∷ 46 ∷ 48 ∷ 48 ∷ 48 ∷ 48 ∷ 48 ∷ 48 ∷ 48 ∷ 48 ∷ 49 ∷ []
 
-places : scanNumberOf farPast 0 ≡ Scanned (record { start = 0; whole = 0; point = 8; fraction = 9; mark = 18; exponent = 18; end = 18 })
-unfolding scanNumberOf places_of noDigit noExponentDigit end_of exponentOf mark_of fractionOf point_of whole_of pastMarkOf pastOne pastAll scan leading stands among
+places : scan_number_of far_past 0 ≡ Scanned (record { start = 0; whole = 0; point = 8; fraction = 9; mark = 18; exponent = 18; end = 18 })
+unfolding scan_number_of places_of no_digit no_exponent_digit end_of exponent_of mark_of fraction_of point_of whole_of past_mark_of past_one past_all scan leading stands among
 places = refl
 
-read : number_of farPast 0 ≡ Value (of_bits binary32 0x4b80_0001) 18
-unfolding number_of value_of riseOf fallOf falls digitsAmong val among round size units odd count_trailing_zeros of_bits of_fields
-read = ap (read_of farPast) places
+read : number_of far_past 0 ≡ Value (of_bits binary32 0x4b80_0001) 18
+unfolding number_of value_of rise_of fall_of falls digits_among val among round size units odd count_trailing_zeros of_bits of_fields
+read = ap (read_of far_past) places
 
 bits : to_bits binary32 (of_bits binary32 0x4b80_0001) ≡ 0x4b80_0001
 unfolding to_bits of_bits of_fields odd count_trailing_zeros size
 bits = refl
 
-pub through-binary64-refused : ValueAt farPast 0 (again (round binary64 false 16777217000000001 (10 ^ 9))) 18 → ⊥
+pub through-binary64-refused : ValueAt far_past 0 (again (round binary64 false 16777217000000001 (10 ^ 9))) 18 → ⊥
 through-binary64-refused a =
     let x = again (round binary64 false 16777217000000001 (10 ^ 9)) in
-    let p : number_of farPast 0 ≡ Value x 18 = nearest-answered farPast 0 x 18 a in
+    let p : number_of far_past 0 ≡ Value x 18 = nearest-answered far_past 0 x 18 a in
     let q = read in
     let e : x ≡ of_bits binary32 0x4b80_0001 = cc in
     let z : ◌≡◌ {A = ℕ} 0x4b80_0000 0x4b80_0001 = sym through-binary64.0 ∙ ap (to_bits binary32) e ∙ bits in

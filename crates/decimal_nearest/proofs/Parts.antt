@@ -13,68 +13,68 @@ use lib.ListN.{length, get_or}
 use lib.Pow.{pow-add}
 use lib.Ieee.{Float}
 use Rattle.scan.specs.Bytes.{among, digits}
-use Rattle.scan.specs.Numbers.{fractionOf, places_of, scanNumberOf, NumberAt}
+use Rattle.scan.specs.Numbers.{fraction_of, places_of, scan_number_of, NumberAt}
 use Rattle.scan.specs.declared.numbers.Places.{Places}
 use Rattle.scan.specs.declared.numbers.Number.TheVariants.{Scanned}
 use Rattle.scan.proofs.ByteLaws.{either_way, both_true}
 use Rattle.scan.proofs.NumberLaws.{scanned-places, scanned-number}
-use Rattle.decimal_digits.specs.Digits.{digitsIn, val}
+use Rattle.decimal_digits.specs.Digits.{digits_in, val}
 use Rattle.decimal_digits.proofs.Values.{ten-pos, val-append}
 use Rattle.decimal_digits.proofs.Places.{none_in, join-in, run_in}
 use Rattle.decimal_digits.proofs.Capping.{size-digit}
-use Rattle.decimal.specs.Decimal.{digitsOf, powerOf, falls, riseOf, fallOf, numerator, denominator}
+use Rattle.decimal.specs.Decimal.{digits_of, power_of, falls, rise_of, fall_of, numerator, denominator}
 use Rattle.decimal.proofs.Found.{point-in}
 use Rattle.decimal_nearest.specs.Nearest.{ValueAt}
-use Rattle.decimal_nearest.specs.Parts.{figure, wholeIn, fractionIn, placesIn, exponentIn, Lowers, Exact}
+use Rattle.decimal_nearest.specs.Parts.{figure, whole_in, fraction_in, places_in, exponent_in, Lowers, Exact}
 
 -- ---- a run of digits
 
 module _ (text : List ℕ) where
-  run-figure : (n from : ℕ) → from + n ≤ length text → ((k : ℕ) → from ≤ k → k < from + n → among (get_or text k 0) digits ≡ true) → figure text from n ≡ val (digitsIn text from (from + n))
+  run-figure : (n from : ℕ) → from + n ≤ length text → ((k : ℕ) → from ≤ k → k < from + n → among (get_or text k 0) digits ≡ true) → figure text from n ≡ val (digits_in text from (from + n))
   unfolding figure val
-  run-figure zero from h d = let e : from + 0 ≡ from = omega arith in sym (ap (λ (z : ℕ). val (digitsIn text from z)) e ∙ ap val (none_in text from))
+  run-figure zero from h d = let e : from + 0 ≡ from = omega arith in sym (ap (λ (z : ℕ). val (digits_in text from z)) e ∙ ap val (none_in text from))
   run-figure (suc n) from h d =
       let e : from + n + 1 ≡ from + suc n = omega arith in
       ap (λ (z : ℕ). z * 10 + (get_or text (from + n) 0 - 48)) (run-figure n from (omega arith) (λ k low high. d k low (omega arith)))
       ∙ size-digit text from (from + n) (omega arith) (omega arith) (d (from + n) (omega arith) (omega arith))
-      ∙ ap (λ (z : ℕ). val (digitsIn text from z)) e
+      ∙ ap (λ (z : ℕ). val (digits_in text from z)) e
 
-  figure-is : (a b : ℕ) → a ≤ b → b ≤ length text → ((k : ℕ) → a ≤ k → k < b → among (get_or text k 0) digits ≡ true) → figure text a (b - a) ≡ val (digitsIn text a b)
+  figure-is : (a b : ℕ) → a ≤ b → b ≤ length text → ((k : ℕ) → a ≤ k → k < b → among (get_or text k 0) digits ≡ true) → figure text a (b - a) ≡ val (digits_in text a b)
   figure-is a b h l d =
       let e : a + (b - a) ≡ b = omega arith in
-      run-figure (b - a) a (omega arith) (λ k low high. d k low (omega arith)) ∙ ap (λ (z : ℕ). val (digitsIn text a z)) e
+      run-figure (b - a) a (omega arith) (λ k low high. d k low (omega arith)) ∙ ap (λ (z : ℕ). val (digits_in text a z)) e
 
 -- ---- the parts of a number
 
-module _ (text : List ℕ) (at : ℕ) (p : Places) (scanned : scanNumberOf text at ≡ Scanned p) where
+module _ (text : List ℕ) (at : ℕ) (p : Places) (scanned : scan_number_of text at ≡ Scanned p) where
   number : NumberAt text p
   number = scanned-number text at p scanned
 
   -- between the whole part and the fraction stands at most a point
-  no-digit-between : digitsIn text p.point p.fraction ≡ []
-  unfolding places_of fractionOf
+  no-digit-between : digits_in text p.point p.fraction ≡ []
+  unfolding places_of fraction_of
   no-digit-between =
       let e = scanned-places text at p scanned in
-      subst (λ (q : Places). digitsIn text q.point q.fraction ≡ []) (sym e) (point-in text (places_of text at).point)
+      subst (λ (q : Places). digits_in text q.point q.fraction ≡ []) (sym e) (point-in text (places_of text at).point)
 
-  all_digits : val (digitsOf text p) ≡ wholeIn text p * 10 ^ placesIn p + fractionIn text p
+  all_digits : val (digits_of text p) ≡ whole_in text p * 10 ^ places_in p + fraction_in text p
   all_digits =
       let n = number in
       let within = n.end-within in
       let a : p.point ≤ length text = omega arith in
       let b : p.mark ≤ length text = omega arith in
-      let parts : digitsOf text p ≡ digitsIn text p.whole p.point ++ digitsIn text p.fraction p.mark =
+      let parts : digits_of text p ≡ digits_in text p.whole p.point ++ digits_in text p.fraction p.mark =
       join-in text p.whole p.point p.mark n.whole_le (omega arith)
-      ∙ ap (λ (ds : List ℕ). digitsIn text p.whole p.point ++ ds)
-      (join-in text p.point p.fraction p.mark n.point-le n.fraction-le ∙ ap (λ (ds : List ℕ). ds ++ digitsIn text p.fraction p.mark) no-digit-between) in
+      ∙ ap (λ (ds : List ℕ). digits_in text p.whole p.point ++ ds)
+      (join-in text p.point p.fraction p.mark n.point-le n.fraction-le ∙ ap (λ (ds : List ℕ). ds ++ digits_in text p.fraction p.mark) no-digit-between) in
       ap val parts
-      ∙ val-append (digitsIn text p.whole p.point) (digitsIn text p.fraction p.mark)
-      ∙ ap (λ (z : ℕ). val (digitsIn text p.whole p.point) * 10 ^ z + val (digitsIn text p.fraction p.mark))
+      ∙ val-append (digits_in text p.whole p.point) (digits_in text p.fraction p.mark)
+      ∙ ap (λ (z : ℕ). val (digits_in text p.whole p.point) * 10 ^ z + val (digits_in text p.fraction p.mark))
       (run_in text p.fraction p.mark n.fraction-le b n.fraction-digits)
-      ∙ ap (λ (z : ℕ). z * 10 ^ placesIn p + val (digitsIn text p.fraction p.mark)) (sym (figure-is text p.whole p.point n.whole_le a n.whole-digits))
-      ∙ ap (λ (z : ℕ). wholeIn text p * 10 ^ placesIn p + z) (sym (figure-is text p.fraction p.mark n.fraction-le b n.fraction-digits))
+      ∙ ap (λ (z : ℕ). z * 10 ^ places_in p + val (digits_in text p.fraction p.mark)) (sym (figure-is text p.whole p.point n.whole_le a n.whole-digits))
+      ∙ ap (λ (z : ℕ). whole_in text p * 10 ^ places_in p + z) (sym (figure-is text p.fraction p.mark n.fraction-le b n.fraction-digits))
 
-  power-is : powerOf text p ≡ exponentIn text p
+  power-is : power_of text p ≡ exponent_in text p
   power-is = let n = number in sym (figure-is text p.exponent p.end n.exponent-le n.end-within n.exponent-digits)
 
   -- ---- the exponent's sign
@@ -93,12 +93,12 @@ module _ (text : List ℕ) (at : ℕ) (p : Places) (scanned : scanNumberOf text 
   -- ---- the fraction
 
   pub parts-exact : Exact text p (numerator text p) (denominator text p)
-  unfolding riseOf fallOf
+  unfolding rise_of fall_of
   parts-exact =
       record {
         some = ten-pos _;
-        raised = λ never. let f = other-rises never in rw f (upward (val (digitsOf text p)) (powerOf text p) _ _ (placesIn p) all_digits power-is);
-        lowered = λ l. let f = lowers-falls l in rw f (downward (val (digitsOf text p)) (powerOf text p) _ _ (placesIn p) all_digits power-is);
+        raised = λ never. let f = other-rises never in rw f (upward (val (digits_of text p)) (power_of text p) _ _ (places_in p) all_digits power-is);
+        lowered = λ l. let f = lowers-falls l in rw f (downward (val (digits_of text p)) (power_of text p) _ _ (places_in p) all_digits power-is);
       }
     where
       upward : (d x v y f : ℕ) → d ≡ v → x ≡ y → d * 10 ^ x * 10 ^ f ≡ v * 10 ^ y * 10 ^ (f + 0)

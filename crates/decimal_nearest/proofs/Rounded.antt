@@ -17,14 +17,14 @@ use lib.Ieee.Exact.{HasValue, units_val}
 use lib.Ieee.Bits.{of_bits-to_bits}
 use lib.Ieee.Order.{drop, kept}
 use lib.Ieee.Scale.{finite}
-use Rattle.root.specs.Root.{unitsOf}
+use Rattle.root.specs.Root.{units_of}
 use Rattle.root.proofs.Middles.{Few, multiple}
 use Rattle.root.proofs.Rounded.{Near, closest-near}
 use Rattle.root.proofs.Units.{units-of-value, units-few}
 use Rattle.decimal_rounding.proofs.Compares.{below_or_not}
 use Rattle.decimal_rounding.proofs.Pattern.{units-infinite}
 use Rattle.decimal_rounding.proofs.Limits.{infinite-from, zero-to, Signed, sign_kept}
-use Rattle.decimal_nearest.specs.Nearest.{apart, distance, significandOf, HasSign, NearestTo}
+use Rattle.decimal_nearest.specs.Nearest.{apart, distance, significand_of, HasSign, NearestTo}
 use Rattle.decimal_nearest.proofs.Multiples.{multiple-nearest, half, neighbour, half-even}
 use Rattle.decimal_nearest.proofs.Significands.{significand-is, significand-even}
 
@@ -152,13 +152,13 @@ module _ (n den : ℕ) (some : 0 < den) where
           }
 
   pub level-even : (y : ℕ) → Few 24 y → (y ≡ digits * 2 ^ shift → ⊥) → apart n (y * den) ≡ apart n (digits * 2 ^ shift * den)
-      → significandOf (digits * 2 ^ shift) % 2 ≡ 0
+      → significand_of (digits * 2 ^ shift) % 2 ≡ 0
   level-even y few other same = significand-even digits shift digits_le (level y few other same).even
 
-  pub level-odd : (y : ℕ) → Few 24 y → (y ≡ digits * 2 ^ shift → ⊥) → apart n (y * den) ≡ apart n (digits * 2 ^ shift * den) → significandOf y % 2 ≡ 1
+  pub level-odd : (y : ℕ) → Few 24 y → (y ≡ digits * 2 ^ shift → ⊥) → apart n (y * den) ≡ apart n (digits * 2 ^ shift * den) → significand_of y % 2 ≡ 1
   level-odd y few other same =
       let v = level y few other same in
-      ap (λ (z : ℕ). significandOf z % 2) v.is ∙ ap (λ (z : ℕ). z % 2) (significand-is v.other shift v.few v.long) ∙ v.odd
+      ap (λ (z : ℕ). significand_of z % 2) v.is ∙ ap (λ (z : ℕ). z % 2) (significand-is v.other shift v.few v.long) ∙ v.odd
 
   -- ---- the thresholds
 
@@ -212,19 +212,19 @@ module _ (n den : ℕ) (some : 0 < den) where
 bits : Bool → ℕ → ℕ
 bits t n = cond t (top binary32) 0 + (size n - prec binary32) * hid binary32 + n / 2 ^ (size n - prec binary32)
 
-bits_at : (t : Bool) (m : ℕ) (i : ℤ) → to_bits binary32 (fin t m i) ≡ bits t (unitsOf binary32 (fin t m i))
+bits_at : (t : Bool) (m : ℕ) (i : ℤ) → to_bits binary32 (fin t m i) ≡ bits t (units_of binary32 (fin t m i))
 unfolding to_bits bits
 bits_at t m i = refl
 
 pub same-value : (s : Bool) (x y : Float) → T (fits binary32 x) → T (fits binary32 y) → T (finite x) → T (finite y) → HasSign s x → HasSign s y
-    → unitsOf binary32 x ≡ unitsOf binary32 y → x ≡ y
+    → units_of binary32 x ≡ units_of binary32 y → x ≡ y
 same-value s nan y h g p q a b e = absurd p
 same-value s (inf t) y h g p q a b e = absurd p
 same-value s (fin t m i) nan h g p q a b e = absurd q
 same-value s (fin t m i) (inf r) h g p q a b e = absurd q
 same-value s (fin t m i) (fin r l j) h g p q a b e =
     sym (of_bits-to_bits binary32 (fin t m i) h)
-    ∙ ap (of_bits binary32) (bits_at t m i ∙ ap (λ (z : Bool). bits z (unitsOf binary32 (fin t m i))) (a ∙ sym b) ∙ ap (bits r) e ∙ sym (bits_at r l j))
+    ∙ ap (of_bits binary32) (bits_at t m i ∙ ap (λ (z : Bool). bits z (units_of binary32 (fin t m i))) (a ∙ sym b) ∙ ap (bits r) e ∙ sym (bits_at r l j))
     ∙ of_bits-to_bits binary32 (fin r l j) g
 
 -- ---- the rounded value
@@ -245,7 +245,7 @@ module _ (s : Bool) (num den : ℕ) (some : 0 < den) where
   finite-value : sized < 2 ^ 277 → HasValue r s sized (2 ^ 149)
   finite-value l = subst (λ (z : Float). HasValue z s sized (2 ^ 149)) (sym rounded) (units_val binary32 s (digits n den some) (shift n den some) l)
 
-  in-units : sized < 2 ^ 277 → unitsOf binary32 r ≡ sized
+  in-units : sized < 2 ^ 277 → units_of binary32 r ≡ sized
   in-units l = units-of-value binary32 r s sized (finite-value l)
 
   no-infinity : (z : Float) → z ≡ inf s → T (finite z) → ⊥
@@ -282,10 +282,10 @@ module _ (s : Bool) (num den : ℕ) (some : 0 < den) where
   pub zero-only : r ≡ fin s 0 (pos 0) → num * 2 ^ 150 ≤ den
   zero-only e =
       let f : T (finite r) = subst (λ (z : Float). T (finite z)) (sym e) tt in
-      let z : sized ≡ 0 = sym (in-units (under f)) ∙ ap (unitsOf binary32) e ∙ none in
+      let z : sized ≡ 0 = sym (in-units (under f)) ∙ ap (units_of binary32) e ∙ none in
       le_trans (le_of_eq (sym (mul_comm 2 (num * 2 ^ 149) ∙ mul_assoc num (2 ^ 149) 2))) (none_kept n den some z)
     where
-      none : unitsOf binary32 (fin s 0 (pos 0)) ≡ 0
+      none : units_of binary32 (fin s 0 (pos 0)) ≡ 0
       none = refl
 
   sign : (z : Float) → Signed s z → HasSign s z
@@ -303,10 +303,10 @@ module _ (s : Bool) (num den : ℕ) (some : 0 < den) where
         zero-to = zero-to s num den some;
         zero-only = zero-only;
         nearest = λ f y h g.
-            subst (λ (z : ℕ). apart n (z * den) ≤ distance num den y) (sym (in-units (under f))) (value-nearest n den some (unitsOf binary32 y) (units-few binary32 y h g));
+            subst (λ (z : ℕ). apart n (z * den) ≤ distance num den y) (sym (in-units (under f))) (value-nearest n den some (units_of binary32 y) (units-few binary32 y h g));
         even = λ f y h g o e.
-            subst (λ (z : ℕ). significandOf z % 2 ≡ 0) (sym (in-units (under f)))
-            (level-even n den some (unitsOf binary32 y) (units-few binary32 y h g) (λ w. o (w ∙ sym (in-units (under f))))
+            subst (λ (z : ℕ). significand_of z % 2 ≡ 0) (sym (in-units (under f)))
+            (level-even n den some (units_of binary32 y) (units-few binary32 y h g) (λ w. o (w ∙ sym (in-units (under f))))
             (e ∙ ap (λ (z : ℕ). apart n (z * den)) (in-units (under f))));
       }
 
@@ -317,7 +317,7 @@ module _ (s : Bool) (num den : ℕ) (some : 0 < den) where
     odd_even m o e = omega arith
 
     both-finite : T (finite x) → T (finite r) → x ≡ r
-    both-finite f g = go (below_or_not (unitsOf binary32 x) (unitsOf binary32 r)) (below_or_not (unitsOf binary32 r) (unitsOf binary32 x))
+    both-finite f g = go (below_or_not (units_of binary32 x) (units_of binary32 r)) (below_or_not (units_of binary32 r) (units_of binary32 x))
       where
         b : NearestTo s num den r
         b = round-nearest
@@ -325,15 +325,15 @@ module _ (s : Bool) (num den : ℕ) (some : 0 < den) where
         level-at : distance num den x ≡ distance num den r
         level-at = le_antisymm (a.nearest f r b.held g) (b.nearest g x a.held f)
 
-        apart_from : (unitsOf binary32 x ≡ unitsOf binary32 r → ⊥) → ⊥
+        apart_from : (units_of binary32 x ≡ units_of binary32 r → ⊥) → ⊥
         apart_from o =
             let e = in-units (under g) in
-            odd_even (significandOf (unitsOf binary32 x))
-            (level-odd n den some (unitsOf binary32 x) (units-few binary32 x a.held f) (λ w. o (w ∙ sym e)) (level-at ∙ ap (λ (z : ℕ). apart n (z * den)) e))
+            odd_even (significand_of (units_of binary32 x))
+            (level-odd n den some (units_of binary32 x) (units-few binary32 x a.held f) (λ w. o (w ∙ sym e)) (level-at ∙ ap (λ (z : ℕ). apart n (z * den)) e))
             (a.even f r b.held g (λ w. o (sym w)) (sym level-at))
 
-        go : (unitsOf binary32 x < unitsOf binary32 r) ⊎ (unitsOf binary32 r ≤ unitsOf binary32 x)
-            → (unitsOf binary32 r < unitsOf binary32 x) ⊎ (unitsOf binary32 x ≤ unitsOf binary32 r) → x ≡ r
+        go : (units_of binary32 x < units_of binary32 r) ⊎ (units_of binary32 r ≤ units_of binary32 x)
+            → (units_of binary32 r < units_of binary32 x) ⊎ (units_of binary32 x ≤ units_of binary32 r) → x ≡ r
         go (inl l) y = absurd (apart_from (λ w. omega arith))
         go (inr h) (inl l) = absurd (apart_from (λ w. omega arith))
         go (inr h) (inr k) = same-value s x r a.held b.held f g a.signed b.signed (le_antisymm k h)

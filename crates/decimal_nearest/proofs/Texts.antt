@@ -4,7 +4,7 @@ use mathlib.Core.Path.{◌≡◌, refl, sym, ap, ◌∙◌, subst}
 use mathlib.Core.List.{List}
 use native.Mathlib.Omega.{arith}
 use lib.Ieee.{Float}
-use Rattle.scan.specs.Numbers.{scanNumberOf}
+use Rattle.scan.specs.Numbers.{scan_number_of}
 use Rattle.scan.specs.declared.numbers.Places.{Places}
 use Rattle.scan.specs.declared.numbers.Number.{Number}
 use Rattle.scan.specs.declared.numbers.Number.TheVariants.{Scanned, NoDigit, NoExponentDigit}
@@ -28,9 +28,9 @@ module _ (text : List ℕ) (at : ℕ) where
   -- what is answered is the nearest value
   pub number-nearest : (x : Float) (next : ℕ) → number_of text at ≡ Value x next → ValueAt text at x next
   unfolding number_of
-  number-nearest x next q = go (scanNumberOf text at) refl q
+  number-nearest x next q = go (scan_number_of text at) refl q
     where
-      go : (n : Number) → scanNumberOf text at ≡ n → read_of text n ≡ Value x next → ValueAt text at x next
+      go : (n : Number) → scan_number_of text at ≡ n → read_of text n ≡ Value x next → ValueAt text at x next
       go (Scanned p) e q =
           let v : value_of text p ≡ x = cc in
           let z : p.end ≡ next = cc in

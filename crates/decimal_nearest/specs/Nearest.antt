@@ -1,11 +1,11 @@
--- The nearest binary32 value of an exact fraction (document 01, "Decimal value"; IEEE 754, 4.3.1, roundTiesToEven). Sizes are counted in units,
+-- The nearest binary32 value of an exact fraction (document 01, "Decimal value"; IEEE 754, 4.3.1, round_ties_to_even). Sizes are counted in units,
 -- the smallest value above 0: a unit is 2 ^ -149. Nothing here rounds: values are compared. Definitions only.
 use Rattle.std.specs.Prelude.{ℕ, ◌+◌, ◌-◌, ◌*◌, ◌/◌, ◌%◌, ◌^◌, ◌≤◌, ◌≡◌, Bool, List, pos, T, Float}
 use Rattle.std.specs.Float.{nan, inf, fin, binary32}
 use Rattle.std.specs.Float.Ieee.{size, fits}
 use Rattle.std.specs.Float.Ieee.Scale.{finite}
-use Rattle.root.specs.Root.{unitsOf}
-use Rattle.scan.specs.Numbers.{scanNumberOf}
+use Rattle.root.specs.Root.{units_of}
+use Rattle.scan.specs.Numbers.{scan_number_of}
 use Rattle.scan.specs.declared.numbers.Places.{Places}
 use Rattle.scan.specs.declared.numbers.Number.TheVariants.{Scanned}
 use Rattle.decimal.specs.Decimal.{numerator, denominator, negative}
@@ -17,11 +17,11 @@ apart a b = a - b + (b - a)
 -- How far a finite value's size is from num / den, as a whole number: in units the fraction is num * 2 ^ 149 / den, and both sides are taken
 -- den times.
 abbrev pub distance : ℕ → ℕ → Float → ℕ
-distance num den x = apart (num * 2 ^ 149) (unitsOf binary32 x * den)
+distance num den x = apart (num * 2 ^ 149) (units_of binary32 x * den)
 
 -- the significand of so many units: the 24 leading binary digits, or all where there are fewer
-abbrev pub significandOf : ℕ → ℕ
-significandOf units = units / 2 ^ (size units - 24)
+abbrev pub significand_of : ℕ → ℕ
+significand_of units = units / 2 ^ (size units - 24)
 
 -- a zero, a number or an infinity with this sign; a NaN has none
 abbrev pub HasSign : Bool → Float → Type 0
@@ -44,13 +44,13 @@ pub record NearestTo (negative : Bool) (num den : ℕ) (r : Float) : Type 0 wher
   -- "the nearest binary32 to the exact fraction": no finite value is nearer
   pub nearest : T (finite r) → (y : Float) → T (fits binary32 y) → T (finite y) → distance num den r ≤ distance num den y
   -- "ties to even": where a value of another size is as near, the last digit of r's significand is 0
-  pub even : T (finite r) → (y : Float) → T (fits binary32 y) → T (finite y) → (unitsOf binary32 y ≡ unitsOf binary32 r → ⊥)
-      → distance num den y ≡ distance num den r → significandOf (unitsOf binary32 r) % 2 ≡ 0
+  pub even : T (finite r) → (y : Float) → T (fits binary32 y) → T (finite y) → (units_of binary32 y ≡ units_of binary32 r → ⊥)
+      → distance num den y ≡ distance num den r → significand_of (units_of binary32 r) % 2 ≡ 0
 
 -- x is the value of the number that starts at a place of a text and ends before another: nearest to the number of its digits times the power
 -- of ten that its point and its exponent make
 pub record ValueAt (text : List ℕ) (at : ℕ) (x : Float) (next : ℕ) : Type 0 where
   pub places : Places
-  pub scanned : scanNumberOf text at ≡ Scanned places
+  pub scanned : scan_number_of text at ≡ Scanned places
   pub ends : places.end ≡ next
   pub value : NearestTo (negative text places) (numerator text places) (denominator text places) x

@@ -9,17 +9,17 @@ figure text from zero = 0
 figure text from (suc count) = figure text from count * 10 + (get_or text (from + count) 0 - 48)
 
 -- the digits before the point, those after it, how many these are, and those after the e
-abbrev pub wholeIn : List ℕ → Places → ℕ
-wholeIn text p = figure text p.whole (p.point - p.whole)
+abbrev pub whole_in : List ℕ → Places → ℕ
+whole_in text p = figure text p.whole (p.point - p.whole)
 
-abbrev pub fractionIn : List ℕ → Places → ℕ
-fractionIn text p = figure text p.fraction (p.mark - p.fraction)
+abbrev pub fraction_in : List ℕ → Places → ℕ
+fraction_in text p = figure text p.fraction (p.mark - p.fraction)
 
-abbrev pub placesIn : Places → ℕ
-placesIn p = p.mark - p.fraction
+abbrev pub places_in : Places → ℕ
+places_in p = p.mark - p.fraction
 
-abbrev pub exponentIn : List ℕ → Places → ℕ
-exponentIn text p = figure text p.exponent (p.end - p.exponent)
+abbrev pub exponent_in : List ℕ → Places → ℕ
+exponent_in text p = figure text p.exponent (p.end - p.exponent)
 
 -- there is an e, and a minus after it
 abbrev pub Lowers : List ℕ → Places → Type 0
@@ -28,5 +28,5 @@ Lowers text p = (p.mark < p.exponent) × (get_or text (p.mark + 1) 0 ≡ 45)
 -- num / den is whole + fraction / 10^places, times 10^exponent, or divided by it
 pub record Exact (text : List ℕ) (p : Places) (num den : ℕ) : Type 0 where
   pub some : 0 < den
-  pub raised : (Lowers text p → ⊥) → num * 10 ^ placesIn p ≡ (wholeIn text p * 10 ^ placesIn p + fractionIn text p) * 10 ^ exponentIn text p * den
-  pub lowered : Lowers text p → num * 10 ^ placesIn p * 10 ^ exponentIn text p ≡ (wholeIn text p * 10 ^ placesIn p + fractionIn text p) * den
+  pub raised : (Lowers text p → ⊥) → num * 10 ^ places_in p ≡ (whole_in text p * 10 ^ places_in p + fraction_in text p) * 10 ^ exponent_in text p * den
+  pub lowered : Lowers text p → num * 10 ^ places_in p * 10 ^ exponent_in text p ≡ (whole_in text p * 10 ^ places_in p + fraction_in text p) * den

@@ -10,7 +10,7 @@ use native.Mathlib.Omega.{arith}
 use lib.Dec.{lit≤}
 use lib.Pow.{pow_pos, pow-lt, pow_mono, pow-add, shr_lt}
 use lib.Ieee.{binary32, round, of_bits}
-use Rattle.floats.specs.Patterns.{hidden, signPlace, infinityBits}
+use Rattle.floats.specs.Patterns.{hidden, sign_place, infinity_bits}
 use Rattle.decimal_rounding.proofs.Halves.{near_down}
 use Rattle.decimal_rounding.proofs.Middles.{between-middles}
 use Rattle.decimal_rounding.proofs.Pattern.{units-pattern}
@@ -132,15 +132,15 @@ module _ (product dropped k : ℕ) (P : Parts product dropped) (K : k ≤ 253) (
     split : product ≡ m * 2 ^ dropped + rest
     split = omega (arith, P.under)
 
-    pub cut_down : rest + 5 ≤ half → (k * hidden + m ≤ infinityBits) × (round binary32 s num den ≡ of_bits binary32 (cond s signPlace 0 + (k * hidden + m)))
+    pub cut_down : rest + 5 ≤ half → (k * hidden + m ≤ infinity_bits) × (round binary32 s num den ≡ of_bits binary32 (cond s sign_place 0 + (k * hidden + m)))
     cut_down h = (
       omega (arith, P.few),
       near_down binary32 s num den m k D P.few full (from_step product (num * 2 ^ 149) m rest half (2 ^ dropped) u (den * 2 ^ k) g G t-pos split P.twice e B.at_least B.below)
           (inl (under-middle product (num * 2 ^ 149) m rest half (2 ^ dropped) u (den * 2 ^ k) g G t-pos split P.twice e B.at_least B.below h))
-          ∙ units-pattern s m k (omega (arith, P.few)) full K ∙ ap (λ (z : ℕ). of_bits binary32 z) (add_assoc (cond s signPlace 0) (k * hidden) m),
+          ∙ units-pattern s m k (omega (arith, P.few)) full K ∙ ap (λ (z : ℕ). of_bits binary32 z) (add_assoc (cond s sign_place 0) (k * hidden) m),
     )
 
-    pub cut_up : half < rest → (k * hidden + m + 1 ≤ infinityBits) × (round binary32 s num den ≡ of_bits binary32 (cond s signPlace 0 + (k * hidden + m + 1)))
+    pub cut_up : half < rest → (k * hidden + m + 1 ≤ infinity_bits) × (round binary32 s num den ≡ of_bits binary32 (cond s sign_place 0 + (k * hidden + m + 1)))
     cut_up h = (
       omega (arith, P.few),
       between-middles s num den m k D P.few full K (num * 2 ^ 149) (den * 2 ^ k) refl refl

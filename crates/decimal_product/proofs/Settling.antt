@@ -7,7 +7,7 @@ use native.Mathlib.Omega.{arith}
 use lib.Dec.{lit≤}
 use lib.Pow.{pow_pos, pow_mono, pow-add}
 use lib.Ieee.{binary32, round, of_bits}
-use Rattle.floats.specs.Patterns.{signPlace, infinityBits}
+use Rattle.floats.specs.Patterns.{sign_place, infinity_bits}
 use Rattle.decimal_rounding.proofs.Limits.{infinite-far, zero-to}
 use Rattle.decimal_rounding.proofs.Pattern.{infinite-bits, zero_bits}
 use Rattle.decimal_product.specs.Near.{Bracket}
@@ -22,17 +22,17 @@ units-agree den a b k d e =
 
 module _ (s : Bool) (num den product b d : ℕ) (D : 0 < den) (B : Bracket product (2 ^ b * den) (2 ^ d) num) where
   -- the leading digit alone is 2 ^ 128 or more
-  pub too_large : (r : ℕ) → 2 ^ (23 + r) ≤ product → 277 + d ≤ 23 + r + b → (infinityBits ≤ infinityBits) × (round binary32 s num den ≡ of_bits binary32 (cond s signPlace 0 + infinityBits))
+  pub too_large : (r : ℕ) → 2 ^ (23 + r) ≤ product → 277 + d ≤ 23 + r + b → (infinity_bits ≤ infinity_bits) × (round binary32 s num den ≡ of_bits binary32 (cond s sign_place 0 + infinity_bits))
   too_large r h l =
       let scaled : 2 ^ 277 * den * 2 ^ d ≤ num * 2 ^ 149 * 2 ^ d =
       le_trans (le_of_eq (mul_right_comm (2 ^ 277) den (2 ^ d) ∙ ap (λ (z : ℕ). z * den) (sym (pow-add 2 277 d))))
       (le_trans (mul-le-mul_right den (pow_mono l))
       (le_trans (le_of_eq (ap (λ (z : ℕ). z * den) (pow-add 2 (23 + r) b) ∙ mul_assoc (2 ^ (23 + r)) (2 ^ b) den))
       (le_trans (mul-le-mul_right (2 ^ b * den) h) B.at_least_lem))) in
-      (le_refl infinityBits, infinite-far s num den D (le_of_mul-le-mul_right scaled (pow_pos d)) ∙ infinite-bits s)
+      (le_refl infinity_bits, infinite-far s num den D (le_of_mul-le-mul_right scaled (pow_pos d)) ∙ infinite-bits s)
 
   -- it is less than 2 ^ -150
-  pub too_small : product < 2 ^ 60 → b + 62 ≤ d → (0 ≤ infinityBits) × (round binary32 s num den ≡ of_bits binary32 (cond s signPlace 0 + 0))
+  pub too_small : product < 2 ^ 60 → b + 62 ≤ d → (0 ≤ infinity_bits) × (round binary32 s num den ≡ of_bits binary32 (cond s sign_place 0 + 0))
   too_small h l =
       let room : product + 5 ≤ 2 ^ 61 = omega arith in
       let unit = 2 ^ 61 * 2 ^ b in

@@ -2,7 +2,7 @@
 use Rattle.std.specs.Prelude.{ℕ, suc, ◌+◌, ◌*◌, ◌^◌, ◌≤◌, ◌<◌, ◌≡◌, ◌⊎◌, Bool, cond}
 use Rattle.std.specs.Float.{binary32}
 use Rattle.std.specs.Float.Ieee.{round, of_bits}
-use Rattle.floats.specs.Patterns.{signPlace, infinityBits}
+use Rattle.floats.specs.Patterns.{sign_place, infinity_bits}
 use Rattle.decimal_tens.specs.Tens.{height}
 use Rattle.decimal_product.specs.declared.products.Near.{Near}
 use Rattle.decimal_product.specs.declared.products.Near.TheVariants.{Bits, Between}
@@ -24,7 +24,7 @@ pub record Cell (m k num den : ℕ) : Type 0 where
 
 -- what an answer says of num / den with the sign s
 abbrev pub Says : Near → Bool → ℕ → ℕ → Type 0
-Says (Bits b) s num den = (b ≤ infinityBits) × (round binary32 s num den ≡ of_bits binary32 (cond s signPlace 0 + b))
+Says (Bits b) s num den = (b ≤ infinity_bits) × (round binary32 s num den ≡ of_bits binary32 (cond s sign_place 0 + b))
 Says (Between m k) s num den = Cell m k num den
 
 -- ---- the steps on the way there

@@ -15,7 +15,7 @@ use lib.Ieee.Digits.{size-le}
 use lib.Ieee.Fits.{odd-fits, down_pos, two}
 use lib.Ieee.Exact.{HasValue, odd_sign}
 use lib.Ieee.Bits.{of_bits-to_bits}
-use Rattle.floats.specs.Patterns.{hidden, signPlace, infinityBits}
+use Rattle.floats.specs.Patterns.{hidden, sign_place, infinity_bits}
 use Rattle.decimal_rounding.proofs.Cell.{size_is}
 
 flat : (z p : ℕ) → z ≤ p → z - p ≡ 0
@@ -98,13 +98,13 @@ units-bits f s q k a b c =
 -- ---- binary32 up to its infinity
 
 -- the pattern 7F800000, and the same with the sign
-pub infinite-bits : (s : Bool) → inf s ≡ of_bits binary32 (cond s signPlace 0 + infinityBits)
+pub infinite-bits : (s : Bool) → inf s ≡ of_bits binary32 (cond s sign_place 0 + infinity_bits)
 unfolding of_bits
 infinite-bits true = refl
 infinite-bits false = refl
 
 -- the pattern of no bits but the sign
-pub zero_bits : (s : Bool) → fin s 0 (pos 0) ≡ of_bits binary32 (cond s signPlace 0 + 0)
+pub zero_bits : (s : Bool) → fin s 0 (pos 0) ≡ of_bits binary32 (cond s sign_place 0 + 0)
 unfolding of_bits
 zero_bits true = refl
 zero_bits false = refl
@@ -115,7 +115,7 @@ unfolding units
 units-infinite s q k h = rw (le-ltb (q * 2 ^ k) (2 ^ 277) h)
 
 -- the largest exponent's step, and one significand more than it has, is the infinity's pattern
-pub units-pattern : (s : Bool) (q k : ℕ) → q ≤ 2 ^ 24 → (2 ^ 23 ≤ q) ⊎ (k ≡ 0) → k ≤ 253 → units binary32 s q k ≡ of_bits binary32 (cond s signPlace 0 + k * hidden + q)
+pub units-pattern : (s : Bool) (q k : ℕ) → q ≤ 2 ^ 24 → (2 ^ 23 ≤ q) ⊎ (k ≡ 0) → k ≤ 253 → units binary32 s q k ≡ of_bits binary32 (cond s sign_place 0 + k * hidden + q)
 units-pattern s q k a b c = go (ltb (q * 2 ^ k) (2 ^ 277)) refl
   where
     full : 2 ^ 277 ≤ q * 2 ^ k → q < 2 ^ 24 → ⊥
@@ -124,11 +124,11 @@ units-pattern s q k a b c = go (ltb (q * 2 ^ k) (2 ^ 277)) refl
     last : 2 ^ 277 ≤ q * 2 ^ k → q ≡ 2 ^ 24 → k < 253 → ⊥
     last h e l = let f : 24 + k < 277 = omega arith in not-le_of_lt (pow-lt f) (subst (λ (z : ℕ). 2 ^ 277 ≤ z) (ap (λ (z : ℕ). z * 2 ^ k) e ∙ sym (pow-add 2 24 k)) h)
 
-    at-end : 2 ^ 277 ≤ q * 2 ^ k → (q < 2 ^ 24) ⊎ (q ≡ 2 ^ 24) → (k < 253) ⊎ (k ≡ 253) → units binary32 s q k ≡ of_bits binary32 (cond s signPlace 0 + k * hidden + q)
+    at-end : 2 ^ 277 ≤ q * 2 ^ k → (q < 2 ^ 24) ⊎ (q ≡ 2 ^ 24) → (k < 253) ⊎ (k ≡ 253) → units binary32 s q k ≡ of_bits binary32 (cond s sign_place 0 + k * hidden + q)
     at-end h (inl l) y = absurd (full h l)
     at-end h (inr e) (inl l) = absurd (last h e l)
     at-end h (inr e) (inr f) = units-infinite s q k h ∙ infinite-bits s ∙ ap (λ (z : ℕ). of_bits binary32 z) (omega (arith, e, f))
 
-    go : (x : Bool) → ltb (q * 2 ^ k) (2 ^ 277) ≡ x → units binary32 s q k ≡ of_bits binary32 (cond s signPlace 0 + k * hidden + q)
+    go : (x : Bool) → ltb (q * 2 ^ k) (2 ^ 277) ≡ x → units binary32 s q k ≡ of_bits binary32 (cond s sign_place 0 + k * hidden + q)
     go true e = units-bits binary32 s q k a b (ltb-true _ _ e)
     go false e = at-end (ltb-false _ _ e) (below-or-at q (2 ^ 24) a) (below-or-at k 253 c)

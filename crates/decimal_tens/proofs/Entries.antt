@@ -8,18 +8,18 @@ use native.Mathlib.Omega.{arith}
 use lib.Dec.{T, ltb, leb, eqb, eqb→eq, leb→le, ltb→lt, lit<}
 use lib.Pow.{pow_pos}
 use borrow.Author.Tests.{le-ltb, lt-ltb, eqb-true, eqb-false}
-use Rattle.decimal_tens.specs.Tens.{places, height, leading, tensOf}
+use Rattle.decimal_tens.specs.Tens.{places, height, leading, tens_of}
 use Rattle.decimal_tens.proofs.Matched.{NoneOf, none_of}
 
 -- ---- the table as a `match` on the place
 
 -- a place that is the key k has the entry computed at k
-pub entry : (k r place : ℕ) → place ≡ k → T (eqb r (tensOf k)) → r ≡ tensOf place
-entry k r place e t = eqb→eq r (tensOf k) t ∙ ap tensOf (sym e)
+pub entry : (k r place : ℕ) → place ≡ k → T (eqb r (tens_of k)) → r ≡ tens_of place
+entry k r place e t = eqb→eq r (tens_of k) t ∙ ap tens_of (sym e)
 
 -- a place that is none of the keys is past the table
-pub past : (place : ℕ) → NoneOf places place → 0 ≡ tensOf place
-unfolding tensOf
+pub past : (place : ℕ) → NoneOf places place → 0 ≡ tens_of place
+unfolding tens_of
 past place h = rw (le-ltb place places (none_of places place h))
 
 -- ---- what an entry says of its power
@@ -33,15 +33,15 @@ pub record Leads (place p : ℕ) : Type 0 where
 
 -- the range of every entry, computed
 spans : ℕ → Bool
-unfolding tensOf
+unfolding tens_of
 spans zero = true
-spans (suc n) = leb (2 ^ 59) (tensOf n) && ltb (tensOf n) (2 ^ 60) && spans n
+spans (suc n) = leb (2 ^ 59) (tens_of n) && ltb (tens_of n) (2 ^ 60) && spans n
 
 all-span : T (spans places)
-unfolding spans tensOf
+unfolding spans tens_of
 all-span = tt
 
-span-at : (n place : ℕ) → T (spans n) → place < n → (2 ^ 59 ≤ tensOf place) × (tensOf place < 2 ^ 60)
+span-at : (n place : ℕ) → T (spans n) → place < n → (2 ^ 59 ≤ tens_of place) × (tens_of place < 2 ^ 60)
 unfolding spans
 span-at zero place t h = absurd (omega arith)
 span-at (suc n) place t h = go (eqb place n) refl (λ u g. span-at n place u g)
@@ -51,19 +51,19 @@ span-at (suc n) place t h = go (eqb place n) refl (λ u g. span-at n place u g)
     first true false c u = absurd u
     first false b c u = absurd u
 
-    parts : T (leb (2 ^ 59) (tensOf n)) × T (ltb (tensOf n) (2 ^ 60)) × T (spans n)
-    parts = first (leb (2 ^ 59) (tensOf n)) (ltb (tensOf n) (2 ^ 60)) (spans n) t
+    parts : T (leb (2 ^ 59) (tens_of n)) × T (ltb (tens_of n) (2 ^ 60)) × T (spans n)
+    parts = first (leb (2 ^ 59) (tens_of n)) (ltb (tens_of n) (2 ^ 60)) (spans n) t
 
-    go : (b : Bool) → eqb place n ≡ b → (T (spans n) → place < n → (2 ^ 59 ≤ tensOf place) × (tensOf place < 2 ^ 60)) → (2 ^ 59 ≤ tensOf place) × (tensOf place < 2 ^ 60)
+    go : (b : Bool) → eqb place n ≡ b → (T (spans n) → place < n → (2 ^ 59 ≤ tens_of place) × (tens_of place < 2 ^ 60)) → (2 ^ 59 ≤ tens_of place) × (tens_of place < 2 ^ 60)
     go true e before = rw (eqb-true place n e) (leb→le _ _ parts.0, ltb→lt _ _ parts.1)
     go false e before = let m = eqb-false place n e in before parts.2 (omega arith)
 
-pub leads : (place : ℕ) → place < places → Leads place (tensOf place)
-unfolding tensOf leading
+pub leads : (place : ℕ) → place < places → Leads place (tens_of place)
+unfolding tens_of leading
 leads place h =
     let x = 10 ^ place * 2 ^ 272 in
     let y = 2 ^ height place * 10 ^ 64 in
-    let e : tensOf place ≡ x / y = rw (lt-ltb place places h) in
+    let e : tens_of place ≡ x / y = rw (lt-ltb place places h) in
     let y-pos : 0 < y = mul-pos (pow_pos (height place)) (lit< tt) in
     let s = span-at places place all-span h in
     record {

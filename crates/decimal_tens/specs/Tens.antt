@@ -15,6 +15,6 @@ unfoldable pub leading : ℕ → ℕ
 leading place = 10 ^ place * 2 ^ 272 / (2 ^ height place * 10 ^ 64)
 
 -- the table of them: 0 past it
-unfoldable pub tensOf : ℕ → ℕ
+unfoldable pub tens_of : ℕ → ℕ
 unfolding leading
-tensOf place = cond (ltb place places) (leading place) 0
+tens_of place = cond (ltb place places) (leading place) 0

@@ -1,11 +1,11 @@
 // Powers of ten by their leading 60 binary digits, from 10^-64 to 10^38: between them lies every
 // power by which 19 decimal digits can be an f32 other than zero and the infinity.
 ghost use Rattle.std.specs.Prelude.{◌≡◌};
-ghost use Rattle.decimal_tens.specs.Tens.{tensOf};
+ghost use Rattle.decimal_tens.specs.Tens.{tens_of};
 
 // 10^(place - 64), moved to 60 binary digits and cut: a table in the compiled code, and 0 past it.
 pub fn tens(place: u64) -> u64
-    ensures { result ≡ tensOf place }
+    ensures { result ≡ tens_of place }
 {
     match place {
         0 => 758855036025675418,

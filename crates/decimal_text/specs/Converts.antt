@@ -3,7 +3,7 @@
 --     Float ::= Sign? Number, Number ::= ( Digit+ | Digit+ '.' Digit* | Digit* '.' Digit+ ) Exp?, Exp ::= 'e' Sign? Digit+, e in either case
 -- A text is what stands from one place up to another. No place that a scan finds is cited here. Definitions only.
 use Rattle.std.specs.Prelude.{ℕ, ◌+◌, ◌≤◌, ◌≡◌, true, false, List, length}
-use Rattle.scan.specs.Bytes.{digits, signs, points, exponentMarks}
+use Rattle.scan.specs.Bytes.{digits, signs, points, exponent_marks}
 use Rattle.scan.specs.Runs.{stands}
 use Rattle.scan.specs.declared.numbers.Places.{Places}
 use Rattle.strict_grammar.specs.Spans.{Span, Byte, ◌·◌, ◌∥◌, opt, star, plus}
@@ -26,7 +26,7 @@ module _ (text : List ℕ) where
 
   -- "'e' Sign? Digit+"
   unfoldable pub Exponent : Span
-  Exponent = Byte text exponentMarks · opt Sign · plus Digit
+  Exponent = Byte text exponent_marks · opt Sign · plus Digit
 
   -- "Sign? ( .. ) Exp?"
   unfoldable pub Converts : Span
@@ -47,5 +47,5 @@ pub record BareExponent (text : List ℕ) (at k : ℕ) : Type 0 where
   pub whole : ℕ
   pub sign : opt (Sign text) at whole
   pub before : Mantissa text whole k
-  pub mark : stands text k exponentMarks ≡ true
+  pub mark : stands text k exponent_marks ≡ true
   pub behind : (j : ℕ) → opt (Sign text) (k + 1) j → stands text j digits ≡ false

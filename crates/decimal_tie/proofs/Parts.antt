@@ -7,17 +7,17 @@ use native.Mathlib.Numerals.{add-one}
 use lib.ListN.{length, get_or, drop, drop_of_length-le}
 use lib.Seq.{drop-cons}
 use Rattle.scan.specs.Bytes.{among, digits}
-use Rattle.decimal_digits.specs.Digits.{digitsAmong}
+use Rattle.decimal_digits.specs.Digits.{digits_among}
 
 module _ (part : List ℕ) (i : ℕ) where
-  pub digit-first : i < length part → among (get_or part i 0) digits ≡ true → digitsAmong (drop i part) ≡ (get_or part i 0 - 48) ∷ digitsAmong (drop (i + 1) part)
-  unfolding digitsAmong
+  pub digit-first : i < length part → among (get_or part i 0) digits ≡ true → digits_among (drop i part) ≡ (get_or part i 0 - 48) ∷ digits_among (drop (i + 1) part)
+  unfolding digits_among
   digit-first h e = rw (add-one, drop-cons part i 0, e)
 
-  pub other-first : i < length part → among (get_or part i 0) digits ≡ false → digitsAmong (drop i part) ≡ digitsAmong (drop (i + 1) part)
-  unfolding digitsAmong
+  pub other-first : i < length part → among (get_or part i 0) digits ≡ false → digits_among (drop i part) ≡ digits_among (drop (i + 1) part)
+  unfolding digits_among
   other-first h e = rw (add-one, drop-cons part i 0, e)
 
-  pub none_first : length part ≤ i → digitsAmong (drop i part) ≡ []
-  unfolding digitsAmong
-  none_first h = ap digitsAmong (drop_of_length-le part h)
+  pub none_first : length part ≤ i → digits_among (drop i part) ≡ []
+  unfolding digits_among
+  none_first h = ap digits_among (drop_of_length-le part h)

@@ -9,7 +9,7 @@ use lib.Dec.{lit<}
 use lib.Arith.{digits_lt}
 use lib.ListN.{length, drop}
 use Rattle.decimal_rounding.proofs.Compares.{compare-lt, compare-gt, compare-scale}
-use Rattle.decimal_digits.specs.Digits.{digitsAmong, val}
+use Rattle.decimal_digits.specs.Digits.{digits_among, val}
 use Rattle.decimal_digits.proofs.Values.{ten-pos}
 use Rattle.decimal_tie.specs.Words.{wide_of, Small}
 use Rattle.decimal_tie.specs.Weighing.{against, weigh_of, partly, first, others, SaysWhole, Wholes, SaysLowered, Lowers}
@@ -160,10 +160,10 @@ against-is ds f = refl
 -- ---- what an answer says, by its case
 
 module _ {part : List ℕ} {count : ℕ} {r : Whole} (wholes : Wholes part count r) (s : ℕ) (h : s < 2 ^ 300) where
-  pub whole-beyond : r ≡ WholeBeyond → partly 0 (digitsAmong part) count s ≡ Ordering.gt
+  pub whole-beyond : r ≡ WholeBeyond → partly 0 (digits_among part) count s ≡ Ordering.gt
   whole-beyond e = subst (λ (z : Whole). SaysWhole z part count s) e (wholes.said s h)
 
-  pub whole_is : {w : Wide} {at : ℕ} → r ≡ Is w at → Small w × (partly 0 (digitsAmong part) count s ≡ partly (wide_of w) (digitsAmong (drop at part)) 0 s)
+  pub whole_is : {w : Wide} {at : ℕ} → r ≡ Is w at → Small w × (partly 0 (digits_among part) count s ≡ partly (wide_of w) (digits_among (drop at part)) 0 s)
   whole_is e = subst (λ (z : Whole). SaysWhole z part count s) e (wholes.said s h)
 
 module _ {f : Wide} {zeros : ℕ} {r : Lowered} (lowers : Lowers f zeros r) (v l : ℕ) (h : v < l) where

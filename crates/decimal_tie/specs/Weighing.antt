@@ -1,7 +1,7 @@
 -- The digits of a number against another number: digits ds with a point before them are 0.ds, that is val ds / 10 ^ length ds. Definitions only.
 use Prim.Native.Nat.{ℕ, suc, ◌+◌, ◌-◌, ◌*◌, ◌^◌, ◌<◌, compare, Ordering}
 use Rattle.std.specs.Prelude.{◌≡◌, List, [], ◌∷◌, length, drop}
-use Rattle.decimal_digits.specs.Digits.{digitsAmong, val}
+use Rattle.decimal_digits.specs.Digits.{digits_among, val}
 use Rattle.decimal_tie.specs.Words.{wide_of, Small}
 use Rattle.decimal_tie.specs.declared.scales.Wide.{Wide}
 use Rattle.decimal_tie.specs.declared.scales.Taken.{Taken}
@@ -38,8 +38,8 @@ others [] = []
 others (digit ∷ rest) = rest
 
 pub record Takes (part : List ℕ) (from : ℕ) (r : Taken) : Type 0 where
-  pub digit-is : r.digit ≡ first (digitsAmong (drop from part))
-  pub rest-is : digitsAmong (drop r.at part) ≡ others (digitsAmong (drop from part))
+  pub digit-is : r.digit ≡ first (digits_among (drop from part))
+  pub rest-is : digits_among (drop r.at part) ≡ others (digits_among (drop from part))
   pub small : r.digit < 10
 
 -- whole digits, gathered in w, and those still to come, the first count of which are whole too, against s / 2 ^ 150
@@ -48,8 +48,8 @@ partly w ds count s = compare ((w * 10 ^ length ds + val ds) * 10 ^ count * 2 ^ 
 
 -- what the whole digits say of any s / 2 ^ 150 below 2 ^ 150
 abbrev pub SaysWhole : Whole → List ℕ → ℕ → ℕ → Type 0
-SaysWhole WholeBeyond part count s = partly 0 (digitsAmong part) count s ≡ Ordering.gt
-SaysWhole (Is w at) part count s = Small w × (partly 0 (digitsAmong part) count s ≡ partly (wide_of w) (digitsAmong (drop at part)) 0 s)
+SaysWhole WholeBeyond part count s = partly 0 (digits_among part) count s ≡ Ordering.gt
+SaysWhole (Is w at) part count s = Small w × (partly 0 (digits_among part) count s ≡ partly (wide_of w) (digits_among (drop at part)) 0 s)
 
 pub record Wholes (part : List ℕ) (count : ℕ) (r : Whole) : Type 0 where
   pub said : (s : ℕ) → s < 2 ^ 300 → SaysWhole r part count s

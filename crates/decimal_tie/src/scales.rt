@@ -1,7 +1,7 @@
 // A word has 50 binary digits here, so that ten of it and a carry fit 64.
 ghost use Rattle.std.specs.Prelude.{◌≡◌, ◌⊎◌, length, drop};
 ghost use Prim.Native.Nat.{ℕ, ◌+◌, ◌*◌, ◌^◌, ◌≤◌, ◌<◌, compare};
-ghost use Rattle.decimal_digits.specs.Digits.{digitsAmong};
+ghost use Rattle.decimal_digits.specs.Digits.{digits_among};
 ghost use Rattle.decimal_tie.specs.Words.{wide_of, Small, Tens, Splits};
 ghost use Rattle.decimal_tie.specs.Weighing.{order_of, against, Takes, Wholes, Lowers, weigh_of};
 
@@ -77,7 +77,7 @@ fn compare_wide(v: Wide, w: Wide) -> Order
 // digit, as the point, is passed over.
 fn compare_rest(part: &[u8], from: usize, f: Wide) -> Order
     requires { Small f }
-    ensures { order_of result ≡ against (digitsAmong (drop from part.now)) (wide_of f) }
+    ensures { order_of result ≡ against (digits_among (drop from part.now)) (wide_of f) }
 {
     let mut i = from;
     let mut w = f;
@@ -245,7 +245,7 @@ fn in_six_words(odd: u64, k: u64) -> Six
 // A number below 1, with so many zeros after the point, against the number of six words.
 fn weigh_small(part: &[u8], zeros: u64, above: Wide, fraction: Wide) -> Order
     requires { Small above × Small fraction }
-    ensures { order_of result ≡ weigh_of (digitsAmong part.now) 0 zeros (wide_of above * 2 ^ 150 + wide_of fraction) }
+    ensures { order_of result ≡ weigh_of (digits_among part.now) 0 zeros (wide_of above * 2 ^ 150 + wide_of fraction) }
 {
     match compare_wide(Wide { a: 0, b: 0, c: 0 }, above) {
         Order::Less => Order::Less,
@@ -261,7 +261,7 @@ fn weigh_small(part: &[u8], zeros: u64, above: Wide, fraction: Wide) -> Order
 // A number with so many digits before the point, against the number of six words.
 fn weigh_large(part: &[u8], count: u64, above: Wide, fraction: Wide) -> Order
     requires { Small above × Small fraction }
-    ensures { order_of result ≡ weigh_of (digitsAmong part.now) count 0 (wide_of above * 2 ^ 150 + wide_of fraction) }
+    ensures { order_of result ≡ weigh_of (digits_among part.now) count 0 (wide_of above * 2 ^ 150 + wide_of fraction) }
 {
     match whole_digits(part, count) {
         Whole::Beyond => Order::Greater,
@@ -277,7 +277,7 @@ fn weigh_large(part: &[u8], count: u64, above: Wide, fraction: Wide) -> Order
 // the first, against odd * 2^k / 2^150.
 pub fn weigh(part: &[u8], count: u64, zeros: u64, odd: u64, k: u64) -> Order
     requires { (odd < 2 ^ 25) × (k ≤ 253) × ((count ≡ 0) ⊎ (zeros ≡ 0)) }
-    ensures { order_of result ≡ weigh_of (digitsAmong part.now) count zeros (odd * 2 ^ k) }
+    ensures { order_of result ≡ weigh_of (digits_among part.now) count zeros (odd * 2 ^ k) }
 {
     let s = in_six_words(odd, k);
     if 0 < zeros {

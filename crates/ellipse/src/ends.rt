@@ -1,7 +1,7 @@
 // From the ends of an arc to its centre and angles.
 ghost use Rattle.std.specs.Prelude.{◌≡◌};
 ghost use Rattle.std.specs.Bool.{beq};
-ghost use Rattle.ellipse.specs.Ends.{size_of, sizesOf, primedOf, lambdaOf, fittedOf, facingOf, coefOf, middle_of, centerOf, towardsOf, awayOf, turnedOf, way_of, fromEndsOf};
+ghost use Rattle.ellipse.specs.Ends.{size_of, sizes_of, primed_of, lambda_of, fitted_of, facing_of, coef_of, middle_of, center_of, towards_of, away_of, turned_of, way_of, from_ends_of};
 
 use crate::turn::turn_of;
 use math::Point;
@@ -54,7 +54,7 @@ pub fn size(x: f32) -> f32
 
 // F.6.6.1: both radii without their signs.
 fn sizes(radii: Point) -> Point
-    ensures { result ≡ sizesOf radii }
+    ensures { result ≡ sizes_of radii }
 {
     Point {
         x: size(radii.x),
@@ -64,7 +64,7 @@ fn sizes(radii: Point) -> Point
 
 // F.6.5.1: half the way from the end to the start, turned back by the rotation.
 fn primed(sin_phi: f32, cos_phi: f32, start: Point, end: Point) -> Point
-    ensures { result ≡ primedOf sin_phi cos_phi start end }
+    ensures { result ≡ primed_of sin_phi cos_phi start end }
 {
     let dx = (start.x - end.x) * 0.5;
     let dy = (start.y - end.y) * 0.5;
@@ -76,14 +76,14 @@ fn primed(sin_phi: f32, cos_phi: f32, start: Point, end: Point) -> Point
 
 // F.6.6.2: above 1 where the radii are too small to reach both ends.
 fn lambda(radii: Point, p: Point) -> f32
-    ensures { result ≡ lambdaOf radii p }
+    ensures { result ≡ lambda_of radii p }
 {
     (p.x * p.x) / (radii.x * radii.x) + (p.y * p.y) / (radii.y * radii.y)
 }
 
 // F.6.6.3: the radii, grown until they reach.
 fn fitted(radii: Point, p: Point) -> Point
-    ensures { result ≡ fittedOf radii p }
+    ensures { result ≡ fitted_of radii p }
 {
     let over = lambda(radii, p);
     if over > 1.0 {
@@ -94,7 +94,7 @@ fn fitted(radii: Point, p: Point) -> Point
 
 // The sign of F.6.5.2: on which side of the chord the centre lies.
 fn facing(same: bool) -> f32
-    ensures { result ≡ facingOf same }
+    ensures { result ≡ facing_of same }
 {
     if same { -1.0 } else { 1.0 }
 }
@@ -102,7 +102,7 @@ fn facing(same: bool) -> f32
 // The factor of F.6.5.2. A denominator of at most 2^-23 makes it 0, and what is below 0 under the
 // root, or a NaN, counts as 0.
 fn coef(radii: Point, p: Point, same: bool) -> f32
-    ensures { result ≡ coefOf radii p same }
+    ensures { result ≡ coef_of radii p same }
 {
     let rx2 = radii.x * radii.x;
     let ry2 = radii.y * radii.y;
@@ -127,7 +127,7 @@ fn middle(coef: f32, radii: Point, p: Point) -> Point
 
 // F.6.5.3: the centre.
 fn center(sin_phi: f32, cos_phi: f32, m: Point, start: Point, end: Point) -> Point
-    ensures { result ≡ centerOf sin_phi cos_phi m start end }
+    ensures { result ≡ center_of sin_phi cos_phi m start end }
 {
     Point {
         x: cos_phi * m.x - sin_phi * m.y + (start.x + end.x) * 0.5,
@@ -137,7 +137,7 @@ fn center(sin_phi: f32, cos_phi: f32, m: Point, start: Point, end: Point) -> Poi
 
 // The first vector of F.6.5.5: from the centre to the start, in radii.
 fn towards(p: Point, m: Point, radii: Point) -> Point
-    ensures { result ≡ towardsOf p m radii }
+    ensures { result ≡ towards_of p m radii }
 {
     Point {
         x: (p.x - m.x) / radii.x,
@@ -147,7 +147,7 @@ fn towards(p: Point, m: Point, radii: Point) -> Point
 
 // The second vector of F.6.5.6: from the centre to the end, in radii.
 fn away(p: Point, m: Point, radii: Point) -> Point
-    ensures { result ≡ awayOf p m radii }
+    ensures { result ≡ away_of p m radii }
 {
     Point {
         x: (-p.x - m.x) / radii.x,
@@ -158,7 +158,7 @@ fn away(p: Point, m: Point, radii: Point) -> Point
 // F.6.5.6: the turn, of the sign that the sweep asks for, a whole turn added or taken where it has
 // the other.
 fn turned(angle: f32, sweep: bool) -> f32
-    ensures { result ≡ turnedOf angle sweep }
+    ensures { result ≡ turned_of angle sweep }
 {
     if sweep {
         if angle < 0.0 {
@@ -204,7 +204,7 @@ pub fn way_of(chord: Chord) -> Way
 // The arc through both ends, F.6.5. The rotation turns the ellipse by any number of degrees and is kept as it is given, full turns
 // too; a radius is taken without its sign.
 pub fn from_ends(chord: Chord) -> Arc
-    ensures { result ≡ fromEndsOf chord }
+    ensures { result ≡ from_ends_of chord }
 {
     let start = chord.start;
     let end = chord.end;

@@ -1,7 +1,7 @@
 // Points and directions on the ellipse of an arc.
 ghost use Rattle.std.specs.Prelude.{◌≡◌};
-ghost use Rattle.floats.specs.Floats.{clamp01Of};
-ghost use Rattle.ellipse.specs.Shape.{onEllipse, slopeOf, angleAt, pointTurned, pointOn, directionOn};
+ghost use Rattle.floats.specs.Floats.{clamp01_of};
+ghost use Rattle.ellipse.specs.Shape.{on_ellipse, slope_of, angle_at, point_turned, point_on, direction_on};
 
 use crate::ends::Arc;
 use crate::turn::turn_of;
@@ -11,7 +11,7 @@ use trig::SinCos;
 
 // The point of the ellipse at an angle, F.6.3, from the sines and cosines of rotation and angle.
 pub fn on_ellipse(center: Point, radii: Point, turn: SinCos, angle: SinCos) -> Point
-    ensures { result ≡ onEllipse center radii turn.sin turn.cos angle.sin angle.cos }
+    ensures { result ≡ on_ellipse center radii turn.sin turn.cos angle.sin angle.cos }
 {
     Point {
         x: center.x + turn.cos * radii.x * angle.cos - turn.sin * radii.y * angle.sin,
@@ -21,7 +21,7 @@ pub fn on_ellipse(center: Point, radii: Point, turn: SinCos, angle: SinCos) -> P
 
 // The derivative there, times how far the arc turns.
 fn slope(delta: f32, radii: Point, turn: SinCos, angle: SinCos) -> Point
-    ensures { result ≡ slopeOf delta radii turn.sin turn.cos angle.sin angle.cos }
+    ensures { result ≡ slope_of delta radii turn.sin turn.cos angle.sin angle.cos }
 {
     Point {
         x: delta * (-turn.cos * radii.x * angle.sin - turn.sin * radii.y * angle.cos),
@@ -31,14 +31,14 @@ fn slope(delta: f32, radii: Point, turn: SinCos, angle: SinCos) -> Point
 
 // The angle where a share t of the turn is done, the raw parameter: start_angle + delta_angle·t. t is clamped, a NaN is 0.
 pub fn angle_at(arc: Arc, raw: RawParameter) -> f32
-    ensures { result ≡ angleAt arc (clamp01Of raw.value) }
+    ensures { result ≡ angle_at arc (clamp01_of raw.value) }
 {
     arc.start_angle + arc.delta_angle * floats::clamp01(number_of(raw))
 }
 
 // The point there. Sine and cosine of the rotation are lent, so that many points of one arc take them once.
 pub fn point_turned(arc: Arc, turn: SinCos, raw: RawParameter) -> Point
-    ensures { result ≡ pointTurned arc turn raw.value }
+    ensures { result ≡ point_turned arc turn raw.value }
 {
     let center = arc.center;
     let radii = arc.radii;
@@ -48,14 +48,14 @@ pub fn point_turned(arc: Arc, turn: SinCos, raw: RawParameter) -> Point
 
 // That point of an arc by itself.
 pub fn point(arc: Arc, raw: RawParameter) -> Point
-    ensures { result ≡ pointOn arc raw.value }
+    ensures { result ≡ point_on arc raw.value }
 {
     point_turned(arc, turn_of(arc.x_axis_rotation), raw)
 }
 
 // The direction there: the derivative in t, normalized. t is taken as it is.
 pub fn direction(arc: Arc, raw: RawParameter) -> Point
-    ensures { result ≡ directionOn arc raw.value }
+    ensures { result ≡ direction_on arc raw.value }
 {
     let radii = arc.radii;
     let angle = trig::sin_cos(arc.start_angle + arc.delta_angle * number_of(raw));

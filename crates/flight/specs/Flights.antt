@@ -9,16 +9,16 @@ use Rattle.flight.specs.declared.Flown.{Flown}
 use Rattle.flight.specs.declared.Flown.TheVariants.{At, Refused}
 
 -- 2^32 - 1, which is no segment's number: a path has at most 65,536
-abbrev pub noSegment : ℕ
-noSegment = 4294967295
+abbrev pub no_segment : ℕ
+no_segment = 4294967295
 
-abbrev pub segmentGiven : Found → ℕ
-segmentGiven (Segment number) = number
-segmentGiven Nothing = noSegment
+abbrev pub segment_given : Found → ℕ
+segment_given (Segment number) = number
+segment_given Nothing = no_segment
 
 -- x and y of the position, x and y of the tangent, the segment, the raw parameter
-abbrev pub flightGiven : Flown → Answer
-flightGiven (At flight) =
+abbrev pub flight_given : Flown → Answer
+flight_given (At flight) =
     accepted (bits_of flight.position.x ∷ bits_of flight.position.y ∷ bits_of flight.tangent.x ∷ bits_of flight.tangent.y
-    ∷ segmentGiven flight.segment ∷ bits_of flight.raw.value ∷ [])
-flightGiven (Refused refusal) = refused refusal
+    ∷ segment_given flight.segment ∷ bits_of flight.raw.value ∷ [])
+flight_given (Refused refusal) = refused refusal

@@ -6,32 +6,32 @@ abbrev pub hidden : ℕ
 hidden = 8388608
 
 -- 2 ^ 31: the sign's digit
-abbrev pub signPlace : ℕ
-signPlace = 2147483648
+abbrev pub sign_place : ℕ
+sign_place = 2147483648
 
 -- infinity without its sign: no finite number's bits reach it
-abbrev pub infinityBits : ℕ
-infinityBits = 2139095040
+abbrev pub infinity_bits : ℕ
+infinity_bits = 2139095040
 
 -- ---- the same of an f64
 
 -- 2 ^ 52
-abbrev pub wideHidden : ℕ
-wideHidden = 4503599627370496
+abbrev pub wide_hidden : ℕ
+wide_hidden = 4503599627370496
 
 -- 2 ^ 63
-abbrev pub wideSignPlace : ℕ
-wideSignPlace = 9223372036854775808
+abbrev pub wide_sign_place : ℕ
+wide_sign_place = 9223372036854775808
 
-abbrev pub wideInfinityBits : ℕ
-wideInfinityBits = 9218868437227405312
+abbrev pub wide_infinity_bits : ℕ
+wide_infinity_bits = 9218868437227405312
 
 -- ---- from an f64 to the nearest f32
 
 -- 2 ^ 29: from one f32 to the next, in the bits of an f64
-abbrev pub narrowStep : ℕ
-narrowStep = 536870912
+abbrev pub narrow_step : ℕ
+narrow_step = 536870912
 
 -- 2 ^ 28: half of it, from an f32 to the middle between it and the next
-abbrev pub narrowHalf : ℕ
-narrowHalf = 268435456
+abbrev pub narrow_half : ℕ
+narrow_half = 268435456

@@ -14,29 +14,29 @@ use Rattle.answers.specs.declared.refusals.Refusal.{Refusal}
 use Rattle.answers.specs.declared.refusals.Refusal.TheVariants.{TooLong, NoRoom, NotFinite, RotationRange, InvalidNumber}
 use Rattle.answers.specs.declared.refusals.Values.{Values}
 use Rattle.answers.specs.declared.refusals.Values.TheVariants.{Three}
-use Rattle.floats.specs.Floats.{zeroF}
-use Rattle.commands.specs.Stored.{lettersOf, numbersOf}
+use Rattle.floats.specs.Floats.{zero_f}
+use Rattle.commands.specs.Stored.{letters_of, numbers_of}
 use Rattle.commands.specs.declared.command.PathCommand.{PathCommand}
-use Rattle.svg.specs.Texts.{Outcome, commands, refusal as unread, commandsOf, offsetsOf}
+use Rattle.svg.specs.Texts.{Outcome, commands, refusal as unread, commands_of, offsets_of}
 use Rattle.path_segment.specs.declared.segments.PathSegment.{PathSegment}
 use Rattle.path_stored.specs.Buffers.{Buffers}
-use Rattle.path_stored.specs.Layout.{laidOut}
-use Rattle.path_drawing.specs.Building.{Built, path, refusal, prepend, lengthAfter, follow, buildFrom, buildOf, drawersOf}
-use Rattle.path_drawing.specs.Drawing.{fresh_of, drawOf}
+use Rattle.path_stored.specs.Layout.{laid_wholly}
+use Rattle.path_drawing.specs.Building.{Built, path, refusal, prepend, length_after, follow, build_from, build_of, drawers_of}
+use Rattle.path_drawing.specs.Drawing.{fresh_of, draw_of}
 use Rattle.path_drawing.specs.declared.pens.Pen.{Pen}
 use Rattle.path_drawing.specs.declared.strokes.Drawn.{Drawn}
 use Rattle.path_drawing.specs.declared.strokes.Drawn.TheVariants.{Moved, Segment, OutOfRange}
-use Rattle.path_build.specs.Answers.{roomed, answered, answer_of, isShort, countsOf, values, Answers}
+use Rattle.path_build.specs.Answers.{roomed, answered, answer_of, is_short, counts_of, values, Answers}
 use Rattle.path_build.specs.Paths.{lent_of}
 use Rattle.path_build.specs.declared.sizes.Building.{Building}
 use Rattle.path_build.specs.declared.sizes.Counts.{Counts}
-use Rattle.path_text.specs.Builds.{builtFrom, buildReadOf, buildTextOf, drawersTextOf, BuildFromText}
+use Rattle.path_text.specs.Builds.{built_from, build_read_of, build_text_of, drawers_text_of, BuildFromText}
 use Rattle.kihavute_paths.specs.Paths.{PathBuilt}
-use Rattle.text_reader.specs.Plans.{firstLineOf}
+use Rattle.text_reader.specs.Plans.{first_line_of}
 use Rattle.text_reader.specs.declared.line.FirstLine.{FirstLine}
 use Rattle.text_reader.specs.declared.line.FirstLine.TheVariants.{Stations as Asked, Refused}
-use Rattle.station_lines.specs.Lines.{refusalLine}
-use Rattle.station_listing.specs.Stations.{sectionsOf, builtOf, read_of, plan_of, judgedOf, stationsOf}
+use Rattle.station_lines.specs.Lines.{refusal_line}
+use Rattle.station_listing.specs.Stations.{sections_of, built_of, read_of, plan_of, judged_of, stations_of}
 use Rattle.invalid_number.specs.Cause.{Bare, Caused}
 use Rattle.invalid_number.proofs.Steps.{OutcomeCaused, text-caused}
 use Rattle.invalid_number.proofs.Entries.{cond_either, AnswerCaused, refused-caused, accepted-caused, reported, long-caused}
@@ -67,41 +67,41 @@ module _ (text : List ℕ) where
       → BuiltCaused (follow k before drawn rest)
   followed k before (Moved next) rest h = h k before next
   followed k before (Segment segment next) rest h =
-      cond_either BuiltCaused (finite (lengthAfter before segment)) (prepend segment (rest (suc k) (lengthAfter before segment) next)) (refusal (NotFinite k))
-      (prepended segment (rest (suc k) (lengthAfter before segment) next) (h (suc k) (lengthAfter before segment) next)) (infinite-caused k)
+      cond_either BuiltCaused (finite (length_after before segment)) (prepend segment (rest (suc k) (length_after before segment) next)) (refusal (NotFinite k))
+      (prepended segment (rest (suc k) (length_after before segment) next) (h (suc k) (length_after before segment) next)) (infinite-caused k)
   followed k before OutOfRange rest h = rotation-caused k
 
-  from-caused : (list : List PathCommand) (k : ℕ) (before : Float) (pen : Pen) → BuiltCaused (buildFrom list k before pen)
-  unfolding buildFrom
+  from-caused : (list : List PathCommand) (k : ℕ) (before : Float) (pen : Pen) → BuiltCaused (build_from list k before pen)
+  unfolding build_from
   from-caused [] k before pen = tt
-  from-caused (command ∷ list) k before pen = followed k before (drawOf pen command) (buildFrom list) (from-caused list)
+  from-caused (command ∷ list) k before pen = followed k before (draw_of pen command) (build_from list) (from-caused list)
 
-  list-caused : (list : List PathCommand) → BuiltCaused (buildOf list)
-  unfolding buildOf
-  list-caused list = from-caused list 0 zeroF fresh_of
+  list-caused : (list : List PathCommand) → BuiltCaused (build_of list)
+  unfolding build_of
+  list-caused list = from-caused list 0 zero_f fresh_of
 
   -- ---- a text
 
-  outcome-built : (outcome : Outcome) → OutcomeCaused text outcome → BuiltCaused (builtFrom outcome)
+  outcome-built : (outcome : Outcome) → OutcomeCaused text outcome → BuiltCaused (built_from outcome)
   outcome-built (commands list) h = list-caused list
   outcome-built (unread x) h = h
 
-  read-built : BuiltCaused (buildReadOf text)
-  unfolding buildReadOf
+  read-built : BuiltCaused (build_read_of text)
+  unfolding build_read_of
   read-built =
-      cond_either BuiltCaused (ltb 65536 (length text)) (refusal (TooLong (length text))) (builtFrom (commandsOf text)) (long-caused text (length text))
-      (outcome-built (commandsOf text) (text-caused text))
+      cond_either BuiltCaused (ltb 65536 (length text)) (refusal (TooLong (length text))) (built_from (commands_of text)) (long-caused text (length text))
+      (outcome-built (commands_of text) (text-caused text))
 
   roomed-built : (lent : Counts) (built : Built) → BuiltCaused built → BuiltCaused (roomed lent built)
-  roomed-built lent (path list) h = cond_either BuiltCaused (isShort (countsOf list) lent) _ (path list) (room-caused _) tt
+  roomed-built lent (path list) h = cond_either BuiltCaused (is_short (counts_of list) lent) _ (path list) (room-caused _) tt
   roomed-built lent (refusal x) h = h
 
   answered-built : (built : Built) → BuiltCaused built → AnswerCaused text (answered built)
-  answered-built (path list) h = accepted-caused text (values (countsOf list))
+  answered-built (path list) h = accepted-caused text (values (counts_of list))
   answered-built (refusal x) h = refused-caused text x h
 
-  text-built : (lent : Counts) → AnswerCaused text (answered (buildTextOf text lent))
-  text-built lent = answered-built (buildTextOf text lent) (roomed-built lent (buildReadOf text) read-built)
+  text-built : (lent : Counts) → AnswerCaused text (answered (build_text_of text lent))
+  text-built lent = answered-built (build_text_of text lent) (roomed-built lent (build_read_of text) read-built)
 
   -- any result that the contract of `path_text::build_from_text` allows
   pub build-text-bare :
@@ -112,34 +112,34 @@ module _ (text : List ℕ) where
 
   -- and of `kihavute_build_text`
   pub kihavute-build-text-bare :
-      {b b' : Buffers} {answer answer' : List ℕ} (returned : ℕ) → PathBuilt (buildTextOf text (lent_of b)) (drawersTextOf text) b answer returned b' answer' → returned ≡ 4
+      {b b' : Buffers} {answer answer' : List ℕ} (returned : ℕ) → PathBuilt (build_text_of text (lent_of b)) (drawers_text_of text) b answer returned b' answer' → returned ≡ 4
       → (k : ℕ) × (get_or answer' 0 0 ≡ k) × Bare text k
   kihavute-build-text-bare {b} {b'} {answer} {answer'} returned p e =
-      reported text (answered (buildTextOf text (lent_of b))) answer returned answer' (text-built (lent_of b)) p.reported e
+      reported text (answered (build_text_of text (lent_of b))) answer returned answer' (text-built (lent_of b)) p.reported e
 
 -- ---- the station tool
 
 -- a listing is its sections, or the line of a refusal; where that refusal is 4, it is at the e of an exponent without a digit in the path's text
 abbrev pub LineCaused : List ℕ → List ℕ → Type 0
-LineCaused text line = (reason : Refusal) × ((line ≡ refusalLine reason) × Caused text reason)
+LineCaused text line = (reason : Refusal) × ((line ≡ refusal_line reason) × Caused text reason)
 
 abbrev pub Sections : List ℕ → Type 0
-Sections line = (list : List PathCommand) × ((offsets : List ℕ) × ((b : Buffers) × ((count : ℕ) × (line ≡ sectionsOf list offsets b count))))
+Sections line = (list : List PathCommand) × ((offsets : List ℕ) × ((b : Buffers) × ((count : ℕ) × (line ≡ sections_of list offsets b count))))
 
-built-line : (text : List ℕ) (count : ℕ) (list : List PathCommand) (offsets : List ℕ) (built : Built) → BuiltCaused text built → Sections (builtOf count list offsets built) ⊎ LineCaused text (builtOf count list offsets built)
-built-line text count list offsets (path segments) h = inl (list, (offsets, (laidOut segments (drawersOf list), (count, refl))))
+built-line : (text : List ℕ) (count : ℕ) (list : List PathCommand) (offsets : List ℕ) (built : Built) → BuiltCaused text built → Sections (built_of count list offsets built) ⊎ LineCaused text (built_of count list offsets built)
+built-line text count list offsets (path segments) h = inl (list, (offsets, (laid_wholly segments (drawers_of list), (count, refl))))
 built-line text count list offsets (refusal x) h = inr (x, (refl, h))
 
 read-line : (text : List ℕ) (count : ℕ) (offsets : List ℕ) (outcome : Outcome) → OutcomeCaused text outcome → Sections (read_of count offsets outcome) ⊎ LineCaused text (read_of count offsets outcome)
 unfolding read_of
 read-line text count offsets (commands list) h =
-    cond_either (λ (line : List ℕ). Sections line ⊎ LineCaused text line) (ltb 256 (length (lettersOf list))) _ (builtOf count list offsets (buildOf list))
-    (inr (NoRoom (Three (length (lettersOf list)) (length (numbersOf list)) (length offsets)), (refl, room-caused text _))) (built-line text count list offsets (buildOf list) (list-caused text list))
+    cond_either (λ (line : List ℕ). Sections line ⊎ LineCaused text line) (ltb 256 (length (letters_of list))) _ (built_of count list offsets (build_of list))
+    (inr (NoRoom (Three (length (letters_of list)) (length (numbers_of list)) (length offsets)), (refl, room-caused text _))) (built-line text count list offsets (build_of list) (list-caused text list))
 read-line text count offsets (unread x) h = inr (x, (refl, h))
 
 -- of a plan whose first line is right
 pub listing-bare : (count : ℕ) (text : List ℕ) → Sections (plan_of count text) ⊎ LineCaused text (plan_of count text)
 unfolding plan_of
 listing-bare count text =
-    cond_either (λ (line : List ℕ). Sections line ⊎ LineCaused text line) (ltb 4096 (length text)) (refusalLine (TooLong 4097)) (read_of count (offsetsOf text) (commandsOf text))
-    (inr (TooLong 4097, (refl, long-caused text 4097))) (read-line text count (offsetsOf text) (commandsOf text) (text-caused text))
+    cond_either (λ (line : List ℕ). Sections line ⊎ LineCaused text line) (ltb 4096 (length text)) (refusal_line (TooLong 4097)) (read_of count (offsets_of text) (commands_of text))
+    (inr (TooLong 4097, (refl, long-caused text 4097))) (read-line text count (offsets_of text) (commands_of text) (text-caused text))

@@ -11,18 +11,18 @@ use Rattle.answers.specs.Answers.{Answer, refused, accepted, number_of, carried_
 use Rattle.answers.specs.Report.{short, written}
 use Rattle.answers.specs.declared.refusals.Refusal.{Refusal}
 use Rattle.answers.specs.declared.refusals.Refusal.TheVariants.{TooLong, UnexpectedEnd, ExpectedNumber, InvalidNumber, ExpectedFlag, UnsupportedCommand, MissingMoveTo, NoRoom, BadList, RotationRange, NotFinite, BadPath, Range}
-use Rattle.decimal.specs.Decimal.{number_of as readNumber}
+use Rattle.decimal.specs.Decimal.{number_of as read_number}
 use Rattle.decimal.specs.declared.numbers.Read.{Read}
 use Rattle.decimal.specs.declared.numbers.Read.TheVariants.{Value, Refused as NotRead}
 use Rattle.decimal_text.specs.Converts.{BareExponent}
 use Rattle.decimal_text.proofs.Bare.{number-bare, bare-number}
-use Rattle.commands.specs.Stored.{lettersOf, numbersOf}
-use Rattle.svg.specs.Texts.{Outcome, commands, refusal, commandsOf, offsetsOf, list_of}
-use Rattle.svg.specs.Lists.{CommandList, countsOf}
-use Rattle.svg.specs.Readings.{answer_of, roomed, readPathOf, readInto, answered, ReadPath}
+use Rattle.commands.specs.Stored.{letters_of, numbers_of}
+use Rattle.svg.specs.Texts.{Outcome, commands, refusal, commands_of, offsets_of, list_of}
+use Rattle.svg.specs.Lists.{CommandList, counts_of}
+use Rattle.svg.specs.Readings.{answer_of, roomed, read_path_of, read_into, answered, ReadPath}
 use Rattle.svg.specs.declared.reading.Reading.{Reading}
 use Rattle.c_answer.specs.Given.{Given}
-use Rattle.kihavute.specs.Decimals.{readGiven, numberGiven}
+use Rattle.kihavute.specs.Decimals.{read_given, number_given}
 use Rattle.kihavute.proofs.NumberGiven.{text-fits}
 use Rattle.kihavute_reading.specs.Reading.{PathRead}
 use Rattle.invalid_number.specs.Cause.{Bare, Caused}
@@ -68,31 +68,31 @@ module _ (text : List ℕ) where
   roomed-caused :
       (letters numbers offsets : ℕ) (marks : List ℕ) (outcome : Outcome) → OutcomeCaused text outcome → OutcomeCaused text (roomed letters numbers offsets marks outcome)
   roomed-caused letters numbers offsets marks (commands list) h =
-      cond_either (OutcomeCaused text) (ltb letters (length (lettersOf list)) || (ltb numbers (length (numbersOf list)) || ltb offsets (length marks))) _ _
+      cond_either (OutcomeCaused text) (ltb letters (length (letters_of list)) || (ltb numbers (length (numbers_of list)) || ltb offsets (length marks))) _ _
       (λ k e. let z : ◌≡◌ {A = ℕ} 0 1 = cc in absurd (omega arith)) tt
   roomed-caused letters numbers offsets marks (refusal x) h = h
 
   pub long-caused : (n : ℕ) → Caused text (TooLong n)
   long-caused n k e = let z : ◌≡◌ {A = ℕ} 0 1 = cc in absurd (omega arith)
 
-  path-caused : (before : CommandList) → OutcomeCaused text (readInto text before)
-  unfolding readPathOf
+  path-caused : (before : CommandList) → OutcomeCaused text (read_into text before)
+  unfolding read_path_of
   path-caused before =
       let letters = length before.letters in
       let numbers = length before.numbers in
       let offsets = length before.offsets in
-      cond_either (OutcomeCaused text) (ltb 65536 (length text)) (refusal (TooLong (length text))) (roomed letters numbers offsets (offsetsOf text) (commandsOf text))
-      (long-caused (length text)) (roomed-caused letters numbers offsets (offsetsOf text) (commandsOf text) (text-caused text))
+      cond_either (OutcomeCaused text) (ltb 65536 (length text)) (refusal (TooLong (length text))) (roomed letters numbers offsets (offsets_of text) (commands_of text))
+      (long-caused (length text)) (roomed-caused letters numbers offsets (offsets_of text) (commands_of text) (text-caused text))
 
   answered-caused : (outcome : Outcome) → OutcomeCaused text outcome → AnswerCaused (answered text outcome)
-  answered-caused (commands list) h = accepted-caused (countsOf (list_of text list))
+  answered-caused (commands list) h = accepted-caused (counts_of (list_of text list))
   answered-caused (refusal x) h = refused-caused x h
 
   -- any result that the contract of `svg::read_path` allows
   pub read-path-bare :
       {before after : CommandList} (r : Reading) → ReadPath text before r after → (answer_of r).number ≡ 4 → (k : ℕ) × ((answer_of r).values ≡ k ∷ []) × Bare text k
   read-path-bare {before} {after} r p e =
-      let b = answered-caused (readInto text before) (path-caused before) (sym (ap (λ (a : Answer). a.number) p.answer) ∙ e) in
+      let b = answered-caused (read_into text before) (path-caused before) (sym (ap (λ (a : Answer). a.number) p.answer) ∙ e) in
       (b.0, ap (λ (a : Answer). a.values) p.answer ∙ b.1, b.2)
 
   -- ---- through C
@@ -116,20 +116,20 @@ module _ (text : List ℕ) where
       {before after : CommandList} {answer answer' : List ℕ} (returned : ℕ) → PathRead text before answer returned after answer' → returned ≡ 4
       → (k : ℕ) × (get_or answer' 0 0 ≡ k) × Bare text k
   kihavute-read-bare {before} {after} {answer} {answer'} returned p e =
-      reported (answered text (readInto text before)) answer returned answer' (answered-caused (readInto text before) (path-caused before)) p.reported e
+      reported (answered text (read_into text before)) answer returned answer' (answered-caused (read_into text before) (path-caused before)) p.reported e
 
-  number-caused : AnswerCaused (numberGiven text)
-  number-caused = cond_either AnswerCaused (ltb 65536 (length text)) (refused (TooLong (length text))) (readGiven (readNumber text 0)) (refused-caused (TooLong (length text)) (long-caused (length text))) (go (readNumber text 0) refl)
+  number-caused : AnswerCaused (number_given text)
+  number-caused = cond_either AnswerCaused (ltb 65536 (length text)) (refused (TooLong (length text))) (read_given (read_number text 0)) (refused-caused (TooLong (length text)) (long-caused (length text))) (go (read_number text 0) refl)
     where
-      go : (n : Read) → readNumber text 0 ≡ n → AnswerCaused (readGiven n)
+      go : (n : Read) → read_number text 0 ≡ n → AnswerCaused (read_given n)
       go (Value v e) q = accepted-caused _
       go (NotRead x) q = refused-caused x (λ k e. (0, number-bare text 0 k (q ∙ ap NotRead e)))
 
   -- and of `kihavute_number`
   pub kihavute-number-bare :
-      {answer answer' : List ℕ} (returned : ℕ) → Given (numberGiven text) answer returned answer' → returned ≡ 4 → (k : ℕ) × (get_or answer' 0 0 ≡ k) × Bare text k
-  kihavute-number-bare {answer} {answer'} returned g e = reported (numberGiven text) answer returned answer' number-caused g e
+      {answer answer' : List ℕ} (returned : ℕ) → Given (number_given text) answer returned answer' → returned ≡ 4 → (k : ℕ) × (get_or answer' 0 0 ≡ k) × Bare text k
+  kihavute-number-bare {answer} {answer'} returned g e = reported (number_given text) answer returned answer' number-caused g e
 
   -- the other way: an exponent without a digit in the number that a text starts with is 4 at its e
-  pub bare-number-given : (k : ℕ) → length text ≤ 65536 → BareExponent text 0 k → numberGiven text ≡ refused (InvalidNumber k)
-  bare-number-given k fits b = sym (text-fits text fits) ∙ ap readGiven (bare-number text 0 k b)
+  pub bare-number-given : (k : ℕ) → length text ≤ 65536 → BareExponent text 0 k → number_given text ≡ refused (InvalidNumber k)
+  bare-number-given k fits b = sym (text-fits text fits) ∙ ap read_given (bare-number text 0 k b)

@@ -8,19 +8,19 @@ use native.Mathlib.Omega.{arith}
 use lib.Dec.{ltb}
 use lib.ListN.{length, get_or}
 use Rattle.answers.specs.declared.refusals.Refusal.TheVariants.{ExpectedNumber, UnsupportedCommand, MissingMoveTo, InvalidNumber}
-use Rattle.scan.specs.Bytes.{among, numberStarts}
-use Rattle.scan.specs.Runs.{pastSeparatorsOf}
+use Rattle.scan.specs.Bytes.{among, number_starts}
+use Rattle.scan.specs.Runs.{past_separators_of}
 use Rattle.math.specs.declared.points.Point.{Point}
 use Rattle.commands.specs.declared.command.PathCommand.{PathCommand}
-use Rattle.svg_group.specs.Letters.{isLetterOf, meaningOf}
-use Rattle.svg_group.specs.Groups.{readGroupOf}
+use Rattle.svg_group.specs.Letters.{is_letter_of, meaning_of}
+use Rattle.svg_group.specs.Groups.{read_group_of}
 use Rattle.svg_group.specs.declared.letters.Kind.{Kind}
 use Rattle.svg_group.specs.declared.letters.Letter.{Letter}
 use Rattle.svg_group.specs.declared.letters.Letter.TheVariants.{Draws, Closes, Unknown}
 use Rattle.svg_group.specs.declared.groups.Group.{Group}
 use Rattle.svg_group.specs.declared.groups.Group.TheVariants.{Taken, Refused as GroupRefused}
-use Rattle.svg_step.specs.Steps.{fresh_of, isRelativeOf, needsPointOf, repeatedOf, firstControlOf, dueGroupOf, begun, dueLetterOf, again, dueAgainOf, dueAtOf, nextDueOf, offset_of, taken, stepped, readStepOf}
-use Rattle.svg.specs.Texts.{Outcome, commands, refusal, prepend, follow, readFrom, commandsOf}
+use Rattle.svg_step.specs.Steps.{fresh_of, is_relative_of, needs_point_of, repeated_of, first_control_of, due_group_of, begun, due_letter_of, again, due_again_of, due_at_of, next_due_of, offset_of, taken, stepped, read_step_of}
+use Rattle.svg.specs.Texts.{Outcome, commands, refusal, prepend, follow, read_from, commands_of}
 use Rattle.svg_step.specs.declared.steps.Reader.{Reader}
 use Rattle.svg_step.specs.declared.steps.Due.{Due}
 use Rattle.svg_step.specs.declared.steps.Due.TheVariants.{Done as NothingDue, Refused as NotDue, Close, Group as GroupDue}
@@ -51,29 +51,29 @@ module _ (text : List ℕ) where
   no-meaning : (l n : ℕ) → Caused text (UnsupportedCommand l n)
   no-meaning l n k e = let z : ◌≡◌ {A = ℕ} 0 1 = cc in absurd (omega arith)
 
-  group-due : (at : ℕ) (kind : Kind) (letter : ℕ) → DueCaused (dueGroupOf text at kind letter)
-  unfolding dueGroupOf
-  group-due at kind letter = cond_either DueCaused (among (get_or text (pastSeparatorsOf text at) 0) numberStarts) _ _ tt (no_number at)
+  group-due : (at : ℕ) (kind : Kind) (letter : ℕ) → DueCaused (due_group_of text at kind letter)
+  unfolding due_group_of
+  group-due at kind letter = cond_either DueCaused (among (get_or text (past_separators_of text at) 0) number_starts) _ _ tt (no_number at)
 
   letter-due : (at letter : ℕ) (placed : Bool) (meaning : Letter) → DueCaused (begun text at letter placed meaning)
   letter-due at letter placed (Draws kind) =
       let t = group-due (at + 1) kind letter in
-      cond_either DueCaused (needsPointOf kind) _ _ (cond_either DueCaused placed _ _ t (no-point (at + 1))) t
+      cond_either DueCaused (needs_point_of kind) _ _ (cond_either DueCaused placed _ _ t (no-point (at + 1))) t
   letter-due at letter placed Closes = tt
   letter-due at letter placed Unknown = no-meaning letter at
 
   again-due : (at letter : ℕ) (meaning : Letter) → DueCaused (again text at letter meaning)
-  again-due at letter (Draws kind) = group-due at (repeatedOf kind) letter
+  again-due at letter (Draws kind) = group-due at (repeated_of kind) letter
   again-due at letter Closes = no-point at
   again-due at letter Unknown = no-point at
 
-  next-due : (from letter : ℕ) (placed : Bool) → DueCaused (nextDueOf text from letter placed)
-  unfolding nextDueOf dueAtOf dueLetterOf dueAgainOf
+  next-due : (from letter : ℕ) (placed : Bool) → DueCaused (next_due_of text from letter placed)
+  unfolding next_due_of due_at_of due_letter_of due_again_of
   next-due from letter placed =
-      let at = pastSeparatorsOf text from in
+      let at = past_separators_of text from in
       let byte = get_or text at 0 in
       cond_either DueCaused (ltb at (length text)) _ NothingDue
-      (cond_either DueCaused (isLetterOf byte) _ _ (letter-due at byte placed (meaningOf byte)) (again-due at letter (meaningOf letter)))
+      (cond_either DueCaused (is_letter_of byte) _ _ (letter-due at byte placed (meaning_of byte)) (again-due at letter (meaning_of letter)))
       tt
 
   -- ---- the step
@@ -92,14 +92,14 @@ module _ (text : List ℕ) where
   stepped-caused reader offset (NotDue x) h = h
   stepped-caused reader offset (Close next) h = tt
   stepped-caused reader offset (GroupDue kind letter first) h =
-      let relative = isRelativeOf letter reader.placed in
-      let control = firstControlOf kind reader.letter reader.current reader.control in
-      taken-caused letter offset reader.start (readGroupOf text first kind relative reader.current control)
+      let relative = is_relative_of letter reader.placed in
+      let control = first_control_of kind reader.letter reader.current reader.control in
+      taken-caused letter offset reader.start (read_group_of text first kind relative reader.current control)
       (group-caused text kind first relative reader.current control)
 
-  pub step-caused : (reader : Reader) → StepCaused (readStepOf text reader)
-  unfolding readStepOf
-  step-caused reader = stepped-caused reader (offset_of text reader) (nextDueOf text reader.at reader.letter reader.placed) (next-due reader.at reader.letter reader.placed)
+  pub step-caused : (reader : Reader) → StepCaused (read_step_of text reader)
+  unfolding read_step_of
+  step-caused reader = stepped-caused reader (offset_of text reader) (next_due_of text reader.at reader.letter reader.placed) (next-due reader.at reader.letter reader.placed)
 
   -- ---- the text
 
@@ -116,15 +116,15 @@ module _ (text : List ℕ) where
   followed rest h Done g = tt
   followed rest h (Refused x) g = g
 
-  read-caused : (steps : ℕ) (reader : Reader) → OutcomeCaused (readFrom steps text reader)
-  unfolding readFrom
+  read-caused : (steps : ℕ) (reader : Reader) → OutcomeCaused (read_from steps text reader)
+  unfolding read_from
   read-caused zero reader = tt
-  read-caused (suc steps) reader = followed (readFrom steps text) (read-caused steps) (readStepOf text reader) (step-caused reader)
+  read-caused (suc steps) reader = followed (read_from steps text) (read-caused steps) (read_step_of text reader) (step-caused reader)
 
-  pub text-caused : OutcomeCaused (commandsOf text)
-  unfolding commandsOf
+  pub text-caused : OutcomeCaused (commands_of text)
+  unfolding commands_of
   text-caused = read-caused (suc (length text)) fresh_of
 
   -- where a text's first refusal is 4, it is at the e of an exponent without a digit
-  pub text-bare : (k : ℕ) → commandsOf text ≡ refusal (InvalidNumber k) → Bare text k
+  pub text-bare : (k : ℕ) → commands_of text ≡ refusal (InvalidNumber k) → Bare text k
   text-bare k e = subst OutcomeCaused e text-caused k refl

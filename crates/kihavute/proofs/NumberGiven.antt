@@ -19,31 +19,31 @@ use Rattle.decimal_nearest.proofs.Texts.{number-nearest}
 use Rattle.decimal_nearest.proofs.Parts.{value-exact}
 use Rattle.c_answer.specs.Given.{Given}
 use Rattle.c_answer.proofs.Giving.{given-whole, given-accepted}
-use Rattle.kihavute.specs.Decimals.{readGiven, numberGiven, NumberKept, NumberKeptBy}
+use Rattle.kihavute.specs.Decimals.{read_given, number_given, NumberKept, NumberKeptBy}
 
-pub read-given : (read : Read) (value : Float) (end bits : ℕ) → bits ≡ bits_of value → Read.Value value end ≡ read → accepted (bits ∷ end ∷ []) ≡ readGiven read
-read-given read value end bits own is = ap (λ (b : ℕ). accepted (b ∷ end ∷ [])) own ∙ ap readGiven is
+pub read-given : (read : Read) (value : Float) (end bits : ℕ) → bits ≡ bits_of value → Read.Value value end ≡ read → accepted (bits ∷ end ∷ []) ≡ read_given read
+read-given read value end bits own is = ap (λ (b : ℕ). accepted (b ∷ end ∷ [])) own ∙ ap read_given is
 
-pub read-refused : (read : Read) (refusal : Refusal) → Read.Refused refusal ≡ read → refused refusal ≡ readGiven read
-read-refused read refusal is = ap readGiven is
+pub read-refused : (read : Read) (refusal : Refusal) → Read.Refused refusal ≡ read → refused refusal ≡ read_given read
+read-refused read refusal is = ap read_given is
 
-pub text-long : (text : List ℕ) → 65536 < length text → refused (TooLong (length text)) ≡ numberGiven text
+pub text-long : (text : List ℕ) → 65536 < length text → refused (TooLong (length text)) ≡ number_given text
 text-long text long = rw (lt-ltb 65536 (length text) long)
 
-pub text-fits : (text : List ℕ) → length text ≤ 65536 → readGiven (number_of text 0) ≡ numberGiven text
+pub text-fits : (text : List ℕ) → length text ≤ 65536 → read_given (number_of text 0) ≡ number_given text
 text-fits text fits = rw (le-ltb 65536 (length text) fits)
 
 -- what a call that returns 0 leaves in its answer is the nearest value's
-pub number-kept : {before after : List ℕ} {returned : ℕ} (text : List ℕ) → Given (numberGiven text) before returned after → NumberKeptBy text returned after
+pub number-kept : {before after : List ℕ} {returned : ℕ} (text : List ℕ) → Given (number_given text) before returned after → NumberKeptBy text returned after
 number-kept {before} {after} {returned} text given zero = by_length (ltb 65536 (length text)) given
   where
-    by_read : (read : Read) → number_of text 0 ≡ read → Given (readGiven read) before returned after → NumberKept text after
+    by_read : (read : Read) → number_of text 0 ≡ read → Given (read_given read) before returned after → NumberKept text after
     by_read (Read.Value x next) e g =
-        let stands = (given-whole (readGiven (Read.Value x next)) g zero).1 in
+        let stands = (given-whole (read_given (Read.Value x next)) g zero).1 in
         let own : ValueAt text 0 x (get_or after 1 0) = subst (ValueAt text 0 x) (sym (ap (λ (l : List ℕ). get_or l 1 0) stands)) (number-nearest text 0 x next e) in
         record { value = x; bits = ap (λ (l : List ℕ). get_or l 0 0) stands; nearest = own; exact = value-exact own }
     by_read (Read.Refused refusal) e g = absurd (given-accepted refusal g zero)
 
-    by_length : (long : Bool) → Given (cond long (refused (TooLong (length text))) (readGiven (number_of text 0))) before returned after → NumberKept text after
+    by_length : (long : Bool) → Given (cond long (refused (TooLong (length text))) (read_given (number_of text 0))) before returned after → NumberKept text after
     by_length true g = absurd (given-accepted (TooLong (length text)) g zero)
     by_length false g = by_read (number_of text 0) refl g

@@ -10,13 +10,13 @@ use Rattle.decimal_nearest.specs.Nearest.{ValueAt}
 use Rattle.decimal_nearest.specs.Parts.{Exact}
 
 -- the bits of the value, and the place after the number: how many bytes it takes from the text's start
-abbrev pub readGiven : Read → Answer
-readGiven (Read.Value value end) = accepted (bits_of value ∷ end ∷ [])
-readGiven (Read.Refused refusal) = refused refusal
+abbrev pub read_given : Read → Answer
+read_given (Read.Value value end) = accepted (bits_of value ∷ end ∷ [])
+read_given (Read.Refused refusal) = refused refusal
 
 -- "text above 65,536 bytes" is refused first
-abbrev pub numberGiven : List ℕ → Answer
-numberGiven text = cond (ltb 65536 (length text)) (refused (TooLong (length text))) (readGiven (number_of text 0))
+abbrev pub number_given : List ℕ → Answer
+number_given text = cond (ltb 65536 (length text)) (refused (TooLong (length text))) (read_given (number_of text 0))
 
 -- "the nearest binary32 to the exact fraction, ties to even, for any count of digits": the bits at the answer's first place are those of the value that is nearest to what the text stands for, by the
 -- digits of its parts, and at the second place is where its number ends

@@ -8,12 +8,12 @@ use Rattle.table.specs.declared.lookups.Spotted.{Spotted}
 use Rattle.table.specs.declared.lookups.Spotted.TheVariants as Spotted
 
 -- the raw parameter
-abbrev pub rawGiven : Looked → Answer
-rawGiven (Looked.At raw) = accepted (bits_of raw.value ∷ [])
-rawGiven (Looked.Refused refusal) = refused refusal
+abbrev pub raw_given : Looked → Answer
+raw_given (Looked.At raw) = accepted (bits_of raw.value ∷ [])
+raw_given (Looked.Refused refusal) = refused refusal
 
 -- the segment, and the progress on it; a path without segments gives nothing
-abbrev pub spotGiven : Spotted → Answer
-spotGiven (Spotted.At spot) = accepted (spot.segment ∷ bits_of spot.progress.value ∷ [])
-spotGiven Spotted.NoSegment = accepted []
-spotGiven (Spotted.Refused refusal) = refused refusal
+abbrev pub spot_given : Spotted → Answer
+spot_given (Spotted.At spot) = accepted (spot.segment ∷ bits_of spot.progress.value ∷ [])
+spot_given Spotted.NoSegment = accepted []
+spot_given (Spotted.Refused refusal) = refused refusal

@@ -1,7 +1,7 @@
 // One decimal number at the start of a text.
 ghost use Rattle.decimal.specs.Decimal.{number_of};
 ghost use Rattle.c_answer.specs.Given.{Given};
-ghost use Rattle.kihavute.specs.Decimals.{readGiven, numberGiven, NumberKeptBy};
+ghost use Rattle.kihavute.specs.Decimals.{read_given, number_given, NumberKeptBy};
 
 use answers::{Refusal, Values};
 use decimal::Read;
@@ -9,7 +9,7 @@ use decimal::inner::quick;
 
 // Any number at the start of a text of any length.
 fn read_any(text: &[u8], answer: &mut [u64]) -> u32
-    ensures { Given (readGiven (number_of text.now 0)) answer.old result answer.new }
+    ensures { Given (read_given (number_of text.now 0)) answer.old result answer.new }
 {
     let found = decimal::number(text, 0);
     match found {
@@ -23,7 +23,7 @@ fn read_any(text: &[u8], answer: &mut [u64]) -> u32
 
 // The same, by the quick way where that tells. In more than ten bytes most likely stands an exponent, or more digits than it takes.
 fn read(text: &[u8], answer: &mut [u64]) -> u32
-    ensures { Given (readGiven (number_of text.now 0)) answer.old result answer.new }
+    ensures { Given (read_given (number_of text.now 0)) answer.old result answer.new }
 {
     if text.len() <= 10 {
         let mut value = [0.0f32; 1];
@@ -40,7 +40,7 @@ fn read(text: &[u8], answer: &mut [u64]) -> u32
 // 65,536 bytes is refused.
 #[unsafe(no_mangle)]
 pub extern "C" fn kihavute_number(text: &[u8], answer: &mut [u64]) -> u32
-    ensures given { Given (numberGiven text.now) answer.old result answer.new }
+    ensures given { Given (number_given text.now) answer.old result answer.new }
     ensures number_kept_by { NumberKeptBy text.now result answer.new }
 {
     if 65536 < text.len() {

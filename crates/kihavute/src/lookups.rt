@@ -1,7 +1,7 @@
 // The lookups: from a progress to a curve's raw parameter, and to a segment of a path.
-ghost use Rattle.table.specs.Answered.{lookedOf, spottedOf};
+ghost use Rattle.table.specs.Answered.{looked_of, spotted_of};
 ghost use Rattle.c_answer.specs.Given.{Given};
-ghost use Rattle.kihavute.specs.Lookups.{rawGiven, spotGiven};
+ghost use Rattle.kihavute.specs.Lookups.{raw_given, spot_given};
 
 use answers::Values;
 use table::{Looked, Progress, Spotted};
@@ -14,7 +14,7 @@ pub extern "C" fn kihavute_raw_parameter(
     progress: f32,
     answer: &mut [u64],
 ) -> u32
-    ensures { Given (rawGiven (lookedOf entries.now total progress)) answer.old result answer.new }
+    ensures { Given (raw_given (looked_of entries.now total progress)) answer.old result answer.new }
 {
     let looked = table::raw_parameter_in(entries, total, Progress { value: progress });
     match looked {
@@ -30,7 +30,7 @@ pub extern "C" fn kihavute_raw_parameter(
 // it. Without a segment nothing is given.
 #[unsafe(no_mangle)]
 pub extern "C" fn kihavute_spot(lengths: &[f32], progress: f32, answer: &mut [u64]) -> u32
-    ensures { Given (spotGiven (spottedOf lengths.now progress)) answer.old result answer.new }
+    ensures { Given (spot_given (spotted_of lengths.now progress)) answer.old result answer.new }
 {
     let spotted = table::spot(lengths, Progress { value: progress });
     match spotted {

@@ -1,14 +1,14 @@
 // Roots and single numbers.
 ghost use Rattle.std.specs.Prelude.{◌≡◌};
-ghost use Rattle.floats.specs.Floats.{bits_of, minOf, max_of, clampOf, clamp01Of};
-ghost use Rattle.root.specs.Root.{sqrtOf};
-ghost use Rattle.math.specs.Math.{lerpOf, degToRadOf, radToDegOf};
+ghost use Rattle.floats.specs.Floats.{bits_of, min_of, max_of, clamp_of, clamp01_of};
+ghost use Rattle.root.specs.Root.{sqrt_of};
+ghost use Rattle.math.specs.Math.{lerp_of, deg_to_rad_of, rad_to_deg_of};
 ghost use Rattle.kihavute.specs.Kept.{RootKept};
 
 // The nearest float to the exact root, ties to even.
 #[unsafe(no_mangle)]
 pub extern "C" fn kihavute_sqrt(x: f32) -> f32
-    ensures value { result ≡ sqrtOf x }
+    ensures value { result ≡ sqrt_of x }
     ensures root_kept { RootKept x result }
 {
     floats::tidy(root::sqrt(x))
@@ -24,7 +24,7 @@ pub extern "C" fn kihavute_tidy(x: f32) -> f32
 
 #[unsafe(no_mangle)]
 pub extern "C" fn kihavute_min(a: f32, b: f32) -> u32
-    ensures { result ≡ bits_of (minOf a b) }
+    ensures { result ≡ bits_of (min_of a b) }
 {
     floats::bits(floats::min(a, b))
 }
@@ -38,35 +38,35 @@ pub extern "C" fn kihavute_max(a: f32, b: f32) -> u32
 
 #[unsafe(no_mangle)]
 pub extern "C" fn kihavute_clamp(x: f32, low: f32, high: f32) -> u32
-    ensures { result ≡ bits_of (clampOf x low high) }
+    ensures { result ≡ bits_of (clamp_of x low high) }
 {
     floats::bits(floats::clamp(x, low, high))
 }
 
 #[unsafe(no_mangle)]
 pub extern "C" fn kihavute_clamp01(x: f32) -> u32
-    ensures { result ≡ bits_of (clamp01Of x) }
+    ensures { result ≡ bits_of (clamp01_of x) }
 {
     floats::bits(math::clamp01(x))
 }
 
 #[unsafe(no_mangle)]
 pub extern "C" fn kihavute_lerp(a: f32, b: f32, t: f32) -> u32
-    ensures { result ≡ bits_of (lerpOf a b t) }
+    ensures { result ≡ bits_of (lerp_of a b t) }
 {
     floats::bits(math::lerp(a, b, t))
 }
 
 #[unsafe(no_mangle)]
 pub extern "C" fn kihavute_deg_to_rad(deg: f32) -> u32
-    ensures { result ≡ bits_of (degToRadOf deg) }
+    ensures { result ≡ bits_of (deg_to_rad_of deg) }
 {
     floats::bits(math::deg_to_rad(deg))
 }
 
 #[unsafe(no_mangle)]
 pub extern "C" fn kihavute_rad_to_deg(rad: f32) -> u32
-    ensures { result ≡ bits_of (radToDegOf rad) }
+    ensures { result ≡ bits_of (rad_to_deg_of rad) }
 {
     floats::bits(math::rad_to_deg(rad))
 }

@@ -1,10 +1,10 @@
 // Sine, cosine and atan2, and the angles of math.rs.
 ghost use Rattle.std.specs.Prelude.{◌≡◌};
 ghost use Rattle.floats.specs.Floats.{bits_of};
-ghost use Rattle.trig_rule.specs.Steps.{sineOf, cosineOf};
-ghost use Rattle.atan2_rule.specs.Steps.{atan2Of};
+ghost use Rattle.trig_rule.specs.Steps.{sine_of, cosine_of};
+ghost use Rattle.atan2_rule.specs.Steps.{atan2_of};
 ghost use Rattle.math.specs.Math.{point_of};
-ghost use Rattle.angles.specs.Angles.{rotationDegOf, angleBetweenOf};
+ghost use Rattle.angles.specs.Angles.{rotation_deg_of, angle_between_of};
 ghost use Rattle.kihavute.specs.Pair.{pair_of};
 ghost use Rattle.kihavute.specs.Kept.{Atan2Kept, CosineKept, SineKept};
 
@@ -14,7 +14,7 @@ use math::Point;
 // constants, and so tidy.
 #[unsafe(no_mangle)]
 pub extern "C" fn kihavute_sin(angle: f32) -> f32
-    ensures value { result ≡ sineOf angle }
+    ensures value { result ≡ sine_of angle }
     ensures sine_kept { SineKept angle result }
 {
     trig::sin(angle)
@@ -23,7 +23,7 @@ pub extern "C" fn kihavute_sin(angle: f32) -> f32
 // The cosine of an angle in radians of at most 64 in size, and NaN for any other, tidy too.
 #[unsafe(no_mangle)]
 pub extern "C" fn kihavute_cos(angle: f32) -> f32
-    ensures value { result ≡ cosineOf angle }
+    ensures value { result ≡ cosine_of angle }
     ensures cosine_kept { CosineKept angle result }
 {
     trig::cos(angle)
@@ -32,8 +32,8 @@ pub extern "C" fn kihavute_cos(angle: f32) -> f32
 // Both at once, as the point of the unit circle: the cosine is x, the sine y.
 #[unsafe(no_mangle)]
 pub extern "C" fn kihavute_sin_cos(angle: f32) -> u64
-    ensures value { result ≡ pair_of (point_of (cosineOf angle) (sineOf angle)) }
-    ensures sine_kept { SineKept angle (sineOf angle) × CosineKept angle (cosineOf angle) }
+    ensures value { result ≡ pair_of (point_of (cosine_of angle) (sine_of angle)) }
+    ensures sine_kept { SineKept angle (sine_of angle) × CosineKept angle (cosine_of angle) }
 {
     let both = trig::sin_cos(angle);
     crate::points::pair(Point {
@@ -45,7 +45,7 @@ pub extern "C" fn kihavute_sin_cos(angle: f32) -> u64
 // The angle of the point (x, y) in radians.
 #[unsafe(no_mangle)]
 pub extern "C" fn kihavute_atan2(y: f32, x: f32) -> f32
-    ensures value { result ≡ atan2Of y x }
+    ensures value { result ≡ atan2_of y x }
     ensures atan2kept { Atan2Kept y x result }
 {
     floats::tidy(atan2::atan2(y, x))
@@ -54,7 +54,7 @@ pub extern "C" fn kihavute_atan2(y: f32, x: f32) -> f32
 // The heading of a tangent in degrees.
 #[unsafe(no_mangle)]
 pub extern "C" fn kihavute_rotation_deg(x: f32, y: f32) -> u32
-    ensures { result ≡ bits_of (rotationDegOf (point_of x y)) }
+    ensures { result ≡ bits_of (rotation_deg_of (point_of x y)) }
 {
     floats::bits(angles::rotation_deg(Point { x, y }))
 }
@@ -62,7 +62,7 @@ pub extern "C" fn kihavute_rotation_deg(x: f32, y: f32) -> u32
 // The angle from (ux, uy) to (vx, vy) in radians.
 #[unsafe(no_mangle)]
 pub extern "C" fn kihavute_angle_between(ux: f32, uy: f32, vx: f32, vy: f32) -> u32
-    ensures { result ≡ bits_of (angleBetweenOf (point_of ux uy) (point_of vx vy)) }
+    ensures { result ≡ bits_of (angle_between_of (point_of ux uy) (point_of vx vy)) }
 {
     floats::bits(angles::angle_between(Point { x: ux, y: uy }, Point { x: vx, y: vy }))
 }

@@ -15,14 +15,14 @@ use Rattle.answers.specs.declared.refusals.Values.{Values}
 use Rattle.answers.specs.Answers.{accepted, refused, listed}
 use Rattle.floats.proofs.Tests.{passed}
 use Rattle.path_segment.specs.declared.segments.PathSegment.{PathSegment}
-use Rattle.path_segment.specs.Segments.{width_of, segmentOf}
+use Rattle.path_segment.specs.Segments.{width_of, segment_of}
 use Rattle.path_stored.specs.Buffers.{Buffers}
 use Rattle.path_append.specs.declared.pushing.Appended.{Appended}
 use Rattle.path_append.specs.declared.pushing.Appended.TheVariants as Appended
-use Rattle.path_append.specs.Appending.{appendedOf, answer_of, afterwards, Append}
+use Rattle.path_append.specs.Appending.{appended_of, answer_of, afterwards, Append}
 use Rattle.c_answer.specs.Given.{Given}
 use Rattle.c_answer.proofs.Giving.{given-same, given-short}
-use Rattle.kihavute_appending.specs.Appending.{isSegment, pushedOf, Appending, Appends, Pushes}
+use Rattle.kihavute_appending.specs.Appending.{is_segment, pushed_of, Appending, Appends, Pushes}
 
 -- ---- the answer
 module _ (appended : Appended) where
@@ -35,14 +35,14 @@ module _ (appended : Appended) where
 -- ---- a segment by its kind and its numbers
 module _ (kind : ℕ) (numbers : List Float) where
   -- the test's two ways out
-  pub known-kind : (same : Bool) → kind < 5 → same ≡ eqb (length numbers) (width_of kind) → same ≡ isSegment kind numbers
+  pub known-kind : (same : Bool) → kind < 5 → same ≡ eqb (length numbers) (width_of kind) → same ≡ is_segment kind numbers
   known-kind same known e = rw (lt-ltb kind 5 known) e
 
-  pub unknown-kind : 5 ≤ kind → false ≡ isSegment kind numbers
+  pub unknown-kind : 5 ≤ kind → false ≡ is_segment kind numbers
   unknown-kind unknown = rw (le-ltb kind 5 unknown)
 
   -- what passes is read as a segment
-  pub segment-known : isSegment kind numbers ≡ true → (kind < 5) × (0 + width_of kind ≤ length numbers)
+  pub segment-known : is_segment kind numbers ≡ true → (kind < 5) × (0 + width_of kind ≤ length numbers)
   segment-known e =
       let count = eqb→eq (length numbers) (width_of kind) (and_r (ltb kind 5) (eqb (length numbers) (width_of kind)) (passed e)) in
       (ltb→lt kind 5 (and_l (ltb kind 5) (eqb (length numbers) (width_of kind)) (passed e)), omega arith)
@@ -52,8 +52,8 @@ module _ (count command : ℕ) (b : Buffers) (answer : List ℕ) where
   pub not-appended : (appended : Appended) (segment : PathSegment) → length answer < 8 → Appending appended segment count command b answer 255 b answer
   not-appended appended segment h = record { reported = given-short (answer_of appended) answer h; after = rw (lt-ltb (length answer) 8 h) }
 
-  push-is : (kind : ℕ) (numbers : List Float) → isSegment kind numbers ≡ true → appendedOf b count command (segmentOf kind numbers) ≡ pushedOf kind numbers count command b
-  unfolding pushedOf
+  push-is : (kind : ℕ) (numbers : List Float) → is_segment kind numbers ≡ true → appended_of b count command (segment_of kind numbers) ≡ pushed_of kind numbers count command b
+  unfolding pushed_of
   push-is kind numbers e = rw e
 
   module _ {b' : Buffers} {answer' : List ℕ} {returned : ℕ} (h : 8 ≤ length answer) where
@@ -68,23 +68,23 @@ module _ (count command : ℕ) (b : Buffers) (answer : List ℕ) where
     module _ (kind : ℕ) (numbers : List Float) where
       pub pushes-reported :
           (segment : PathSegment) (r : Appended)
-          → isSegment kind numbers ≡ true
-          → segment ≡ segmentOf kind numbers
+          → is_segment kind numbers ≡ true
+          → segment ≡ segment_of kind numbers
           → Append b count command segment r b'
           → Given (answer_of r) answer returned answer'
           → Pushes kind numbers count command b answer returned b' answer'
       pushes-reported segment r e same p g =
-          subst (λ (a : Appended). Appending a (segmentOf kind numbers) count command b answer returned b' answer') (push-is kind numbers e)
-          (appends-reported (segmentOf kind numbers) r (subst (λ (s : PathSegment). Append b count command s r b') same p) g)
+          subst (λ (a : Appended). Appending a (segment_of kind numbers) count command b answer returned b' answer') (push-is kind numbers e)
+          (appends-reported (segment_of kind numbers) r (subst (λ (s : PathSegment). Append b count command s r b') same p) g)
 
   -- what is no segment
   pub push-refused :
       {answer' : List ℕ} {returned : ℕ} (kind : ℕ) (numbers : List Float)
-      → isSegment kind numbers ≡ false
+      → is_segment kind numbers ≡ false
       → 8 ≤ length answer
       → Given (refused BadPath) answer returned answer'
       → Pushes kind numbers count command b answer returned b answer'
-  unfolding pushedOf
+  unfolding pushed_of
   push-refused kind numbers e h g = record { reported = given-same _ _ (rw e refl) g; after = rw (le-ltb (length answer) 8 h, e) refl }
 
   -- any two allowed results are equal

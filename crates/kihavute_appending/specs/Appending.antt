@@ -6,11 +6,11 @@ use Rattle.math.specs.Math as Math
 use Rattle.math.specs.declared.points.Point.{Point}
 use Rattle.ellipse.specs.declared.ends.Chord.{Chord}
 use Rattle.path_segment.specs.declared.segments.PathSegment.{PathSegment}
-use Rattle.path_segment.specs.Segments.{width_of, segmentOf}
+use Rattle.path_segment.specs.Segments.{width_of, segment_of}
 use Rattle.path_stored.specs.Buffers.{Buffers}
 use Rattle.path_append.specs.declared.pushing.Appended.{Appended}
 use Rattle.path_append.specs.declared.pushing.Appended.TheVariants as Appended
-use Rattle.path_append.specs.Appending.{appendedOf, answer_of, afterwards}
+use Rattle.path_append.specs.Appending.{appended_of, answer_of, afterwards}
 use Rattle.c_answer.specs.Given.{Given}
 
 -- ---- what is appended
@@ -19,28 +19,28 @@ abbrev pub point_of : Float → Float → Point
 point_of x y = Math.point_of x y
 
 -- a flag: 0 is no, any other number yes
-abbrev pub flagOf : ℕ → Bool
-flagOf flag = not (eqb flag 0)
+abbrev pub flag_of : ℕ → Bool
+flag_of flag = not (eqb flag 0)
 
 -- an arc as the Rust's `arc_to` takes it
-abbrev pub chordOf : Float → Float → Float → Float → Float → ℕ → ℕ → Float → Float → Chord
-chordOf sx sy rx ry rotation large sweep ex ey =
+abbrev pub chord_of : Float → Float → Float → Float → Float → ℕ → ℕ → Float → Float → Chord
+chord_of sx sy rx ry rotation large sweep ex ey =
     record {
       start = point_of sx sy;
       radii = point_of rx ry;
       x_axis_rotation = rotation;
-      large_arc = flagOf large;
-      sweep = flagOf sweep;
+      large_arc = flag_of large;
+      sweep = flag_of sweep;
       end = point_of ex ey;
     }
 
 -- "segments of known kinds with exactly their numbers"
-abbrev pub isSegment : ℕ → List Float → Bool
-isSegment kind numbers = ltb kind 5 && eqb (length numbers) (width_of kind)
+abbrev pub is_segment : ℕ → List Float → Bool
+is_segment kind numbers = ltb kind 5 && eqb (length numbers) (width_of kind)
 
 -- 12 for what is no segment; else what appending it answers
-unfoldable pub pushedOf : ℕ → List Float → ℕ → ℕ → Buffers → Appended
-pushedOf kind numbers count command b = cond (isSegment kind numbers) (appendedOf b count command (segmentOf kind numbers)) (Appended.Refused BadPath)
+unfoldable pub pushed_of : ℕ → List Float → ℕ → ℕ → Buffers → Appended
+pushed_of kind numbers count command b = cond (is_segment kind numbers) (appended_of b count command (segment_of kind numbers)) (Appended.Refused BadPath)
 
 -- ---- what is given and stored
 
@@ -51,8 +51,8 @@ pub record Appending (appended : Appended) (segment : PathSegment) (count comman
 
 -- a segment, judged as `path_append/specs/Appending.antt` says
 abbrev pub Appends : PathSegment → ℕ → ℕ → Buffers → List ℕ → ℕ → Buffers → List ℕ → Type 0
-Appends segment count command b = Appending (appendedOf b count command segment) segment count command b
+Appends segment count command b = Appending (appended_of b count command segment) segment count command b
 
 -- a segment by its kind and its numbers
 abbrev pub Pushes : ℕ → List Float → ℕ → ℕ → Buffers → List ℕ → ℕ → Buffers → List ℕ → Type 0
-Pushes kind numbers count command b = Appending (pushedOf kind numbers count command b) (segmentOf kind numbers) count command b
+Pushes kind numbers count command b = Appending (pushed_of kind numbers count command b) (segment_of kind numbers) count command b

@@ -4,10 +4,10 @@
 ghost use Rattle.std.specs.Prelude.{◌≡◌};
 ghost use Rattle.c_answer.specs.Given.{Given};
 ghost use Rattle.path_stored.specs.Buffers.{after, before};
-ghost use Rattle.path_append.specs.Appending.{answer_of, arcSegment};
+ghost use Rattle.path_append.specs.Appending.{answer_of, arc_segment};
 ghost use Rattle.arc.specs.Lines.{line_of};
 ghost use Rattle.path_segment.specs.declared.segments.PathSegment.TheVariants.{Line, Quad, Cubic};
-ghost use Rattle.kihavute_appending.specs.Appending.{Appends, Pushes, point_of, chordOf, isSegment};
+ghost use Rattle.kihavute_appending.specs.Appending.{Appends, Pushes, point_of, chord_of, is_segment};
 
 use answers::Refusal;
 use ellipse::Chord;
@@ -28,7 +28,7 @@ fn give_appended(appended: Appended, answer: &mut [u64]) -> u32
 
 // Whether a segment of a kind has such numbers: the kind is known, and has so many.
 fn is_segment(kind: u8, numbers: &[f32]) -> bool
-    ensures { result ≡ isSegment kind numbers.now }
+    ensures { result ≡ is_segment kind numbers.now }
 {
     if kind < 5 {
         return numbers.len() == width(kind);
@@ -188,7 +188,7 @@ pub extern "C" fn kihavute_arc_to(
     ey: f32,
     answer: &mut [u64],
 ) -> u32
-    ensures { Appends (arcSegment (chordOf sx sy rx ry rotation large sweep ex ey)) count command (before kinds fields tables lengths commands) answer.old
+    ensures { Appends (arc_segment (chord_of sx sy rx ry rotation large sweep ex ey)) count command (before kinds fields tables lengths commands) answer.old
         result (after kinds fields tables lengths commands) answer.new }
 {
     if answer.len() < 8 {

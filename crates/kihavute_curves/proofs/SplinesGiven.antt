@@ -10,17 +10,17 @@ use Rattle.answers.specs.Answers.{Answer, accepted, refused}
 use Rattle.answers.specs.Report.{Report, short, written}
 use Rattle.answers.specs.declared.refusals.Refusal.{Refusal}
 use Rattle.floats.specs.Floats.{bits_of}
-use Rattle.spline_table.specs.Tables.{splineTableOf, answer_of, answered, places_of, SplineTable}
+use Rattle.spline_table.specs.Tables.{spline_table_of, answer_of, answered, places_of, SplineTable}
 use Rattle.spline_table.specs.declared.tables.Tabled.{Tabled}
 use Rattle.spline_table.specs.declared.tables.Tabled.TheVariants as Tabled
 use Rattle.spline_query.specs.declared.queries.Measured.{Measured}
 use Rattle.spline_query.specs.declared.queries.Measured.TheVariants as Measured
 use Rattle.c_answer.specs.Given.{Given}
 use Rattle.c_answer.proofs.Giving.{given-same}
-use Rattle.kihavute_curves.specs.Splines.{SplineTableGiven, measureGiven}
+use Rattle.kihavute_curves.specs.Splines.{SplineTableGiven, measure_given}
 
-pub length-of-given : (measured : Measured) (total : Float) (bits : ℕ) → bits ≡ bits_of total → Measured.Length total ≡ measured → accepted (bits ∷ []) ≡ measureGiven measured
-length-of-given measured total bits own at = ap (λ (b : ℕ). accepted (b ∷ [])) own ∙ ap measureGiven at
+pub length-of-given : (measured : Measured) (total : Float) (bits : ℕ) → bits ≡ bits_of total → Measured.Length total ≡ measured → accepted (bits ∷ []) ≡ measure_given measured
+length-of-given measured total bits own at = ap (λ (b : ℕ). accepted (b ∷ [])) own ∙ ap measure_given at
 
 module _ (points before : List Float) (answer : List ℕ) where
   -- a short answer
@@ -33,7 +33,7 @@ module _ (points before : List Float) (answer : List ℕ) where
       → SplineTableGiven points before answer returned after answer'
   stored-given h r after returned answer' t g =
       let s : short answer ≡ false = le-ltb (length answer) 8 h in
-      record { given = given-same (answer_of r) (answered (splineTableOf points (length before))) t.answer g; table = rw s t.places }
+      record { given = given-same (answer_of r) (answered (spline_table_of points (length before))) t.answer g; table = rw s t.places }
 
   -- any two allowed results are equal
   pub spline-table-given-unique :

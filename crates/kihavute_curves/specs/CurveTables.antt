@@ -2,10 +2,10 @@
 use Rattle.std.specs.Prelude.{ℕ, List, [], Float}
 use Rattle.bezier.specs.declared.quads.MadeQuad.{MadeQuad}
 use Rattle.bezier.specs.declared.cubics.MadeCubic.{MadeCubic}
-use Rattle.c_output.specs.Filling.{Filled, tableNumbers}
+use Rattle.c_output.specs.Filling.{Filled, table_numbers}
 
 abbrev pub QuadTable : MadeQuad → List Float → List ℕ → ℕ → List Float → List ℕ → Type 0
-QuadTable made out answer returned outAfter answerAfter = Filled made.verdict [] (tableNumbers made.curve.table) out answer returned outAfter answerAfter
+QuadTable made out answer returned out_after answer_after = Filled made.verdict [] (table_numbers made.curve.table) out answer returned out_after answer_after
 
 abbrev pub CubicTable : MadeCubic → List Float → List ℕ → ℕ → List Float → List ℕ → Type 0
-CubicTable made out answer returned outAfter answerAfter = Filled made.verdict [] (tableNumbers made.curve.table) out answer returned outAfter answerAfter
+CubicTable made out answer returned out_after answer_after = Filled made.verdict [] (table_numbers made.curve.table) out answer returned out_after answer_after

@@ -2,7 +2,7 @@
 -- them; lengths are in path units. Definitions only.
 use Rattle.std.specs.Prelude.{cond, [], ◌∷◌, Float}
 use Rattle.answers.specs.Answers.{Answer, accepted, refused}
-use Rattle.floats.specs.Floats.{bits_of, clamp01Of}
+use Rattle.floats.specs.Floats.{bits_of, clamp01_of}
 use Rattle.math.specs.declared.points.Point.{Point}
 use Rattle.flight.specs.declared.single.Verdict.{Verdict}
 use Rattle.flight.specs.declared.single.Verdict.TheVariants as Verdict
@@ -10,28 +10,28 @@ use Rattle.bezier.specs.declared.quads.QuadBezier.{QuadBezier}
 use Rattle.bezier.specs.declared.quads.MadeQuad.{MadeQuad}
 use Rattle.bezier.specs.declared.cubics.CubicBezierCurve.{CubicBezierCurve}
 use Rattle.bezier.specs.declared.cubics.MadeCubic.{MadeCubic}
-use Rattle.bezier.specs.Quads.{quadSampleOf, quadRaw, quadTangentAt}
-use Rattle.bezier.specs.Cubics.{cubicSampleOf, cubicRaw, cubicTangentAt}
-use Rattle.ellipse.specs.Shape.{pointOn, directionOn}
+use Rattle.bezier.specs.Quads.{quad_sample_of, quad_raw, quad_tangent_at}
+use Rattle.bezier.specs.Cubics.{cubic_sample_of, cubic_raw, cubic_tangent_at}
+use Rattle.ellipse.specs.Shape.{point_on, direction_on}
 use Rattle.arc.specs.declared.lines.LineSegment.{LineSegment}
 use Rattle.arc.specs.declared.lines.MadeLine.{MadeLine}
 use Rattle.arc.specs.declared.arcs.EllipticalArc.{EllipticalArc}
 use Rattle.arc.specs.declared.arcs.MadeArc.{MadeArc}
-use Rattle.arc.specs.Lines.{linePointOf, lineTangentOf, lineLengthOf}
-use Rattle.arc.specs.Arcs.{chordLine, arcRaw}
+use Rattle.arc.specs.Lines.{line_point_of, line_tangent_of, line_length_of}
+use Rattle.arc.specs.Arcs.{chord_line, arc_raw}
 use Rattle.kihavute_curves.specs.declared.lone.Lone.{Lone}
 
 -- ---- how it leaves
 
 -- x and y of the position, x and y of the tangent, the raw parameter, the length: floats as bits
-abbrev pub loneGiven : Lone → Answer
-loneGiven lone =
+abbrev pub lone_given : Lone → Answer
+lone_given lone =
     accepted (bits_of lone.position.x ∷ bits_of lone.position.y ∷ bits_of lone.tangent.x ∷ bits_of lone.tangent.y
     ∷ bits_of lone.raw.value ∷ bits_of lone.length ∷ [])
 
 -- a segment that cannot be had answers that, and any other what it is asked
 abbrev pub allowed : Verdict → Lone → Answer
-allowed Verdict.Accepted lone = loneGiven lone
+allowed Verdict.Accepted lone = lone_given lone
 allowed (Verdict.Refused refusal) lone = refused refusal
 
 -- ---- what it is
@@ -40,37 +40,37 @@ abbrev pub lone_at : Point → Point → Float → Float → Lone
 lone_at position tangent raw length = record { position = position; tangent = tangent; raw = record { value = raw }; length = length }
 
 -- a quad: the sample and the tangent at the raw parameter that its table gives, its table's total
-unfoldable pub quadLone : QuadBezier → Float → Lone
-quadLone curve progress =
-    lone_at (quadSampleOf curve.start curve.control curve.end (quadRaw curve progress)) (quadTangentAt curve (quadRaw curve progress) progress) (quadRaw curve progress)
+unfoldable pub quad_lone : QuadBezier → Float → Lone
+quad_lone curve progress =
+    lone_at (quad_sample_of curve.start curve.control curve.end (quad_raw curve progress)) (quad_tangent_at curve (quad_raw curve progress) progress) (quad_raw curve progress)
     curve.table.total
 
 -- a cubic likewise
-unfoldable pub cubicLone : CubicBezierCurve → Float → Lone
-cubicLone curve progress =
-    lone_at (cubicSampleOf curve.start curve.control1 curve.control2 curve.end (cubicRaw curve progress)) (cubicTangentAt curve (cubicRaw curve progress) progress)
-    (cubicRaw curve progress) curve.table.total
+unfoldable pub cubic_lone : CubicBezierCurve → Float → Lone
+cubic_lone curve progress =
+    lone_at (cubic_sample_of curve.start curve.control1 curve.control2 curve.end (cubic_raw curve progress)) (cubic_tangent_at curve (cubic_raw curve progress) progress)
+    (cubic_raw curve progress) curve.table.total
 
 -- a line: "The raw parameter of a line or fallback arc is its clamped local progress."
-unfoldable pub lineLone : LineSegment → Float → Lone
-lineLone line progress = lone_at (linePointOf line (clamp01Of progress)) (lineTangentOf line) (clamp01Of progress) (lineLengthOf line)
+unfoldable pub line_lone : LineSegment → Float → Lone
+line_lone line progress = lone_at (line_point_of line (clamp01_of progress)) (line_tangent_of line) (clamp01_of progress) (line_length_of line)
 
 -- an arc: a point and a direction of its ellipse, its table's total; "(a fallback's, the line's)"
-unfoldable pub arcLone : EllipticalArc → Float → Lone
-unfolding lineLone
-arcLone arc progress =
-    cond arc.line_fallback (lineLone (chordLine arc.shape) progress)
-    (lone_at (pointOn arc.shape (arcRaw arc.table progress)) (directionOn arc.shape (arcRaw arc.table progress)) (arcRaw arc.table progress) arc.table.total)
+unfoldable pub arc_lone : EllipticalArc → Float → Lone
+unfolding line_lone
+arc_lone arc progress =
+    cond arc.line_fallback (line_lone (chord_line arc.shape) progress)
+    (lone_at (point_on arc.shape (arc_raw arc.table progress)) (direction_on arc.shape (arc_raw arc.table progress)) (arc_raw arc.table progress) arc.table.total)
 
 -- ---- made and asked
-abbrev pub quadGiven : MadeQuad → Float → Answer
-quadGiven made progress = allowed made.verdict (quadLone made.curve progress)
+abbrev pub quad_given : MadeQuad → Float → Answer
+quad_given made progress = allowed made.verdict (quad_lone made.curve progress)
 
-abbrev pub cubicGiven : MadeCubic → Float → Answer
-cubicGiven made progress = allowed made.verdict (cubicLone made.curve progress)
+abbrev pub cubic_given : MadeCubic → Float → Answer
+cubic_given made progress = allowed made.verdict (cubic_lone made.curve progress)
 
-abbrev pub lineGiven : MadeLine → Float → Answer
-lineGiven made progress = allowed made.verdict (lineLone made.line progress)
+abbrev pub line_given : MadeLine → Float → Answer
+line_given made progress = allowed made.verdict (line_lone made.line progress)
 
-abbrev pub arcGiven : MadeArc → Float → Answer
-arcGiven made progress = allowed made.verdict (arcLone made.arc progress)
+abbrev pub arc_given : MadeArc → Float → Answer
+arc_given made progress = allowed made.verdict (arc_lone made.arc progress)

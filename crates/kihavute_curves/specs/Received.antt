@@ -2,15 +2,15 @@
 use Rattle.std.specs.Prelude.{ℕ, ◌≡◌, List, get_or, Float}
 use Rattle.floats.specs.Floats.{bits_of}
 use Rattle.math.specs.declared.points.Point.{Point}
-use Rattle.spline.specs.Formula.{splineSampleOf, splineDirectionOf}
+use Rattle.spline.specs.Formula.{spline_sample_of, spline_direction_of}
 use Rattle.spline_query.specs.Ordered.{InOrder}
 
 -- the six numbers of a raw parameter: its sample, its direction, segment 0, itself
 pub record SplineHolds (points : List Float) (at : Float) (after : List ℕ) : Type 0 where
-  pub x : get_or after 0 0 ≡ bits_of (splineSampleOf points at).x
-  pub y : get_or after 1 0 ≡ bits_of (splineSampleOf points at).y
-  pub headingX : get_or after 2 0 ≡ bits_of (splineDirectionOf points at).x
-  pub headingY : get_or after 3 0 ≡ bits_of (splineDirectionOf points at).y
+  pub x : get_or after 0 0 ≡ bits_of (spline_sample_of points at).x
+  pub y : get_or after 1 0 ≡ bits_of (spline_sample_of points at).y
+  pub heading_x : get_or after 2 0 ≡ bits_of (spline_direction_of points at).x
+  pub heading_y : get_or after 3 0 ≡ bits_of (spline_direction_of points at).y
   pub segment : get_or after 4 0 ≡ 0
   pub raw : get_or after 5 0 ≡ bits_of at
 

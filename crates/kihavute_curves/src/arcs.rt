@@ -1,11 +1,11 @@
 // Lines and elliptical arcs: each call makes the segment that it is given, and asks it once.
 ghost use Rattle.std.specs.Prelude.{◌≡◌};
 ghost use Rattle.math.specs.Math.{point_of};
-ghost use Rattle.arc.specs.Lines.{madeLineOf};
-ghost use Rattle.arc.specs.Arcs.{madeArcOf};
+ghost use Rattle.arc.specs.Lines.{made_line_of};
+ghost use Rattle.arc.specs.Arcs.{made_arc_of};
 ghost use Rattle.c_answer.specs.Given.{Given};
-ghost use Rattle.kihavute_curves.specs.Lone.{lineGiven, arcGiven};
-ghost use Rattle.kihavute_curves.specs.Arcs.{chordOf, ArcShape, ArcTable};
+ghost use Rattle.kihavute_curves.specs.Lone.{line_given, arc_given};
+ghost use Rattle.kihavute_curves.specs.Arcs.{chord_of, ArcShape, ArcTable};
 
 use crate::lone::{arc_lone, give_lone, line_lone};
 use answers::Values;
@@ -25,7 +25,7 @@ pub extern "C" fn kihavute_line(
     progress: f32,
     answer: &mut [u64],
 ) -> u32
-    ensures { Given (lineGiven (madeLineOf (point_of sx sy) (point_of ex ey)) progress) answer.old result answer.new }
+    ensures { Given (line_given (made_line_of (point_of sx sy) (point_of ex ey)) progress) answer.old result answer.new }
 {
     let made = arc::line(Point { x: sx, y: sy }, Point { x: ex, y: ey });
     let verdict = made.verdict;
@@ -52,7 +52,7 @@ fn made(
     ex: f32,
     ey: f32,
 ) -> MadeArc
-    ensures { result ≡ madeArcOf (chordOf sx sy rx ry rotation large sweep ex ey) }
+    ensures { result ≡ made_arc_of (chord_of sx sy rx ry rotation large sweep ex ey) }
 {
     arc::arc(Chord {
         start: Point { x: sx, y: sy },
@@ -79,7 +79,7 @@ pub extern "C" fn kihavute_arc(
     progress: f32,
     answer: &mut [u64],
 ) -> u32
-    ensures { Given (arcGiven (madeArcOf (chordOf sx sy rx ry rotation large sweep ex ey)) progress) answer.old result answer.new }
+    ensures { Given (arc_given (made_arc_of (chord_of sx sy rx ry rotation large sweep ex ey)) progress) answer.old result answer.new }
 {
     let made = made(sx, sy, rx, ry, rotation, large, sweep, ex, ey);
     let verdict = made.verdict;
@@ -105,7 +105,7 @@ pub extern "C" fn kihavute_arc_shape(
     out: &mut [f32],
     answer: &mut [u64],
 ) -> u32
-    ensures { ArcShape (madeArcOf (chordOf sx sy rx ry rotation large sweep ex ey)) out.old answer.old result out.new answer.new }
+    ensures { ArcShape (made_arc_of (chord_of sx sy rx ry rotation large sweep ex ey)) out.old answer.old result out.new answer.new }
 {
     let made = made(sx, sy, rx, ry, rotation, large, sweep, ex, ey);
     let verdict = made.verdict;
@@ -133,7 +133,7 @@ pub extern "C" fn kihavute_arc_table(
     out: &mut [f32],
     answer: &mut [u64],
 ) -> u32
-    ensures { ArcTable (madeArcOf (chordOf sx sy rx ry rotation large sweep ex ey)) out.old answer.old result out.new answer.new }
+    ensures { ArcTable (made_arc_of (chord_of sx sy rx ry rotation large sweep ex ey)) out.old answer.old result out.new answer.new }
 {
     let made = made(sx, sy, rx, ry, rotation, large, sweep, ex, ey);
     let verdict = made.verdict;

@@ -1,8 +1,8 @@
 // The tables of quads and cubics: each call makes the curve of the points that it is given, and puts
 // its 32 running lengths and then their total into a lent output.
 ghost use Rattle.math.specs.Math.{point_of};
-ghost use Rattle.bezier.specs.Quads.{madeQuadOf};
-ghost use Rattle.bezier.specs.Cubics.{madeCubicOf};
+ghost use Rattle.bezier.specs.Quads.{made_quad_of};
+ghost use Rattle.bezier.specs.Cubics.{made_cubic_of};
 ghost use Rattle.kihavute_curves.specs.CurveTables.{QuadTable, CubicTable};
 
 use answers::Values;
@@ -20,7 +20,7 @@ pub extern "C" fn kihavute_quad_table(
     out: &mut [f32],
     answer: &mut [u64],
 ) -> u32
-    ensures { QuadTable (madeQuadOf (point_of sx sy) (point_of cx cy) (point_of ex ey)) out.old answer.old result out.new answer.new }
+    ensures { QuadTable (made_quad_of (point_of sx sy) (point_of cx cy) (point_of ex ey)) out.old answer.old result out.new answer.new }
 {
     let made = bezier::quad(
         Point { x: sx, y: sy },
@@ -47,7 +47,7 @@ pub extern "C" fn kihavute_cubic_table(
     out: &mut [f32],
     answer: &mut [u64],
 ) -> u32
-    ensures { CubicTable (madeCubicOf (point_of sx sy) (point_of ax ay) (point_of bx by) (point_of ex ey)) out.old answer.old result out.new answer.new }
+    ensures { CubicTable (made_cubic_of (point_of sx sy) (point_of ax ay) (point_of bx by) (point_of ex ey)) out.old answer.old result out.new answer.new }
 {
     let made = bezier::cubic(
         Point { x: sx, y: sy },

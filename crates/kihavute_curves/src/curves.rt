@@ -1,9 +1,9 @@
 // Quads and cubics: each call makes the curve of the points that it is given, and asks it once.
 ghost use Rattle.math.specs.Math.{point_of};
-ghost use Rattle.bezier.specs.Quads.{madeQuadOf};
-ghost use Rattle.bezier.specs.Cubics.{madeCubicOf};
+ghost use Rattle.bezier.specs.Quads.{made_quad_of};
+ghost use Rattle.bezier.specs.Cubics.{made_cubic_of};
 ghost use Rattle.c_answer.specs.Given.{Given};
-ghost use Rattle.kihavute_curves.specs.Lone.{quadGiven, cubicGiven};
+ghost use Rattle.kihavute_curves.specs.Lone.{quad_given, cubic_given};
 
 use crate::lone::{cubic_lone, give_lone, quad_lone};
 use flight::Verdict;
@@ -22,7 +22,7 @@ pub extern "C" fn kihavute_quad(
     progress: f32,
     answer: &mut [u64],
 ) -> u32
-    ensures { Given (quadGiven (madeQuadOf (point_of sx sy) (point_of cx cy) (point_of ex ey)) progress) answer.old result answer.new }
+    ensures { Given (quad_given (made_quad_of (point_of sx sy) (point_of cx cy) (point_of ex ey)) progress) answer.old result answer.new }
 {
     let made = bezier::quad(
         Point { x: sx, y: sy },
@@ -52,7 +52,7 @@ pub extern "C" fn kihavute_cubic(
     progress: f32,
     answer: &mut [u64],
 ) -> u32
-    ensures { Given (cubicGiven (madeCubicOf (point_of sx sy) (point_of ax ay) (point_of bx by) (point_of ex ey)) progress) answer.old result answer.new }
+    ensures { Given (cubic_given (made_cubic_of (point_of sx sy) (point_of ax ay) (point_of bx by) (point_of ex ey)) progress) answer.old result answer.new }
 {
     let made = bezier::cubic(
         Point { x: sx, y: sy },

@@ -1,8 +1,8 @@
 // What a lone segment answers at a progress, and how it leaves through C. Each kind looks its raw parameter up and takes all else there.
 ghost use Rattle.std.specs.Prelude.{◌≡◌, false, T};
-ghost use Rattle.table.specs.Sound.{tableIsSound};
+ghost use Rattle.table.specs.Sound.{table_is_sound};
 ghost use Rattle.c_answer.specs.Given.{Given};
-ghost use Rattle.kihavute_curves.specs.Lone.{loneGiven, quadLone, cubicLone, lineLone, arcLone};
+ghost use Rattle.kihavute_curves.specs.Lone.{lone_given, quad_lone, cubic_lone, line_lone, arc_lone};
 
 use arc::{EllipticalArc, LineSegment};
 use bezier::{CubicBezierCurve, QuadBezier};
@@ -22,7 +22,7 @@ pub struct Lone {
 
 // The bits of the position, of the tangent, of the raw parameter and of the length.
 pub(crate) fn give_lone(lone: Lone, answer: &mut [u64]) -> u32
-    ensures { Given (loneGiven lone) answer.old result answer.new }
+    ensures { Given (lone_given lone) answer.old result answer.new }
 {
     let position = lone.position;
     let tangent = lone.tangent;
@@ -46,8 +46,8 @@ pub(crate) fn give_lone(lone: Lone, answer: &mut [u64]) -> u32
 
 // A quad.
 pub(crate) fn quad_lone(curve: QuadBezier, progress: Progress) -> Lone
-    requires { T (tableIsSound curve.table.entries curve.table.total) }
-    ensures { result ≡ quadLone curve progress.value }
+    requires { T (table_is_sound curve.table.entries curve.table.total) }
+    ensures { result ≡ quad_lone curve progress.value }
 {
     let table = curve.table;
     let raw = raw_parameter(table, progress);
@@ -64,8 +64,8 @@ pub(crate) fn quad_lone(curve: QuadBezier, progress: Progress) -> Lone
 
 // A cubic.
 pub(crate) fn cubic_lone(curve: CubicBezierCurve, progress: Progress) -> Lone
-    requires { T (tableIsSound curve.table.entries curve.table.total) }
-    ensures { result ≡ cubicLone curve progress.value }
+    requires { T (table_is_sound curve.table.entries curve.table.total) }
+    ensures { result ≡ cubic_lone curve progress.value }
 {
     let table = curve.table;
     let raw = raw_parameter(table, progress);
@@ -88,7 +88,7 @@ pub(crate) fn cubic_lone(curve: CubicBezierCurve, progress: Progress) -> Lone
 
 // A line, looked up in a single 0: its raw parameter is the clamped progress.
 pub(crate) fn line_lone(line: LineSegment, progress: Progress) -> Lone
-    ensures { result ≡ lineLone line progress.value }
+    ensures { result ≡ line_lone line progress.value }
 {
     let single = [0.0f32; 1];
     let raw = raw_parameter_in(&single, 0.0, progress);
@@ -105,8 +105,8 @@ pub(crate) fn line_lone(line: LineSegment, progress: Progress) -> Lone
 
 // An arc: its ellipse's, or the line that it fell back to.
 pub(crate) fn arc_lone(arc: EllipticalArc, progress: Progress) -> Lone
-    requires { arc.line_fallback ≡ false → T (tableIsSound arc.table.entries arc.table.total) }
-    ensures { result ≡ arcLone arc progress.value }
+    requires { arc.line_fallback ≡ false → T (table_is_sound arc.table.entries arc.table.total) }
+    ensures { result ≡ arc_lone arc progress.value }
 {
     let shape = arc.shape;
     let table = arc.table;

@@ -1,10 +1,10 @@
 // Splines: the table of the points that are lent, and queries of points with their table.
 ghost use Rattle.spline_table.specs.Tables.{answer_of};
-ghost use Rattle.spline_query.specs.Queries.{splineFlownOf, splineTurnedOf, splineMeasuredOf};
+ghost use Rattle.spline_query.specs.Queries.{spline_flown_of, spline_turned_of, spline_measured_of};
 ghost use Rattle.c_answer.specs.Given.{Given};
-ghost use Rattle.flight.specs.Flights.{flightGiven};
-ghost use Rattle.c_answer.specs.Places.{turnGiven};
-ghost use Rattle.kihavute_curves.specs.Splines.{SplineTableGiven, measureGiven};
+ghost use Rattle.flight.specs.Flights.{flight_given};
+ghost use Rattle.c_answer.specs.Places.{turn_given};
+ghost use Rattle.kihavute_curves.specs.Splines.{SplineTableGiven, measure_given};
 ghost use Rattle.kihavute_curves.specs.Received.{SplineReceivedBy};
 
 use answers::Values;
@@ -25,7 +25,7 @@ fn give_count(tabled: Tabled, answer: &mut [u64]) -> u32
 
 // The bits of the length.
 fn give_length(measured: Measured, answer: &mut [u64]) -> u32
-    ensures { Given (measureGiven measured) answer.old result answer.new }
+    ensures { Given (measure_given measured) answer.old result answer.new }
 {
     match measured {
         Measured::Length(total) => {
@@ -61,7 +61,7 @@ pub extern "C" fn kihavute_spline_flight(
     progress: f32,
     answer: &mut [u64],
 ) -> u32
-    ensures given { Given (flightGiven (splineFlownOf points.now table.now progress)) answer.old result answer.new }
+    ensures given { Given (flight_given (spline_flown_of points.now table.now progress)) answer.old result answer.new }
     ensures spline_received_by { SplineReceivedBy points.now table.now progress result answer.new }
 {
     let flown = spline_query::spline_flight(points, table, Progress { value: progress });
@@ -76,7 +76,7 @@ pub extern "C" fn kihavute_spline_rotation_deg(
     progress: f32,
     answer: &mut [u64],
 ) -> u32
-    ensures { Given (turnGiven (splineTurnedOf points.now table.now progress)) answer.old result answer.new }
+    ensures { Given (turn_given (spline_turned_of points.now table.now progress)) answer.old result answer.new }
 {
     let found = spline_query::spline_rotation_deg(points, table, Progress { value: progress });
     give_turn(found, answer)
@@ -85,7 +85,7 @@ pub extern "C" fn kihavute_spline_rotation_deg(
 // How long a spline is.
 #[unsafe(no_mangle)]
 pub extern "C" fn kihavute_spline_length(points: &[f32], table: &[f32], answer: &mut [u64]) -> u32
-    ensures { Given (measureGiven (splineMeasuredOf points.now table.now)) answer.old result answer.new }
+    ensures { Given (measure_given (spline_measured_of points.now table.now)) answer.old result answer.new }
 {
     let found = spline_query::spline_length(points, table);
     give_length(found, answer)

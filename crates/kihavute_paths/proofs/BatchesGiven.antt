@@ -10,17 +10,17 @@ use Rattle.answers.specs.Answers.{accepted, refused}
 use Rattle.path_stored.specs.Buffers.{Buffers}
 use Rattle.path_batch.specs.declared.batches.Batch.{Batch}
 use Rattle.path_batch.specs.declared.batches.Batch.TheVariants as Batch
-use Rattle.path_batch.specs.Batches.{batchAnswer, Places, Flights}
+use Rattle.path_batch.specs.Batches.{batch_answer, Places, Flights}
 use Rattle.c_answer.specs.Given.{Given}
 use Rattle.c_answer.proofs.Giving.{given-same}
 use Rattle.kihavute_paths.specs.Batches.{PlacesGiven, FlightsGiven}
 
 module _ (batch : Batch) where
-  pub batch-filled : (count : ℕ) → Batch.Filled count ≡ batch → accepted (count ∷ []) ≡ batchAnswer batch
-  batch-filled count is = ap batchAnswer is
+  pub batch-filled : (count : ℕ) → Batch.Filled count ≡ batch → accepted (count ∷ []) ≡ batch_answer batch
+  batch-filled count is = ap batch_answer is
 
-  pub batch-refused : (refusal : Refusal) → Batch.Refused refusal ≡ batch → refused refusal ≡ batchAnswer batch
-  batch-refused refusal is = ap batchAnswer is
+  pub batch-refused : (refusal : Refusal) → Batch.Refused refusal ≡ batch → refused refusal ≡ batch_answer batch
+  batch-refused refusal is = ap batch_answer is
 
 module _ (b : Buffers) (progresses : List Float) (answer : List ℕ) where
   module _ (segments : List ℕ) (raws : List Float) where
@@ -28,18 +28,18 @@ module _ (b : Buffers) (progresses : List Float) (answer : List ℕ) where
     pub no-places : length answer < 8 → PlacesGiven b progresses segments raws answer 255 segments raws answer
     no-places h =
         let s = lt-ltb (length answer) 8 h in
-        record { reported = record { code = rw s; places = rw s }; segmentsAfter = rw s; rawsAfter = rw s }
+        record { reported = record { code = rw s; places = rw s }; segments_after = rw s; raws_after = rw s }
 
     -- else the entry's own promise, reported
     pub places-reported :
         {segments' : List ℕ} {raws' : List Float} {answer' : List ℕ} {returned : ℕ} (batch : Batch)
         → 8 ≤ length answer
         → Places b progresses segments raws batch segments' raws'
-        → Given (batchAnswer batch) answer returned answer'
+        → Given (batch_answer batch) answer returned answer'
         → PlacesGiven b progresses segments raws answer returned segments' raws' answer'
     places-reported batch h p g =
         let s = le-ltb (length answer) 8 h in
-        record { reported = given-same _ _ (ap batchAnswer p.answer) g; segmentsAfter = rw s p.segmentsAfter; rawsAfter = rw s p.rawsAfter }
+        record { reported = given-same _ _ (ap batch_answer p.answer) g; segments_after = rw s p.segments_after; raws_after = rw s p.raws_after }
 
     -- any two allowed results are equal
     pub places-given-unique :
@@ -49,8 +49,8 @@ module _ (b : Buffers) (progresses : List Float) (answer : List ℕ) where
         → (r ≡ s) × (segments₁ ≡ segments₂) × (raws₁ ≡ raws₂) × (answer₁ ≡ answer₂)
     places-given-unique r s segments₁ segments₂ raws₁ raws₂ answer₁ answer₂ p q = (
       p.reported.code ∙ sym q.reported.code,
-      p.segmentsAfter ∙ sym q.segmentsAfter,
-      p.rawsAfter ∙ sym q.rawsAfter,
+      p.segments_after ∙ sym q.segments_after,
+      p.raws_after ∙ sym q.raws_after,
       p.reported.places ∙ sym q.reported.places,
     )
 
@@ -58,17 +58,17 @@ module _ (b : Buffers) (progresses : List Float) (answer : List ℕ) where
     pub no-flights : length answer < 8 → FlightsGiven b progresses segments raws out answer 255 segments raws out answer
     no-flights h =
         let s = lt-ltb (length answer) 8 h in
-        record { reported = record { code = rw s; places = rw s }; segmentsAfter = rw s; rawsAfter = rw s; outAfter = rw s }
+        record { reported = record { code = rw s; places = rw s }; segments_after = rw s; raws_after = rw s; out_after = rw s }
 
     pub flights-reported :
         {segments' : List ℕ} {raws' out' : List Float} {answer' : List ℕ} {returned : ℕ} (batch : Batch)
         → 8 ≤ length answer
         → Flights b progresses segments raws out batch segments' raws' out'
-        → Given (batchAnswer batch) answer returned answer'
+        → Given (batch_answer batch) answer returned answer'
         → FlightsGiven b progresses segments raws out answer returned segments' raws' out' answer'
     flights-reported batch h p g =
         let s = le-ltb (length answer) 8 h in
-        record { reported = given-same _ _ (ap batchAnswer p.answer) g; segmentsAfter = rw s p.segmentsAfter; rawsAfter = rw s p.rawsAfter; outAfter = rw s p.outAfter }
+        record { reported = given-same _ _ (ap batch_answer p.answer) g; segments_after = rw s p.segments_after; raws_after = rw s p.raws_after; out_after = rw s p.out_after }
 
     pub flights-given-unique :
         (r s : ℕ) (segments₁ segments₂ : List ℕ) (raws₁ raws₂ out₁ out₂ : List Float) (answer₁ answer₂ : List ℕ)
@@ -77,8 +77,8 @@ module _ (b : Buffers) (progresses : List Float) (answer : List ℕ) where
         → (r ≡ s) × (segments₁ ≡ segments₂) × (raws₁ ≡ raws₂) × (out₁ ≡ out₂) × (answer₁ ≡ answer₂)
     flights-given-unique r s segments₁ segments₂ raws₁ raws₂ out₁ out₂ answer₁ answer₂ p q = (
       p.reported.code ∙ sym q.reported.code,
-      p.segmentsAfter ∙ sym q.segmentsAfter,
-      p.rawsAfter ∙ sym q.rawsAfter,
-      p.outAfter ∙ sym q.outAfter,
+      p.segments_after ∙ sym q.segments_after,
+      p.raws_after ∙ sym q.raws_after,
+      p.out_after ∙ sym q.out_after,
       p.reported.places ∙ sym q.reported.places,
     )

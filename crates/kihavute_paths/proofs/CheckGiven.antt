@@ -8,14 +8,14 @@ use lib.Ieee.{Float}
 use Rattle.answers.specs.declared.refusals.Refusal.TheVariants.{BadPath}
 use Rattle.answers.specs.Answers.{accepted, refused}
 use Rattle.path_stored.specs.Buffers.{Buffers}
-use Rattle.path_stored.specs.Stored.{isStored}
-use Rattle.kihavute_paths.specs.StoredPaths.{checkGiven}
+use Rattle.path_stored.specs.Stored.{is_stored}
+use Rattle.kihavute_paths.specs.StoredPaths.{check_given}
 
 module _ (b : Buffers) where
-  pub check-yes : isStored b ≡ true → accepted (length b.kinds ∷ []) ≡ checkGiven b
-  unfolding checkGiven
+  pub check-yes : is_stored b ≡ true → accepted (length b.kinds ∷ []) ≡ check_given b
+  unfolding check_given
   check-yes e = rw e
 
-  pub check-no : isStored b ≡ false → refused BadPath ≡ checkGiven b
-  unfolding checkGiven
+  pub check-no : is_stored b ≡ false → refused BadPath ≡ check_given b
+  unfolding check_given
   check-no e = rw e

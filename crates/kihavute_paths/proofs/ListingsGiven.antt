@@ -8,33 +8,33 @@ use lib.ListN.{length}
 use Rattle.answers.specs.Answers.{accepted, refused}
 use Rattle.answers.specs.declared.refusals.Refusal.TheVariants.{NoRoom}
 use Rattle.answers.specs.declared.refusals.Values.TheVariants.{One}
-use Rattle.station_listing.specs.Stations.{Stations, stationsOf}
+use Rattle.station_listing.specs.Stations.{Stations, stations_of}
 use Rattle.c_answer.specs.Given.{Given}
 use Rattle.c_answer.proofs.Giving.{given-same, given-short}
-use Rattle.kihavute_paths.specs.Listings.{listingGiven, PlanListed}
+use Rattle.kihavute_paths.specs.Listings.{listing_given, PlanListed}
 
 module _ (input output answer : List ℕ) where
   -- an answer that is too short: nothing is listed
   pub not_listed : length answer < 8 → PlanListed input output answer 255 output answer
-  not_listed h = record { given = given-short (listingGiven input output) answer h; bytes = rw (lt-ltb (length answer) 8 h) }
+  not_listed h = record { given = given-short (listing_given input output) answer h; bytes = rw (lt-ltb (length answer) 8 h) }
 
   module _ (answer' output' : List ℕ) (r returned : ℕ) (long : 8 ≤ length answer) (p : Stations input output r output') where
-    size : r ≡ length (stationsOf input)
+    size : r ≡ length (stations_of input)
     size = p.takes.count
 
     pub no_room : length output < r → Given (refused (NoRoom (One r))) answer returned answer' → PlanListed input output answer returned output' answer'
     no_room h g =
-        let less : length output < length (stationsOf input) = omega (arith, size) in
+        let less : length output < length (stations_of input) = omega (arith, size) in
         record {
-          given = given-same _ _ (ap (λ (n : ℕ). refused (NoRoom (One n))) size ∙ rw (lt-ltb (length output) (length (stationsOf input)) less) refl) g;
+          given = given-same _ _ (ap (λ (n : ℕ). refused (NoRoom (One n))) size ∙ rw (lt-ltb (length output) (length (stations_of input)) less) refl) g;
           bytes = rw (le-ltb (length answer) 8 long) p.bytes;
         }
 
     pub listed : r ≤ length output → Given (accepted (r ∷ [])) answer returned answer' → PlanListed input output answer returned output' answer'
     listed h g =
-        let room : length (stationsOf input) ≤ length output = omega (arith, size) in
+        let room : length (stations_of input) ≤ length output = omega (arith, size) in
         record {
-          given = given-same _ _ (ap (λ (n : ℕ). accepted (n ∷ [])) size ∙ rw (le-ltb (length output) (length (stationsOf input)) room) refl) g;
+          given = given-same _ _ (ap (λ (n : ℕ). accepted (n ∷ [])) size ∙ rw (le-ltb (length output) (length (stations_of input)) room) refl) g;
           bytes = rw (le-ltb (length answer) 8 long) p.bytes;
         }
 

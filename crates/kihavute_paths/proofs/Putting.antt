@@ -8,10 +8,10 @@ use lib.Ieee.{Float}
 use Rattle.answers.specs.Answers.{Answer, accepted}
 use Rattle.answers.specs.Report.{written}
 use Rattle.floats.specs.Floats.{bits_of}
-use Rattle.resample.specs.Resample.{Outcome, answered, written_by, resampleOf, Resample}
+use Rattle.resample.specs.Resample.{Outcome, answered, written_by, resample_of, Resample}
 use Rattle.resample.specs.declared.resampling.Resampled.{Resampled}
-use Rattle.morph.specs.Evaluate.{evaluateOf, Evaluate}
-use Rattle.morph.specs.Morph.{Outcomes, firstWritten, secondWritten, morphOf, Morph}
+use Rattle.morph.specs.Evaluate.{evaluate_of, Evaluate}
+use Rattle.morph.specs.Morph.{Outcomes, first_written, second_written, morph_of, Morph}
 use Rattle.morph.specs.Morph as Morphing
 use Rattle.morph.specs.declared.bounding.Bounds.{Bounds}
 use Rattle.morph.specs.declared.bounding.Bounded.TheVariants.{Within}
@@ -19,7 +19,7 @@ use Rattle.morph.specs.declared.evaluating.Evaluated.{Evaluated}
 use Rattle.morph.specs.declared.morphing.Morphed.{Morphed}
 use Rattle.c_answer.specs.Given.{Given}
 use Rattle.c_answer.proofs.Giving.{given-same, given-short}
-use Rattle.kihavute_paths.specs.Morphs.{Put, PutTwo, resampledGiven, evaluatedGiven, morphedGiven, boundsGiven}
+use Rattle.kihavute_paths.specs.Morphs.{Put, PutTwo, resampled_given, evaluated_given, morphed_given, bounds_given}
 
 -- ---- a short answer
 pub put-short : (outcome : Outcome) (before : List Float) (answer : List ℕ) → length answer < 8 → Put outcome before answer 255 before answer
@@ -32,30 +32,30 @@ put-two-short outcome one other answer h =
 -- ---- any other
 module _ (answer answer' : List ℕ) (returned : ℕ) (long : 8 ≤ length answer) where
   pub put-resampled :
-      (points : List Float) (count : ℕ) (before after : List Float) (r : Resampled) → Resample points count before r after → Given (resampledGiven r) answer returned answer'
-      → Put (resampleOf points count (length before)) before answer returned after answer'
+      (points : List Float) (count : ℕ) (before after : List Float) (r : Resampled) → Resample points count before r after → Given (resampled_given r) answer returned answer'
+      → Put (resample_of points count (length before)) before answer returned after answer'
   put-resampled points count before after r p g =
-      record { given = given-same (resampledGiven r) (answered (resampleOf points count (length before))) p.answer g; output = rw (le-ltb (length answer) 8 long) p.output }
+      record { given = given-same (resampled_given r) (answered (resample_of points count (length before))) p.answer g; output = rw (le-ltb (length answer) 8 long) p.output }
 
   pub put-evaluated :
-      (from to : List Float) (t : Float) (before after : List Float) (r : Evaluated) → Evaluate from to t before r after → Given (evaluatedGiven r) answer returned answer'
-      → Put (evaluateOf from to t (length before)) before answer returned after answer'
+      (from to : List Float) (t : Float) (before after : List Float) (r : Evaluated) → Evaluate from to t before r after → Given (evaluated_given r) answer returned answer'
+      → Put (evaluate_of from to t (length before)) before answer returned after answer'
   put-evaluated from to t before after r p g =
-      record { given = given-same (evaluatedGiven r) (answered (evaluateOf from to t (length before))) p.answer g; output = rw (le-ltb (length answer) 8 long) p.output }
+      record { given = given-same (evaluated_given r) (answered (evaluate_of from to t (length before))) p.answer g; output = rw (le-ltb (length answer) 8 long) p.output }
 
   pub put-morphed :
-      (from to : List Float) (count : ℕ) (one other one' other' : List Float) (r : Morphed) → Morph from to count one other r one' other' → Given (morphedGiven r) answer returned answer'
-      → PutTwo (morphOf from to count (length one) (length other)) one other answer returned one' other' answer'
+      (from to : List Float) (count : ℕ) (one other one' other' : List Float) (r : Morphed) → Morph from to count one other r one' other' → Given (morphed_given r) answer returned answer'
+      → PutTwo (morph_of from to count (length one) (length other)) one other answer returned one' other' answer'
   put-morphed from to count one other one' other' r p g =
       record {
-        given = given-same (morphedGiven r) (Morphing.answered (morphOf from to count (length one) (length other))) p.answer g;
-        first = rw (le-ltb (length answer) 8 long) p.fromShape;
-        second = rw (le-ltb (length answer) 8 long) p.toShape;
+        given = given-same (morphed_given r) (Morphing.answered (morph_of from to count (length one) (length other))) p.answer g;
+        first = rw (le-ltb (length answer) 8 long) p.from_shape;
+        second = rw (le-ltb (length answer) 8 long) p.to_shape;
       }
 
 -- ---- the bits of the bounds
 pub bounds-bits : (bounds : Bounds) {a b c d : ℕ} → a ≡ bits_of bounds.min_x → b ≡ bits_of bounds.min_y → c ≡ bits_of bounds.max_x → d ≡ bits_of bounds.max_y
-    → accepted (a ∷ b ∷ c ∷ d ∷ []) ≡ boundsGiven (Within bounds)
+    → accepted (a ∷ b ∷ c ∷ d ∷ []) ≡ bounds_given (Within bounds)
 bounds-bits bounds p q r s = rw (p, q, r, s) refl
 
 -- ---- any two allowed results are equal

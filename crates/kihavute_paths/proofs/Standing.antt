@@ -12,7 +12,7 @@ use Rattle.answers.specs.declared.refusals.Values.TheVariants.{Two}
 use Rattle.answers.specs.declared.refusals.Refusal.{Refusal}
 use Rattle.answers.specs.declared.refusals.Refusal.TheVariants.{NoRoom, Range}
 use Rattle.answers.proofs.Settled.{refused-not-accepted}
-use Rattle.polyline.specs.Judging.{judgeTwoOf}
+use Rattle.polyline.specs.Judging.{judge_two_of}
 use Rattle.polyline.specs.declared.judging.Judged.{Judged}
 use Rattle.polyline.specs.declared.judging.Judged.TheVariants as Judged
 use Rattle.resample.specs.Planning.{plan_of, rows_by}
@@ -24,16 +24,16 @@ use Rattle.resample.specs.declared.resampling.Resampled.{Resampled}
 use Rattle.resample.specs.declared.resampling.Resampled.TheVariants as Resampled
 use Rattle.resample_order.specs.Ordered.{InOrderBy}
 use Rattle.resample_order.proofs.Entry.{rows-in-order, resampled-in-order}
-use Rattle.morph.specs.Morph.{Outcomes, shapes, refusal, both, after, byPlans, plansOf, morphOf, answered, firstWritten, secondWritten, Morph}
+use Rattle.morph.specs.Morph.{Outcomes, shapes, refusal, both, after, by_plans, plans_of, morph_of, answered, first_written, second_written, Morph}
 use Rattle.morph.specs.declared.morphing.Morphed.{Morphed}
 use Rattle.morph.specs.declared.morphing.Morphed.TheVariants as Morphed
 use Rattle.c_answer.specs.Given.{Given}
 use Rattle.c_answer.proofs.Giving.{given-accepted}
-use Rattle.kihavute_paths.specs.Morphs.{resampledGiven, morphedGiven}
+use Rattle.kihavute_paths.specs.Morphs.{resampled_given, morphed_given}
 
 module _ {answer answer' : List ℕ} {returned : ℕ} where
   pub resampled-stands : (points : List Float) (count : ℕ) (before output : List Float) (r : Resampled)
-      → Resample points count before r output → Given (resampledGiven r) answer returned answer' → InOrderBy points count returned output
+      → Resample points count before r output → Given (resampled_given r) answer returned answer' → InOrderBy points count returned output
   resampled-stands points count before output (Resampled.Numbers n) call g zero two more long = resampled-in-order points count n before output call two more long
   resampled-stands points count before output (Resampled.Refused reason) call g zero two more long = absurd (given-accepted reason g zero)
 
@@ -53,9 +53,9 @@ not-shapes : {reason : Refusal} {first second : List Float} → refusal reason �
 not-shapes e = let z : ◌≡◌ {A = ℕ} 0 1 = cc in omega arith
 
 module _ (from to : List Float) (count room more : ℕ) (first second : List Float) where
-  planned : morphOf from to count room more ≡ shapes first second → Planned from to count first second
-  unfolding morphOf plansOf
-  planned = go (judgeTwoOf from to) (ltb 4096 count) (plan_of from count) (plan_of to count) refl refl (λ n. nltb→le 4096 count n)
+  planned : morph_of from to count room more ≡ shapes first second → Planned from to count first second
+  unfolding morph_of plans_of
+  planned = go (judge_two_of from to) (ltb 4096 count) (plan_of from count) (plan_of to count) refl refl (λ n. nltb→le 4096 count n)
     where
       placed : (one other : Way) (b : Bool) → plan_of from count ≡ Plan.Go one → plan_of to count ≡ Plan.Go other → count ≤ 4096
           → cond b (refusal (NoRoom (Two (length (rows_by from count one)) (length (rows_by to count other))))) (shapes (rows_by from count one) (rows_by to count other)) ≡ shapes first second
@@ -64,7 +64,7 @@ module _ (from to : List Float) (count room more : ℕ) (first second : List Flo
       placed one other false p q few e = record { few = few; one = one; other = other; one-planned = p; other-planned = q; one-rows = (cc); other-rows = (cc) }
 
       go : (j : Judged) (b : Bool) (p q : Plan) → plan_of from count ≡ p → plan_of to count ≡ q → (T (not b) → count ≤ 4096)
-          → after j (cond b (refusal (Range count)) (byPlans from to count room more (both p q))) ≡ shapes first second → Planned from to count first second
+          → after j (cond b (refusal (Range count)) (by_plans from to count room more (both p q))) ≡ shapes first second → Planned from to count first second
       go (Judged.Refused reason) b p q e f few g = absurd (not-shapes g)
       go Judged.Fine true p q e f few g = absurd (not-shapes g)
       go Judged.Fine false (Plan.Refused reason) q e f few g = absurd (not-shapes g)
@@ -74,12 +74,12 @@ module _ (from to : List Float) (count room more : ℕ) (first second : List Flo
 
 module _ {answer answer' : List ℕ} {returned : ℕ} where
   pub morphed-stands : (from to : List Float) (count : ℕ) (one other one' other' : List Float) (r : Morphed)
-      → Morph from to count one other r one' other' → Given (morphedGiven r) answer returned answer' → InOrderBy from count returned one' × InOrderBy to count returned other'
+      → Morph from to count one other r one' other' → Given (morphed_given r) answer returned answer' → InOrderBy from count returned one' × InOrderBy to count returned other'
   morphed-stands from to count one other one' other' (Morphed.Refused reason) call g = (λ zero two more long. absurd (given-accepted reason g zero), λ zero two more long. absurd (given-accepted reason g zero))
-  morphed-stands from to count one other one' other' (Morphed.Numbers a b) call g = go (morphOf from to count (length one) (length other)) refl call.answer call.fromShape call.toShape
+  morphed-stands from to count one other one' other' (Morphed.Numbers a b) call g = go (morph_of from to count (length one) (length other)) refl call.answer call.from_shape call.to_shape
     where
-      go : (o : Outcomes) → morphOf from to count (length one) (length other) ≡ o → accepted (a ∷ b ∷ []) ≡ answered o
-          → one' ≡ firstWritten o ++ drop (length (firstWritten o)) one → other' ≡ secondWritten o ++ drop (length (secondWritten o)) other
+      go : (o : Outcomes) → morph_of from to count (length one) (length other) ≡ o → accepted (a ∷ b ∷ []) ≡ answered o
+          → one' ≡ first_written o ++ drop (length (first_written o)) one → other' ≡ second_written o ++ drop (length (second_written o)) other
           → InOrderBy from count returned one' × InOrderBy to count returned other'
       go (refusal reason) e accept f s = absurd (refused-not-accepted reason (a ∷ b ∷ []) (sym accept))
       go (shapes first second) e accept f s =

@@ -4,7 +4,7 @@ use Rattle.answers.specs.Answers.{Answer, accepted, refused}
 use Rattle.answers.specs.Report.{Lent, written, short}
 use Rattle.floats.specs.Floats.{bits_of}
 use Rattle.resample.specs.Resample.{Outcome, answered, written_by}
-use Rattle.morph.specs.Morph.{Outcomes, morphOf, firstWritten, secondWritten}
+use Rattle.morph.specs.Morph.{Outcomes, morph_of, first_written, second_written}
 use Rattle.resample.specs.Resample as Resample
 use Rattle.resample.specs.declared.resampling.Resampled.{Resampled}
 use Rattle.morph.specs.Evaluate as Evaluate
@@ -23,26 +23,26 @@ pub record Put (outcome : Outcome) (before : List Float) (answer : List ℕ) (re
 -- two outputs
 pub record PutTwo (outcome : Outcomes) (one other : List Float) (answer : List ℕ) (returned : ℕ) (one' other' : List Float) (answer' : List ℕ) : Type 0 where
   pub given : Given (Morph.answered outcome) answer returned answer'
-  pub first : one' ≡ cond (short answer) one (written (firstWritten outcome) one)
-  pub second : other' ≡ cond (short answer) other (written (secondWritten outcome) other)
+  pub first : one' ≡ cond (short answer) one (written (first_written outcome) one)
+  pub second : other' ≡ cond (short answer) other (written (second_written outcome) other)
 
 -- both outputs and the answer of a morph to so many points
 abbrev pub PutMorph : List Float → List Float → ℕ → Lent Float → Lent Float → Lent ℕ → ℕ → Type 0
 PutMorph from to count one other answer returned =
-    PutTwo (morphOf from to count (length one.entry.now) (length other.entry.now)) one.entry.now other.entry.now answer.entry.now
+    PutTwo (morph_of from to count (length one.entry.now) (length other.entry.now)) one.entry.now other.entry.now answer.entry.now
     returned one.exit.now other.exit.now answer.exit.now
 
 -- each case by its number and values
-abbrev pub resampledGiven : Resampled → Answer
-resampledGiven resampled = Resample.answer_of resampled
+abbrev pub resampled_given : Resampled → Answer
+resampled_given resampled = Resample.answer_of resampled
 
-abbrev pub evaluatedGiven : Evaluated → Answer
-evaluatedGiven evaluated = Evaluate.answer_of evaluated
+abbrev pub evaluated_given : Evaluated → Answer
+evaluated_given evaluated = Evaluate.answer_of evaluated
 
-abbrev pub morphedGiven : Morphed → Answer
-morphedGiven morphed = Morph.answer_of morphed
+abbrev pub morphed_given : Morphed → Answer
+morphed_given morphed = Morph.answer_of morphed
 
 -- the bounds: the smallest x and y, then the largest
-abbrev pub boundsGiven : Bounded → Answer
-boundsGiven (Bounded.Within b) = accepted (bits_of b.min_x ∷ bits_of b.min_y ∷ bits_of b.max_x ∷ bits_of b.max_y ∷ [])
-boundsGiven (Bounded.Refused refusal) = refused refusal
+abbrev pub bounds_given : Bounded → Answer
+bounds_given (Bounded.Within b) = accepted (bits_of b.min_x ∷ bits_of b.min_y ∷ bits_of b.max_x ∷ bits_of b.max_y ∷ [])
+bounds_given (Bounded.Refused refusal) = refused refusal

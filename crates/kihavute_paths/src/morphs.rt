@@ -1,12 +1,12 @@
 // Shapes: a line with evenly spaced points, two shapes resampled for a morph, the shape between them
 // and its bounds. A short answer is judged first, so that nothing is written then.
 ghost use Rattle.c_answer.specs.Given.{Given};
-ghost use Rattle.kihavute_paths.specs.Morphs.{Put, PutMorph, resampledGiven, evaluatedGiven, morphedGiven, boundsGiven};
+ghost use Rattle.kihavute_paths.specs.Morphs.{Put, PutMorph, resampled_given, evaluated_given, morphed_given, bounds_given};
 ghost use Rattle.std.specs.Prelude.{length};
-ghost use Rattle.resample.specs.Resample.{resampleOf};
-ghost use Rattle.morph.specs.Evaluate.{evaluateOf};
-ghost use Rattle.morph.specs.Bounds.{boundedOf};
-ghost use Rattle.morph.specs.Morph.{resolved, defaultOf};
+ghost use Rattle.resample.specs.Resample.{resample_of};
+ghost use Rattle.morph.specs.Evaluate.{evaluate_of};
+ghost use Rattle.morph.specs.Bounds.{bounded_of};
+ghost use Rattle.morph.specs.Morph.{resolved, default_of};
 ghost use Rattle.resample_order.specs.Ordered.{InOrderBy};
 
 use answers::Values;
@@ -15,7 +15,7 @@ use resample::Resampled;
 
 // What resampling gives.
 fn give_resampled(resampled: Resampled, answer: &mut [u64]) -> u32
-    ensures { Given (resampledGiven resampled) answer.old result answer.new }
+    ensures { Given (resampled_given resampled) answer.old result answer.new }
 {
     match resampled {
         Resampled::Numbers(numbers) => c_answer::accept(Values::One(numbers), answer),
@@ -31,7 +31,7 @@ pub extern "C" fn kihavute_resample(
     out: &mut [f32],
     answer: &mut [u64],
 ) -> u32
-    ensures put { Put (resampleOf points.now count (length out.old)) out.old answer.old result out.new answer.new }
+    ensures put { Put (resample_of points.now count (length out.old)) out.old answer.old result out.new answer.new }
     ensures in_order_by { InOrderBy points.now count result out.new }
 {
     if answer.len() < 8 {
@@ -43,7 +43,7 @@ pub extern "C" fn kihavute_resample(
 
 // What a morph's making gives.
 fn give_morphed(morphed: Morphed, answer: &mut [u64]) -> u32
-    ensures { Given (morphedGiven morphed) answer.old result answer.new }
+    ensures { Given (morphed_given morphed) answer.old result answer.new }
 {
     match morphed {
         Morphed::Numbers { from, to } => c_answer::accept(Values::Two(from, to), answer),
@@ -80,9 +80,9 @@ pub extern "C" fn kihavute_morph_default(
     out_to: &mut [f32],
     answer: &mut [u64],
 ) -> u32
-    ensures put_morph { PutMorph from.now to.now (defaultOf from.now to.now) out_from out_to answer result }
-    ensures in_order_by { InOrderBy from.now (defaultOf from.now to.now) result out_from.new
-        × InOrderBy to.now (defaultOf from.now to.now) result out_to.new }
+    ensures put_morph { PutMorph from.now to.now (default_of from.now to.now) out_from out_to answer result }
+    ensures in_order_by { InOrderBy from.now (default_of from.now to.now) result out_from.new
+        × InOrderBy to.now (default_of from.now to.now) result out_to.new }
 {
     if answer.len() < 8 {
         return 255;
@@ -93,7 +93,7 @@ pub extern "C" fn kihavute_morph_default(
 
 // What evaluating gives.
 fn give_evaluated(evaluated: Evaluated, answer: &mut [u64]) -> u32
-    ensures { Given (evaluatedGiven evaluated) answer.old result answer.new }
+    ensures { Given (evaluated_given evaluated) answer.old result answer.new }
 {
     match evaluated {
         Evaluated::Numbers(numbers) => c_answer::accept(Values::One(numbers), answer),
@@ -110,7 +110,7 @@ pub extern "C" fn kihavute_evaluate(
     out: &mut [f32],
     answer: &mut [u64],
 ) -> u32
-    ensures { Put (evaluateOf from.now to.now t (length out.old)) out.old answer.old result out.new answer.new }
+    ensures { Put (evaluate_of from.now to.now t (length out.old)) out.old answer.old result out.new answer.new }
 {
     if answer.len() < 8 {
         return 255;
@@ -121,7 +121,7 @@ pub extern "C" fn kihavute_evaluate(
 
 // What bounds give: their bits.
 fn give_bounds(bounded: Bounded, answer: &mut [u64]) -> u32
-    ensures { Given (boundsGiven bounded) answer.old result answer.new }
+    ensures { Given (bounds_given bounded) answer.old result answer.new }
 {
     match bounded {
         Bounded::Within(bounds) => {
@@ -138,7 +138,7 @@ fn give_bounds(bounded: Bounded, answer: &mut [u64]) -> u32
 // The bits of the bounds of the shape between two shapes at a progress.
 #[unsafe(no_mangle)]
 pub extern "C" fn kihavute_bounds(from: &[f32], to: &[f32], t: f32, answer: &mut [u64]) -> u32
-    ensures { Given (boundsGiven (boundedOf from.now to.now t)) answer.old result answer.new }
+    ensures { Given (bounds_given (bounded_of from.now to.now t)) answer.old result answer.new }
 {
     let bounded = morph::bounds_at(from, to, t);
     give_bounds(bounded, answer)

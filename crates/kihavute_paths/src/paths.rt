@@ -1,9 +1,9 @@
 // Stored paths built from a command list or from a text.
 ghost use Rattle.path_stored.specs.Buffers.{after, before};
 ghost use Rattle.path_build.specs.Answers.{answer_of};
-ghost use Rattle.path_build.specs.Lists.{givenList};
-ghost use Rattle.path_build.specs.Paths.{lent_of, drawersListOf, buildPathOf};
-ghost use Rattle.path_text.specs.Builds.{buildTextOf, drawersTextOf};
+ghost use Rattle.path_build.specs.Lists.{given_list};
+ghost use Rattle.path_build.specs.Paths.{lent_of, drawers_list_of, build_path_of};
+ghost use Rattle.path_text.specs.Builds.{build_text_of, drawers_text_of};
 ghost use Rattle.c_answer.specs.Given.{Given};
 ghost use Rattle.kihavute_paths.specs.Paths.{PathBuilt};
 
@@ -40,7 +40,7 @@ pub extern "C" fn kihavute_build(
     commands: &mut [u32],
     answer: &mut [u64],
 ) -> u32
-    ensures { PathBuilt (buildPathOf (givenList letters numbers) (lent_of (before kinds fields tables lengths commands))) (drawersListOf (givenList letters numbers))
+    ensures { PathBuilt (build_path_of (given_list letters numbers) (lent_of (before kinds fields tables lengths commands))) (drawers_list_of (given_list letters numbers))
         (before kinds fields tables lengths commands) answer.old result (after kinds fields tables lengths commands) answer.new }
 {
     if answer.len() < 8 {
@@ -63,7 +63,7 @@ pub extern "C" fn kihavute_build_text(
     commands: &mut [u32],
     answer: &mut [u64],
 ) -> u32
-    ensures { PathBuilt (buildTextOf text.now (lent_of (before kinds fields tables lengths commands))) (drawersTextOf text.now)
+    ensures { PathBuilt (build_text_of text.now (lent_of (before kinds fields tables lengths commands))) (drawers_text_of text.now)
         (before kinds fields tables lengths commands) answer.old result (after kinds fields tables lengths commands) answer.new }
 {
     if answer.len() < 8 {

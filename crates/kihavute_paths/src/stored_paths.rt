@@ -1,7 +1,7 @@
 // Stored paths.
 ghost use Rattle.path_stored.specs.Buffers.{before};
 ghost use Rattle.c_answer.specs.Given.{Given};
-ghost use Rattle.kihavute_paths.specs.StoredPaths.{checkGiven};
+ghost use Rattle.kihavute_paths.specs.StoredPaths.{check_given};
 
 use answers::{Refusal, Values};
 
@@ -16,7 +16,7 @@ pub extern "C" fn kihavute_check(
     commands: &[u32],
     answer: &mut [u64],
 ) -> u32
-    ensures { Given (checkGiven (before kinds fields tables lengths commands)) answer.old result answer.new }
+    ensures { Given (check_given (before kinds fields tables lengths commands)) answer.old result answer.new }
 {
     if path_stored::check_path(kinds, fields, tables, lengths, commands) {
         return c_answer::accept(Values::One(kinds.len()), answer);

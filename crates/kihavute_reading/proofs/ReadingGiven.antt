@@ -7,7 +7,7 @@ use lib.ListN.{length}
 use Rattle.answers.specs.declared.refusals.Refusal.{Refusal}
 use Rattle.answers.specs.Answers.{accepted, refused}
 use Rattle.answers.specs.Report.{Report}
-use Rattle.commands.specs.Checked.{answer_of as checkedOf}
+use Rattle.commands.specs.Checked.{answer_of as checked_of}
 use Rattle.commands.specs.declared.checking.Checked.{Checked}
 use Rattle.commands.specs.declared.checking.Checked.TheVariants as Checked
 use Rattle.svg.specs.Lists.{CommandList}
@@ -24,11 +24,11 @@ reading-given reading places count is = ap answer_of is
 pub reading-refused : (reading : Reading) (refusal : Refusal) → Reading.Refused refusal ≡ reading → refused refusal ≡ answer_of reading
 reading-refused reading refusal is = ap answer_of is
 
-pub check-given : (checked : Checked) → Checked.WellFormed ≡ checked → accepted [] ≡ checkedOf checked
-check-given checked is = ap checkedOf is
+pub check-given : (checked : Checked) → Checked.WellFormed ≡ checked → accepted [] ≡ checked_of checked
+check-given checked is = ap checked_of is
 
-pub check-refused : (checked : Checked) (refusal : Refusal) → Checked.Refused refusal ≡ checked → refused refusal ≡ checkedOf checked
-check-refused checked refusal is = ap checkedOf is
+pub check-refused : (checked : Checked) (refusal : Refusal) → Checked.Refused refusal ≡ checked → refused refusal ≡ checked_of checked
+check-refused checked refusal is = ap checked_of is
 
 module _ (text : List ℕ) (before : CommandList) (answer : List ℕ) where
   -- an answer that is too short: nothing is read

@@ -1,7 +1,7 @@
 // The permissive reader, and the check of a stored command list.
 ghost use Rattle.svg.specs.Lists.{before, after};
 ghost use Rattle.svg.specs.Readings.{answer_of};
-ghost use Rattle.commands.specs.Checked.{checkCommandsOf};
+ghost use Rattle.commands.specs.Checked.{check_commands_of};
 ghost use Rattle.c_answer.specs.Given.{Given};
 ghost use Rattle.kihavute_reading.specs.Reading.{KeptBy, PathRead};
 
@@ -50,7 +50,7 @@ pub extern "C" fn kihavute_check_commands(
     numbers: &[f32],
     answer: &mut [u64],
 ) -> u32
-    ensures { Given (checkCommandsOf letters.now numbers.now) answer.old result answer.new }
+    ensures { Given (check_commands_of letters.now numbers.now) answer.old result answer.new }
 {
     let checked = commands::check_commands(letters, numbers);
     match checked {

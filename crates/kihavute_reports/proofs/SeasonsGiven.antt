@@ -5,27 +5,27 @@ use mathlib.Core.List.{List}
 use borrow.Author.Tests.{lt-ltb, le-ltb}
 use lib.ListN.{length}
 use Rattle.season_feed.specs.declared.sheets.Sheeted.{Sheeted}
-use Rattle.season_feed.specs.Telling.{toldOf, Told, sheetAnswer}
+use Rattle.season_feed.specs.Telling.{told_of, Told, sheet_answer}
 use Rattle.c_answer.specs.Given.{Given}
 use Rattle.c_answer.proofs.Giving.{given-same, given-short}
 use Rattle.kihavute_reports.specs.Seasons.{SeasonGiven}
 
 -- one case of the answer
-pub sheet-is : (sheet own : Sheeted) → own ≡ sheet → sheetAnswer own ≡ sheetAnswer sheet
-sheet-is sheet own e = ap sheetAnswer e
+pub sheet-is : (sheet own : Sheeted) → own ≡ sheet → sheet_answer own ≡ sheet_answer sheet
+sheet-is sheet own e = ap sheet_answer e
 
 module _ (input output answer : List ℕ) where
   -- an answer that is too short: nothing is read
   pub no-season : length answer < 8 → SeasonGiven input output answer 255 output answer
-  no-season h = record { given = given-short (sheetAnswer (toldOf input (length output))) answer h; bytes = rw (lt-ltb (length answer) 8 h) }
+  no-season h = record { given = given-short (sheet_answer (told_of input (length output))) answer h; bytes = rw (lt-ltb (length answer) 8 h) }
 
   pub season-reported :
       {output' answer' : List ℕ} {returned : ℕ} (sheet : Sheeted)
       → 8 ≤ length answer
       → Told input output sheet output'
-      → Given (sheetAnswer sheet) answer returned answer'
+      → Given (sheet_answer sheet) answer returned answer'
       → SeasonGiven input output answer returned output' answer'
-  season-reported sheet h p g = record { given = given-same _ _ (ap sheetAnswer p.answer) g; bytes = rw (le-ltb (length answer) 8 h) p.bytes }
+  season-reported sheet h p g = record { given = given-same _ _ (ap sheet_answer p.answer) g; bytes = rw (le-ltb (length answer) 8 h) p.bytes }
 
   -- any two allowed results are equal
   pub season-given-unique : (r s : ℕ) (output₁ output₂ answer₁ answer₂ : List ℕ) → SeasonGiven input output answer r output₁ answer₁

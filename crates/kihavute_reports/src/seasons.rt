@@ -1,5 +1,5 @@
 // The sheet of a season of plans.
-ghost use Rattle.season_feed.specs.Telling.{sheetAnswer};
+ghost use Rattle.season_feed.specs.Telling.{sheet_answer};
 ghost use Rattle.c_answer.specs.Given.{Given};
 ghost use Rattle.kihavute_reports.specs.Seasons.{SeasonGiven};
 
@@ -8,7 +8,7 @@ use season_feed::Sheeted;
 
 // How long the sheet is, in bytes.
 fn give_sheet(sheet: Sheeted, answer: &mut [u64]) -> u32
-    ensures { Given (sheetAnswer sheet) answer.old result answer.new }
+    ensures { Given (sheet_answer sheet) answer.old result answer.new }
 {
     match sheet {
         Sheeted::Written(count) => c_answer::accept(Values::One(count), answer),

@@ -16,7 +16,7 @@ use Rattle.answers.specs.Report.{written}
 use Rattle.answers.proofs.Writing.{written-more}
 use Rattle.table.specs.declared.tables.Table.{Table}
 use Rattle.path_segment.specs.declared.segments.PathSegment.{PathSegment}
-use Rattle.path_segment.specs.Segments.{kind_of, width_of, tables_of, hasTable, fields_of, tableNumbers}
+use Rattle.path_segment.specs.Segments.{kind_of, width_of, tables_of, has_table, fields_of, table_numbers}
 use Rattle.path_segment.proofs.Widths.{one_table, none-table}
 use Rattle.path_segment.proofs.Reading.{fields-width}
 use Rattle.path_stored.specs.declared.queries.Part.{Part}
@@ -24,13 +24,13 @@ use Rattle.path_stored.specs.declared.queries.Found.{Found}
 use Rattle.path_stored.specs.declared.queries.Found.TheVariants as Found
 use Rattle.c_answer.specs.Given.{Given}
 use Rattle.c_answer.proofs.Giving.{given-same, given-short}
-use Rattle.kihavute_segments.specs.Segments.{numbersOf, places_of, segmentAnswer, segmentWritten, SegmentGiven, foundGiven}
+use Rattle.kihavute_segments.specs.Segments.{numbers_of, places_of, segment_answer, segment_written, SegmentGiven, found_given}
 
 -- ---- how many numbers a kind has
-pub places-some : (kind : ℕ) → hasTable kind ≡ true → width_of kind + 33 ≡ places_of kind
+pub places-some : (kind : ℕ) → has_table kind ≡ true → width_of kind + 33 ≡ places_of kind
 places-some kind has = ap (λ (n : ℕ). width_of kind + 33 * n) (sym (one_table kind has))
 
-pub places-none : (kind : ℕ) → hasTable kind ≡ false → width_of kind ≡ places_of kind
+pub places-none : (kind : ℕ) → has_table kind ≡ false → width_of kind ≡ places_of kind
 places-none kind none = rw (none-table kind none) (omega arith)
 
 -- ---- the numbers, run after run
@@ -39,8 +39,8 @@ module _ (segment : PathSegment) (table : Table) (out : List Float) where
   own first room e = e ∙ written-more [] (fields_of segment) out (let w = fields-width segment in omega arith)
 
   -- a segment without a table
-  pub put-own : (first : List Float) → hasTable (kind_of segment) ≡ false → places_of (kind_of segment) ≤ length out → first ≡ sets out 0 (fields_of segment) → first ≡ written (numbersOf segment table) out
-  unfolding numbersOf
+  pub put-own : (first : List Float) → has_table (kind_of segment) ≡ false → places_of (kind_of segment) ≤ length out → first ≡ sets out 0 (fields_of segment) → first ≡ written (numbers_of segment table) out
+  unfolding numbers_of
   put-own first none room e =
       own first (omega (arith, places-none (kind_of segment) none)) e
       ∙ ap (λ (l : List Float). written l out) (sym (append-nil (fields_of segment)))
@@ -49,32 +49,32 @@ module _ (segment : PathSegment) (table : Table) (out : List Float) where
   -- one with a table
   pub put_both :
       (first second : List Float) (place : ℕ)
-      → hasTable (kind_of segment) ≡ true
+      → has_table (kind_of segment) ≡ true
       → length table.entries ≡ 32
       → places_of (kind_of segment) ≤ length out
       → first ≡ sets out 0 (fields_of segment)
       → place ≡ width_of (kind_of segment)
-      → second ≡ sets first place (tableNumbers table)
-      → second ≡ written (numbersOf segment table) out
-  unfolding numbersOf
+      → second ≡ sets first place (table_numbers table)
+      → second ≡ written (numbers_of segment table) out
+  unfolding numbers_of
   put_both first second place has size room e at f =
       let wide = places-some (kind_of segment) has in
-      let long : length (tableNumbers table) ≡ 33 = length-append table.entries (table.total ∷ []) ∙ ap (λ (n : ℕ). n + 1) size in
+      let long : length (table_numbers table) ≡ 33 = length-append table.entries (table.total ∷ []) ∙ ap (λ (n : ℕ). n + 1) size in
       f
-      ∙ ap (λ (l : List Float). sets l place (tableNumbers table)) (own first (omega arith) e)
-      ∙ ap (λ (n : ℕ). sets (written (fields_of segment) out) n (tableNumbers table)) (at ∙ sym (fields-width segment))
-      ∙ written-more (fields_of segment) (tableNumbers table) out (let w = fields-width segment in omega arith)
+      ∙ ap (λ (l : List Float). sets l place (table_numbers table)) (own first (omega arith) e)
+      ∙ ap (λ (n : ℕ). sets (written (fields_of segment) out) n (table_numbers table)) (at ∙ sym (fields-width segment))
+      ∙ written-more (fields_of segment) (table_numbers table) out (let w = fields-width segment in omega arith)
       ∙ rw has refl
 
   -- "a NoRoom with invented needs (they are the counts of the defined list)"
-  pub need-is-the-count : length table.entries ≡ 32 → length (numbersOf segment table) ≡ places_of (kind_of segment)
-  unfolding numbersOf
-  need-is-the-count size = go (hasTable (kind_of segment)) refl
+  pub need-is-the-count : length table.entries ≡ 32 → length (numbers_of segment table) ≡ places_of (kind_of segment)
+  unfolding numbers_of
+  need-is-the-count size = go (has_table (kind_of segment)) refl
     where
-      go : (has : Bool) → hasTable (kind_of segment) ≡ has → length (numbersOf segment table) ≡ places_of (kind_of segment)
+      go : (has : Bool) → has_table (kind_of segment) ≡ has → length (numbers_of segment table) ≡ places_of (kind_of segment)
       go true e =
           rw e
-          (length-append (fields_of segment) (tableNumbers table)
+          (length-append (fields_of segment) (table_numbers table)
           ∙ ap (λ (n : ℕ). length (fields_of segment) + n) (length-append table.entries (table.total ∷ []) ∙ ap (λ (n : ℕ). n + 1) size)
           ∙ ap (λ (n : ℕ). n + 33) (fields-width segment)
           ∙ places-some (kind_of segment) e)
@@ -82,19 +82,19 @@ module _ (segment : PathSegment) (table : Table) (out : List Float) where
 
 -- ---- the answers
 module _ (given : PathSegment → Answer) (found : Found) where
-  pub found-given : (segment : PathSegment) → found ≡ Found.Segment segment → given segment ≡ foundGiven given found
-  found-given segment e = ap (foundGiven given) (sym e)
+  pub found-given : (segment : PathSegment) → found ≡ Found.Segment segment → given segment ≡ found_given given found
+  found-given segment e = ap (found_given given) (sym e)
 
-  pub found_none : found ≡ Found.NoSegment → accepted [] ≡ foundGiven given found
-  found_none e = ap (foundGiven given) (sym e)
+  pub found_none : found ≡ Found.NoSegment → accepted [] ≡ found_given given found
+  found_none e = ap (found_given given) (sym e)
 
-  pub found-refused : (refusal : Refusal) → found ≡ Found.Refused refusal → refused refusal ≡ foundGiven given found
-  found-refused refusal e = ap (foundGiven given) (sym e)
+  pub found-refused : (refusal : Refusal) → found ≡ Found.Refused refusal → refused refusal ≡ found_given given found
+  found-refused refusal e = ap (found_given given) (sym e)
 
 module _ (part : Part) (out : List Float) (answer : List ℕ) where
   -- an answer that is too short: nothing is written
   pub segment-short : length answer < 8 → SegmentGiven part out answer 255 out answer
-  segment-short h = record { reported = given-short (segmentAnswer part.found (length out)) answer h; outAfter = rw (lt-ltb (length answer) 8 h) }
+  segment-short h = record { reported = given-short (segment_answer part.found (length out)) answer h; out_after = rw (lt-ltb (length answer) 8 h) }
 
   module _ {answer' : List ℕ} {returned : ℕ} (h : 8 ≤ length answer) where
     pub segment-put :
@@ -103,14 +103,14 @@ module _ (part : Part) (out : List Float) (answer : List ℕ) where
         → kind ≡ kind_of segment
         → needed ≡ places_of (kind_of segment)
         → needed ≤ length out
-        → out' ≡ written (numbersOf segment part.table) out
+        → out' ≡ written (numbers_of segment part.table) out
         → Given (accepted (kind ∷ needed ∷ [])) answer returned answer'
         → SegmentGiven part out answer returned out' answer'
     segment-put segment kind needed out' told own count room put g =
         let fits = le-ltb (length out) (places_of (kind_of segment)) (subst (λ (n : ℕ). n ≤ length out) count room) in
         record {
           reported = given-same _ _ (rw (told, own, count, fits) refl) g;
-          outAfter = rw (le-ltb (length answer) 8 h, told, fits) put;
+          out_after = rw (le-ltb (length answer) 8 h, told, fits) put;
         }
 
     pub segment-no-room :
@@ -124,14 +124,14 @@ module _ (part : Part) (out : List Float) (answer : List ℕ) where
         let short = lt-ltb (length out) (places_of (kind_of segment)) (subst (λ (n : ℕ). length out < n) count room) in
         record {
           reported = given-same _ _ (rw (told, count, short) refl) g;
-          outAfter = rw (le-ltb (length answer) 8 h, told, short) refl;
+          out_after = rw (le-ltb (length answer) 8 h, told, short) refl;
         }
 
     pub segment-none : part.found ≡ Found.NoSegment → Given (accepted []) answer returned answer' → SegmentGiven part out answer returned out answer'
-    segment-none told g = record { reported = given-same _ _ (rw told refl) g; outAfter = rw (le-ltb (length answer) 8 h, told) refl }
+    segment-none told g = record { reported = given-same _ _ (rw told refl) g; out_after = rw (le-ltb (length answer) 8 h, told) refl }
 
     pub segment-refused : (refusal : Refusal) → part.found ≡ Found.Refused refusal → Given (refused refusal) answer returned answer' → SegmentGiven part out answer returned out answer'
-    segment-refused refusal told g = record { reported = given-same _ _ (rw told refl) g; outAfter = rw (le-ltb (length answer) 8 h, told) refl }
+    segment-refused refusal told g = record { reported = given-same _ _ (rw told refl) g; out_after = rw (le-ltb (length answer) 8 h, told) refl }
 
   -- any two allowed results are equal
   pub segment-given-unique :
@@ -139,7 +139,7 @@ module _ (part : Part) (out : List Float) (answer : List ℕ) where
       → SegmentGiven part out answer r out₁ answer₁
       → SegmentGiven part out answer s out₂ answer₂
       → (r ≡ s) × (out₁ ≡ out₂) × (answer₁ ≡ answer₂)
-  segment-given-unique r s out₁ out₂ answer₁ answer₂ p q = (p.reported.code ∙ sym q.reported.code, p.outAfter ∙ sym q.outAfter, p.reported.places ∙ sym q.reported.places)
+  segment-given-unique r s out₁ out₂ answer₁ answer₂ p q = (p.reported.code ∙ sym q.reported.code, p.out_after ∙ sym q.out_after, p.reported.places ∙ sym q.reported.places)
 
 -- the same part gives the same
 pub segment-same : {part other : Part} {out out' : List Float} {answer answer' : List ℕ} {returned : ℕ} → part ≡ other → SegmentGiven part out answer returned out' answer' → SegmentGiven other out answer returned out' answer'

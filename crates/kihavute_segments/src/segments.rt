@@ -4,9 +4,9 @@ ghost use Rattle.std.specs.Prelude.{◌≡◌, ◌≤◌, length};
 ghost use Rattle.answers.specs.Report.{written};
 ghost use Rattle.path_segment.specs.Segments.{kind_of};
 ghost use Rattle.path_stored.specs.Buffers.{before};
-ghost use Rattle.path_stored.specs.Queries.{countedOf, emptinessOf, measuredOf, part_of, countedAnswer, emptinessAnswer, measuredAnswer};
+ghost use Rattle.path_stored.specs.Queries.{counted_of, emptiness_of, measured_of, part_of, counted_answer, emptiness_answer, measured_answer};
 ghost use Rattle.c_answer.specs.Given.{Given};
-ghost use Rattle.kihavute_segments.specs.Segments.{places_of, numbersOf, SegmentGiven, positionGiven, tangentGiven, rotationGiven};
+ghost use Rattle.kihavute_segments.specs.Segments.{places_of, numbers_of, SegmentGiven, position_given, tangent_given, rotation_given};
 
 use answers::{Refusal, Values};
 use path_segment::inner::{put_segment, put_table};
@@ -24,7 +24,7 @@ pub extern "C" fn kihavute_len(
     commands: &[u32],
     answer: &mut [u64],
 ) -> u32
-    ensures { Given (countedAnswer (countedOf (before kinds fields tables lengths commands)))
+    ensures { Given (counted_answer (counted_of (before kinds fields tables lengths commands)))
         answer.old result answer.new }
 {
     match path_stored::len(kinds, fields, tables, lengths, commands) {
@@ -43,7 +43,7 @@ pub extern "C" fn kihavute_is_empty(
     commands: &[u32],
     answer: &mut [u64],
 ) -> u32
-    ensures { Given (emptinessAnswer (emptinessOf (before kinds fields tables lengths commands)))
+    ensures { Given (emptiness_answer (emptiness_of (before kinds fields tables lengths commands)))
         answer.old result answer.new }
 {
     match path_stored::is_empty(kinds, fields, tables, lengths, commands) {
@@ -63,7 +63,7 @@ pub extern "C" fn kihavute_path_length(
     commands: &[u32],
     answer: &mut [u64],
 ) -> u32
-    ensures { Given (measuredAnswer (measuredOf (before kinds fields tables lengths commands)))
+    ensures { Given (measured_answer (measured_of (before kinds fields tables lengths commands)))
         answer.old result answer.new }
 {
     match path_stored::arc_length(kinds, fields, tables, lengths, commands) {
@@ -88,7 +88,7 @@ fn places(kind: u8) -> usize
 // Puts a segment's numbers at the start of out, and after them those of its table, if it has one.
 fn put_part(table: Table, segment: PathSegment, out: &mut [f32])
     requires { places_of (kind_of segment) ≤ length out.old }
-    ensures { out.new ≡ written (numbersOf segment table) out.old }
+    ensures { out.new ≡ written (numbers_of segment table) out.old }
 {
     put_segment(out, 0, segment);
     if has_table(kind(segment)) {
@@ -151,7 +151,7 @@ pub extern "C" fn kihavute_segment_position(
     along: f32,
     answer: &mut [u64],
 ) -> u32
-    ensures { Given (positionGiven (part_of (before kinds fields tables lengths commands) i) along)
+    ensures { Given (position_given (part_of (before kinds fields tables lengths commands) i) along)
         answer.old result answer.new }
 {
     let part = path_stored::segment(kinds, fields, tables, lengths, commands, i);
@@ -178,7 +178,7 @@ pub extern "C" fn kihavute_segment_tangent(
     along: f32,
     answer: &mut [u64],
 ) -> u32
-    ensures { Given (tangentGiven (part_of (before kinds fields tables lengths commands) i) along)
+    ensures { Given (tangent_given (part_of (before kinds fields tables lengths commands) i) along)
         answer.old result answer.new }
 {
     let part = path_stored::segment(kinds, fields, tables, lengths, commands, i);
@@ -205,7 +205,7 @@ pub extern "C" fn kihavute_segment_rotation(
     along: f32,
     answer: &mut [u64],
 ) -> u32
-    ensures { Given (rotationGiven (part_of (before kinds fields tables lengths commands) i) along)
+    ensures { Given (rotation_given (part_of (before kinds fields tables lengths commands) i) along)
         answer.old result answer.new }
 {
     let part = path_stored::segment(kinds, fields, tables, lengths, commands, i);

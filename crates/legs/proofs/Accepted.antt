@@ -15,30 +15,30 @@ use Rattle.answers.specs.declared.refusals.Refusal.{Refusal}
 use Rattle.answers.specs.declared.refusals.Refusal.TheVariants.{BadPath, NoRoom, Range}
 use Rattle.answers.proofs.Settled.{refused-not-accepted}
 use Rattle.path_stored.specs.Buffers.{Buffers}
-use Rattle.path_stored.specs.Stored.{isStored}
+use Rattle.path_stored.specs.Stored.{is_stored}
 use Rattle.flat.specs.declared.pieces.Tally.{Tally}
-use Rattle.flat.specs.Nearness.{limitOf}
+use Rattle.flat.specs.Nearness.{limit_of}
 use Rattle.legs.specs.declared.flattening.Flattened.TheVariants as Flattened
-use Rattle.legs.specs.Paths.{pathLegs, pathTally}
-use Rattle.legs.specs.Legs.{isDistance, Outcome, flown, refusal, roomed, outcomeOf, flag, answered, written_by, Legs}
+use Rattle.legs.specs.Paths.{path_legs, path_tally}
+use Rattle.legs.specs.Legs.{is_distance, Outcome, flown, refusal, roomed, outcome_of, flag, answered, written_by, Legs}
 use Rattle.legs.specs.Promises.{PathFlown}
 use Rattle.legs.proofs.Promised.{path-flown}
 
 module _ (b : Buffers) (distance : Float) (room : ℕ) where
   abbrev tally : Tally
-  tally = pathTally (limitOf distance) b.kinds b.fields
+  tally = path_tally (limit_of distance) b.kinds b.fields
 
   abbrev numbers : List Float
-  numbers = pathLegs (limitOf distance) b.kinds b.fields
+  numbers = path_legs (limit_of distance) b.kinds b.fields
 
   -- by the path, the distance and the room
   abbrev by : Bool → Bool → Bool → Outcome
   by s d r = cond s (cond d (cond r (refusal (NoRoom (One tally.legs))) (flown tally numbers)) (refusal (Range (bits_of distance)))) (refusal BadPath)
 
   -- a call that is accepted comes to the legs of the path
-  pub accepted-flown : (values : List ℕ) → accepted values ≡ answered (outcomeOf b distance room) → outcomeOf b distance room ≡ flown tally numbers
-  unfolding outcomeOf
-  accepted-flown values e = go (isStored b) (isDistance distance) (ltb (room / 4) tally.legs) e
+  pub accepted-flown : (values : List ℕ) → accepted values ≡ answered (outcome_of b distance room) → outcome_of b distance room ≡ flown tally numbers
+  unfolding outcome_of
+  accepted-flown values e = go (is_stored b) (is_distance distance) (ltb (room / 4) tally.legs) e
     where
       go : (s d r : Bool) → accepted values ≡ answered (by s d r) → by s d r ≡ flown tally numbers
       go true true false e = refl
@@ -55,8 +55,8 @@ same_flag false true e = absurd (omega arith)
 -- legs that were told, and numbers that were written, are those of the path
 pub flown-path :
     (b : Buffers) (distance : Float) (before : List Float) {after : List Float} (n : ℕ) (far : Bool)
-    → accepted (n ∷ flag far ∷ []) ≡ answered (outcomeOf b distance (length before)) → after ≡ written (written_by (outcomeOf b distance (length before))) before
-    → PathFlown (limitOf distance) b.kinds b.fields after n far
+    → accepted (n ∷ flag far ∷ []) ≡ answered (outcome_of b distance (length before)) → after ≡ written (written_by (outcome_of b distance (length before))) before
+    → PathFlown (limit_of distance) b.kinds b.fields after n far
 flown-path b distance before {after} n far told wrote =
     let is = accepted-flown b distance (length before) (n ∷ flag far ∷ []) told in
     let t = tally b distance (length before) in
@@ -64,9 +64,9 @@ flown-path b distance before {after} n far told wrote =
     let count : n ≡ t.legs = ap (λ (a : Answer). get_or a.values 0 0) same in
     let flags : flag far ≡ flag t.far = ap (λ (a : Answer). get_or a.values 1 0) same in
     let out : after ≡ written (numbers b distance (length before)) before = rw is at wrote in
-    rw (count, same_flag far t.far flags, out) (path-flown (limitOf distance) b.kinds b.fields (drop (length (numbers b distance (length before))) before))
+    rw (count, same_flag far t.far flags, out) (path-flown (limit_of distance) b.kinds b.fields (drop (length (numbers b distance (length before))) before))
 
 pub legs-flown :
     {b : Buffers} {distance : Float} {before after : List Float} {n : ℕ} {far : Bool}
-    → Legs b distance before (Flattened.Legs n far) after → PathFlown (limitOf distance) b.kinds b.fields after n far
+    → Legs b distance before (Flattened.Legs n far) after → PathFlown (limit_of distance) b.kinds b.fields after n far
 legs-flown {b} {distance} {before} {n = n} {far = far} p = flown-path b distance before n far p.answer p.output

@@ -3,12 +3,12 @@ use Rattle.std.specs.Prelude.{ℕ, suc, ◌+◌, ◌*◌, ◌≤◌, ◌<◌, �
 use Rattle.math.specs.declared.points.Point.{Point}
 use Rattle.path_segment.specs.declared.segments.PathSegment.{PathSegment}
 use Rattle.path_segment.specs.declared.segments.PathSegment.TheVariants as Segment
-use Rattle.path_stored.specs.Stored.{segmentIn}
+use Rattle.path_stored.specs.Stored.{segment_in}
 use Rattle.flat.specs.declared.curves.Curve.{Curve}
 use Rattle.flat.specs.declared.curves.Curve.TheVariants as Curve
 use Rattle.flat.specs.Pieces.{pieces_of}
 use Rattle.flat.specs.Promises.{Leads, EachNear, SomeFar}
-use Rattle.legs.specs.Segments.{segmentLegs}
+use Rattle.legs.specs.Segments.{segment_legs}
 
 -- "the segment's own ends": as they are stored
 unfoldable pub start_of : PathSegment → Point
@@ -53,7 +53,7 @@ Flagged limit (Segment.Fallback shape) far = far ≡ false
 -- "within one segment each starts where the one before ends, and the segment's own ends are exact"
 pub record SegmentFlown (limit : Float) (segment : PathSegment) (numbers : List Float) (n : ℕ) (far : Bool) : Type 0 where
   pub counted : Counted segment n
-  pub drawn : take (4 * n) numbers ≡ segmentLegs limit segment
+  pub drawn : take (4 * n) numbers ≡ segment_legs limit segment
   pub joined : Leads (start_of segment) n numbers (end_of segment)
   pub flagged : Flagged limit segment far
 
@@ -67,7 +67,7 @@ pub record PathFlown (limit : Float) (kinds : List ℕ) (fields numbers : List F
   pub starts : first 0 ≡ 0
   pub follows : (i : ℕ) → i < length kinds → first (suc i) ≡ first i + count i
   pub ends : first (length kinds) ≡ legs
-  pub each : (i : ℕ) → i < length kinds → SegmentFlown limit (segmentIn kinds fields i) (drop (4 * first i) numbers) (count i) (flag i)
+  pub each : (i : ℕ) → i < length kinds → SegmentFlown limit (segment_in kinds fields i) (drop (4 * first i) numbers) (count i) (flag i)
   pub clear : far ≡ false → (i : ℕ) → i < length kinds → flag i ≡ false
   pub set : far ≡ true → (i : ℕ) × (i < length kinds) × (flag i ≡ true)
   pub most : legs ≤ 1024 * length kinds

@@ -14,9 +14,9 @@ use Rattle.floats.specs.Kinds.{nonneg, upward}
 use Rattle.floats.proofs.Order.{not-lt→le}
 use Rattle.floats.proofs.Fractions.{nonneg-real, lt→pos, cross→le}
 use Rattle.floats.proofs.Unique.{antisym}
-use Rattle.root.specs.Root.{rootOf}
+use Rattle.root.specs.Root.{root_of}
 use Rattle.root.proofs.Nearest.{root-nearest}
-use Rattle.lengths.specs.Length.{squareSumOf, narrowOf, length_of}
+use Rattle.lengths.specs.Length.{square_sum_of, narrow_of, length_of}
 use Rattle.decimal_rounding.proofs.Wide.{pattern-positive}
 use Rattle.floats.proofs.Held.{round-upward}
 use Rattle.lengths.proofs.Upward.{upward-real}
@@ -25,8 +25,8 @@ use Rattle.lengths.proofs.Narrow.{narrow-is, narrow-fits, narrow-mono}
 use Rattle.lengths.proofs.Enclosed.{positive-nonneg, root-above, root_below}
 use Rattle.lengths.proofs.Judged.{no-inf}
 
-pub sum_fits : (x y : Float) → T (fits binary64 (squareSumOf x y))
-unfolding squareSumOf
+pub sum_fits : (x y : Float) → T (fits binary64 (square_sum_of x y))
+unfolding square_sum_of
 sum_fits x y = add-fits binary64 (mul binary64 x x) (mul binary64 y y)
 
 -- ---- a NaN
@@ -37,24 +37,24 @@ add-nan f (inf s) = refl
 add-nan f (fin s m e) = refl
 
 pub length-nan-x : (x y : Float) → x ≡ nan → length_of x y ≡ nan
-unfolding length_of add mul rootOf
+unfolding length_of add mul root_of
 length-nan-x x y h = ap (λ (z : Float). length_of z y) h
 
 pub length-nan-y : (x y : Float) → y ≡ nan → length_of x y ≡ nan
-unfolding length_of mul rootOf
-length-nan-y x y h = ap (length_of x) h ∙ ap (λ (z : Float). narrowOf (rootOf binary64 z)) (add-nan binary64 (mul binary64 x x))
+unfolding length_of mul root_of
+length-nan-y x y h = ap (length_of x) h ∙ ap (λ (z : Float). narrow_of (root_of binary64 z)) (add-nan binary64 (mul binary64 x x))
 
 -- ---- what rounds to 0
 pub rounded-zero : round binary32 false 0 1 ≡ of_bits binary32 0
 unfolding round of_bits
 rounded-zero = refl
 
-pub narrow-zero : (e : ℤ) → narrowOf (fin false zero e) ≡ of_bits binary32 0
-unfolding narrowOf
+pub narrow-zero : (e : ℤ) → narrow_of (fin false zero e) ≡ of_bits binary32 0
+unfolding narrow_of
 narrow-zero e = round_same binary32 false (zero * up e) (down e) 0 1 (down_pos e) (zero-lt-suc 0) (ap (λ (n : ℕ). n * 1) (zero-mul (up e)) ∙ sym (zero-mul (down e))) ∙ rounded-zero
 
-pub root-of-zero : (e : ℤ) → rootOf binary64 (fin false zero e) ≡ fin false zero e
-unfolding rootOf
+pub root-of-zero : (e : ℤ) → root_of binary64 (fin false zero e) ≡ fin false zero e
+unfolding root_of
 root-of-zero e = refl
 
 zero-fits : T (fits binary32 (fin false 0 (pos 0)))
@@ -78,31 +78,31 @@ tiny-is : mul binary64 (of_bits binary64 0x3690000000000000) (of_bits binary64 0
 unfolding mul of_bits
 tiny-is = refl
 
-tiny-narrow : narrowOf (of_bits binary64 0x3690000000000000) ≡ fin false 0 (pos 0)
-unfolding narrowOf of_bits round
+tiny-narrow : narrow_of (of_bits binary64 0x3690000000000000) ≡ fin false 0 (pos 0)
+unfolding narrow_of of_bits round
 tiny-narrow = refl
 
-narrow-upward : (x : Float) → T (positive x) → T (upward (narrowOf x))
+narrow-upward : (x : Float) → T (positive x) → T (upward (narrow_of x))
 narrow-upward x p = subst (λ (z : Float). T (upward z)) (sym (narrow-is x p)) (round-upward binary32 (num x) (den x))
 
-pub root-positive : (x : Float) → T (fits binary64 x) → T (positive x) → T (positive (rootOf binary64 x))
+pub root-positive : (x : Float) → T (fits binary64 x) → T (positive x) → T (positive (root_of binary64 x))
 root-positive x f p = (root-nearest binary64 x f p).above_zero
 
-tiny-root : (s : Float) → T (fits binary64 s) → T (positive s) → T (lt s (of_bits binary64 0x2D30000000000000)) → narrowOf (rootOf binary64 s) ≡ of_bits binary32 0
+tiny-root : (s : Float) → T (fits binary64 s) → T (positive s) → T (lt s (of_bits binary64 0x2D30000000000000)) → narrow_of (root_of binary64 s) ≡ of_bits binary32 0
 tiny-root s f p h =
     let v = of_bits binary64 0x3690000000000000 in
     let pv : T (positive v) = pattern-positive 0x3690000000000000 (lit≤ tt) (lit< tt) in
-    let q = rootOf binary64 s in
+    let q = root_of binary64 s in
     let pq : T (positive q) = root-positive s f p in
     let b : T (le q v) = root_below binary64 s v f p (of_bits-fits binary64 0x3690000000000000) pv (subst (λ (z : Float). T (lt s z)) (sym tiny-is) h) in
-    at_zero (narrowOf q) (narrow-fits q pq) (narrow-upward q pq) (subst (λ (z : Float). T (le (narrowOf q) z)) tiny-narrow (narrow-mono q v pq pv b)) ∙ sym zero_is
+    at_zero (narrow_of q) (narrow-fits q pq) (narrow-upward q pq) (subst (λ (z : Float). T (le (narrow_of q) z)) tiny-narrow (narrow-mono q v pq pv b)) ∙ sym zero_is
 
-pub root-tiny : (s : Float) → T (fits binary64 s) → T (upward s) → T (lt s (of_bits binary64 0x2D30000000000000)) → narrowOf (rootOf binary64 s) ≡ of_bits binary32 0
+pub root-tiny : (s : Float) → T (fits binary64 s) → T (upward s) → T (lt s (of_bits binary64 0x2D30000000000000)) → narrow_of (root_of binary64 s) ≡ of_bits binary32 0
 root-tiny nan f u h = absurd u
 root-tiny (inf true) f u h = absurd u
 root-tiny (inf false) f u h = absurd (no-inf _ h)
 root-tiny (fin true m e) f u h = absurd u
-root-tiny (fin false zero e) f u h = ap narrowOf (root-of-zero e) ∙ narrow-zero e
+root-tiny (fin false zero e) f u h = ap narrow_of (root-of-zero e) ∙ narrow-zero e
 root-tiny (fin false (suc m) e) f u h = tiny-root (fin false (suc m) e) f (lt→ltb 0 (suc m) (zero-lt-suc m)) h
 
 -- ---- what rounds to infinity: the root of what is above the square of 2 ^ 128 - 2 ^ 103
@@ -110,8 +110,8 @@ huge-is : mul binary64 (of_bits binary64 0x47EFFFFFF0000000) (of_bits binary64 0
 unfolding mul of_bits
 huge-is = refl
 
-huge-narrow : narrowOf (of_bits binary64 0x47EFFFFFF0000000) ≡ inf false
-unfolding narrowOf of_bits round
+huge-narrow : narrow_of (of_bits binary64 0x47EFFFFFF0000000) ≡ inf false
+unfolding narrow_of of_bits round
 huge-narrow = refl
 
 at-infinity : (x : Float) → T (upward x) → T (le (inf false) x) → x ≡ inf false
@@ -121,23 +121,23 @@ at-infinity (inf true) u h = absurd u
 at-infinity (inf false) u h = refl
 at-infinity (fin s m e) u h = absurd h
 
-huge-root : (s : Float) → T (fits binary64 s) → T (positive s) → T (lt (of_bits binary64 0x4FEFFFFFE0000008) s) → narrowOf (rootOf binary64 s) ≡ inf false
+huge-root : (s : Float) → T (fits binary64 s) → T (positive s) → T (lt (of_bits binary64 0x4FEFFFFFE0000008) s) → narrow_of (root_of binary64 s) ≡ inf false
 huge-root s f p h =
     let v = of_bits binary64 0x47EFFFFFF0000000 in
     let pv : T (positive v) = pattern-positive 0x47EFFFFFF0000000 (lit≤ tt) (lit< tt) in
-    let q = rootOf binary64 s in
+    let q = root_of binary64 s in
     let pq : T (positive q) = root-positive s f p in
     let b : T (le v q) = root-above binary64 s v f p (of_bits-fits binary64 0x47EFFFFFF0000000) pv (subst (λ (z : Float). T (lt z s)) (sym huge-is) h) in
-    at-infinity (narrowOf q) (narrow-upward q pq) (subst (λ (z : Float). T (le z (narrowOf q))) huge-narrow (narrow-mono v q pv pq b))
+    at-infinity (narrow_of q) (narrow-upward q pq) (subst (λ (z : Float). T (le z (narrow_of q))) huge-narrow (narrow-mono v q pv pq b))
 
-pub root-of-infinity : narrowOf (rootOf binary64 (inf false)) ≡ inf false
-unfolding rootOf narrowOf
+pub root-of-infinity : narrow_of (root_of binary64 (inf false)) ≡ inf false
+unfolding root_of narrow_of
 root-of-infinity = refl
 
 huge-nonneg : T (nonneg (of_bits binary64 0x4FEFFFFFE0000008))
 huge-nonneg = positive-nonneg (of_bits binary64 0x4FEFFFFFE0000008) (pattern-positive 0x4FEFFFFFE0000008 (lit≤ tt) (lit< tt))
 
-pub root-huge : (s : Float) → T (fits binary64 s) → T (upward s) → T (lt (of_bits binary64 0x4FEFFFFFE0000008) s) → narrowOf (rootOf binary64 s) ≡ inf false
+pub root-huge : (s : Float) → T (fits binary64 s) → T (upward s) → T (lt (of_bits binary64 0x4FEFFFFFE0000008) s) → narrow_of (root_of binary64 s) ≡ inf false
 root-huge nan f u h = absurd u
 root-huge (inf true) f u h = absurd u
 root-huge (inf false) f u h = root-of-infinity

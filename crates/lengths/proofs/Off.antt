@@ -10,7 +10,7 @@ use lib.Pow.{pow-add, pow_pos, pow_mono}
 use lib.Ieee.{binary32, of_bits, round, nearest}
 use lib.Ieee.Fits.{nearest-le}
 use lib.Ieee.Nearest.{nearest-ge}
-use Rattle.floats.specs.Patterns.{hidden, narrowStep}
+use Rattle.floats.specs.Patterns.{hidden, narrow_step}
 use Rattle.decimal_rounding.proofs.Pattern.{units-pattern}
 use Rattle.decimal_rounding.proofs.Wide.{joined}
 use Rattle.lengths.proofs.Narrow.{round-at}
@@ -55,20 +55,20 @@ module _ (q k c : ℕ) (few : q < 2 ^ 53) (least : 870 ≤ k) (most : k < 896) (
 
 -- ---- 24 digits
 module _ (q k : ℕ) (long : 2 ^ 52 ≤ q) (few : q < 2 ^ 53) (least : 896 ≤ k) (most : k ≤ 1149) where
-  steps-large : 2 ^ 1074 * 2 ^ (k - 896) ≡ narrowStep * 2 ^ (k + 149)
+  steps-large : 2 ^ 1074 * 2 ^ (k - 896) ≡ narrow_step * 2 ^ (k + 149)
   steps-large =
       let h : 1074 + (k - 896) ≡ 29 + (k + 149) = omega arith in
       sym (pow-add 2 1074 (k - 896)) ∙ ap (λ (x : ℕ). 2 ^ x) h ∙ pow-add 2 29 (k + 149)
 
-  pub rounded-large : of_bits binary32 ((k - 896) * hidden + nearest (q / narrowStep) (compare (q % narrowStep * 2) narrowStep)) ≡ round binary32 false (q * 2 ^ k) (2 ^ 1074)
+  pub rounded-large : of_bits binary32 ((k - 896) * hidden + nearest (q / narrow_step) (compare (q % narrow_step * 2) narrow_step)) ≡ round binary32 false (q * 2 ^ k) (2 ^ 1074)
   rounded-large =
-      let o = compare (q % narrowStep * 2) narrowStep in
-      let m = nearest (q / narrowStep) o in
-      let a : q / narrowStep < 2 ^ 24 = omega arith in
-      let b : 2 ^ 23 ≤ q / narrowStep = omega arith in
-      let h : m ≤ 2 ^ 24 = le_trans (nearest-le (q / narrowStep) o) a in
-      let g : 2 ^ 23 ≤ m = le_trans b (nearest-ge (q / narrowStep) o) in
+      let o = compare (q % narrow_step * 2) narrow_step in
+      let m = nearest (q / narrow_step) o in
+      let a : q / narrow_step < 2 ^ 24 = omega arith in
+      let b : 2 ^ 23 ≤ q / narrow_step = omega arith in
+      let h : m ≤ 2 ^ 24 = le_trans (nearest-le (q / narrow_step) o) a in
+      let g : 2 ^ 23 ≤ m = le_trans b (nearest-ge (q / narrow_step) o) in
       sym
-      (round-at (q * 2 ^ k) (2 ^ 1074) (k - 896) (q / narrowStep) (q % narrowStep) narrowStep (2 ^ (k + 149)) (pow_pos 1074) (pow_pos (k + 149)) a (inl b) (omega arith) (apart q k narrowStep) steps-large
+      (round-at (q * 2 ^ k) (2 ^ 1074) (k - 896) (q / narrow_step) (q % narrow_step) narrow_step (2 ^ (k + 149)) (pow_pos 1074) (pow_pos (k + 149)) a (inl b) (omega arith) (apart q k narrow_step) steps-large
       ∙ units-pattern false m (k - 896) h (inl g) (omega arith)
       ∙ ap (of_bits binary32) (let z : 0 + (k - 896) * hidden + m ≡ (k - 896) * hidden + m = omega arith in z))

@@ -1,14 +1,14 @@
 // A row of lengths at once, and half of one.
 
 ghost use Rattle.std.specs.Prelude.{◌≡◌, length};
-ghost use Rattle.lengths.specs.Length.{lengthsOf, JudgedRow};
+ghost use Rattle.lengths.specs.Length.{lengths_of, JudgedRow};
 
 use crate::{exact, passes};
 
 // Puts the length where a place is 0.
 fn settle(x: &[f32; 32], y: &[f32; 32], out: &mut [f32; 31])
     requires { JudgedRow 31 x.now y.now out.old }
-    ensures { out.new ≡ lengthsOf 31 x.now y.now }
+    ensures { out.new ≡ lengths_of 31 x.now y.now }
 {
     let mut j = 0usize;
     while j < 31 {
@@ -24,7 +24,7 @@ fn settle(x: &[f32; 32], y: &[f32; 32], out: &mut [f32; 31])
 // once.
 pub fn lengths(x: &[f32; 32], y: &[f32; 32], out: &mut [f32; 31])
     requires { length out.old ≡ 31 }
-    ensures { out.new ≡ lengthsOf 31 x.now y.now }
+    ensures { out.new ≡ lengths_of 31 x.now y.now }
 {
     let mut unsettled = false;
     let mut at = 0usize;
@@ -47,7 +47,7 @@ pub fn lengths(x: &[f32; 32], y: &[f32; 32], out: &mut [f32; 31])
 // What a run of 16 did not settle, worked out.
 fn settle_half(x: &[f32; 32], y: &[f32; 32], known: [f32; 16]) -> [f32; 16]
     requires { JudgedRow 16 x.now y.now known }
-    ensures { result ≡ lengthsOf 16 x.now y.now }
+    ensures { result ≡ lengths_of 16 x.now y.now }
 {
     let mut r = known;
     let mut j = 0usize;
@@ -62,7 +62,7 @@ fn settle_half(x: &[f32; 32], y: &[f32; 32], known: [f32; 16]) -> [f32; 16]
 
 // The lengths of the first 16 of 32 vectors: one run.
 pub fn half_lengths(x: &[f32; 32], y: &[f32; 32]) -> [f32; 16]
-    ensures { result ≡ lengthsOf 16 x.now y.now }
+    ensures { result ≡ lengths_of 16 x.now y.now }
 {
     let known = passes::judged_run(x, y, 0);
     let mut unsettled = false;

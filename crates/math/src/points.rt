@@ -1,6 +1,6 @@
 // Points of the plane, in path units, and vectors between them.
 ghost use Rattle.std.specs.Prelude.{◌≡◌};
-ghost use Rattle.math.specs.Math.{addOf, subOf, scale_of, dotOf, length_of, distance_of, normalizeOf, lerpPointOf};
+ghost use Rattle.math.specs.Math.{add_of, sub_of, scale_of, dot_of, length_of, distance_of, normalize_of, lerp_point_of};
 
 use crate::numbers::lerp;
 
@@ -11,7 +11,7 @@ pub struct Point {
 }
 
 pub fn add(a: Point, b: Point) -> Point
-    ensures { result ≡ addOf a b }
+    ensures { result ≡ add_of a b }
 {
     Point {
         x: a.x + b.x,
@@ -21,7 +21,7 @@ pub fn add(a: Point, b: Point) -> Point
 
 // a - b
 pub fn sub(a: Point, b: Point) -> Point
-    ensures { result ≡ subOf a b }
+    ensures { result ≡ sub_of a b }
 {
     Point {
         x: a.x - b.x,
@@ -39,7 +39,7 @@ pub fn scale(v: Point, s: f32) -> Point
 }
 
 pub fn dot(a: Point, b: Point) -> f32
-    ensures { result ≡ dotOf a b }
+    ensures { result ≡ dot_of a b }
 {
     a.x * b.x + a.y * b.y
 }
@@ -59,7 +59,7 @@ pub fn distance(a: Point, b: Point) -> f32
 
 // The direction of v. A vector of length at most 2^-23 has none: (0, 0). A NaN length divides.
 pub fn normalize(v: Point) -> Point
-    ensures { result ≡ normalizeOf v }
+    ensures { result ≡ normalize_of v }
 {
     let len = length(v);
     if len <= floats::EPSILON {
@@ -73,7 +73,7 @@ pub fn normalize(v: Point) -> Point
 }
 
 pub fn lerp_point(a: Point, b: Point, t: f32) -> Point
-    ensures { result ≡ lerpPointOf a b t }
+    ensures { result ≡ lerp_point_of a b t }
 {
     Point {
         x: lerp(a.x, b.x, t),

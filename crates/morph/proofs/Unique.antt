@@ -5,7 +5,7 @@ use mathlib.Core.List.{List, [], ◌∷◌}
 use lib.Ieee.{Float}
 use Rattle.answers.proofs.Settled.{refused-settled, refused-not-accepted}
 use Rattle.morph.specs.Evaluate as Evaluate
-use Rattle.morph.specs.Bounds.{boundedOf}
+use Rattle.morph.specs.Bounds.{bounded_of}
 use Rattle.morph.specs.Morph as Morph
 use Rattle.morph.specs.declared.evaluating.Evaluated.{Evaluated}
 use Rattle.morph.specs.declared.evaluating.Evaluated.TheVariants as Evaluated
@@ -31,7 +31,7 @@ pub evaluate-unique :
 evaluate-unique from to t before r s after₁ after₂ p q = (alike r s (p.answer ∙ sym q.answer), p.output ∙ sym q.output)
 
 -- ---- bounds_at
-pub bounds-unique : (from to : List Float) (t : Float) (r s : Bounded) → r ≡ boundedOf from to t → s ≡ boundedOf from to t → r ≡ s
+pub bounds-unique : (from to : List Float) (t : Float) (r s : Bounded) → r ≡ bounded_of from to t → s ≡ bounded_of from to t → r ≡ s
 bounds-unique from to t r s p q = p ∙ sym q
 
 -- ---- morph
@@ -53,4 +53,4 @@ pub morph-unique :
     → Morph.Morph from to count one other s one₂ other₂
     → (r ≡ s) × (one₁ ≡ one₂) × (other₁ ≡ other₂)
 morph-unique from to count one other r s one₁ one₂ other₁ other₂ p q =
-    (alike-shapes r s (p.answer ∙ sym q.answer), p.fromShape ∙ sym q.fromShape, p.toShape ∙ sym q.toShape)
+    (alike-shapes r s (p.answer ∙ sym q.answer), p.from_shape ∙ sym q.from_shape, p.to_shape ∙ sym q.to_shape)

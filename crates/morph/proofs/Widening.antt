@@ -6,13 +6,13 @@ use native.Mathlib.Omega.{arith}
 use mathlib.Core.Path.{◌≡◌, refl, sym, ap, ◌∙◌, subst}
 use mathlib.Core.List.{List}
 use lib.Ieee.{Float}
-use Rattle.floats.specs.Floats.{zeroF}
+use Rattle.floats.specs.Floats.{zero_f}
 use Rattle.answers.specs.declared.refusals.Refusal.{Refusal}
 use Rattle.math.specs.declared.points.Point.{Point}
-use Rattle.polyline.specs.Judging.{judgeTwoOf}
+use Rattle.polyline.specs.Judging.{judge_two_of}
 use Rattle.polyline.specs.declared.judging.Judged.TheVariants as Judged
-use Rattle.morph.specs.Shapes.{progressOf, sharedOf, betweenAt}
-use Rattle.morph.specs.Bounds.{pointBounds, widened, noBounds, bounds_of, boundedOf}
+use Rattle.morph.specs.Shapes.{progress_of, shared_of, between_at}
+use Rattle.morph.specs.Bounds.{point_bounds, widened, no_bounds, bounds_of, bounded_of}
 use Rattle.morph.specs.declared.bounding.Bounds.{Bounds}
 use Rattle.morph.specs.declared.bounding.Bounded.TheVariants as Bounded
 
@@ -23,43 +23,43 @@ four p q r s = cc
 
 -- ---- the loop: the bounds of the first i points, of which there is one
 pub record Widening (from to : List Float) (along : Float) (count : ℕ) (bounds : Bounds) (i : ℕ) : Type 0 where
-  pub all : count ≡ sharedOf from to
+  pub all : count ≡ shared_of from to
   pub some : 1 ≤ i
   pub upto : i ≤ count
   pub here : bounds ≡ bounds_of from to along i
 
 module _ (from to : List Float) (along : Float) (count : ℕ) where
-  pub widening-start : (bounds : Bounds) (p : Point) → count ≡ sharedOf from to → 0 < sharedOf from to → p ≡ betweenAt from to along 0 → bounds ≡ pointBounds p → Widening from to along count bounds 1
+  pub widening-start : (bounds : Bounds) (p : Point) → count ≡ shared_of from to → 0 < shared_of from to → p ≡ between_at from to along 0 → bounds ≡ point_bounds p → Widening from to along count bounds 1
   unfolding bounds_of
-  widening-start bounds p e h f g = record { all = e; some = omega arith; upto = omega arith; here = g ∙ ap pointBounds f }
+  widening-start bounds p e h f g = record { all = e; some = omega arith; upto = omega arith; here = g ∙ ap point_bounds f }
 
-  next : (i : ℕ) → 1 ≤ i → widened (bounds_of from to along i) (betweenAt from to along i) ≡ bounds_of from to along (i + 1)
+  next : (i : ℕ) → 1 ≤ i → widened (bounds_of from to along i) (between_at from to along i) ≡ bounds_of from to along (i + 1)
   unfolding bounds_of
   next zero h = absurd (not-suc-le-zero h)
   next (suc k) h = ap (bounds_of from to along) (sym (add-one (suc k)))
 
   module _ (bounds : Bounds) (i : ℕ) (w : Widening from to along count bounds i) where
-    pub widening-inside : i < count → i < sharedOf from to
+    pub widening-inside : i < count → i < shared_of from to
     widening-inside h = subst (λ (k : ℕ). i < k) w.all h
 
-    pub widening-more : (p : Point) (wider : Bounds) → i < count → p ≡ betweenAt from to along i → wider ≡ widened bounds p → Widening from to along count wider (i + 1)
+    pub widening-more : (p : Point) (wider : Bounds) → i < count → p ≡ between_at from to along i → wider ≡ widened bounds p → Widening from to along count wider (i + 1)
     widening-more p wider h e g =
         record { all = w.all; some = omega arith; upto = omega arith; here = g ∙ ap (λ (b : Bounds). widened b p) w.here ∙ ap (widened (bounds_of from to along i)) e ∙ next i w.some }
 
-    pub widening-done : count ≤ i → bounds ≡ bounds_of from to along (sharedOf from to)
+    pub widening-done : count ≤ i → bounds ≡ bounds_of from to along (shared_of from to)
     widening-done h = let u = w.upto in w.here ∙ ap (bounds_of from to along) (let e : i ≡ count = omega arith in e ∙ w.all)
 
 -- ---- the ways out
 module _ (from to : List Float) (t : Float) where
-  pub bounds-refused : (reason : Refusal) → judgeTwoOf from to ≡ Judged.Refused reason → Bounded.Refused reason ≡ boundedOf from to t
-  unfolding boundedOf
+  pub bounds-refused : (reason : Refusal) → judge_two_of from to ≡ Judged.Refused reason → Bounded.Refused reason ≡ bounded_of from to t
+  unfolding bounded_of
   bounds-refused reason e = rw e
 
-  module _ (fine : judgeTwoOf from to ≡ Judged.Fine) where
-    pub bounds-none : (count : ℕ) → count ≡ sharedOf from to → count ≡ 0 → Bounded.Within (record { min_x = zeroF; min_y = zeroF; max_x = zeroF; max_y = zeroF }) ≡ boundedOf from to t
-    unfolding boundedOf bounds_of noBounds
+  module _ (fine : judge_two_of from to ≡ Judged.Fine) where
+    pub bounds-none : (count : ℕ) → count ≡ shared_of from to → count ≡ 0 → Bounded.Within (record { min_x = zero_f; min_y = zero_f; max_x = zero_f; max_y = zero_f }) ≡ bounded_of from to t
+    unfolding bounded_of bounds_of no_bounds
     bounds-none count e z = rw (fine, sym e ∙ z) refl
 
-    pub bounds-within : (along : Float) (bounds tidy : Bounds) → along ≡ progressOf t → bounds ≡ bounds_of from to along (sharedOf from to) → tidy ≡ bounds → Bounded.Within tidy ≡ boundedOf from to t
-    unfolding boundedOf
-    bounds-within along bounds tidy a e f = rw fine (ap Bounded.Within (f ∙ e ∙ ap (λ (x : Float). bounds_of from to x (sharedOf from to)) a))
+    pub bounds-within : (along : Float) (bounds tidy : Bounds) → along ≡ progress_of t → bounds ≡ bounds_of from to along (shared_of from to) → tidy ≡ bounds → Bounded.Within tidy ≡ bounded_of from to t
+    unfolding bounded_of
+    bounds-within along bounds tidy a e f = rw fine (ap Bounded.Within (f ∙ e ∙ ap (λ (x : Float). bounds_of from to x (shared_of from to)) a))

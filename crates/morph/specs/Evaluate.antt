@@ -4,19 +4,19 @@ use Rattle.std.specs.Prelude.{ℕ, ◌≡◌, List, [], ◌∷◌, length, Float
 use Rattle.answers.specs.Answers.{Answer, refused, accepted}
 use Rattle.answers.specs.Report.{written}
 use Rattle.polyline.specs.Points.{rows_of}
-use Rattle.polyline.specs.Judging.{judgeTwoOf}
+use Rattle.polyline.specs.Judging.{judge_two_of}
 use Rattle.resample.specs.Resample.{Outcome, after, roomed, answered, written_by}
-use Rattle.morph.specs.Shapes.{progressOf, sharedOf, betweenAt}
+use Rattle.morph.specs.Shapes.{progress_of, shared_of, between_at}
 use Rattle.morph.specs.declared.evaluating.Evaluated.{Evaluated}
 use Rattle.morph.specs.declared.evaluating.Evaluated.TheVariants as Evaluated
 
 -- the numbers of the shape between
 unfoldable pub shape_of : List Float → List Float → Float → List Float
-shape_of from to t = rows_of (betweenAt from to (progressOf t)) (sharedOf from to)
+shape_of from to t = rows_of (between_at from to (progress_of t)) (shared_of from to)
 
 -- into an output of so many places
-unfoldable pub evaluateOf : List Float → List Float → Float → ℕ → Outcome
-evaluateOf from to t room = after (judgeTwoOf from to) (roomed room (shape_of from to t))
+unfoldable pub evaluate_of : List Float → List Float → Float → ℕ → Outcome
+evaluate_of from to t room = after (judge_two_of from to) (roomed room (shape_of from to t))
 
 -- the number and the values of each case; an accepted call answers with the count of its numbers
 abbrev pub answer_of : Evaluated → Answer
@@ -24,5 +24,5 @@ answer_of (Evaluated.Numbers count) = accepted (count ∷ [])
 answer_of (Evaluated.Refused reason) = refused reason
 
 pub record Evaluate (from to : List Float) (t : Float) (before : List Float) (r : Evaluated) (after : List Float) : Type 0 where
-  pub answer : answer_of r ≡ answered (evaluateOf from to t (length before))
-  pub output : after ≡ written (written_by (evaluateOf from to t (length before))) before
+  pub answer : answer_of r ≡ answered (evaluate_of from to t (length before))
+  pub output : after ≡ written (written_by (evaluate_of from to t (length before))) before

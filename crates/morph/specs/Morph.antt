@@ -7,7 +7,7 @@ use Rattle.answers.specs.declared.refusals.Values.TheVariants.{Two}
 use Rattle.answers.specs.declared.refusals.Refusal.{Refusal}
 use Rattle.answers.specs.declared.refusals.Refusal.TheVariants.{NoRoom, Range}
 use Rattle.polyline.specs.Points.{count_of}
-use Rattle.polyline.specs.Judging.{judgeTwoOf}
+use Rattle.polyline.specs.Judging.{judge_two_of}
 use Rattle.polyline.specs.declared.judging.Judged.{Judged}
 use Rattle.polyline.specs.declared.judging.Judged.TheVariants as Judged
 use Rattle.resample.specs.Planning.{plan_of, rows_by}
@@ -24,12 +24,12 @@ abbrev pub resolved : ℕ → ℕ
 resolved resolution = cond (ltb resolution 2) 2 resolution
 
 -- the points of the larger shape
-unfoldable pub largerOf : List Float → List Float → ℕ
-largerOf from to = max (count_of from) (count_of to)
+unfoldable pub larger_of : List Float → List Float → ℕ
+larger_of from to = max (count_of from) (count_of to)
 
 -- "The default becomes 128, or the larger count if that is more."
-unfoldable pub defaultOf : List Float → List Float → ℕ
-defaultOf from to = max 128 (largerOf from to)
+unfoldable pub default_of : List Float → List Float → ℕ
+default_of from to = max 128 (larger_of from to)
 
 -- 11 of the first shape, then of the second
 abbrev pub both : Plan → Plan → Plans
@@ -37,8 +37,8 @@ both (Plan.Refused reason) second = Plans.Broken reason
 both (Plan.Go first) (Plan.Refused reason) = Plans.Broken reason
 both (Plan.Go first) (Plan.Go second) = Plans.Both first second
 
-unfoldable pub plansOf : List Float → List Float → ℕ → Plans
-plansOf from to count = both (plan_of from count) (plan_of to count)
+unfoldable pub plans_of : List Float → List Float → ℕ → Plans
+plans_of from to count = both (plan_of from count) (plan_of to count)
 
 -- what a call comes to: the numbers of its two outputs, or a refusal
 pub data Outcomes : Type 0 where
@@ -56,13 +56,13 @@ roomed one other first second =
     cond (ltb one (length first) || ltb other (length second)) (refusal (NoRoom (Two (length first) (length second)))) (shapes first second)
 
 -- 11 comes before 8
-abbrev pub byPlans : List Float → List Float → ℕ → ℕ → ℕ → Plans → Outcomes
-byPlans from to count one other (Plans.Both first second) = roomed one other (rows_by from count first) (rows_by to count second)
-byPlans from to count one other (Plans.Broken reason) = refusal reason
+abbrev pub by_plans : List Float → List Float → ℕ → ℕ → ℕ → Plans → Outcomes
+by_plans from to count one other (Plans.Both first second) = roomed one other (rows_by from count first) (rows_by to count second)
+by_plans from to count one other (Plans.Broken reason) = refusal reason
 
 -- two shapes at a count, into outputs of so many places
-unfoldable pub morphOf : List Float → List Float → ℕ → ℕ → ℕ → Outcomes
-morphOf from to count one other = after (judgeTwoOf from to) (cond (ltb 4096 count) (refusal (Range count)) (byPlans from to count one other (plansOf from to count)))
+unfoldable pub morph_of : List Float → List Float → ℕ → ℕ → ℕ → Outcomes
+morph_of from to count one other = after (judge_two_of from to) (cond (ltb 4096 count) (refusal (Range count)) (by_plans from to count one other (plans_of from to count)))
 
 -- the number and the values of each case; an accepted call answers with the counts of its numbers
 abbrev pub answer_of : Morphed → Answer
@@ -74,18 +74,18 @@ answered (shapes first second) = accepted (length first ∷ length second ∷ []
 answered (refusal reason) = refused reason
 
 -- "A refusal writes to no output. An accepted call writes the counted places from each output's start and no others."
-abbrev pub firstWritten : Outcomes → List Float
-firstWritten (shapes first second) = first
-firstWritten (refusal reason) = []
+abbrev pub first_written : Outcomes → List Float
+first_written (shapes first second) = first
+first_written (refusal reason) = []
 
-abbrev pub secondWritten : Outcomes → List Float
-secondWritten (shapes first second) = second
-secondWritten (refusal reason) = []
+abbrev pub second_written : Outcomes → List Float
+second_written (shapes first second) = second
+second_written (refusal reason) = []
 
 pub record Morph (from to : List Float) (count : ℕ) (one other : List Float) (r : Morphed) (one' other' : List Float) : Type 0 where
-  pub answer : answer_of r ≡ answered (morphOf from to count (length one) (length other))
-  pub fromShape : one' ≡ written (firstWritten (morphOf from to count (length one) (length other))) one
-  pub toShape : other' ≡ written (secondWritten (morphOf from to count (length one) (length other))) other
+  pub answer : answer_of r ≡ answered (morph_of from to count (length one) (length other))
+  pub from_shape : one' ≡ written (first_written (morph_of from to count (length one) (length other))) one
+  pub to_shape : other' ≡ written (second_written (morph_of from to count (length one) (length other))) other
 
 -- the same over the two outputs that a call is lent
 abbrev pub MorphInto : List Float → List Float → ℕ → Lent Float → Lent Float → Morphed → Type 0

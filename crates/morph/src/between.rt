@@ -1,7 +1,7 @@
 // The shape between two shapes.
 ghost use Rattle.std.specs.Prelude.{◌≡◌, ◌<◌};
-ghost use Rattle.floats.specs.Floats.{clampOf, zeroF, oneF};
-ghost use Rattle.morph.specs.Shapes.{progressOf, sharedOf, betweenAt};
+ghost use Rattle.floats.specs.Floats.{clamp_of, zero_f, one_f};
+ghost use Rattle.morph.specs.Shapes.{progress_of, shared_of, between_at};
 
 use floats::clamp;
 use math::{Point, lerp_point};
@@ -9,14 +9,14 @@ use polyline::inner::point_at;
 
 // A morph's progress, from 0 to 1. A NaN stays.
 pub(crate) fn progress(t: f32) -> f32
-    ensures { result ≡ progressOf t }
+    ensures { result ≡ progress_of t }
 {
     clamp(t, 0.0, 1.0)
 }
 
 // How many points both shapes have.
 pub(crate) fn shared(from: &[f32], to: &[f32]) -> usize
-    ensures { result ≡ sharedOf from.now to.now }
+    ensures { result ≡ shared_of from.now to.now }
 {
     let first = from.len() / 2;
     let second = to.len() / 2;
@@ -25,8 +25,8 @@ pub(crate) fn shared(from: &[f32], to: &[f32]) -> usize
 
 // The point number i of the shape between, at a progress that was clamped.
 pub(crate) fn between_at(from: &[f32], to: &[f32], along: f32, i: usize) -> Point
-    requires { i < sharedOf from.now to.now }
-    ensures { result ≡ betweenAt from.now to.now along i }
+    requires { i < shared_of from.now to.now }
+    ensures { result ≡ between_at from.now to.now along i }
 {
     let start = point_at(from, i);
     lerp_point(start, point_at(to, i), along)

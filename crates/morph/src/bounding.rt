@@ -1,7 +1,7 @@
 // The bounds of the shape between two shapes.
 ghost use Rattle.std.specs.Prelude.{◌≡◌, ◌<◌};
-ghost use Rattle.morph.specs.Shapes.{sharedOf};
-ghost use Rattle.morph.specs.Bounds.{pointBounds, widened, bounds_of, boundedOf};
+ghost use Rattle.morph.specs.Shapes.{shared_of};
+ghost use Rattle.morph.specs.Bounds.{point_bounds, widened, bounds_of, bounded_of};
 
 use crate::between::{between_at, progress, shared};
 use answers::Refusal;
@@ -26,7 +26,7 @@ pub enum Bounded {
 
 // The bounds of one point.
 fn around(p: Point) -> Bounds
-    ensures { result ≡ pointBounds p }
+    ensures { result ≡ point_bounds p }
 {
     Bounds {
         min_x: p.x,
@@ -61,8 +61,8 @@ fn tidied(b: Bounds) -> Bounds
 
 // The bounds of all points of the shape between, of which there is one.
 fn bounds_between(from: &[f32], to: &[f32], along: f32) -> Bounds
-    requires { 0 < sharedOf from.now to.now }
-    ensures { result ≡ bounds_of from.now to.now along (sharedOf from.now to.now) }
+    requires { 0 < shared_of from.now to.now }
+    ensures { result ≡ bounds_of from.now to.now along (shared_of from.now to.now) }
 {
     let count = shared(from, to);
     let mut bounds = around(between_at(from, to, along, 0));
@@ -76,7 +76,7 @@ fn bounds_between(from: &[f32], to: &[f32], along: f32) -> Bounds
 
 // The bounds of the shape at the progress t. Where one shape has no points, they are four zeros.
 pub fn bounds_at(from: &[f32], to: &[f32], t: f32) -> Bounded
-    ensures { result ≡ boundedOf from.now to.now t }
+    ensures { result ≡ bounded_of from.now to.now t }
 {
     match judge_two(from, to) {
         Judged::Refused(refusal) => {

@@ -2,7 +2,7 @@
 ghost use Rattle.std.specs.Prelude.{◌≡◌, ◌*◌, ◌≤◌, length};
 ghost use Rattle.answers.specs.Report.{written};
 ghost use Rattle.polyline.specs.Points.{rows_of};
-ghost use Rattle.morph.specs.Shapes.{sharedOf, betweenAt, numbersBetween, anyNan};
+ghost use Rattle.morph.specs.Shapes.{shared_of, between_at, numbers_between, any_nan};
 ghost use Rattle.morph.specs.Evaluate.{Evaluate};
 
 use crate::between::{progress, shared};
@@ -22,9 +22,9 @@ pub enum Evaluated {
 // gives it. Whether there is one. There are as many past the middle as before it: each step puts one
 // of each half, so that one test of two lanes asks for both.
 fn put_numbers(from: &[f32], to: &[f32], along: f32, out: &mut [f32]) -> bool
-    requires { 2 * sharedOf from.now to.now ≤ length out.old }
-    ensures answer { result ≡ anyNan (numbersBetween from.now to.now along) }
-    ensures memory { out.new ≡ written (numbersBetween from.now to.now along) out.old }
+    requires { 2 * shared_of from.now to.now ≤ length out.old }
+    ensures answer { result ≡ any_nan (numbers_between from.now to.now along) }
+    ensures memory { out.new ≡ written (numbers_between from.now to.now along) out.old }
 {
     let half = shared(from, to);
     let mut any = false;
@@ -55,8 +55,8 @@ fn tidy_numbers(out: &mut [f32], count: usize)
 // Every point of the shape between. A second pass tidies the numbers, where one is a NaN: in the first
 // it would cost each number as much as the arithmetic.
 fn fill_between(from: &[f32], to: &[f32], along: f32, out: &mut [f32])
-    requires { 2 * sharedOf from.now to.now ≤ length out.old }
-    ensures { out.new ≡ written (rows_of (betweenAt from.now to.now along) (sharedOf from.now to.now)) out.old }
+    requires { 2 * shared_of from.now to.now ≤ length out.old }
+    ensures { out.new ≡ written (rows_of (between_at from.now to.now along) (shared_of from.now to.now)) out.old }
 {
     if put_numbers(from, to, along, out) {
         tidy_numbers(out, 2 * shared(from, to));

@@ -1,6 +1,6 @@
 // Making a morph: two shapes resampled to as many points each.
 ghost use Rattle.std.specs.Prelude.{◌≡◌, ◌≤◌, length};
-ghost use Rattle.morph.specs.Morph.{resolved, largerOf, defaultOf, plansOf, MorphInto};
+ghost use Rattle.morph.specs.Morph.{resolved, larger_of, default_of, plans_of, MorphInto};
 
 use answers::{Refusal, Values};
 use polyline::{Judged, judge_two};
@@ -29,7 +29,7 @@ fn at_least_two(resolution: usize) -> usize
 
 // The points of the larger shape.
 fn larger(from: &[f32], to: &[f32]) -> usize
-    ensures { result ≡ largerOf from.now to.now }
+    ensures { result ≡ larger_of from.now to.now }
 {
     let first = from.len() / 2;
     let second = to.len() / 2;
@@ -38,7 +38,7 @@ fn larger(from: &[f32], to: &[f32]) -> usize
 
 // The resolution where none is stated: 128, or the larger shape's count if that is more.
 fn default_resolution(from: &[f32], to: &[f32]) -> usize
-    ensures { result ≡ defaultOf from.now to.now }
+    ensures { result ≡ default_of from.now to.now }
 {
     let count = larger(from, to);
     if count < 128 { 128 } else { count }
@@ -46,7 +46,7 @@ fn default_resolution(from: &[f32], to: &[f32]) -> usize
 
 // The first shape's plan, then the second's.
 fn plan_both(from: &[f32], to: &[f32], count: usize) -> Plans
-    ensures { result ≡ plansOf from.now to.now count }
+    ensures { result ≡ plans_of from.now to.now count }
 {
     match plan_for(from, count) {
         Plan::Refused(refusal) => Plans::Broken(refusal),
@@ -103,7 +103,7 @@ pub fn morph(
 
 // The same with 128 points, or as many as the larger shape has if that is more.
 pub fn morph_default(from: &[f32], to: &[f32], out_from: &mut [f32], out_to: &mut [f32]) -> Morphed
-    ensures { MorphInto from.now to.now (defaultOf from.now to.now) out_from out_to result }
+    ensures { MorphInto from.now to.now (default_of from.now to.now) out_from out_to result }
 {
     morph(from, to, default_resolution(from, to), out_from, out_to)
 }

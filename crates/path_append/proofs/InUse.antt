@@ -12,10 +12,10 @@ use lib.Seq.{length-take-le}
 use Rattle.path_segment.specs.Segments.{width_of, tables_of}
 use Rattle.path_segment.proofs.Widths.{width-most}
 use Rattle.path_stored.specs.Buffers.{Buffers, buffers}
-use Rattle.path_stored.specs.Stored.{before, mostSegments, isStored, Stored}
+use Rattle.path_stored.specs.Stored.{before, most_segments, is_stored, Stored}
 use Rattle.path_stored.proofs.Counting.{before-most, tables-at-most}
 use Rattle.path_stored.proofs.Rule.{stored-rule}
-use Rattle.path_append.specs.Appending.{numbersUsed, tablesUsed, first_of, inUse, numberBefore, mayFollow}
+use Rattle.path_append.specs.Appending.{numbers_used, tables_used, first_of, in_use, number_before, may_follow}
 
 -- what the first segments have is the same in their own part
 pub before-take : (f : ℕ → ℕ) (kinds : List ℕ) (n : ℕ) → before f (take n kinds) n ≡ before f kinds n
@@ -26,17 +26,17 @@ before-take f (k ∷ kinds) zero = refl
 before-take f (k ∷ kinds) (suc n) = ap (λ m. f k + m) (before-take f kinds n)
 
 -- ---- bounds
-pub numbers-bound : (kinds : List ℕ) (count : ℕ) → numbersUsed kinds count ≤ 11 * count
+pub numbers-bound : (kinds : List ℕ) (count : ℕ) → numbers_used kinds count ≤ 11 * count
 numbers-bound kinds count = before-most width_of 11 width-most kinds count
 
-pub tables-bound : (kinds : List ℕ) (count : ℕ) → tablesUsed kinds count ≤ 33 * count
+pub tables-bound : (kinds : List ℕ) (count : ℕ) → tables_used kinds count ≤ 33 * count
 tables-bound kinds count = omega (arith, tables-at-most kinds count)
 
 -- ---- the number before a new one
-pub number-first : (commands : List ℕ) (count : ℕ) → count ≡ 0 → 0 ≡ numberBefore commands count
+pub number-first : (commands : List ℕ) (count : ℕ) → count ≡ 0 → 0 ≡ number_before commands count
 number-first commands count e = rw e
 
-pub number-after : (commands : List ℕ) (count : ℕ) → (count ≡ 0 → ⊥) → get_or commands (count - 1) 0 ≡ numberBefore commands count
+pub number-after : (commands : List ℕ) (count : ℕ) → (count ≡ 0 → ⊥) → get_or commands (count - 1) 0 ≡ number_before commands count
 number-after commands zero h = absurd (h refl)
 number-after commands (suc n) h = ap (λ i. get_or commands i 0) (let e : suc n - 1 ≡ n = omega arith in e)
 
@@ -46,13 +46,13 @@ refuted true h = absurd (h tt)
 refuted false h = refl
 
 module _ (b : Buffers) (count : ℕ) where
-  pub few-kinds : length b.kinds < count → false ≡ inUse b count
-  unfolding inUse
+  pub few-kinds : length b.kinds < count → false ≡ in_use b count
+  unfolding in_use
   few-kinds h = simp (lt-leb count (length b.kinds) h)
 
-  not-used : count ≤ length b.kinds → (Stored (first_of b count) → ⊥) → false ≡ inUse b count
-  unfolding inUse
-  not-used h none = simp (le-leb count (length b.kinds) h, refuted (isStored (first_of b count)) (λ t. none (stored-rule (first_of b count) t)))
+  not-used : count ≤ length b.kinds → (Stored (first_of b count) → ⊥) → false ≡ in_use b count
+  unfolding in_use
+  not-used h none = simp (le-leb count (length b.kinds) h, refuted (is_stored (first_of b count)) (λ t. none (stored-rule (first_of b count) t)))
 
   size : count ≤ length b.kinds → length (take count b.kinds) ≡ count
   size h = length-take-le count b.kinds h
@@ -60,38 +60,38 @@ module _ (b : Buffers) (count : ℕ) where
   all_of : (f : ℕ → ℕ) → count ≤ length b.kinds → before f (take count b.kinds) (length (take count b.kinds)) ≡ before f b.kinds count
   all_of f h = ap (before f (take count b.kinds)) (size h) ∙ before-take f b.kinds count
 
-  pub many-kinds : count ≤ length b.kinds → mostSegments < count → false ≡ inUse b count
+  pub many-kinds : count ≤ length b.kinds → most_segments < count → false ≡ in_use b count
   many-kinds h g = not-used h (λ s. let e = size h in let f = s.few in omega arith)
 
-  pub few-lengths : count ≤ length b.kinds → length b.lengths < count → false ≡ inUse b count
+  pub few-lengths : count ≤ length b.kinds → length b.lengths < count → false ≡ in_use b count
   few-lengths h g = not-used h (λ s. let e = size h in let f = s.one in omega (arith, length-take count b.lengths))
 
-  pub few-commands : count ≤ length b.kinds → length b.commands < count → false ≡ inUse b count
+  pub few-commands : count ≤ length b.kinds → length b.commands < count → false ≡ in_use b count
   few-commands h g = not-used h (λ s. let e = size h in let f = s.told in omega (arith, length-take count b.commands))
 
-  pub few-numbers : count ≤ length b.kinds → length b.fields < numbersUsed b.kinds count → false ≡ inUse b count
-  few-numbers h g = not-used h (λ s. let e = s.numbers ∙ all_of width_of h in omega (arith, length-take (numbersUsed b.kinds count) b.fields))
+  pub few-numbers : count ≤ length b.kinds → length b.fields < numbers_used b.kinds count → false ≡ in_use b count
+  few-numbers h g = not-used h (λ s. let e = s.numbers ∙ all_of width_of h in omega (arith, length-take (numbers_used b.kinds count) b.fields))
 
-  pub few-tables : count ≤ length b.kinds → length b.tables < tablesUsed b.kinds count → false ≡ inUse b count
-  few-tables h g = not-used h (λ s. let e = s.counted ∙ ap (λ n. 33 * n) (all_of tables_of h) in omega (arith, length-take (tablesUsed b.kinds count) b.tables))
+  pub few-tables : count ≤ length b.kinds → length b.tables < tables_used b.kinds count → false ≡ in_use b count
+  few-tables h g = not-used h (λ s. let e = s.counted ∙ ap (λ n. 33 * n) (all_of tables_of h) in omega (arith, length-take (tables_used b.kinds count) b.tables))
 
   -- else the check decides
-  pub checked : (t : Bool) (n m : ℕ) → n ≡ numbersUsed b.kinds count → m ≡ tablesUsed b.kinds count → count ≤ length b.kinds
-      → t ≡ isStored (buffers (take count b.kinds) (take n b.fields) (take m b.tables) (take count b.lengths) (take count b.commands)) → t ≡ inUse b count
-  unfolding inUse
+  pub checked : (t : Bool) (n m : ℕ) → n ≡ numbers_used b.kinds count → m ≡ tables_used b.kinds count → count ≤ length b.kinds
+      → t ≡ is_stored (buffers (take count b.kinds) (take n b.fields) (take m b.tables) (take count b.lengths) (take count b.commands)) → t ≡ in_use b count
+  unfolding in_use
   checked t n m en em h e = simp (le-leb count (length b.kinds) h, sym en, sym em) e
 
   -- what a path in use has
   pub record Whole : Type 0 where
-    pub few : count ≤ mostSegments
-    pub withKinds : count ≤ length b.kinds
+    pub few : count ≤ most_segments
+    pub with_kinds : count ≤ length b.kinds
     pub with_lengths : count ≤ length b.lengths
-    pub withCommands : count ≤ length b.commands
+    pub with_commands : count ≤ length b.commands
 
-  pub used-whole : T (inUse b count) → Whole
-  unfolding inUse
+  pub used-whole : T (in_use b count) → Whole
+  unfolding in_use
   used-whole t =
-      let stored = isStored (first_of b count) in
+      let stored = is_stored (first_of b count) in
       let h = leb→le count (length b.kinds) (and_l (leb count (length b.kinds)) stored t) in
       let s = stored-rule (first_of b count) (and_r (leb count (length b.kinds)) stored t) in
       let e = size h in
@@ -100,21 +100,21 @@ module _ (b : Buffers) (count : ℕ) where
       let t = s.told in
       record {
         few = omega arith;
-        withKinds = h;
+        with_kinds = h;
         with_lengths = omega (arith, length-take count b.lengths);
-        withCommands = omega (arith, length-take count b.commands);
+        with_commands = omega (arith, length-take count b.commands);
       }
 
   module _ (command : ℕ) where
-    follow-parts : T (mayFollow b count command) → T (inUse b count) × T (leb (numberBefore b.commands count) command)
-    unfolding mayFollow
-    follow-parts t = (and_l (inUse b count) (leb (numberBefore b.commands count) command) t, and_r (inUse b count) (leb (numberBefore b.commands count) command) t)
+    follow-parts : T (may_follow b count command) → T (in_use b count) × T (leb (number_before b.commands count) command)
+    unfolding may_follow
+    follow-parts t = (and_l (in_use b count) (leb (number_before b.commands count) command) t, and_r (in_use b count) (leb (number_before b.commands count) command) t)
 
-    pub follow-used : T (mayFollow b count command) → T (inUse b count)
+    pub follow-used : T (may_follow b count command) → T (in_use b count)
     follow-used t = (follow-parts t).0
 
-    pub follow-above : T (mayFollow b count command) → numberBefore b.commands count ≤ command
-    follow-above t = leb→le (numberBefore b.commands count) command (follow-parts t).1
+    pub follow-above : T (may_follow b count command) → number_before b.commands count ≤ command
+    follow-above t = leb→le (number_before b.commands count) command (follow-parts t).1
 
-    pub follow-whole : T (mayFollow b count command) → Whole
+    pub follow-whole : T (may_follow b count command) → Whole
     follow-whole t = used-whole (follow-used t)

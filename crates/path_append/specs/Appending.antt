@@ -12,85 +12,85 @@ use Rattle.answers.specs.declared.refusals.Refusal.TheVariants.{NoRoom, Rotation
 use Rattle.answers.specs.Answers.{Answer, accepted, refused, listed}
 use Rattle.table.specs.Spots as Spots
 use Rattle.ellipse.specs.declared.ends.Chord.{Chord}
-use Rattle.ellipse.specs.Ends.{fromEndsOf}
-use Rattle.arc.specs.Arcs.{isFallback, fallbackShape}
+use Rattle.ellipse.specs.Ends.{from_ends_of}
+use Rattle.arc.specs.Arcs.{is_fallback, fallback_shape}
 use Rattle.path_segment.specs.declared.segments.PathSegment.{PathSegment}
 use Rattle.path_segment.specs.declared.segments.PathSegment.TheVariants as Segment
-use Rattle.path_segment.specs.Segments.{kind_of, width_of, tables_of, fields_of, tableStored, lengthFor}
+use Rattle.path_segment.specs.Segments.{kind_of, width_of, tables_of, fields_of, table_stored, length_for}
 use Rattle.path_stored.specs.Buffers.{Buffers, buffers}
-use Rattle.path_stored.specs.Stored.{before, mostSegments, isStored}
+use Rattle.path_stored.specs.Stored.{before, most_segments, is_stored}
 use Rattle.path_append.specs.declared.pushing.Appended.{Appended}
 use Rattle.path_append.specs.declared.pushing.Appended.TheVariants as Appended
 
 -- ---- the path in use
 
 -- how many numbers it has, and how many places its tables take
-abbrev pub numbersUsed : List ℕ → ℕ → ℕ
-numbersUsed kinds count = before width_of kinds count
+abbrev pub numbers_used : List ℕ → ℕ → ℕ
+numbers_used kinds count = before width_of kinds count
 
-abbrev pub tablesUsed : List ℕ → ℕ → ℕ
-tablesUsed kinds count = 33 * before tables_of kinds count
+abbrev pub tables_used : List ℕ → ℕ → ℕ
+tables_used kinds count = 33 * before tables_of kinds count
 
 -- the first `count` segments of the buffers
 abbrev pub first_of : Buffers → ℕ → Buffers
 first_of b count =
-    buffers (take count b.kinds) (take (numbersUsed b.kinds count) b.fields) (take (tablesUsed b.kinds count) b.tables) (take count b.lengths)
+    buffers (take count b.kinds) (take (numbers_used b.kinds count) b.fields) (take (tables_used b.kinds count) b.tables) (take count b.lengths)
     (take count b.commands)
 
 -- so many kinds are there, and what they say is a stored path
-unfoldable pub inUse : Buffers → ℕ → Bool
-inUse b count = leb count (length b.kinds) && isStored (first_of b count)
+unfoldable pub in_use : Buffers → ℕ → Bool
+in_use b count = leb count (length b.kinds) && is_stored (first_of b count)
 
 -- the command number before the new one: the last in use, and 0 before the first
-abbrev pub numberBefore : List ℕ → ℕ → ℕ
-numberBefore commands count = get_or (0 ∷ commands) count 0
+abbrev pub number_before : List ℕ → ℕ → ℕ
+number_before commands count = get_or (0 ∷ commands) count 0
 
 -- the new number is not below it: the path with the segment would fail the check
-unfoldable pub mayFollow : Buffers → ℕ → ℕ → Bool
-unfolding inUse
-mayFollow b count command = inUse b count && leb (numberBefore b.commands count) command
+unfoldable pub may_follow : Buffers → ℕ → ℕ → Bool
+unfolding in_use
+may_follow b count command = in_use b count && leb (number_before b.commands count) command
 
 -- ---- what is judged
 
 -- 10 is "for a rotation that is NaN or infinite, on an arc that is no fallback": where this is false
-abbrev pub mayTurn : PathSegment → Bool
-mayTurn (Segment.Line line) = true
-mayTurn (Segment.Quad start control end) = true
-mayTurn (Segment.Cubic start control1 control2 end) = true
-mayTurn (Segment.Arc shape) = finite shape.x_axis_rotation
-mayTurn (Segment.Fallback shape) = true
+abbrev pub may_turn : PathSegment → Bool
+may_turn (Segment.Line line) = true
+may_turn (Segment.Quad start control end) = true
+may_turn (Segment.Cubic start control1 control2 end) = true
+may_turn (Segment.Arc shape) = finite shape.x_axis_rotation
+may_turn (Segment.Fallback shape) = true
 
 -- the new running length, one sum rounded once
-unfoldable pub grownOf : List Float → ℕ → PathSegment → Float
-grownOf lengths count segment = add binary32 (Spots.before lengths count) (lengthFor segment)
+unfoldable pub grown_of : List Float → ℕ → PathSegment → Float
+grown_of lengths count segment = add binary32 (Spots.before lengths count) (length_for segment)
 
 -- "the count needed of each output, in the call's order": what is in use and what the segment adds
-unfoldable pub needsOf : List ℕ → ℕ → PathSegment → Values
-needsOf kinds count segment =
-    Five (count + 1) (numbersUsed kinds count + width_of (kind_of segment)) (tablesUsed kinds count + 33 * tables_of (kind_of segment)) (count + 1) (count + 1)
+unfoldable pub needs_of : List ℕ → ℕ → PathSegment → Values
+needs_of kinds count segment =
+    Five (count + 1) (numbers_used kinds count + width_of (kind_of segment)) (tables_used kinds count + 33 * tables_of (kind_of segment)) (count + 1) (count + 1)
 
 -- no lent output is too short
-unfoldable pub hasRoom : Buffers → ℕ → PathSegment → Bool
-hasRoom b count segment =
+unfoldable pub has_room : Buffers → ℕ → PathSegment → Bool
+has_room b count segment =
     ltb count (length b.kinds)
-    && leb (numbersUsed b.kinds count + width_of (kind_of segment)) (length b.fields)
-    && leb (tablesUsed b.kinds count + 33 * tables_of (kind_of segment)) (length b.tables)
+    && leb (numbers_used b.kinds count + width_of (kind_of segment)) (length b.fields)
+    && leb (tables_used b.kinds count + 33 * tables_of (kind_of segment)) (length b.tables)
     && ltb count (length b.lengths)
     && ltb count (length b.commands)
 
 -- 8, where all else is right
-unfoldable pub fittingOf : Buffers → ℕ → PathSegment → Appended
-unfolding needsOf hasRoom
-fittingOf b count segment = cond (hasRoom b count segment) (Appended.Added (needsOf b.kinds count segment)) (Appended.Refused (NoRoom (needsOf b.kinds count segment)))
+unfoldable pub fitting_of : Buffers → ℕ → PathSegment → Appended
+unfolding needs_of has_room
+fitting_of b count segment = cond (has_room b count segment) (Appended.Added (needs_of b.kinds count segment)) (Appended.Refused (NoRoom (needs_of b.kinds count segment)))
 
 -- 12, 13 with the count of segments that there would be, 10, 11 with the new segment's number, 8
-unfoldable pub appendedOf : Buffers → ℕ → ℕ → PathSegment → Appended
-unfolding mayFollow grownOf fittingOf
-appendedOf b count command segment =
-    cond (mayFollow b count command)
-    (cond (ltb count mostSegments)
-    (cond (mayTurn segment)
-    (cond (finite (grownOf b.lengths count segment)) (fittingOf b count segment) (Appended.Refused (NotFinite count)))
+unfoldable pub appended_of : Buffers → ℕ → ℕ → PathSegment → Appended
+unfolding may_follow grown_of fitting_of
+appended_of b count command segment =
+    cond (may_follow b count command)
+    (cond (ltb count most_segments)
+    (cond (may_turn segment)
+    (cond (finite (grown_of b.lengths count segment)) (fitting_of b count segment) (Appended.Refused (NotFinite count)))
     (Appended.Refused (RotationRange count)))
     (Appended.Refused (Range (count + 1))))
     (Appended.Refused BadPath)
@@ -100,36 +100,36 @@ abbrev pub answer_of : Appended → Answer
 answer_of (Appended.Added counts) = accepted (listed counts)
 answer_of (Appended.Refused refusal) = refused refusal
 
-abbrev pub isAdded : Appended → Bool
-isAdded (Appended.Added counts) = true
-isAdded (Appended.Refused refusal) = false
+abbrev pub is_added : Appended → Bool
+is_added (Appended.Added counts) = true
+is_added (Appended.Refused refusal) = false
 
 -- ---- what is written
 
 -- the segment's own places and no others
 abbrev pub stored_at : Buffers → ℕ → ℕ → PathSegment → Buffers
 stored_at b count command segment =
-    buffers (set b.kinds count (kind_of segment)) (sets b.fields (numbersUsed b.kinds count) (fields_of segment))
-    (sets b.tables (tablesUsed b.kinds count) (tableStored segment)) (set b.lengths count (grownOf b.lengths count segment))
+    buffers (set b.kinds count (kind_of segment)) (sets b.fields (numbers_used b.kinds count) (fields_of segment))
+    (sets b.tables (tables_used b.kinds count) (table_stored segment)) (set b.lengths count (grown_of b.lengths count segment))
     (set b.commands count command)
 
 -- "A refusal writes to no output."
 abbrev pub afterwards : Appended → Buffers → ℕ → ℕ → PathSegment → Buffers
-afterwards appended b count command segment = cond (isAdded appended) (stored_at b count command segment) b
+afterwards appended b count command segment = cond (is_added appended) (stored_at b count command segment) b
 
 pub record Append (b : Buffers) (count command : ℕ) (segment : PathSegment) (r : Appended) (b' : Buffers) : Type 0 where
-  pub answer : r ≡ appendedOf b count command segment
+  pub answer : r ≡ appended_of b count command segment
   pub after : b' ≡ afterwards r b count command segment
 
 -- what storing asks: room for the segment after those in use
 pub record Room (b : Buffers) (count : ℕ) (segment : PathSegment) : Type 0 where
-  pub few : count < mostSegments
-  pub forKind : count < length b.kinds
-  pub forNumbers : numbersUsed b.kinds count + width_of (kind_of segment) ≤ length b.fields
-  pub forTable : tablesUsed b.kinds count + 33 * tables_of (kind_of segment) ≤ length b.tables
-  pub forLength : count < length b.lengths
-  pub forCommand : count < length b.commands
+  pub few : count < most_segments
+  pub for_kind : count < length b.kinds
+  pub for_numbers : numbers_used b.kinds count + width_of (kind_of segment) ≤ length b.fields
+  pub for_table : tables_used b.kinds count + 33 * tables_of (kind_of segment) ≤ length b.tables
+  pub for_length : count < length b.lengths
+  pub for_command : count < length b.commands
 
 -- ---- `arc_to`: `EllipticalArc::from_svg`, a line fallback or an arc
-unfoldable pub arcSegment : Chord → PathSegment
-arcSegment chord = cond (isFallback chord) (Segment.Fallback (fallbackShape chord)) (Segment.Arc (fromEndsOf chord))
+unfoldable pub arc_segment : Chord → PathSegment
+arc_segment chord = cond (is_fallback chord) (Segment.Fallback (fallback_shape chord)) (Segment.Arc (from_ends_of chord))

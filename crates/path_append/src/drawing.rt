@@ -3,7 +3,7 @@
 ghost use Rattle.std.specs.Prelude.{◌≡◌};
 ghost use Rattle.arc.specs.Lines.{line_of};
 ghost use Rattle.path_stored.specs.Buffers.{after, before};
-ghost use Rattle.path_append.specs.Appending.{Append, arcSegment};
+ghost use Rattle.path_append.specs.Appending.{Append, arc_segment};
 
 use crate::pushing::{Appended, push_segment};
 use arc::{LineSegment, fallback_shape, is_fallback};
@@ -85,7 +85,7 @@ pub fn cubic_to(
 
 // The arc of a chord, or its line fallback.
 fn arc_segment(chord: Chord) -> PathSegment
-    ensures { result ≡ arcSegment chord }
+    ensures { result ≡ arc_segment chord }
 {
     if is_fallback(chord) {
         return PathSegment::Fallback(fallback_shape(chord));
@@ -104,7 +104,7 @@ pub fn arc_to(
     command: u32,
     chord: Chord,
 ) -> Appended
-    ensures { Append (before kinds numbers tables lengths commands) count command (arcSegment chord) result (after kinds numbers tables lengths commands) }
+    ensures { Append (before kinds numbers tables lengths commands) count command (arc_segment chord) result (after kinds numbers tables lengths commands) }
 {
     push_segment(
         kinds,

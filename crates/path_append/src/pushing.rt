@@ -1,8 +1,8 @@
 // Appending one segment.
 ghost use Rattle.std.specs.Prelude.{◌≡◌, ◌≤◌, ◌<◌, length};
 ghost use Rattle.path_stored.specs.Buffers.{after, before};
-ghost use Rattle.path_stored.specs.Stored.{mostSegments};
-ghost use Rattle.path_append.specs.Appending.{mayTurn, fittingOf, appendedOf, Append};
+ghost use Rattle.path_stored.specs.Stored.{most_segments};
+ghost use Rattle.path_append.specs.Appending.{may_turn, fitting_of, appended_of, Append};
 
 use crate::storing::store;
 use crate::used::{may_follow, numbers_used, tables_used};
@@ -22,7 +22,7 @@ pub enum Appended {
 
 // Whether a segment's rotation may be taken. Only an arc that is no line fallback has one that may not.
 fn may_turn(segment: PathSegment) -> bool
-    ensures { result ≡ mayTurn segment }
+    ensures { result ≡ may_turn segment }
 {
     match segment {
         PathSegment::Line(_) => true,
@@ -52,9 +52,9 @@ fn fitting(
     count: usize,
     segment: PathSegment,
 ) -> Appended
-    requires count_lt_most_segments { count < mostSegments }
+    requires count_lt_most_segments { count < most_segments }
     requires count_in_bounds { count ≤ length kinds.now }
-    ensures { result ≡ fittingOf (before kinds numbers tables lengths commands) count segment }
+    ensures { result ≡ fitting_of (before kinds numbers tables lengths commands) count segment }
 {
     let own = kind(segment);
     let n = numbers_used(kinds, count) + width(own);
@@ -89,7 +89,7 @@ fn judge(
     command: u32,
     segment: PathSegment,
 ) -> Appended
-    ensures { result ≡ appendedOf (before kinds numbers tables lengths commands) count command segment }
+    ensures { result ≡ appended_of (before kinds numbers tables lengths commands) count command segment }
 {
     if may_follow(kinds, numbers, tables, lengths, commands, count, command) {
         if 65536 <= count {

@@ -1,8 +1,8 @@
 // The path in use: the first segments of five buffers.
 ghost use Rattle.std.specs.Prelude.{◌≡◌, ◌≤◌, length};
 ghost use Rattle.path_stored.specs.Buffers.{before};
-ghost use Rattle.path_stored.specs.Stored.{mostSegments};
-ghost use Rattle.path_append.specs.Appending.{numbersUsed, tablesUsed, inUse, numberBefore, mayFollow};
+ghost use Rattle.path_stored.specs.Stored.{most_segments};
+ghost use Rattle.path_append.specs.Appending.{numbers_used, tables_used, in_use, number_before, may_follow};
 
 use path_stored::check_path;
 use path_stored::inner::{fields_before, tables_before};
@@ -10,8 +10,8 @@ use path_stored::inner::{fields_before, tables_before};
 // How many numbers the first `count` segments have.
 pub(crate) fn numbers_used(kinds: &[u8], count: usize) -> usize
     requires count_in_bounds { count ≤ length kinds.now }
-    requires count_le_most_segments { count ≤ mostSegments }
-    ensures { result ≡ numbersUsed kinds.now count }
+    requires count_le_most_segments { count ≤ most_segments }
+    ensures { result ≡ numbers_used kinds.now count }
 {
     fields_before(&kinds[..count], count)
 }
@@ -19,8 +19,8 @@ pub(crate) fn numbers_used(kinds: &[u8], count: usize) -> usize
 // How many places their tables take.
 pub(crate) fn tables_used(kinds: &[u8], count: usize) -> usize
     requires count_in_bounds { count ≤ length kinds.now }
-    requires count_le_most_segments { count ≤ mostSegments }
-    ensures { result ≡ tablesUsed kinds.now count }
+    requires count_le_most_segments { count ≤ most_segments }
+    ensures { result ≡ tables_used kinds.now count }
 {
     33 * tables_before(&kinds[..count], count)
 }
@@ -35,7 +35,7 @@ fn is_in_use(
     commands: &[u32],
     count: usize,
 ) -> bool
-    ensures { result ≡ inUse (before kinds numbers tables lengths commands) count }
+    ensures { result ≡ in_use (before kinds numbers tables lengths commands) count }
 {
     if kinds.len() < count {
         return false;
@@ -69,7 +69,7 @@ fn is_in_use(
 // The last command number of the first `count`, or 0 where there is none.
 fn number_before(commands: &[u32], count: usize) -> u32
     requires { count ≤ length commands.now }
-    ensures { result ≡ numberBefore commands.now count }
+    ensures { result ≡ number_before commands.now count }
 {
     if count == 0 {
         return 0;
@@ -88,7 +88,7 @@ pub(crate) fn may_follow(
     count: usize,
     command: u32,
 ) -> bool
-    ensures { result ≡ mayFollow (before kinds numbers tables lengths commands) count command }
+    ensures { result ≡ may_follow (before kinds numbers tables lengths commands) count command }
 {
     if is_in_use(kinds, numbers, tables, lengths, commands, count) {
         return number_before(commands, count) <= command;

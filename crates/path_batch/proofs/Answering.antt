@@ -11,37 +11,37 @@ use Rattle.answers.specs.declared.refusals.Refusal.TheVariants.{BadPath, NoRoom}
 use Rattle.answers.specs.declared.refusals.Values.{Values}
 use Rattle.answers.specs.declared.refusals.Values.TheVariants.{Two, Three}
 use Rattle.answers.specs.Report.{written}
-use Rattle.floats.specs.Floats.{zeroF}
-use Rattle.flight.specs.Flights.{noSegment}
+use Rattle.floats.specs.Floats.{zero_f}
+use Rattle.flight.specs.Flights.{no_segment}
 use Rattle.path_stored.specs.Buffers.{Buffers}
-use Rattle.path_stored.specs.Stored.{isStored}
+use Rattle.path_stored.specs.Stored.{is_stored}
 use Rattle.path_batch.specs.declared.batches.Batch.{Batch}
 use Rattle.path_batch.specs.declared.batches.Batch.TheVariants as Batch
-use Rattle.path_batch.specs.Batches.{segmentsFor, rawsFor, numbersFor, batchOf, places_of, flightsOf, givenBy, Places, Flights, FilledPlaces, FilledFlights}
+use Rattle.path_batch.specs.Batches.{segments_for, raws_for, numbers_for, batch_of, places_of, flights_of, given_by, Places, Flights, FilledPlaces, FilledFlights}
 use Rattle.path_batch.proofs.Filling.{segments-none, raws-none, numbers-none}
 
 -- ---- the answer, by the check and the room
 
 module _ (b : Buffers) (short : Bool) (needs : Values) (count : ℕ) where
-  batch-bad : isStored b ≡ false → batchOf b short needs count ≡ Batch.Refused BadPath
-  unfolding batchOf
+  batch-bad : is_stored b ≡ false → batch_of b short needs count ≡ Batch.Refused BadPath
+  unfolding batch_of
   batch-bad bad = rw bad
 
-  batch-short : isStored b ≡ true → short ≡ true → batchOf b short needs count ≡ Batch.Refused (NoRoom needs)
-  unfolding batchOf
+  batch-short : is_stored b ≡ true → short ≡ true → batch_of b short needs count ≡ Batch.Refused (NoRoom needs)
+  unfolding batch_of
   batch-short stored e = rw (stored, e)
 
-  batch-filled : isStored b ≡ true → short ≡ false → batchOf b short needs count ≡ Batch.Filled count
-  unfolding batchOf
+  batch-filled : is_stored b ≡ true → short ≡ false → batch_of b short needs count ≡ Batch.Filled count
+  unfolding batch_of
   batch-filled stored e = rw (stored, e)
 
 -- what an answer leaves in an output
-left : {A : Type 0} (elements before : List A) {r : Batch} (refusal : Refusal) → r ≡ Batch.Refused refusal → before ≡ written (givenBy r elements) before
-left {A} elements before refusal e = sym (ap (λ (r : Batch). written (givenBy r elements) before) e)
+left : {A : Type 0} (elements before : List A) {r : Batch} (refusal : Refusal) → r ≡ Batch.Refused refusal → before ≡ written (given_by r elements) before
+left {A} elements before refusal e = sym (ap (λ (r : Batch). written (given_by r elements) before) e)
 
 stored-in : {A : Type 0} (elements before : List A) {r : Batch} {after : List A} (count : ℕ) → r ≡ Batch.Filled count → after ≡ written elements before
-    → after ≡ written (givenBy r elements) before
-stored-in {A} elements before count e f = f ∙ sym (ap (λ (r : Batch). written (givenBy r elements) before) e)
+    → after ≡ written (given_by r elements) before
+stored-in {A} elements before count e f = f ∙ sym (ap (λ (r : Batch). written (given_by r elements) before) e)
 
 -- ---- places
 module _ (b : Buffers) (progresses : List Float) (segments : List ℕ) (raws : List Float) where
@@ -52,12 +52,12 @@ module _ (b : Buffers) (progresses : List Float) (segments : List ℕ) (raws : L
   is = places_of b count (length segments) (length raws)
 
   places-left : (refusal : Refusal) → is ≡ Batch.Refused refusal → Places b progresses segments raws (Batch.Refused refusal) segments raws
-  places-left refusal e = record { answer = sym e; segmentsAfter = left (segmentsFor b progresses) segments refusal e; rawsAfter = left (rawsFor b progresses) raws refusal e }
+  places-left refusal e = record { answer = sym e; segments_after = left (segments_for b progresses) segments refusal e; raws_after = left (raws_for b progresses) raws refusal e }
 
-  pub places-bad : isStored b ≡ false → Places b progresses segments raws (Batch.Refused BadPath) segments raws
+  pub places-bad : is_stored b ≡ false → Places b progresses segments raws (Batch.Refused BadPath) segments raws
   places-bad bad = places-left BadPath (batch-bad b _ (Two count count) count bad)
 
-  module _ (stored : isStored b ≡ true) where
+  module _ (stored : is_stored b ≡ true) where
     pub places-short-segments : length segments < count → Places b progresses segments raws (Batch.Refused (NoRoom (Two count count))) segments raws
     places-short-segments h = places-left (NoRoom (Two count count)) (batch-short b _ (Two count count) count stored (rw (lt-ltb (length segments) count h)))
 
@@ -70,8 +70,8 @@ module _ (b : Buffers) (progresses : List Float) (segments : List ℕ) (raws : L
         let e : is ≡ Batch.Filled count = batch-filled b _ (Two count count) count stored (rw (le-ltb (length segments) count s, le-ltb (length raws) count w)) in
         record {
           answer = sym e;
-          segmentsAfter = stored-in (segmentsFor b progresses) segments count e f.segmentsAre;
-          rawsAfter = stored-in (rawsFor b progresses) raws count e f.rawsAre;
+          segments_after = stored-in (segments_for b progresses) segments count e f.segments_are;
+          raws_after = stored-in (raws_for b progresses) raws count e f.raws_are;
         }
 
 -- ---- flights
@@ -83,21 +83,21 @@ module _ (b : Buffers) (progresses : List Float) (segments : List ℕ) (raws out
   needed = Three amount amount (4 * amount)
 
   abbrev has : Batch
-  has = flightsOf b amount (length segments) (length raws) (length out)
+  has = flights_of b amount (length segments) (length raws) (length out)
 
   flights-left : (refusal : Refusal) → has ≡ Batch.Refused refusal → Flights b progresses segments raws out (Batch.Refused refusal) segments raws out
   flights-left refusal e =
       record {
         answer = sym e;
-        segmentsAfter = left (segmentsFor b progresses) segments refusal e;
-        rawsAfter = left (rawsFor b progresses) raws refusal e;
-        outAfter = left (numbersFor b progresses) out refusal e;
+        segments_after = left (segments_for b progresses) segments refusal e;
+        raws_after = left (raws_for b progresses) raws refusal e;
+        out_after = left (numbers_for b progresses) out refusal e;
       }
 
-  pub flights-bad : isStored b ≡ false → Flights b progresses segments raws out (Batch.Refused BadPath) segments raws out
+  pub flights-bad : is_stored b ≡ false → Flights b progresses segments raws out (Batch.Refused BadPath) segments raws out
   flights-bad bad = flights-left BadPath (batch-bad b _ needed amount bad)
 
-  module _ (stored : isStored b ≡ true) where
+  module _ (stored : is_stored b ≡ true) where
     pub flights-short-segments : length segments < amount → Flights b progresses segments raws out (Batch.Refused (NoRoom needed)) segments raws out
     flights-short-segments h = flights-left (NoRoom needed) (batch-short b _ needed amount stored (rw (lt-ltb (length segments) amount h)))
 
@@ -117,23 +117,23 @@ module _ (b : Buffers) (progresses : List Float) (segments : List ℕ) (raws out
         batch-filled b _ needed amount stored (rw (le-ltb (length segments) amount s, le-ltb (length raws) amount w, le-ltb (length out) (4 * amount) o)) in
         record {
           answer = sym e;
-          segmentsAfter = stored-in (segmentsFor b progresses) segments amount e f.places.segmentsAre;
-          rawsAfter = stored-in (rawsFor b progresses) raws amount e f.places.rawsAre;
-          outAfter = stored-in (numbersFor b progresses) out amount e f.outIs;
+          segments_after = stored-in (segments_for b progresses) segments amount e f.places.segments_are;
+          raws_after = stored-in (raws_for b progresses) raws amount e f.places.raws_are;
+          out_after = stored-in (numbers_for b progresses) out amount e f.out_is;
         }
 
 -- ---- without segments: no segment, and zeros
 module _ (b : Buffers) (progresses : List Float) (none : length b.kinds ≡ 0) where
-  pub filled_none : (segments segments' : List ℕ) (raws raws' : List Float) → segments' ≡ written (replicate (length progresses) noSegment) segments
-      → raws' ≡ written (replicate (length progresses) zeroF) raws → FilledPlaces b progresses segments raws segments' raws'
+  pub filled_none : (segments segments' : List ℕ) (raws raws' : List Float) → segments' ≡ written (replicate (length progresses) no_segment) segments
+      → raws' ≡ written (replicate (length progresses) zero_f) raws → FilledPlaces b progresses segments raws segments' raws'
   filled_none segments segments' raws raws' s w =
       record {
-        segmentsAre = s ∙ ap (λ (l : List ℕ). written l segments) (segments-none b none progresses);
-        rawsAre = w ∙ ap (λ (l : List Float). written l raws) (raws-none b none progresses);
+        segments_are = s ∙ ap (λ (l : List ℕ). written l segments) (segments-none b none progresses);
+        raws_are = w ∙ ap (λ (l : List Float). written l raws) (raws-none b none progresses);
       }
 
-  pub flown-none : (segments segments' : List ℕ) (raws raws' out out' : List Float) → segments' ≡ written (replicate (length progresses) noSegment) segments
-      → raws' ≡ written (replicate (length progresses) zeroF) raws → out' ≡ written (replicate (4 * length progresses) zeroF) out
+  pub flown-none : (segments segments' : List ℕ) (raws raws' out out' : List Float) → segments' ≡ written (replicate (length progresses) no_segment) segments
+      → raws' ≡ written (replicate (length progresses) zero_f) raws → out' ≡ written (replicate (4 * length progresses) zero_f) out
       → FilledFlights b progresses segments raws out segments' raws' out'
   flown-none segments segments' raws raws' out out' s w o =
-      record { places = filled_none segments segments' raws raws' s w; outIs = o ∙ ap (λ (l : List Float). written l out) (numbers-none b none progresses) }
+      record { places = filled_none segments segments' raws raws' s w; out_is = o ∙ ap (λ (l : List Float). written l out) (numbers-none b none progresses) }

@@ -9,36 +9,36 @@ use lib.Seq.{sets, length-take-le}
 use lib.Ieee.{Float, nan}
 use Rattle.answers.specs.Report.{written}
 use Rattle.answers.proofs.Writing.{written_next, written-more, length-written}
-use Rattle.floats.specs.Floats.{zeroF}
-use Rattle.math.specs.Math.{originF}
+use Rattle.floats.specs.Floats.{zero_f}
+use Rattle.math.specs.Math.{origin_f}
 use Rattle.flight.specs.declared.Flight.{Flight}
-use Rattle.flight.specs.Flights.{noSegment, segmentGiven}
+use Rattle.flight.specs.Flights.{no_segment, segment_given}
 use Rattle.table.specs.declared.tables.Spot.{Spot}
 use Rattle.table.specs.Spots.{spot_of}
 use Rattle.path_stored.specs.Buffers.{Buffers}
 use Rattle.path_place.specs.declared.cursors.Cursor.{Cursor}
 use Rattle.path_place.specs.declared.places.Place.{Place}
-use Rattle.path_place.specs.Cursors.{cursorOf, Moving}
+use Rattle.path_place.specs.Cursors.{cursor_of, Moving}
 use Rattle.path_place.specs.Places.{place_in, place_of}
 use Rattle.path_place.proofs.Standing.{cursor-own, spot-among}
 use Rattle.path_marks.specs.Marks.{Marks, Leap}
-use Rattle.path_query.specs.Flights.{flownOf, flightOf, Flyable}
+use Rattle.path_query.specs.Flights.{flown_of, flight_of, Flyable}
 use Rattle.path_query.proofs.Answering.{flight-some, flight-none}
 use Rattle.path_query.proofs.Seats.{some-place}
-use Rattle.path_batch.specs.Batches.{each, segmentsFor, rawsFor, numbersOf, numbersFor}
+use Rattle.path_batch.specs.Batches.{each, segments_for, raws_for, numbers_of, numbers_for}
 
 -- ---- the cursor between two progresses
 
 -- so many are looked up, and the cursor stands at a segment of the path
 pub record Looking (kinds : List ℕ) (progresses : List Float) (at : Cursor) (k : ℕ) : Type 0 where
   pub upto : k ≤ length progresses
-  pub is : at ≡ cursorOf kinds at.segment
+  pub is : at ≡ cursor_of kinds at.segment
   pub inside : at.segment < length kinds
 
-pub looking-first : {kinds : List ℕ} {progresses : List Float} {at : Cursor} → at ≡ cursorOf kinds 0 → 0 < length kinds → Looking kinds progresses at 0
+pub looking-first : {kinds : List ℕ} {progresses : List Float} {at : Cursor} → at ≡ cursor_of kinds 0 → 0 < length kinds → Looking kinds progresses at 0
 looking-first {kinds} e some = let own = cursor-own kinds 0 e in record { upto = omega arith; is = own.1; inside = omega arith }
 
-pub looking-next : {kinds : List ℕ} {progresses : List Float} {k : ℕ} (at : Cursor) (i : ℕ) → at ≡ cursorOf kinds i → i < length kinds → k < length progresses → Looking kinds progresses at (k + 1)
+pub looking-next : {kinds : List ℕ} {progresses : List Float} {k : ℕ} (at : Cursor) (i : ℕ) → at ≡ cursor_of kinds i → i < length kinds → k < length progresses → Looking kinds progresses at (k + 1)
 looking-next {kinds} at i e inside more = let own = cursor-own kinds i e in record { upto = omega arith; is = own.1; inside = omega arith }
 
 module _ {b : Buffers} {progresses : List Float} {at : Cursor} {k : ℕ} (f : Flyable b) (l : Looking b.kinds progresses at k) (p : Float) {segment : ℕ}
@@ -114,35 +114,35 @@ put_four l at a b c d =
     rw (one, two, three)
 
 module _ (b : Buffers) where
-  numbers-suc : (ps : List Float) (k : ℕ) → k < length ps → numbersFor b (take (suc k) ps) ≡ numbersFor b (take k ps) ++ numbersOf (flightOf b (get_or ps k nan))
-  unfolding numbersFor
+  numbers-suc : (ps : List Float) (k : ℕ) → k < length ps → numbers_for b (take (suc k) ps) ≡ numbers_for b (take k ps) ++ numbers_of (flight_of b (get_or ps k nan))
+  unfolding numbers_for
   numbers-suc [] k inside = absurd (omega arith)
   numbers-suc (p ∷ ps) zero inside = refl
-  numbers-suc (p ∷ ps) (suc k) inside = ap (λ (rest : List Float). numbersOf (flightOf b p) ++ rest) (numbers-suc ps k (omega arith))
+  numbers-suc (p ∷ ps) (suc k) inside = ap (λ (rest : List Float). numbers_of (flight_of b p) ++ rest) (numbers-suc ps k (omega arith))
 
-  numbers-length : (ps : List Float) → length (numbersFor b ps) ≡ 4 * length ps
-  unfolding numbersFor
+  numbers-length : (ps : List Float) → length (numbers_for b ps) ≡ 4 * length ps
+  unfolding numbers_for
   numbers-length [] = refl
   numbers-length (p ∷ ps) = let h = numbers-length ps in omega arith
 
-  numbers-taken : (ps : List Float) (k : ℕ) → k ≤ length ps → length (numbersFor b (take k ps)) ≡ 4 * k
+  numbers-taken : (ps : List Float) (k : ℕ) → k ≤ length ps → length (numbers_for b (take k ps)) ≡ 4 * k
   numbers-taken ps k inside = numbers-length (take k ps) ∙ ap (λ (n : ℕ). 4 * n) (length-take-le k ps inside)
 
-  pub numbers-size : (ps before : List Float) (k : ℕ) → k ≤ length ps → 4 * length ps ≤ length before → length (written (numbersFor b (take k ps)) before) ≡ length before
-  numbers-size ps before k inside room = let n = numbers-taken ps k inside in length-written (numbersFor b (take k ps)) before (omega arith)
+  pub numbers-size : (ps before : List Float) (k : ℕ) → k ≤ length ps → 4 * length ps ≤ length before → length (written (numbers_for b (take k ps)) before) ≡ length before
+  numbers-size ps before k inside room = let n = numbers-taken ps k inside in length-written (numbers_for b (take k ps)) before (omega arith)
 
-  pub numbers-next : (ps before out : List Float) (k : ℕ) (vs : List Float) → k < length ps → 4 * length ps ≤ length before → out ≡ written (numbersFor b (take k ps)) before
-      → vs ≡ numbersOf (flightOf b (get_or ps k nan)) → sets out (4 * k) vs ≡ written (numbersFor b (take (k + 1) ps)) before
+  pub numbers-next : (ps before out : List Float) (k : ℕ) (vs : List Float) → k < length ps → 4 * length ps ≤ length before → out ≡ written (numbers_for b (take k ps)) before
+      → vs ≡ numbers_of (flight_of b (get_or ps k nan)) → sets out (4 * k) vs ≡ written (numbers_for b (take (k + 1) ps)) before
   numbers-next ps before out k vs inside room e values =
       let upto : k ≤ length ps = omega arith in
       let n = numbers-taken ps k upto in
-      let w = numbersOf (flightOf b (get_or ps k nan)) in
-      let more : length (numbersFor b (take k ps)) + length w ≤ length before = omega arith in
+      let w = numbers_of (flight_of b (get_or ps k nan)) in
+      let more : length (numbers_for b (take k ps)) + length w ≤ length before = omega arith in
       ap (λ (l : List Float). sets l (4 * k) vs) e
-      ∙ ap (λ (i : ℕ). sets (written (numbersFor b (take k ps)) before) i vs) (sym n)
-      ∙ ap (λ (v : List Float). sets (written (numbersFor b (take k ps)) before) (length (numbersFor b (take k ps))) v) values
-      ∙ written-more (numbersFor b (take k ps)) w before more
-      ∙ ap (λ (l : List Float). written l before) (sym (numbers-suc ps k inside) ∙ ap (λ (i : ℕ). numbersFor b (take i ps)) (sym (add-one k)))
+      ∙ ap (λ (i : ℕ). sets (written (numbers_for b (take k ps)) before) i vs) (sym n)
+      ∙ ap (λ (v : List Float). sets (written (numbers_for b (take k ps)) before) (length (numbers_for b (take k ps))) v) values
+      ∙ written-more (numbers_for b (take k ps)) w before more
+      ∙ ap (λ (l : List Float). written l before) (sym (numbers-suc ps k inside) ∙ ap (λ (i : ℕ). numbers_for b (take i ps)) (sym (add-one k)))
 
 -- ---- one value so many times
 
@@ -175,26 +175,26 @@ module _ {A : Type 0} (v : A) where
 -- ---- a path without segments
 
 module _ (b : Buffers) (none : length b.kinds ≡ 0) where
-  pub segments-none : (ps : List Float) → replicate (length ps) noSegment ≡ segmentsFor b ps
-  segments-none = each_same noSegment (λ p. segmentGiven (flightOf b p).segment) (λ p. ap (λ (flight : Flight). segmentGiven flight.segment) (flight-none b p none))
+  pub segments-none : (ps : List Float) → replicate (length ps) no_segment ≡ segments_for b ps
+  segments-none = each_same no_segment (λ p. segment_given (flight_of b p).segment) (λ p. ap (λ (flight : Flight). segment_given flight.segment) (flight-none b p none))
 
-  pub raws-none : (ps : List Float) → replicate (length ps) zeroF ≡ rawsFor b ps
-  raws-none = each_same zeroF (λ p. (flightOf b p).raw.value) (λ p. ap (λ (flight : Flight). flight.raw.value) (flight-none b p none))
+  pub raws-none : (ps : List Float) → replicate (length ps) zero_f ≡ raws_for b ps
+  raws-none = each_same zero_f (λ p. (flight_of b p).raw.value) (λ p. ap (λ (flight : Flight). flight.raw.value) (flight-none b p none))
 
-  pub numbers-none : (ps : List Float) → replicate (4 * length ps) zeroF ≡ numbersFor b ps
-  unfolding numbersFor originF
+  pub numbers-none : (ps : List Float) → replicate (4 * length ps) zero_f ≡ numbers_for b ps
+  unfolding numbers_for origin_f
   numbers-none [] = refl
   numbers-none (p ∷ ps) =
       let four : 4 * suc (length ps) ≡ suc (suc (suc (suc (4 * length ps)))) = omega arith in
-      rw (four, ← flight-none b p none) (ap (λ (rest : List Float). zeroF ∷ zeroF ∷ zeroF ∷ zeroF ∷ rest) (numbers-none ps))
+      rw (four, ← flight-none b p none) (ap (λ (rest : List Float). zero_f ∷ zero_f ∷ zero_f ∷ zero_f ∷ rest) (numbers-none ps))
 
 -- ---- a path with a segment
 
 module _ (b : Buffers) (p : Float) (some : 0 < length b.kinds) where
-  pub segment-there : {spot : Spot} → spot ≡ spot_of b.lengths p → spot.segment ≡ segmentGiven (flightOf b p).segment
-  unfolding flownOf place_in
-  segment-there e = ap (λ (spot : Spot). spot.segment) e ∙ ap (λ (flight : Flight). segmentGiven flight.segment) (flight-some b p some)
+  pub segment-there : {spot : Spot} → spot ≡ spot_of b.lengths p → spot.segment ≡ segment_given (flight_of b p).segment
+  unfolding flown_of place_in
+  segment-there e = ap (λ (spot : Spot). spot.segment) e ∙ ap (λ (flight : Flight). segment_given flight.segment) (flight-some b p some)
 
-  pub raw-there : {pair : Place} → pair ≡ place_of b p → pair.raw.value ≡ (flightOf b p).raw.value
-  unfolding flownOf
+  pub raw-there : {pair : Place} → pair ≡ place_of b p → pair.raw.value ≡ (flight_of b p).raw.value
+  unfolding flown_of
   raw-there e = ap (λ (pair : Place). pair.raw.value) e ∙ ap (λ (flight : Flight). flight.raw.value) (flight-some b p some)

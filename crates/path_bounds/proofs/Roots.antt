@@ -13,15 +13,15 @@ use lib.Ieee.Nearest.{div_mono}
 use lib.Ieee.Positive.{num, den, den_pos}
 use Rattle.floats.proofs.Tests.{decide, passed}
 use Rattle.floats.proofs.Between.{finite-real}
-use Rattle.root.specs.Root.{unitsOf, wholeRoot, rootOf}
+use Rattle.root.specs.Root.{units_of, whole_root, root_of}
 use Rattle.root.proofs.Middles.{square-lt}
 use Rattle.root.proofs.Squares.{whole-root}
 use Rattle.floats.specs.Kinds.{upward}
-use Rattle.lengths.specs.Length.{narrowOf, squareSumOf}
+use Rattle.lengths.specs.Length.{narrow_of, square_sum_of}
 use Rattle.lengths.specs.Length as lengths
 use Rattle.lengths.proofs.Upward.{squares-upward}
 use Rattle.math.specs.declared.points.Point.{Point}
-use Rattle.math.specs.Math.{subOf, length_of, distance_of}
+use Rattle.math.specs.Math.{sub_of, length_of, distance_of}
 use Rattle.floats.proofs.Within.{Within, within-le, Holds, holds-scaled, round-within, add-within, sub_within, mul-within}
 use Rattle.path_bounds.proofs.Tested.{Near}
 
@@ -47,7 +47,7 @@ sub-power k x y h p q =
 root-small : (b n q : ℕ) → n < b * b → q * q ≤ n → q ≤ b
 root-small b n q h l = elim (decide (leb q b)) [ inl t ↦ leb→le q b t | inr t ↦ absurd (lt_irrefl n (lt_of_lt_of_le h (le_trans (le_of_lt (square-lt (nleb→lt q b t))) l))) ]
 
-units_small : (x : Float) → num x ≤ 2 ^ 127 * den x → unitsOf binary64 x ≤ 2 ^ 1201
+units_small : (x : Float) → num x ≤ 2 ^ 127 * den x → units_of binary64 x ≤ 2 ^ 1201
 units_small x h =
     le_trans (div_mono (num x * 2 ^ 1074) (den x) (2 ^ 1201) 1 (den_pos x) (pow_pos 0)
     (le_trans (le_of_eq (mul-one (num x * 2 ^ 1074))) (le_trans (mul-le-mul_right (2 ^ 1074) h) (le_of_eq (swap (2 ^ 127) (den x) (2 ^ 1074))))))
@@ -56,29 +56,29 @@ units_small x h =
     swap : (a b c : ℕ) → a * b * c ≡ a * c * b
     swap a b c = mul_assoc a b c ∙ ap (λ n. a * n) (mul_comm b c) ∙ sym (mul_assoc a c b)
 
-pub root-within : (x : Float) → T (upward x) → Within (2 ^ 127) x → Within (2 ^ 64) (rootOf binary64 x)
-unfolding rootOf
+pub root-within : (x : Float) → T (upward x) → Within (2 ^ 127) x → Within (2 ^ 64) (root_of binary64 x)
+unfolding root_of
 root-within nan p w = absurd p
 root-within (inf s) p w = absurd w.whole
 root-within (fin true m e) p w = absurd p
 root-within (fin false m e) p w = go (eqb m 0) refl
   where
     own : ℕ
-    own = wholeRoot (unitsOf binary64 (fin false m e) * 2 ^ 1074)
+    own = whole_root (units_of binary64 (fin false m e) * 2 ^ 1074)
 
-    few : unitsOf binary64 (fin false m e) * 2 ^ 1074 < 2 ^ 1138 * 2 ^ 1138
+    few : units_of binary64 (fin false m e) * 2 ^ 1074 < 2 ^ 1138 * 2 ^ 1138
     few = lt_of_le_of_lt (mul-le-mul_right (2 ^ 1074) (units_small (fin false m e) w.bound)) (pow-lt {i = 2275} {j = 2276} (omega arith))
 
     small : own ≤ 2 ^ 64 * 2 ^ 1074
-    small = root-small (2 ^ 1138) (unitsOf binary64 (fin false m e) * 2 ^ 1074) own few (whole-root (unitsOf binary64 (fin false m e) * 2 ^ 1074)).low
+    small = root-small (2 ^ 1138) (units_of binary64 (fin false m e) * 2 ^ 1074) own few (whole-root (units_of binary64 (fin false m e) * 2 ^ 1074)).low
 
     go : (b : Bool) → eqb m 0 ≡ b → Within (2 ^ 64) (cond b (fin false m e) (round binary64 false own (2 ^ 1074)))
     go true z = record { whole = tt; bound = le_trans (le_of_eq (ap (λ k. k * up e) (eqb→eq m 0 (passed z)) ∙ zero-mul (up e))) zero-le }
     go false z = round-within binary64 false own (2 ^ 1074) (2 ^ 64) (pow_pos 1074) (wide-power 64 (omega arith)) small
 
 -- rounded to f32 it stays there
-narrow_within : (x : Float) → Within (2 ^ 64) x → Within (2 ^ 64) (narrowOf x)
-unfolding narrowOf
+narrow_within : (x : Float) → Within (2 ^ 64) x → Within (2 ^ 64) (narrow_of x)
+unfolding narrow_of
 narrow_within nan w = absurd w.whole
 narrow_within (inf s) w = absurd w.whole
 narrow_within (fin s m e) w = round-within binary32 s (m * up e) (down e) (2 ^ 64) (down_pos e) (holds-power 64 (omega arith)) w.bound
@@ -87,8 +87,8 @@ narrow_within (fin s m e) w = round-within binary32 s (m * up e) (down e) (2 ^ 6
 square-within : (x : Float) → Within (2 ^ 61) x → Within (2 ^ 122) (mul binary64 x x)
 square-within x w = mul-within binary64 (2 ^ 61) (2 ^ 61) x x (wide-power 122 (omega arith)) w w
 
-sum-within : (x y : Float) → Within (2 ^ 61) x → Within (2 ^ 61) y → Within (2 ^ 127) (squareSumOf x y)
-unfolding squareSumOf
+sum-within : (x y : Float) → Within (2 ^ 61) x → Within (2 ^ 61) y → Within (2 ^ 127) (square_sum_of x y)
+unfolding square_sum_of
 sum-within x y v w =
     let l : 2 ^ 123 ≤ 2 ^ 127 = pow_mono {i = 123} {j = 127} (omega arith) in
     within-le (add binary64 (mul binary64 x x) (mul binary64 y y)) l
@@ -97,8 +97,8 @@ sum-within x y v w =
 length-within : (x y : Float) → Within (2 ^ 61) x → Within (2 ^ 61) y → Within (2 ^ 64) (lengths.length_of x y)
 unfolding lengths.length_of
 length-within x y v w =
-    narrow_within (rootOf binary64 (squareSumOf x y))
-    (root-within (squareSumOf x y) (squares-upward x y (finite-real x v.whole) (finite-real y w.whole)) (sum-within x y v w))
+    narrow_within (root_of binary64 (square_sum_of x y))
+    (root-within (square_sum_of x y) (squares-upward x y (finite-real x v.whole) (finite-real y w.whole)) (sum-within x y v w))
 
 -- ---- the distance of two points
 module _ (a b : Point) (k : ℕ) (small : k ≤ 60) (p : Near k a) (q : Near k b) where
@@ -108,7 +108,7 @@ module _ (a b : Point) (k : ℕ) (small : k ≤ 60) (p : Near k a) (q : Near k b
       within-le (sub binary32 x y) l (sub-power k x y (omega arith) v w)
 
   pub distance-within : Within (2 ^ 64) (distance_of a b)
-  unfolding distance_of length_of subOf
+  unfolding distance_of length_of sub_of
   distance-within =
       length-within (sub binary32 b.x a.x) (sub binary32 b.y a.y)
       (difference b.x a.x q.across p.across) (difference b.y a.y q.along p.along)

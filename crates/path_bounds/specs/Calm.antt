@@ -9,57 +9,57 @@ use Rattle.ellipse.specs.declared.ends.Arc.{Arc}
 use Rattle.ellipse.specs.declared.ends.Way.{Way}
 
 -- 2^40 and -2^40
-unfoldable pub farF : Float
-farF = of_bits binary32 0x5380_0000
+unfoldable pub far_f : Float
+far_f = of_bits binary32 0x5380_0000
 
 unfoldable pub back_f : Float
-unfolding farF
-back_f = neg farF
+unfolding far_f
+back_f = neg far_f
 
 -- a NaN is not
-unfoldable pub isNear : Float → Bool
-unfolding farF back_f
-isNear x = le x farF && le back_f x
+unfoldable pub is_near : Float → Bool
+unfolding far_f back_f
+is_near x = le x far_f && le back_f x
 
-unfoldable pub isCalm : Point → Bool
-unfolding isNear
-isCalm p = isNear p.x && isNear p.y
+unfoldable pub is_calm : Point → Bool
+unfolding is_near
+is_calm p = is_near p.x && is_near p.y
 
 -- 16 and -16
-unfoldable pub wideF : Float
-wideF = of_bits binary32 0x4180_0000
+unfoldable pub wide_f : Float
+wide_f = of_bits binary32 0x4180_0000
 
-unfoldable pub wideBackF : Float
-unfolding wideF
-wideBackF = neg wideF
+unfoldable pub wide_back_f : Float
+unfolding wide_f
+wide_back_f = neg wide_f
 
 unfoldable pub is_narrow : Float → Bool
-unfolding wideF wideBackF
-is_narrow x = le x wideF && le wideBackF x
+unfolding wide_f wide_back_f
+is_narrow x = le x wide_f && le wide_back_f x
 
 -- an arc's angles are in radians, but for its rotation, whose radians are `phi_of`
-unfoldable pub isCalmArc : Arc → Bool
-unfolding isCalm is_narrow
-isCalmArc shape =
-    isCalm shape.center && isCalm shape.radii && is_narrow shape.start_angle && is_narrow shape.delta_angle && is_narrow (phi_of shape.x_axis_rotation)
+unfoldable pub is_calm_arc : Arc → Bool
+unfolding is_calm is_narrow
+is_calm_arc shape =
+    is_calm shape.center && is_calm shape.radii && is_narrow shape.start_angle && is_narrow shape.delta_angle && is_narrow (phi_of shape.x_axis_rotation)
 
 -- 2^30 and -2^30
-unfoldable pub mildF : Float
-mildF = of_bits binary32 0x4e80_0000
+unfoldable pub mild_f : Float
+mild_f = of_bits binary32 0x4e80_0000
 
-unfoldable pub mildBackF : Float
-unfolding mildF
-mildBackF = neg mildF
+unfoldable pub mild_back_f : Float
+unfolding mild_f
+mild_back_f = neg mild_f
 
-unfoldable pub isMild : Float → Bool
-unfolding mildF mildBackF
-isMild x = le x mildF && le mildBackF x
+unfoldable pub is_mild : Float → Bool
+unfolding mild_f mild_back_f
+is_mild x = le x mild_f && le mild_back_f x
 
-unfoldable pub isMildPoint : Point → Bool
-unfolding isMild
-isMildPoint p = isMild p.x && isMild p.y
+unfoldable pub is_mild_point : Point → Bool
+unfolding is_mild
+is_mild_point p = is_mild p.x && is_mild p.y
 
 -- what stands before an arc's angles: so mild that the arc is calm, which is a law
-unfoldable pub isMildWay : Way → Bool
-unfolding isMildPoint
-isMildWay way = isMildPoint way.radii && isMildPoint way.middle && isMildPoint way.towards && isMildPoint way.away
+unfoldable pub is_mild_way : Way → Bool
+unfolding is_mild_point
+is_mild_way way = is_mild_point way.radii && is_mild_point way.middle && is_mild_point way.towards && is_mild_point way.away

@@ -1,8 +1,8 @@
 // Points so near the origin that no length between them is infinite: whoever counts a path's places need not measure it. The laws in
 // proofs/ say so of lines, quads, cubics, arcs and whole paths.
 ghost use Rattle.std.specs.Prelude.{◌≡◌};
-ghost use Rattle.ellipse.specs.Ends.{fromEndsOf};
-ghost use Rattle.path_bounds.specs.Calm.{isNear, isCalm, is_narrow, isCalmArc, isMild, isMildPoint, isMildWay};
+ghost use Rattle.ellipse.specs.Ends.{from_ends_of};
+ghost use Rattle.path_bounds.specs.Calm.{is_near, is_calm, is_narrow, is_calm_arc, is_mild, is_mild_point, is_mild_way};
 
 use ellipse::{Arc, Chord, Way, from_ends, way_of};
 use floats::is_finite;
@@ -11,14 +11,14 @@ use rotation::phi;
 
 // Whether x is at most 2^40 in size. A NaN is not.
 pub fn is_near(x: f32) -> bool
-    ensures { result ≡ isNear x }
+    ensures { result ≡ is_near x }
 {
     (x <= 1099511627776.0) & (-1099511627776.0 <= x)
 }
 
 // Whether both coordinates of a point are.
 pub fn is_calm(p: Point) -> bool
-    ensures { result ≡ isCalm p }
+    ensures { result ≡ is_calm p }
 {
     is_near(p.x) & is_near(p.y)
 }
@@ -33,7 +33,7 @@ fn is_narrow(x: f32) -> bool
 // Whether an arc's centre and radii are calm and its angles at most 16 radians, those of its rotation too: then each of its samples is
 // near, so that its length is known to be finite before its table is made.
 pub fn is_calm_arc(shape: Arc) -> bool
-    ensures { result ≡ isCalmArc shape }
+    ensures { result ≡ is_calm_arc shape }
 {
     let center = shape.center;
     let radii = shape.radii;
@@ -44,21 +44,21 @@ pub fn is_calm_arc(shape: Arc) -> bool
 
 // Whether x is at most 2^30 in size. A NaN is not.
 fn is_mild(x: f32) -> bool
-    ensures { result ≡ isMild x }
+    ensures { result ≡ is_mild x }
 {
     (x <= 1073741824.0) & (-1073741824.0 <= x)
 }
 
 // Whether both coordinates of a point are.
 fn is_mild_point(p: Point) -> bool
-    ensures { result ≡ isMildPoint p }
+    ensures { result ≡ is_mild_point p }
 {
     is_mild(p.x) & is_mild(p.y)
 }
 
 // Whether all points that stand before an arc's angles are.
 fn is_mild_way(way: Way) -> bool
-    ensures { result ≡ isMildWay way }
+    ensures { result ≡ is_mild_way way }
 {
     let radii = way.radii;
     let middle = way.middle;
@@ -70,7 +70,7 @@ fn is_mild_way(way: Way) -> bool
 // Whether the arc through both ends is calm. Its angles cost most of the way to it, and are not taken where all that stands before them is
 // mild: they are at most 12 radians then.
 pub fn is_calm_chord(chord: Chord) -> bool
-    ensures { result ≡ isCalmArc (fromEndsOf chord) }
+    ensures { result ≡ is_calm_arc (from_ends_of chord) }
 {
     let start = chord.start;
     let end = chord.end;

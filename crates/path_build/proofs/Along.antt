@@ -5,16 +5,16 @@ use mathlib.Core.List.{List, [], ◌∷◌, ◌++◌}
 use native.Mathlib.Omega.{arith}
 use lib.ListN.{length, drop}
 use Rattle.answers.specs.declared.refusals.Refusal.{Refusal}
-use Rattle.commands.specs.Stored.{argumentsOf}
+use Rattle.commands.specs.Stored.{arguments_of}
 use Rattle.commands.specs.declared.command.PathCommand.{PathCommand}
 use Rattle.commands.specs.declared.encoding.Decoded.{Decoded}
 use Rattle.commands.specs.declared.encoding.Decoded.TheVariants.{Command, Bad}
 use Rattle.path_segment.specs.declared.segments.PathSegment.{PathSegment}
 use Rattle.path_stored.specs.Buffers.{Buffers}
-use Rattle.path_drawing.specs.Drawing.{drawOf}
-use Rattle.path_drawing.specs.Building.{Built, path, refusal, buildOf, drawersOf}
-use Rattle.path_storing.specs.Sites.{start_of, advanceOf, drawnBy, FewAt, Holds, Room, Laid}
-use Rattle.path_storing.specs.Tallies.{tally_of, FewIn, talliedOf}
+use Rattle.path_drawing.specs.Drawing.{draw_of}
+use Rattle.path_drawing.specs.Building.{Built, path, refusal, build_of, drawers_of}
+use Rattle.path_storing.specs.Sites.{start_of, advance_of, drawn_by, FewAt, Holds, Room, Laid}
+use Rattle.path_storing.specs.Tallies.{tally_of, FewIn, tallied_of}
 use Rattle.path_storing.specs.declared.sites.Site.{Site}
 use Rattle.path_storing.specs.declared.sites.Advanced.TheVariants.{To, Refused}
 use Rattle.path_storing.specs.declared.tallies.Tally.{Tally}
@@ -24,24 +24,24 @@ use Rattle.path_storing.proofs.Judged.{room_at, laid-at}
 use Rattle.path_storing.proofs.Filling.{Filling, filling-none, filling-more, roomed, same-kinds, same-fields, same_tables, same-lengths, same-commands}
 use Rattle.path_storing.proofs.Foreseen.{Calm, calm-start, foreseen}
 use Rattle.path_build.specs.Lists.{StoredList}
-use Rattle.path_build.specs.Answers.{measureOf, Holding, Filled}
-use Rattle.path_build.specs.Paths.{buildListOf, drawersListOf}
-use Rattle.path_build.specs.Letters.{stride_of, drawnAt}
+use Rattle.path_build.specs.Answers.{measure_of, Holding, Filled}
+use Rattle.path_build.specs.Paths.{build_list_of, drawers_list_of}
+use Rattle.path_build.specs.Letters.{stride_of, drawn_at}
 use Rattle.path_build.specs.declared.sizes.Size.{Size}
 use Rattle.path_build.specs.declared.sizes.Size.TheVariants as Size
 use Rattle.path_build.proofs.Letters.{stride-is, drawn-command}
-use Rattle.path_build.proofs.Lists.{Formed, built-formed, letterIn, decodedAt, Passed, passed_none, passed-builds, all-built, all-drawers, passed-bad, passed-fits, passed-next}
+use Rattle.path_build.proofs.Lists.{Formed, built-formed, letter_in, decoded_at, Passed, passed_none, passed-builds, all-built, all-drawers, passed-bad, passed-fits, passed-next}
 
 -- ---- the counts of what is built
 
 pub counts-are :
     {commands : List PathCommand} {done : List PathSegment} {site : Site} {built : Built} → At commands done site → built ≡ path done
-    → Size.Counted site.segments site.fields site.tables ≡ measureOf built
-unfolding measureOf
+    → Size.Counted site.segments site.fields site.tables ≡ measure_of built
+unfolding measure_of
 counts-are k e = rw e (rw (k.kinds, k.fields, k.tables))
 
-pub refused-is : {reason : Refusal} {built : Built} → built ≡ refusal reason → Size.Refused reason ≡ measureOf built
-unfolding measureOf
+pub refused-is : {reason : Refusal} {built : Built} → built ≡ refusal reason → Size.Refused reason ≡ measure_of built
+unfolding measure_of
 refused-is e = rw e
 
 -- ---- the first pass
@@ -60,33 +60,33 @@ module _ {list : StoredList} {site : Site} {letter_at at : ℕ} (k : Measuring l
   pub measuring-inside : at ≤ length list.numbers
   measuring-inside = k.passed.inside
 
-  pub measured-all : length list.letters ≤ letter_at → Size.Counted site.segments site.fields site.tables ≡ measureOf (buildListOf list)
+  pub measured-all : length list.letters ≤ letter_at → Size.Counted site.segments site.fields site.tables ≡ measure_of (build_list_of list)
   measured-all past = counts-are k.known (all-built k.passed past ∙ at_all k.known)
 
   module _ (here : letter_at < length list.letters) where
     pub measuring-few : FewAt site
     measuring-few = at-few k.known (omega (arith, k.passed.few, k.passed.count))
 
-    pub measuring-bad : decodedAt list letter_at at ≡ Bad → ⊥
+    pub measuring-bad : decoded_at list letter_at at ≡ Bad → ⊥
     measuring-bad = passed-bad k.passed here
 
-    module _ {command : PathCommand} (e : decodedAt list letter_at at ≡ Command command) where
-      pub measuring-fits : at + length (argumentsOf command) ≤ length list.numbers
+    module _ {command : PathCommand} (e : decoded_at list letter_at at ≡ Command command) where
+      pub measuring-fits : at + length (arguments_of command) ≤ length list.numbers
       measuring-fits = passed-fits k.passed here e
 
-      pub measured-refused : {reason : Refusal} → advanceOf site command ≡ Refused reason → Size.Refused reason ≡ measureOf (buildListOf list)
+      pub measured-refused : {reason : Refusal} → advance_of site command ≡ Refused reason → Size.Refused reason ≡ measure_of (build_list_of list)
       measured-refused {reason} a =
           let n = passed-next k.passed here e refl in
           refused-is (passed-builds n.1 ∙ at-refused k.known command reason a n.0)
 
-      pub measuring-more : {width : ℕ} {next : Site} → width ≡ length (argumentsOf command) → advanceOf site command ≡ To next → Measuring list next (letter_at + 1) (at + width)
+      pub measuring-more : {width : ℕ} {next : Site} → width ≡ length (arguments_of command) → advance_of site command ≡ To next → Measuring list next (letter_at + 1) (at + width)
       measuring-more {width} {next} w a =
           let n = passed-next k.passed here e w in
           record {
             commands = k.commands ++ (command ∷ []);
             rest = n.0;
             passed = n.1;
-            done = k.done ++ drawnBy (drawOf site.pen command);
+            done = k.done ++ drawn_by (draw_of site.pen command);
             known = at_next k.known command next a;
           }
 
@@ -116,7 +116,7 @@ module _ {list : StoredList} {tally : Tally} {letter_at at : ℕ} (k : Surveying
   pub surveying-inside : at ≤ length list.numbers
   surveying-inside = k.measuring.passed.inside
 
-  pub surveyed-all : length list.letters ≤ letter_at → Size.Counted tally.segments tally.fields tally.tables ≡ measureOf (buildListOf list)
+  pub surveyed-all : length list.letters ≤ letter_at → Size.Counted tally.segments tally.fields tally.tables ≡ measure_of (build_list_of list)
   surveyed-all past = counted-at k.site k.same (measured-all k.measuring past)
 
   module _ (here : letter_at < length list.letters) where
@@ -126,13 +126,13 @@ module _ {list : StoredList} {tally : Tally} {letter_at at : ℕ} (k : Surveying
     pub surveying-few : FewIn tally
     surveying-few = few-in k.site k.same few
 
-    module _ {command : PathCommand} (e : decodedAt list letter_at at ≡ Command command) where
-      pub surveying-fits : at + length (argumentsOf command) ≤ length list.numbers
+    module _ {command : PathCommand} (e : decoded_at list letter_at at ≡ Command command) where
+      pub surveying-fits : at + length (arguments_of command) ≤ length list.numbers
       surveying-fits = measuring-fits k.measuring here e
 
-      pub surveying-more : {width : ℕ} {next : Tally} → width ≡ length (argumentsOf command) → talliedOf tally command ≡ Tallied.To next → Surveying list next (letter_at + 1) (at + width)
+      pub surveying-more : {width : ℕ} {next : Tally} → width ≡ length (arguments_of command) → tallied_of tally command ≡ Tallied.To next → Surveying list next (letter_at + 1) (at + width)
       surveying-more {width} {next} w a =
-          let f = foreseen k.site few k.calm command next (ap (λ t. talliedOf t command) k.same ∙ a) in
+          let f = foreseen k.site few k.calm command next (ap (λ t. tallied_of t command) k.same ∙ a) in
           record { site = f.0; same = f.2; calm = f.3; measuring = measuring-more k.measuring here e w f.1 }
 
 -- ---- the second pass
@@ -148,8 +148,8 @@ holdable (refusal reason) h = absurd h
 
 -- what is stored is what is built
 pub filled_is :
-    {built : Built} {drawers : List ℕ} {commands : List PathCommand} {site : Site} {b₀ b : Buffers} (k : Filling commands site b₀ b) → built ≡ buildOf commands
-    → drawers ≡ drawersOf commands → Filled built drawers b₀ b
+    {built : Built} {drawers : List ℕ} {commands : List PathCommand} {site : Site} {b₀ b : Buffers} (k : Filling commands site b₀ b) → built ≡ build_of commands
+    → drawers ≡ drawers_of commands → Filled built drawers b₀ b
 filled_is {built} {drawers} {commands} {site} {b₀} {b} k e d =
     subst (λ (x : Built). Filled x drawers b₀ b) (sym (e ∙ at_all k.known)) (rw d k.now)
 
@@ -159,17 +159,17 @@ pub record Storing (list : StoredList) (site : Site) (letter_at at : ℕ) (b₀ 
   pub passed : Passed list letter_at at commands rest
   pub filling : Filling commands site b₀ b
 
-pub storing-none : (list : StoredList) {b : Buffers} → Holding (buildListOf list) b → Storing list start_of 0 0 b b
+pub storing-none : (list : StoredList) {b : Buffers} → Holding (build_list_of list) b → Storing list start_of 0 0 b b
 storing-none list {b} holding =
-    let f = built-formed list (holdable (buildListOf list) holding).is in
+    let f = built-formed list (holdable (build_list_of list) holding).is in
     record { commands = []; rest = f.commands; passed = passed_none f; filling = filling-none b }
 
-module _ {list : StoredList} {site : Site} {letter_at at : ℕ} {b₀ b : Buffers} (k : Storing list site letter_at at b₀ b) (holding : Holding (buildListOf list) b₀) where
-  h : Holdable (buildListOf list) b₀
-  h = holdable (buildListOf list) holding
+module _ {list : StoredList} {site : Site} {letter_at at : ℕ} {b₀ b : Buffers} (k : Storing list site letter_at at b₀ b) (holding : Holding (build_list_of list) b₀) where
+  h : Holdable (build_list_of list) b₀
+  h = holdable (build_list_of list) holding
 
   -- what the commands passed and those to come build
-  whole : {letter_at at : ℕ} {commands rest : List PathCommand} → Passed list letter_at at commands rest → buildOf (commands ++ rest) ≡ path h.list
+  whole : {letter_at at : ℕ} {commands rest : List PathCommand} → Passed list letter_at at commands rest → build_of (commands ++ rest) ≡ path h.list
   whole p = sym (passed-builds p) ∙ h.is
 
   pub stored-kinds : length b.kinds ≡ length b₀.kinds
@@ -187,23 +187,23 @@ module _ {list : StoredList} {site : Site} {letter_at at : ℕ} {b₀ b : Buffer
   pub stored-commands : length b.commands ≡ length b₀.commands
   stored-commands = same-commands k.filling h.holds k.rest (whole k.passed)
 
-  pub stored-all : length list.letters ≤ letter_at → Filled (buildListOf list) (drawersListOf list) b₀ b
+  pub stored-all : length list.letters ≤ letter_at → Filled (build_list_of list) (drawers_list_of list) b₀ b
   stored-all past = filled_is k.filling (all-built k.passed past) (all-drawers k.passed past)
 
   module _ (here : letter_at < length list.letters) where
     pub storing-number : letter_at < 65536
     storing-number = omega (arith, k.passed.few)
 
-    module _ {command : PathCommand} (e : decodedAt list letter_at at ≡ Command command) where
+    module _ {command : PathCommand} (e : decoded_at list letter_at at ≡ Command command) where
       -- what `lay` asks
-      storing-room : FewAt site × Room site (drawOf site.pen command) b
+      storing-room : FewAt site × Room site (draw_of site.pen command) b
       storing-room =
           let n = passed-next k.passed here e refl in (
             at-few k.filling.known (omega (arith, k.passed.few, k.passed.count)),
             roomed k.filling h.holds command n.0 (whole n.1),
           )
 
-      storing-more : {width : ℕ} {next : Site} {b' : Buffers} → width ≡ length (argumentsOf command) → Laid site letter_at (drawOf site.pen command) b next b'
+      storing-more : {width : ℕ} {next : Site} {b' : Buffers} → width ≡ length (arguments_of command) → Laid site letter_at (draw_of site.pen command) b next b'
           → Storing list next (letter_at + 1) (at + width) b₀ b'
       storing-more {width} {next} {b'} w laid =
           let n = passed-next k.passed here e w in
@@ -212,28 +212,28 @@ module _ {list : StoredList} {site : Site} {letter_at at : ℕ} {b₀ b : Buffer
             rest = n.0;
             passed = n.1;
             filling = filling-more k.filling h.holds command n.0 (whole n.1)
-                (subst (λ m. Laid site m (drawOf site.pen command) b next b') (sym k.passed.count) laid);
+                (subst (λ m. Laid site m (draw_of site.pen command) b next b') (sym k.passed.count) laid);
           }
 
     -- the same by its letter
-    decoded : (command : PathCommand) × (decodedAt list letter_at at ≡ Command command)
-    decoded = by (decodedAt list letter_at at) refl
+    decoded : (command : PathCommand) × (decoded_at list letter_at at ≡ Command command)
+    decoded = by (decoded_at list letter_at at) refl
       where
-        by : (d : Decoded) → decodedAt list letter_at at ≡ d → (command : PathCommand) × (decodedAt list letter_at at ≡ Command command)
+        by : (d : Decoded) → decoded_at list letter_at at ≡ d → (command : PathCommand) × (decoded_at list letter_at at ≡ Command command)
         by (Command command) e = (command, e)
         by Bad e = absurd (passed-bad k.passed here e)
 
-    stride-here : stride_of (letterIn list letter_at) ≡ length (argumentsOf decoded.0)
-    stride-here = stride-is (drop at list.numbers) (letterIn list letter_at) decoded.0 decoded.1
+    stride-here : stride_of (letter_in list letter_at) ≡ length (arguments_of decoded.0)
+    stride-here = stride-is (drop at list.numbers) (letter_in list letter_at) decoded.0 decoded.1
 
     -- what `lay_at` asks
-    pub storing-asks : (at + stride_of (letterIn list letter_at) ≤ length list.numbers) × FewAt site × Room site (drawnAt site.pen (decodedAt list letter_at at)) b
+    pub storing-asks : (at + stride_of (letter_in list letter_at) ≤ length list.numbers) × FewAt site × Room site (drawn_at site.pen (decoded_at list letter_at at)) b
     storing-asks =
         let d = decoded in
         let r = storing-room d.1 in
         (omega (arith, passed-fits k.passed here d.1, stride-here), r.0, room_at (sym (drawn-command site.pen d.1)) r.1)
 
-    pub storing-next : {width : ℕ} {next : Site} {b' : Buffers} → width ≡ stride_of (letterIn list letter_at)
-        → Laid site letter_at (drawnAt site.pen (decodedAt list letter_at at)) b next b'
+    pub storing-next : {width : ℕ} {next : Site} {b' : Buffers} → width ≡ stride_of (letter_in list letter_at)
+        → Laid site letter_at (drawn_at site.pen (decoded_at list letter_at at)) b next b'
         → Storing list next (letter_at + 1) (at + width) b₀ b'
     storing-next w laid = let d = decoded in storing-more d.1 (w ∙ stride-here) (laid-at (sym (drawn-command site.pen d.1)) laid)

@@ -12,61 +12,61 @@ use lib.Ieee.{Float, nan}
 use lib.ListN.{length, get_or, drop, length-drop, drop_of_length-le}
 use lib.Seq.{drop-cons, get_or-drop}
 use Rattle.math.specs.declared.points.Point.{Point}
-use Rattle.commands.specs.Stored.{argumentsOf}
-use Rattle.commands.specs.Listed.{number_at, pointAt, wellFormed, prepend}
+use Rattle.commands.specs.Stored.{arguments_of}
+use Rattle.commands.specs.Listed.{number_at, point_at, well_formed, prepend}
 use Rattle.commands.specs.declared.command.PathCommand.{PathCommand}
 use Rattle.commands.specs.declared.command.PathCommand.TheVariants.{MoveTo, LineTo, QuadTo, CubicTo, ClosePath}
 use Rattle.commands.specs.declared.encoding.Decoded.TheVariants.{Command}
 use Rattle.commands.proofs.Decoding.{is_move, is-line, is-quad, is-cubic, is-close}
-use Rattle.commands.proofs.Listing.{listedFrom, from_next, from_end}
+use Rattle.commands.proofs.Listing.{listed_from, from_next, from_end}
 use Rattle.arc.specs.Lines.{line_of}
-use Rattle.path_segment.specs.Segments.{hasTable, tables_of}
+use Rattle.path_segment.specs.Segments.{has_table, tables_of}
 use Rattle.path_segment.proofs.Tables.{table_none}
 use Rattle.path_segment.specs.declared.segments.PathSegment.TheVariants.{Line}
-use Rattle.path_bounds.specs.Calm.{isNear, isCalm}
-use Rattle.path_drawing.specs.Drawing.{movedOf, drawnOf, drawOf}
+use Rattle.path_bounds.specs.Calm.{is_near, is_calm}
+use Rattle.path_drawing.specs.Drawing.{moved_of, drawn_of, draw_of}
 use Rattle.path_storing.specs.Sites.{start_of}
-use Rattle.path_storing.specs.Tallies.{tally_of, stayedOf, grownOf, strokedOf, countedOf, talliedOf}
+use Rattle.path_storing.specs.Tallies.{tally_of, stayed_of, grown_of, stroked_of, counted_of, tallied_of}
 use Rattle.path_storing.specs.declared.tallies.Tally.{Tally}
 use Rattle.path_storing.specs.declared.tallies.Tallied.TheVariants.{To}
 use Rattle.path_storing.proofs.Tallying.{line-tallied, quad-tallied, cubic-tallied}
-use Rattle.path_build.specs.Answers.{measureOf}
+use Rattle.path_build.specs.Answers.{measure_of}
 use Rattle.path_build.specs.Lists.{StoredList}
-use Rattle.path_build.specs.Paths.{buildListOf}
-use Rattle.path_build.specs.Plain.{oneIf, countIn, allNear}
+use Rattle.path_build.specs.Paths.{build_list_of}
+use Rattle.path_build.specs.Plain.{one_if, count_in, all_near}
 use Rattle.path_build.specs.declared.sizes.Size.TheVariants as Size
-use Rattle.path_build.proofs.Lists.{decodedAt, listingFrom}
+use Rattle.path_build.proofs.Lists.{decoded_at, listing_from}
 use Rattle.path_build.proofs.Along.{Surveying, surveying-none, surveying-more, surveyed-all}
 
 -- ---- one element further in the two loops
 
 pub count_next : (letters : List ℕ) (letter i : ℕ) → i < length letters
-    → countIn letter (drop i letters) ≡ oneIf (eqb (get_or letters i 0) letter) + countIn letter (drop (i + 1) letters)
-unfolding countIn
+    → count_in letter (drop i letters) ≡ one_if (eqb (get_or letters i 0) letter) + count_in letter (drop (i + 1) letters)
+unfolding count_in
 count_next letters letter i inside =
-    ap (countIn letter) (drop-cons letters i 0 inside) ∙ ap (λ k. oneIf (eqb (get_or letters i 0) letter) + countIn letter (drop k letters)) (sym (add-one i))
+    ap (count_in letter) (drop-cons letters i 0 inside) ∙ ap (λ k. one_if (eqb (get_or letters i 0) letter) + count_in letter (drop k letters)) (sym (add-one i))
 
-pub near_next : (numbers : List Float) (i : ℕ) → i < length numbers → allNear (drop i numbers) ≡ (isNear (get_or numbers i nan) && allNear (drop (i + 1) numbers))
-unfolding allNear
+pub near_next : (numbers : List Float) (i : ℕ) → i < length numbers → all_near (drop i numbers) ≡ (is_near (get_or numbers i nan) && all_near (drop (i + 1) numbers))
+unfolding all_near
 near_next numbers i inside =
-    ap allNear (drop-cons numbers i nan inside) ∙ ap (λ k. isNear (get_or numbers i nan) && allNear (drop k numbers)) (sym (add-one i))
+    ap all_near (drop-cons numbers i nan inside) ∙ ap (λ k. is_near (get_or numbers i nan) && all_near (drop k numbers)) (sym (add-one i))
 
 -- no letter is left
-pub count-end : (letters : List ℕ) (letter i : ℕ) → length letters ≤ i → countIn letter (drop i letters) ≡ 0
-unfolding countIn
-count-end letters letter i past = ap (countIn letter) (drop_of_length-le letters past)
+pub count-end : (letters : List ℕ) (letter i : ℕ) → length letters ≤ i → count_in letter (drop i letters) ≡ 0
+unfolding count_in
+count-end letters letter i past = ap (count_in letter) (drop_of_length-le letters past)
 
-pub near-end : (numbers : List Float) (i : ℕ) → length numbers ≤ i → allNear (drop i numbers) ≡ true
-unfolding allNear
-near-end numbers i past = ap allNear (drop_of_length-le numbers past)
+pub near-end : (numbers : List Float) (i : ℕ) → length numbers ≤ i → all_near (drop i numbers) ≡ true
+unfolding all_near
+near-end numbers i past = ap all_near (drop_of_length-le numbers past)
 
 -- what the two loops keep
-pub one-most : (so : Bool) → oneIf so ≤ 1
+pub one-most : (so : Bool) → one_if so ≤ 1
 one-most true = omega arith
 one-most false = omega arith
 
-pub count_most : (letter : ℕ) (letters : List ℕ) → countIn letter letters ≤ length letters
-unfolding countIn
+pub count_most : (letter : ℕ) (letters : List ℕ) → count_in letter letters ≤ length letters
+unfolding count_in
 count_most letter [] = omega arith
 count_most letter (own ∷ letters) = let h = count_most letter letters in omega (arith, h, one-most (eqb own letter))
 
@@ -78,14 +78,14 @@ and-true : (a : Bool) → (a && true) ≡ a
 and-true true = refl
 and-true false = refl
 
-pub near-more : (numbers : List Float) (i : ℕ) (near own : Bool) → i < length numbers → (near && allNear (drop i numbers)) ≡ allNear numbers → own ≡ isNear (get_or numbers i nan)
-    → ((near && own) && allNear (drop (i + 1) numbers)) ≡ allNear numbers
+pub near-more : (numbers : List Float) (i : ℕ) (near own : Bool) → i < length numbers → (near && all_near (drop i numbers)) ≡ all_near numbers → own ≡ is_near (get_or numbers i nan)
+    → ((near && own) && all_near (drop (i + 1) numbers)) ≡ all_near numbers
 near-more numbers i near own inside e f =
-    assoc near own (allNear (drop (i + 1) numbers))
-    ∙ ap (λ x. near && x) (ap (λ x. x && allNear (drop (i + 1) numbers)) f ∙ sym (near_next numbers i inside))
+    assoc near own (all_near (drop (i + 1) numbers))
+    ∙ ap (λ x. near && x) (ap (λ x. x && all_near (drop (i + 1) numbers)) f ∙ sym (near_next numbers i inside))
     ∙ e
 
-pub near-all : (numbers : List Float) (i : ℕ) (near : Bool) → length numbers ≤ i → (near && allNear (drop i numbers)) ≡ allNear numbers → near ≡ allNear numbers
+pub near-all : (numbers : List Float) (i : ℕ) (near : Bool) → length numbers ≤ i → (near && all_near (drop i numbers)) ≡ all_near numbers → near ≡ all_near numbers
 near-all numbers i near past e = sym (and-true near) ∙ ap (λ x. near && x) (sym (near-end numbers i past)) ∙ e
 
 -- ---- every number is near
@@ -98,30 +98,30 @@ both_r : (a b : Bool) → (a && b) ≡ true → b ≡ true
 both_r true b e = e
 both_r false b e = let z : ◌≡◌ {A = ℕ} 0 1 = cc in absurd (omega arith)
 
-near-at : (numbers : List Float) (i : ℕ) → allNear numbers ≡ true → i < length numbers → isNear (get_or numbers i nan) ≡ true
-unfolding allNear
+near-at : (numbers : List Float) (i : ℕ) → all_near numbers ≡ true → i < length numbers → is_near (get_or numbers i nan) ≡ true
+unfolding all_near
 near-at [] i e h = absurd (omega arith)
-near-at (number ∷ numbers) zero e h = both_l (isNear number) (allNear numbers) e
-near-at (number ∷ numbers) (suc i) e h = near-at numbers i (both_r (isNear number) (allNear numbers) e) (omega arith)
+near-at (number ∷ numbers) zero e h = both_l (is_near number) (all_near numbers) e
+near-at (number ∷ numbers) (suc i) e h = near-at numbers i (both_r (is_near number) (all_near numbers) e) (omega arith)
 
-module _ (list : StoredList) (near : allNear list.numbers ≡ true) where
+module _ (list : StoredList) (near : all_near list.numbers ≡ true) where
   abbrev letters : List ℕ
   letters = list.letters
 
   abbrev numbers : List Float
   numbers = list.numbers
 
-  near-from : (at i : ℕ) → at + i < length numbers → isNear (number_at (drop at numbers) i) ≡ true
-  near-from at i h = ap isNear (get_or-drop at numbers i nan) ∙ near-at numbers (at + i) near h
+  near-from : (at i : ℕ) → at + i < length numbers → is_near (number_at (drop at numbers) i) ≡ true
+  near-from at i h = ap is_near (get_or-drop at numbers i nan) ∙ near-at numbers (at + i) near h
 
-  calm-from : (at i : ℕ) → at + i + 1 < length numbers → isCalm (pointAt (drop at numbers) i) ≡ true
-  unfolding isCalm
+  calm-from : (at i : ℕ) → at + i + 1 < length numbers → is_calm (point_at (drop at numbers) i) ≡ true
+  unfolding is_calm
   calm-from at i h = rw (near-from at i (omega arith), near-from at (i + 1) (omega arith))
 
   -- ---- the counts from a letter on
 
   abbrev of : ℕ → ℕ → ℕ
-  of letter letter_at = countIn letter (drop letter_at letters)
+  of letter letter_at = count_in letter (drop letter_at letters)
 
   -- a letter is one more of its kind
   record Steps (letter_at m l q c z : ℕ) : Type 0 where
@@ -132,11 +132,11 @@ module _ (list : StoredList) (near : allNear list.numbers ≡ true) where
     closes : of 90 letter_at ≡ z + of 90 (letter_at + 1)
 
   steps : (letter_at : ℕ) → letter_at < length letters → (x : ℕ) → get_or letters letter_at 0 ≡ x
-      → Steps letter_at (oneIf (eqb x 77)) (oneIf (eqb x 76)) (oneIf (eqb x 81)) (oneIf (eqb x 67)) (oneIf (eqb x 90))
+      → Steps letter_at (one_if (eqb x 77)) (one_if (eqb x 76)) (one_if (eqb x 81)) (one_if (eqb x 67)) (one_if (eqb x 90))
   steps letter_at inside x e = record { moves = one 77; lines = one 76; quads = one 81; cubics = one 67; closes = one 90 }
     where
-      one : (letter : ℕ) → of letter letter_at ≡ oneIf (eqb x letter) + of letter (letter_at + 1)
-      one letter = count_next letters letter letter_at inside ∙ ap (λ y. oneIf (eqb y letter) + of letter (letter_at + 1)) e
+      one : (letter : ℕ) → of letter letter_at ≡ one_if (eqb x letter) + of letter (letter_at + 1)
+      one letter = count_next letters letter letter_at inside ∙ ap (λ y. one_if (eqb y letter) + of letter (letter_at + 1)) e
 
   -- the letters that a plain list has
   abbrev plain : ℕ → ℕ
@@ -160,7 +160,7 @@ module _ (list : StoredList) (near : allNear list.numbers ≡ true) where
     where
       by :
           (x : ℕ) (a b c d f : Bool) → eqb x 77 ≡ a → eqb x 76 ≡ b → eqb x 81 ≡ c → eqb x 67 ≡ d → eqb x 90 ≡ f
-          → oneIf a + oneIf b + oneIf c + oneIf d + oneIf f ≤ 1
+          → one_if a + one_if b + one_if c + one_if d + one_if f ≤ 1
       by x true true c d f ea eb ec ed ef = absurd (omega (arith, eqb-true x 77 ea, eqb-true x 76 eb))
       by x true false true d f ea eb ec ed ef = absurd (omega (arith, eqb-true x 77 ea, eqb-true x 81 ec))
       by x true false false true f ea eb ec ed ef = absurd (omega (arith, eqb-true x 77 ea, eqb-true x 67 ed))
@@ -178,7 +178,7 @@ module _ (list : StoredList) (near : allNear list.numbers ≡ true) where
       by x false false false false true ea eb ec ed ef = omega arith
       by x false false false false false ea eb ec ed ef = omega arith
 
-      by_first : (x : ℕ) → plain (letter_at + 1) ≤ n → Steps letter_at (oneIf (eqb x 77)) (oneIf (eqb x 76)) (oneIf (eqb x 81)) (oneIf (eqb x 67)) (oneIf (eqb x 90)) → plain letter_at ≤ suc n
+      by_first : (x : ℕ) → plain (letter_at + 1) ≤ n → Steps letter_at (one_if (eqb x 77)) (one_if (eqb x 76)) (one_if (eqb x 81)) (one_if (eqb x 67)) (one_if (eqb x 90)) → plain letter_at ≤ suc n
       by_first x h s =
           omega (arith, h, s.moves, s.lines, s.quads, s.cubics, s.closes, by x (eqb x 77) (eqb x 76) (eqb x 81) (eqb x 67) (eqb x 90) refl refl refl refl refl)
 
@@ -196,7 +196,7 @@ module _ (list : StoredList) (near : allNear list.numbers ≡ true) where
   -- a tally goes on, and what is counted and what is left to count stay the same together
   record Tells (tally : Tally) (letter_at : ℕ) (command : PathCommand) : Type 0 where
     next : Tally
-    is : talliedOf tally command ≡ To next
+    is : tallied_of tally command ≡ To next
     placed : next.pen.placed ≡ true
     segments : tally.segments + segs letter_at ≡ next.segments + segs (letter_at + 1)
     fields : tally.fields + flds letter_at ≡ next.fields + flds (letter_at + 1)
@@ -204,22 +204,22 @@ module _ (list : StoredList) (near : allNear list.numbers ≡ true) where
 
   record PlainStep (n letter_at at : ℕ) : Type 0 where
     command : PathCommand
-    decoded : decodedAt list letter_at at ≡ Command command
+    decoded : decoded_at list letter_at at ≡ Command command
     width : ℕ
-    wide : width ≡ length (argumentsOf command)
+    wide : width ≡ length (arguments_of command)
     left : Left n (letter_at + 1) (at + width)
     tells : (tally : Tally) → tally.pen.placed ≡ true → Tells tally letter_at command
 
-  stroked-is : (tally : Tally) (calm : Bool) (end : Point) (own more : ℕ) → calm ≡ true → tally.pen.placed ≡ true → strokedOf tally calm end own more ≡ To (grownOf tally (drawnOf tally.pen end) own more)
-  unfolding strokedOf
+  stroked-is : (tally : Tally) (calm : Bool) (end : Point) (own more : ℕ) → calm ≡ true → tally.pen.placed ≡ true → stroked_of tally calm end own more ≡ To (grown_of tally (drawn_of tally.pen end) own more)
+  unfolding stroked_of
   stroked-is tally calm end own more e p = rw (e, p)
 
-  moved-is : (tally : Tally) (point : Point) → isCalm point ≡ true → talliedOf tally (MoveTo point) ≡ To (stayedOf tally (movedOf point))
-  unfolding talliedOf countedOf drawOf
+  moved-is : (tally : Tally) (point : Point) → is_calm point ≡ true → tallied_of tally (MoveTo point) ≡ To (stayed_of tally (moved_of point))
+  unfolding tallied_of counted_of draw_of
   moved-is tally point e = rw e
 
-  closed_is : (tally : Tally) → tally.pen.placed ≡ true → talliedOf tally ClosePath ≡ To (grownOf tally (drawnOf tally.pen tally.pen.start) 4 0)
-  unfolding talliedOf countedOf drawOf hasTable tables_of
+  closed_is : (tally : Tally) → tally.pen.placed ≡ true → tallied_of tally ClosePath ≡ To (grown_of tally (drawn_of tally.pen tally.pen.start) 4 0)
+  unfolding tallied_of counted_of draw_of has_table tables_of
   closed_is tally p = rw (p, table_none (Line (line_of tally.pen.current tally.pen.start)) refl)
 
   module _ (n letter_at at : ℕ) (left : Left (suc n) letter_at at) where
@@ -230,13 +230,13 @@ module _ (list : StoredList) (near : allNear list.numbers ≡ true) where
     enough w h = omega (arith, length-drop at numbers)
 
     abbrev p₀ : Point
-    p₀ = pointAt (drop at numbers) 0
+    p₀ = point_at (drop at numbers) 0
 
     abbrev p₂ : Point
-    p₂ = pointAt (drop at numbers) 2
+    p₂ = point_at (drop at numbers) 2
 
     abbrev p₄ : Point
-    p₄ = pointAt (drop at numbers) 4
+    p₄ = point_at (drop at numbers) 4
 
     -- one of its letters, with what it takes and what it draws
     module _ {m l q c z : ℕ} (s : Steps letter_at m l q c z) (one : m + l + q + c + z ≡ 1) where
@@ -252,7 +252,7 @@ module _ (list : StoredList) (near : allNear list.numbers ≡ true) where
           }
 
       told :
-          {tally next : Tally} {command : PathCommand} → talliedOf tally command ≡ To next → next.pen.placed ≡ true → next.segments ≡ tally.segments + (l + q + c + z)
+          {tally next : Tally} {command : PathCommand} → tallied_of tally command ≡ To next → next.pen.placed ≡ true → next.segments ≡ tally.segments + (l + q + c + z)
           → next.fields ≡ tally.fields + (4 * (l + z) + 6 * q + 8 * c) → next.tables ≡ tally.tables + 33 * (q + c) → Tells tally letter_at command
       told {next = next} is placed es ef et =
           record {
@@ -294,14 +294,14 @@ module _ (list : StoredList) (near : allNear list.numbers ≡ true) where
           wide = refl;
           left = left_after s refl refl;
           tells = λ tally placed.
-              told s refl (sym (line-tallied tally p₀) ∙ stroked-is tally (isCalm p₀) p₀ 4 0 (calm-from at 0 (omega (arith, f))) placed) refl (omega arith) (omega arith) (omega arith);
+              told s refl (sym (line-tallied tally p₀) ∙ stroked-is tally (is_calm p₀) p₀ 4 0 (calm-from at 0 (omega (arith, f))) placed) refl (omega arith) (omega arith) (omega arith);
         }
 
     quad-step : get_or letters letter_at 0 ≡ 81 → PlainStep n letter_at at
     quad-step e =
         let s : Steps letter_at 0 0 1 0 0 = steps letter_at inside 81 e in
         let f : at + 4 ≤ length numbers = fits s refl refl in
-        let calm : (isCalm p₀ && isCalm p₂) ≡ true = rw (calm-from at 0 (omega (arith, f)), calm-from at 2 (omega (arith, f))) in
+        let calm : (is_calm p₀ && is_calm p₂) ≡ true = rw (calm-from at 0 (omega (arith, f)), calm-from at 2 (omega (arith, f))) in
         record {
           command = QuadTo p₀ p₂;
           decoded = sym (is-quad (get_or letters letter_at 0) (drop at numbers) p₀ p₂ refl refl e (enough 4 f));
@@ -309,14 +309,14 @@ module _ (list : StoredList) (near : allNear list.numbers ≡ true) where
           wide = refl;
           left = left_after s refl refl;
           tells = λ tally placed.
-              told s refl (sym (quad-tallied tally p₀ p₂) ∙ stroked-is tally (isCalm p₀ && isCalm p₂) p₂ 6 33 calm placed) refl (omega arith) (omega arith) (omega arith);
+              told s refl (sym (quad-tallied tally p₀ p₂) ∙ stroked-is tally (is_calm p₀ && is_calm p₂) p₂ 6 33 calm placed) refl (omega arith) (omega arith) (omega arith);
         }
 
     cubic-step : get_or letters letter_at 0 ≡ 67 → PlainStep n letter_at at
     cubic-step e =
         let s : Steps letter_at 0 0 0 1 0 = steps letter_at inside 67 e in
         let f : at + 6 ≤ length numbers = fits s refl refl in
-        let calm : ((isCalm p₀ && isCalm p₂) && isCalm p₄) ≡ true =
+        let calm : ((is_calm p₀ && is_calm p₂) && is_calm p₄) ≡ true =
         rw (calm-from at 0 (omega (arith, f)), calm-from at 2 (omega (arith, f)), calm-from at 4 (omega (arith, f))) in
         record {
           command = CubicTo p₀ p₂ p₄;
@@ -325,7 +325,7 @@ module _ (list : StoredList) (near : allNear list.numbers ≡ true) where
           wide = refl;
           left = left_after s refl refl;
           tells = λ tally placed.
-              told s refl (sym (cubic-tallied tally p₀ p₂ p₄) ∙ stroked-is tally ((isCalm p₀ && isCalm p₂) && isCalm p₄) p₄ 8 33 calm placed) refl (omega arith) (omega arith) (omega arith);
+              told s refl (sym (cubic-tallied tally p₀ p₂ p₄) ∙ stroked-is tally ((is_calm p₀ && is_calm p₂) && is_calm p₄) p₄ 8 33 calm placed) refl (omega arith) (omega arith) (omega arith);
         }
 
     close-step : get_or letters letter_at 0 ≡ 90 → PlainStep n letter_at at
@@ -354,11 +354,11 @@ module _ (list : StoredList) (near : allNear list.numbers ≡ true) where
         by x e false false false false true ea eb ec ed ef = close-step (e ∙ eqb-true x 90 ef)
         by x e false false false false false ea eb ec ed ef =
             let s = steps letter_at inside x e in
-            let sa : oneIf (eqb x 77) ≡ 0 = ap oneIf ea in
-            let sb : oneIf (eqb x 76) ≡ 0 = ap oneIf eb in
-            let sc : oneIf (eqb x 81) ≡ 0 = ap oneIf ec in
-            let sd : oneIf (eqb x 67) ≡ 0 = ap oneIf ed in
-            let sf : oneIf (eqb x 90) ≡ 0 = ap oneIf ef in
+            let sa : one_if (eqb x 77) ≡ 0 = ap one_if ea in
+            let sb : one_if (eqb x 76) ≡ 0 = ap one_if eb in
+            let sc : one_if (eqb x 81) ≡ 0 = ap one_if ec in
+            let sd : one_if (eqb x 67) ≡ 0 = ap one_if ed in
+            let sf : one_if (eqb x 90) ≡ 0 = ap one_if ef in
             absurd
             (omega (arith, at_most n (letter_at + 1) (omega (arith, left.letters-left)), left.known, s.moves, s.lines, s.quads, s.cubics, s.closes, sa, sb, sc, sd, sf))
 
@@ -367,7 +367,7 @@ module _ (list : StoredList) (near : allNear list.numbers ≡ true) where
   no_more : (letter_at : ℕ) → length letters ≤ letter_at → (letter : ℕ) → of letter letter_at ≡ 0
   no_more letter_at past letter = count-end letters letter letter_at past
 
-  formed-from : (n letter_at at : ℕ) → Left n letter_at at → (commands : List PathCommand) × (listingFrom list letter_at at ≡ wellFormed commands)
+  formed-from : (n letter_at at : ℕ) → Left n letter_at at → (commands : List PathCommand) × (listing_from list letter_at at ≡ well_formed commands)
   formed-from zero letter_at at left =
       let past : length letters ≤ letter_at = omega (arith, left.letters-left) in
       ([], from_end letters numbers letter_at at past (omega (arith, left.widths, no_more letter_at past 77, no_more letter_at past 76, no_more letter_at past 81, no_more letter_at past 67)))
@@ -376,12 +376,12 @@ module _ (list : StoredList) (near : allNear list.numbers ≡ true) where
       let r = formed-from n (letter_at + 1) (at + s.width) s.left in (
         s.command ∷ r.0,
         from_next letters numbers letter_at at (inside n letter_at at left) s.command s.decoded
-            ∙ ap (λ k. prepend s.command (listingFrom list (letter_at + 1) (at + k))) (sym s.wide)
+            ∙ ap (λ k. prepend s.command (listing_from list (letter_at + 1) (at + k))) (sym s.wide)
             ∙ ap (prepend s.command) r.1,
       )
 
   counted-from : (n letter_at at : ℕ) (tally : Tally) → Left n letter_at at → Surveying list tally letter_at at → tally.pen.placed ≡ true
-      → Size.Counted (tally.segments + segs letter_at) (tally.fields + flds letter_at) (tally.tables + tbls letter_at) ≡ measureOf (buildListOf list)
+      → Size.Counted (tally.segments + segs letter_at) (tally.fields + flds letter_at) (tally.tables + tbls letter_at) ≡ measure_of (build_list_of list)
   counted-from zero letter_at at tally left k placed =
       let past : length letters ≤ letter_at = omega (arith, left.letters-left) in
       let l = no_more letter_at past 76 in
@@ -401,15 +401,15 @@ module _ (list : StoredList) (near : allNear list.numbers ≡ true) where
 -- a plain list is well formed, and its counts are told
 pub plain-told :
     (list : StoredList) {m l q c z : ℕ}
-    → m ≡ countIn 77 list.letters → l ≡ countIn 76 list.letters → q ≡ countIn 81 list.letters → c ≡ countIn 67 list.letters → z ≡ countIn 90 list.letters
+    → m ≡ count_in 77 list.letters → l ≡ count_in 76 list.letters → q ≡ count_in 81 list.letters → c ≡ count_in 67 list.letters → z ≡ count_in 90 list.letters
     → 0 < length list.letters → length list.letters ≤ 65536 → get_or list.letters 0 0 ≡ 77
-    → m + l + q + c + z ≡ length list.letters → 2 * (m + l) + 4 * q + 6 * c ≡ length list.numbers → allNear list.numbers ≡ true
-    → Size.Counted (l + q + c + z) (4 * (l + z) + 6 * q + 8 * c) (33 * (q + c)) ≡ measureOf (buildListOf list)
-unfolding listedFrom tally_of start_of move_step
+    → m + l + q + c + z ≡ length list.letters → 2 * (m + l) + 4 * q + 6 * c ≡ length list.numbers → all_near list.numbers ≡ true
+    → Size.Counted (l + q + c + z) (4 * (l + z) + 6 * q + 8 * c) (33 * (q + c)) ≡ measure_of (build_list_of list)
+unfolding listed_from tally_of start_of move_step
 plain-told list {m} {l} {q} {c} {z} em el eq ec ez some few first known widths near =
     by_length (length list.letters) refl
   where
-    by_length : (n : ℕ) → length list.letters ≡ n → Size.Counted (l + q + c + z) (4 * (l + z) + 6 * q + 8 * c) (33 * (q + c)) ≡ measureOf (buildListOf list)
+    by_length : (n : ℕ) → length list.letters ≡ n → Size.Counted (l + q + c + z) (4 * (l + z) + 6 * q + 8 * c) (33 * (q + c)) ≡ measure_of (build_list_of list)
     by_length zero e = absurd (omega arith)
     by_length (suc n) e =
         let left : Left list near (suc n) 0 0 =

@@ -1,9 +1,9 @@
 // One command of a list, stored from its letter and its numbers.
 ghost use Rattle.std.specs.Prelude.{◌≡◌, ◌+◌, ◌≤◌, length, drop};
-ghost use Rattle.commands.specs.Listed.{commandOf};
+ghost use Rattle.commands.specs.Listed.{command_of};
 ghost use Rattle.path_stored.specs.Buffers.{after, before, lent};
 ghost use Rattle.path_storing.specs.Sites.{FewAt, Room, Laid};
-ghost use Rattle.path_build.specs.Letters.{stride_of, drawnAt};
+ghost use Rattle.path_build.specs.Letters.{stride_of, drawn_at};
 
 use commands::inner::{Decoded, decode, point_at};
 use path_storing::Site;
@@ -38,8 +38,8 @@ pub(crate) fn lay_at(
     commands: &mut [u32],
 ) -> Site
     requires { (at + stride_of letter ≤ length numbers.now) × FewAt site
-        × Room site (drawnAt site.pen (commandOf letter (drop at numbers.now))) (lent kinds fields tables lengths commands) }
-    ensures { Laid site number (drawnAt site.pen (commandOf letter (drop at numbers.now)))
+        × Room site (drawn_at site.pen (command_of letter (drop at numbers.now))) (lent kinds fields tables lengths commands) }
+    ensures { Laid site number (drawn_at site.pen (command_of letter (drop at numbers.now)))
         (before kinds fields tables lengths commands) result (after kinds fields tables lengths commands) }
 {
     match letter {

@@ -1,9 +1,9 @@
 // The two passes over a command list: the first counts, and measures only where it must, the second stores.
 ghost use Rattle.std.specs.Prelude.{◌≡◌};
 ghost use Rattle.path_stored.specs.Buffers.{after, before, lent};
-ghost use Rattle.path_build.specs.Lists.{lentList, givenList, WellFormed};
-ghost use Rattle.path_build.specs.Answers.{measureOf, Foretells, Holding, Filled};
-ghost use Rattle.path_build.specs.Paths.{buildListOf, drawersListOf};
+ghost use Rattle.path_build.specs.Lists.{lent_list, given_list, WellFormed};
+ghost use Rattle.path_build.specs.Answers.{measure_of, Foretells, Holding, Filled};
+ghost use Rattle.path_build.specs.Paths.{build_list_of, drawers_list_of};
 
 use crate::by_letter::{lay_at, stride};
 use crate::plain::foretell;
@@ -16,8 +16,8 @@ use path_storing::{Advanced, Outlook, Tallied, opening, start};
 
 // What a well-formed list builds, where no length need be measured to tell.
 fn survey(letters: &[u8], numbers: &[f32]) -> Outlook
-    requires { WellFormed (lentList letters numbers) }
-    ensures { Foretells (buildListOf (givenList letters numbers)) result }
+    requires { WellFormed (lent_list letters numbers) }
+    ensures { Foretells (build_list_of (given_list letters numbers)) result }
 {
     let size = letters.len();
     let mut tally = opening();
@@ -49,8 +49,8 @@ fn survey(letters: &[u8], numbers: &[f32]) -> Outlook
 
 // The same with every length measured: the places needed, or the first refusal.
 fn judge(letters: &[u8], numbers: &[f32]) -> Size
-    requires { WellFormed (lentList letters numbers) }
-    ensures { result ≡ measureOf (buildListOf (givenList letters numbers)) }
+    requires { WellFormed (lent_list letters numbers) }
+    ensures { result ≡ measure_of (build_list_of (given_list letters numbers)) }
 {
     let count = letters.len();
     let mut site = start();
@@ -82,8 +82,8 @@ fn judge(letters: &[u8], numbers: &[f32]) -> Size
 
 // What a well-formed list builds: the places needed, or its first refusal.
 fn measure(letters: &[u8], numbers: &[f32]) -> Size
-    requires { WellFormed (lentList letters numbers) }
-    ensures { result ≡ measureOf (buildListOf (givenList letters numbers)) }
+    requires { WellFormed (lent_list letters numbers) }
+    ensures { result ≡ measure_of (build_list_of (given_list letters numbers)) }
 {
     match survey(letters, numbers) {
         Outlook::Counted {
@@ -105,7 +105,7 @@ fn measure(letters: &[u8], numbers: &[f32]) -> Size
 
 // The same of any list. A plain one is counted by its letters; any other is checked before it is measured.
 pub(crate) fn sized(letters: &[u8], numbers: &[f32]) -> Size
-    ensures { result ≡ measureOf (buildListOf (givenList letters numbers)) }
+    ensures { result ≡ measure_of (build_list_of (given_list letters numbers)) }
 {
     if let Outlook::Counted {
         segments,
@@ -139,8 +139,8 @@ pub(crate) fn fill(
     lengths: &mut [f32],
     commands: &mut [u32],
 )
-    requires { Holding (buildListOf (lentList letters numbers)) (lent kinds fields tables lengths commands) }
-    ensures { Filled (buildListOf (givenList letters numbers)) (drawersListOf (givenList letters numbers))
+    requires { Holding (build_list_of (lent_list letters numbers)) (lent kinds fields tables lengths commands) }
+    ensures { Filled (build_list_of (given_list letters numbers)) (drawers_list_of (given_list letters numbers))
         (before kinds fields tables lengths commands) (after kinds fields tables lengths commands) }
 {
     let count = letters.len();

@@ -1,16 +1,16 @@
 // Plain lists: a MoveTo first, no arc, and every number near. What such a list builds is told by counting its letters, with no command
 // decoded and none measured. The loops have no way out, so that the compiler lays them over lanes.
 ghost use Rattle.std.specs.Prelude.{◌≡◌, ◌≤◌, length};
-ghost use Rattle.path_build.specs.Lists.{givenList};
+ghost use Rattle.path_build.specs.Lists.{given_list};
 ghost use Rattle.path_build.specs.Answers.{Foretells};
-ghost use Rattle.path_build.specs.Paths.{buildListOf};
-ghost use Rattle.path_build.specs.Plain.{oneIf, countIn, allNear};
+ghost use Rattle.path_build.specs.Paths.{build_list_of};
+ghost use Rattle.path_build.specs.Plain.{one_if, count_in, all_near};
 
 use path_bounds::is_near;
 use path_storing::Outlook;
 
 fn one_if(so: bool) -> u32
-    ensures { result ≡ oneIf so }
+    ensures { result ≡ one_if so }
 {
     if so { 1 } else { 0 }
 }
@@ -18,7 +18,7 @@ fn one_if(so: bool) -> u32
 // How often a letter occurs.
 fn count_of(letters: &[u8], letter: u8) -> usize
     requires { length letters.now ≤ 65536 }
-    ensures { result ≡ countIn letter letters.now }
+    ensures { result ≡ count_in letter letters.now }
 {
     let size = letters.len();
     let mut count: u32 = 0;
@@ -32,7 +32,7 @@ fn count_of(letters: &[u8], letter: u8) -> usize
 
 // Whether every number is near. A NaN is not.
 fn all_near(numbers: &[f32]) -> bool
-    ensures { result ≡ allNear numbers.now }
+    ensures { result ≡ all_near numbers.now }
 {
     let size = numbers.len();
     let mut near = true;
@@ -46,7 +46,7 @@ fn all_near(numbers: &[f32]) -> bool
 
 // What a plain list builds.
 pub(crate) fn foretell(letters: &[u8], numbers: &[f32]) -> Outlook
-    ensures { Foretells (buildListOf (givenList letters numbers)) result }
+    ensures { Foretells (build_list_of (given_list letters numbers)) result }
 {
     let size = letters.len();
     if size == 0 {

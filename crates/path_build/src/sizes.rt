@@ -1,6 +1,6 @@
 // The places that a path needs, and what building answers.
 ghost use Rattle.std.specs.Prelude.{◌≡◌};
-ghost use Rattle.path_build.specs.Answers.{isShort, buildingOf};
+ghost use Rattle.path_build.specs.Answers.{is_short, building_of};
 
 use answers::{Refusal, Values};
 
@@ -39,7 +39,7 @@ pub struct Counts {
 
 // Whether some buffer has fewer places than are needed.
 fn is_short(needed: Counts, lent: Counts) -> bool
-    ensures { result ≡ isShort needed lent }
+    ensures { result ≡ is_short needed lent }
 {
     (lent.kinds < needed.kinds)
         | (lent.fields < needed.fields)
@@ -50,7 +50,7 @@ fn is_short(needed: Counts, lent: Counts) -> bool
 
 // What building answers where the buffers have these places: the counts of a path that has room in them, or why none is stored.
 pub fn room(size: Size, lent: Counts) -> Building
-    ensures { result ≡ buildingOf size lent }
+    ensures { result ≡ building_of size lent }
 {
     match size {
         Size::Refused(refusal) => Building::Refused(refusal),

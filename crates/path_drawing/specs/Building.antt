@@ -6,11 +6,11 @@ use Rattle.std.specs.Float.Ieee.{add}
 use Rattle.std.specs.Float.Ieee.Scale.{finite}
 use Rattle.answers.specs.declared.refusals.Refusal.{Refusal}
 use Rattle.answers.specs.declared.refusals.Refusal.TheVariants.{RotationRange, NotFinite}
-use Rattle.floats.specs.Floats.{zeroF}
+use Rattle.floats.specs.Floats.{zero_f}
 use Rattle.commands.specs.declared.command.PathCommand.{PathCommand}
-use Rattle.path_segment.specs.Segments.{lengthFor}
+use Rattle.path_segment.specs.Segments.{length_for}
 use Rattle.path_segment.specs.declared.segments.PathSegment.{PathSegment}
-use Rattle.path_drawing.specs.Drawing.{fresh_of, drawOf}
+use Rattle.path_drawing.specs.Drawing.{fresh_of, draw_of}
 use Rattle.path_drawing.specs.declared.pens.Pen.{Pen}
 use Rattle.path_drawing.specs.declared.strokes.Drawn.{Drawn}
 use Rattle.path_drawing.specs.declared.strokes.Drawn.TheVariants.{Moved, Segment, OutOfRange}
@@ -25,24 +25,24 @@ prepend segment (path rest) = path (segment ∷ rest)
 prepend segment (refusal reason) = refusal reason
 
 -- `push_segment_mut`: the running length up to a segment's end
-abbrev pub lengthAfter : Float → PathSegment → Float
-lengthAfter before segment = add binary32 before (lengthFor segment)
+abbrev pub length_after : Float → PathSegment → Float
+length_after before segment = add binary32 before (length_for segment)
 
 -- "segment by segment 10 before 11": what follows from the segment numbered k on, which has the running length `before` before it, where `rest` builds on
 abbrev pub follow : ℕ → Float → Drawn → (ℕ → Float → Pen → Built) → Built
 follow k before (Moved next) rest = rest k before next
 follow k before (Segment segment next) rest =
-    cond (finite (lengthAfter before segment)) (prepend segment (rest (suc k) (lengthAfter before segment) next)) (refusal (NotFinite k))
+    cond (finite (length_after before segment)) (prepend segment (rest (suc k) (length_after before segment) next)) (refusal (NotFinite k))
 follow k before OutOfRange rest = refusal (RotationRange k)
 
-unfoldable pub buildFrom : List PathCommand → ℕ → Float → Pen → Built
-buildFrom [] k before pen = path []
-buildFrom (command ∷ commands) k before pen = follow k before (drawOf pen command) (buildFrom commands)
+unfoldable pub build_from : List PathCommand → ℕ → Float → Pen → Built
+build_from [] k before pen = path []
+build_from (command ∷ commands) k before pen = follow k before (draw_of pen command) (build_from commands)
 
 -- "0 stands before its first"
-unfoldable pub buildOf : List PathCommand → Built
-unfolding buildFrom
-buildOf commands = buildFrom commands 0 zeroF fresh_of
+unfoldable pub build_of : List PathCommand → Built
+unfolding build_from
+build_of commands = build_from commands 0 zero_f fresh_of
 
 -- ---- "each segment the number of its command": a command that draws none is counted too
 
@@ -58,11 +58,11 @@ named n (Moved next) rest = rest next
 named n (Segment segment next) rest = n ∷ rest next
 named n OutOfRange rest = []
 
--- the numbers of the commands that draw, by the recursion of `buildFrom`
-unfoldable pub drawersFrom : List PathCommand → ℕ → Pen → List ℕ
-drawersFrom [] n pen = []
-drawersFrom (command ∷ commands) n pen = named n (drawOf pen command) (drawersFrom commands (suc n))
+-- the numbers of the commands that draw, by the recursion of `build_from`
+unfoldable pub drawers_from : List PathCommand → ℕ → Pen → List ℕ
+drawers_from [] n pen = []
+drawers_from (command ∷ commands) n pen = named n (draw_of pen command) (drawers_from commands (suc n))
 
-unfoldable pub drawersOf : List PathCommand → List ℕ
-unfolding drawersFrom
-drawersOf commands = drawersFrom commands 0 fresh_of
+unfoldable pub drawers_of : List PathCommand → List ℕ
+unfolding drawers_from
+drawers_of commands = drawers_from commands 0 fresh_of

@@ -1,6 +1,6 @@
 // The pen: where drawing stands between two commands.
 ghost use Rattle.std.specs.Prelude.{◌≡◌};
-ghost use Rattle.path_drawing.specs.Drawing.{fresh_of, movedOf, drawnOf};
+ghost use Rattle.path_drawing.specs.Drawing.{fresh_of, moved_of, drawn_of};
 
 use math::Point;
 
@@ -26,7 +26,7 @@ pub fn fresh() -> Pen
 
 // The pen at the start of a subpath.
 pub fn moved(point: Point) -> Pen
-    ensures { result ≡ movedOf point }
+    ensures { result ≡ moved_of point }
 {
     Pen {
         current: point,
@@ -37,7 +37,7 @@ pub fn moved(point: Point) -> Pen
 
 // The pen at the end of a drawing command: the subpath's start stays.
 pub fn drawn(pen: Pen, end: Point) -> Pen
-    ensures { result ≡ drawnOf pen end }
+    ensures { result ≡ drawn_of pen end }
 {
     let start = pen.start;
     Pen {

@@ -1,6 +1,6 @@
 // What one command makes: nothing, a segment, or the refusal of an arc's rotation.
 ghost use Rattle.std.specs.Prelude.{◌≡◌};
-ghost use Rattle.path_drawing.specs.Drawing.{strokeOf, arcOf, arcStrokeOf, drawOf};
+ghost use Rattle.path_drawing.specs.Drawing.{stroke_of, arc_of, arc_stroke_of, draw_of};
 
 use crate::pens::{Pen, drawn, moved};
 use arc::{LineSegment, fallback_shape, is_fallback};
@@ -22,7 +22,7 @@ pub enum Drawn {
 
 // A segment that a drawing command makes where there is a current point; without one the point is set all the same.
 fn stroke(placed: bool, segment: PathSegment, next: Pen) -> Drawn
-    ensures { result ≡ strokeOf placed segment next }
+    ensures { result ≡ stroke_of placed segment next }
 {
     if placed {
         return Drawn::Segment { segment, next };
@@ -32,7 +32,7 @@ fn stroke(placed: bool, segment: PathSegment, next: Pen) -> Drawn
 
 // An arc, its line fallback, or the refusal of its rotation.
 fn arc_drawn(chord: Chord, next: Pen) -> Drawn
-    ensures { result ≡ arcOf chord next }
+    ensures { result ≡ arc_of chord next }
 {
     if is_fallback(chord) {
         return Drawn::Segment {
@@ -51,7 +51,7 @@ fn arc_drawn(chord: Chord, next: Pen) -> Drawn
 
 // The same where there may be no current point.
 fn arc_stroke(placed: bool, chord: Chord, next: Pen) -> Drawn
-    ensures { result ≡ arcStrokeOf placed chord next }
+    ensures { result ≡ arc_stroke_of placed chord next }
 {
     if placed {
         return arc_drawn(chord, next);
@@ -61,7 +61,7 @@ fn arc_stroke(placed: bool, chord: Chord, next: Pen) -> Drawn
 
 // What a command makes, and where the pen is after it.
 pub fn draw(pen: Pen, command: PathCommand) -> Drawn
-    ensures { result ≡ drawOf pen command }
+    ensures { result ≡ draw_of pen command }
 {
     let current = pen.current;
     let start = pen.start;

@@ -1,9 +1,9 @@
 // Where a segment heads, for callers that know its table to be in its place.
 ghost use Rattle.std.specs.Prelude.{◌≡◌, T};
 ghost use Rattle.bezier.specs.Curves.{ahead_of};
-ghost use Rattle.path_segment.specs.Segments.{hasTable, kind_of};
-ghost use Rattle.path_place.specs.Places.{TableThere, rawIn};
-ghost use Rattle.path_heading.specs.Headings.{headingOf};
+ghost use Rattle.path_segment.specs.Segments.{has_table, kind_of};
+ghost use Rattle.path_place.specs.Places.{TableThere, raw_in};
+ghost use Rattle.path_heading.specs.Headings.{heading_of};
 
 use crate::directions::{cubic_heading, quad_heading};
 use arc::{arc_heading, chord_line, line_tangent};
@@ -20,8 +20,8 @@ pub fn heading(
     along: Progress,
     raw: RawParameter,
 ) -> Point
-    requires { T (hasTable (kind_of segment)) → TableThere tables.now first }
-    ensures { result ≡ headingOf segment raw.value (rawIn tables.now first (ahead_of along.value)) }
+    requires { T (has_table (kind_of segment)) → TableThere tables.now first }
+    ensures { result ≡ heading_of segment raw.value (raw_in tables.now first (ahead_of along.value)) }
 {
     match segment {
         PathSegment::Line(line) => line_tangent(line),

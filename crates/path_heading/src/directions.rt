@@ -1,9 +1,9 @@
 // The directions of quads and cubics whose table starts at `first` of the tables.
 ghost use Rattle.std.specs.Prelude.{◌≡◌};
 ghost use Rattle.bezier.specs.Curves.{ahead_of};
-ghost use Rattle.bezier.specs.Cubics.{cubicDirection};
-ghost use Rattle.bezier.specs.Quads.{quadDirection};
-ghost use Rattle.path_place.specs.Places.{TableThere, rawIn};
+ghost use Rattle.bezier.specs.Cubics.{cubic_direction};
+ghost use Rattle.bezier.specs.Quads.{quad_direction};
+ghost use Rattle.path_place.specs.Places.{TableThere, raw_in};
 
 use bezier::inner::{cubic_direction, quad_direction};
 use math::Point;
@@ -19,7 +19,7 @@ pub(crate) fn quad_heading(
     raw: RawParameter,
 ) -> Point
     requires { TableThere tables.now first }
-    ensures { result ≡ quadDirection start control end raw.value (rawIn tables.now first (ahead_of along.value)) }
+    ensures { result ≡ quad_direction start control end raw.value (raw_in tables.now first (ahead_of along.value)) }
 {
     let last = first + 32;
     let total = tables[last];
@@ -37,7 +37,7 @@ pub(crate) fn cubic_heading(
     raw: RawParameter,
 ) -> Point
     requires { TableThere tables.now first }
-    ensures { result ≡ cubicDirection start control1 control2 end raw.value (rawIn tables.now first (ahead_of along.value)) }
+    ensures { result ≡ cubic_direction start control1 control2 end raw.value (raw_in tables.now first (ahead_of along.value)) }
 {
     let last = first + 32;
     let total = tables[last];

@@ -1,6 +1,6 @@
 // Where a segment is.
 ghost use Rattle.std.specs.Prelude.{◌≡◌};
-ghost use Rattle.path_heading.specs.Headings.{sampleOf};
+ghost use Rattle.path_heading.specs.Headings.{sample_of};
 
 use arc::{arc_sample, chord_line, line_point};
 use bezier::{cubic_sample, quad_sample};
@@ -10,7 +10,7 @@ use table::RawParameter;
 
 // The point of a segment at its raw parameter. Compiled, a NaN of it is 7FC00000.
 pub fn sample(segment: PathSegment, raw: RawParameter) -> Point
-    ensures { result ≡ sampleOf segment raw.value }
+    ensures { result ≡ sample_of segment raw.value }
 {
     match segment {
         PathSegment::Line(line) => tidy_point(line_point(line, raw)),

@@ -11,10 +11,10 @@ use lib.Pow.{pow_pos, pow_mono, pow-lt, pow-add}
 use lib.Seq.{get_or-set_same, get_or-set_other}
 use Rattle.path_stored.proofs.Counting.{before-zero}
 use Rattle.path_place.specs.declared.cursors.Cursor.{Cursor}
-use Rattle.path_place.specs.Cursors.{cursorOf, Moving}
+use Rattle.path_place.specs.Cursors.{cursor_of, Moving}
 use Rattle.path_place.proofs.Standing.{cursor-own}
 use Rattle.path_place.proofs.Walks.{walked_from, walked-fields, walked-tables}
-use Rattle.path_marks.specs.Marks.{segmentOf, mark_of, Reach, Sized, Marks, Markable, Leap}
+use Rattle.path_marks.specs.Marks.{segment_of, mark_of, Reach, Sized, Marks, Markable, Leap}
 
 -- ---- the shift
 
@@ -33,10 +33,10 @@ apart-is {count} {shift} r = let fits : 2 ^ shift < 2 ^ 64 = pow-lt {j = 64} (le
 -- ---- at first
 
 pub marks-none : {kinds : List ℕ} → length kinds ≤ 65536 → Marks kinds 16 (replicate 256 0) (replicate 256 0)
-unfolding cursorOf
-marks-none {kinds} few = record { sized = record { fieldsAre = refl; tablesAre = refl }; reach = record { far = omega arith; small = omega arith }; are = first }
+unfolding cursor_of
+marks-none {kinds} few = record { sized = record { fields_are = refl; tables_are = refl }; reach = record { far = omega arith; small = omega arith }; are = first }
   where
-    first : (k : ℕ) → segmentOf 16 k < length kinds → mark_of 16 (replicate 256 0) (replicate 256 0) k ≡ cursorOf kinds (segmentOf 16 k)
+    first : (k : ℕ) → segment_of 16 k < length kinds → mark_of 16 (replicate 256 0) (replicate 256 0) k ≡ cursor_of kinds (segment_of 16 k)
     first zero inside = simp before-zero
     first (suc k) inside = absurd (omega arith)
 
@@ -49,24 +49,24 @@ marks-same e p q m = rw (e, p, q) m
 -- the marks before k are set
 pub record Before (kinds : List ℕ) (shift k : ℕ) (fields tables : List ℕ) : Type 0 where
   pub sized : Sized fields tables
-  pub are : (m : ℕ) → m < k → mark_of shift fields tables m ≡ cursorOf kinds (segmentOf shift m)
+  pub are : (m : ℕ) → m < k → mark_of shift fields tables m ≡ cursor_of kinds (segment_of shift m)
 
 -- and the cursor stands at the segment of mark k
 pub record Setting (kinds : List ℕ) (shift : ℕ) (at : Cursor) (k : ℕ) (fields tables : List ℕ) : Type 0 where
   pub set : Before kinds shift k fields tables
-  pub is : at ≡ cursorOf kinds (segmentOf shift k)
-  pub inside : segmentOf shift k < length kinds
+  pub is : at ≡ cursor_of kinds (segment_of shift k)
+  pub inside : segment_of shift k < length kinds
 
-pub setting-first : {kinds : List ℕ} (shift : ℕ) {at : Cursor} {fields tables : List ℕ} → Markable kinds fields tables → at ≡ cursorOf kinds 0 → Setting kinds shift at 0 fields tables
+pub setting-first : {kinds : List ℕ} (shift : ℕ) {at : Cursor} {fields tables : List ℕ} → Markable kinds fields tables → at ≡ cursor_of kinds 0 → Setting kinds shift at 0 fields tables
 setting-first {kinds} shift m e =
     let some = m.some in
-    let none : segmentOf shift 0 ≡ 0 = zero-mul (2 ^ shift) in
-    record { is = e ∙ ap (cursorOf kinds) (sym none); inside = omega arith; set = record { sized = m.sized; are = λ m h. absurd (omega arith) } }
+    let none : segment_of shift 0 ≡ 0 = zero-mul (2 ^ shift) in
+    record { is = e ∙ ap (cursor_of kinds) (sym none); inside = omega arith; set = record { sized = m.sized; are = λ m h. absurd (omega arith) } }
 
 module _ {kinds : List ℕ} {shift k : ℕ} {at : Cursor} {fields tables : List ℕ} (few : length kinds ≤ 65536) (s : Setting kinds shift at k fields tables) where
   -- the cursor stands at its own segment
-  pub setting-own : (at.segment ≡ segmentOf shift k) × (at ≡ cursorOf kinds at.segment)
-  setting-own = cursor-own kinds (segmentOf shift k) s.is
+  pub setting-own : (at.segment ≡ segment_of shift k) × (at ≡ cursor_of kinds at.segment)
+  setting-own = cursor-own kinds (segment_of shift k) s.is
 
   upto : at.segment ≤ 65536
   upto = let own = setting-own in let inside = s.inside in omega arith
@@ -86,18 +86,18 @@ module _ {kinds : List ℕ} {shift k : ℕ} {at : Cursor} {fields tables : List 
   pub setting-stored : k < 256 → Before kinds shift (k + 1) (set fields k at.fields) (set tables k at.tables)
   setting-stored room =
       record {
-        sized = record { fieldsAre = length-set fields k at.fields ∙ s.set.sized.fieldsAre; tablesAre = length-set tables k at.tables ∙ s.set.sized.tablesAre };
+        sized = record { fields_are = length-set fields k at.fields ∙ s.set.sized.fields_are; tables_are = length-set tables k at.tables ∙ s.set.sized.tables_are };
         are =
-            below_more (λ (m : ℕ). mark_of shift (set fields k at.fields) (set tables k at.tables) m ≡ cursorOf kinds (segmentOf shift m)) k
+            below_more (λ (m : ℕ). mark_of shift (set fields k at.fields) (set tables k at.tables) m ≡ cursor_of kinds (segment_of shift m)) k
             (λ m h.
             let other : m ≢ k = (λ e. omega (arith, e)) in
             rw (get_or-set_other fields k m at.fields 0 other, get_or-set_other tables k m at.tables 0 other) (s.set.are m h))
-            (let n : k < length fields = omega (arith, s.set.sized.fieldsAre) in
-            let t : k < length tables = omega (arith, s.set.sized.tablesAre) in
+            (let n : k < length fields = omega (arith, s.set.sized.fields_are) in
+            let t : k < length tables = omega (arith, s.set.sized.tables_are) in
             rw (get_or-set_same fields k at.fields 0 n, get_or-set_same tables k at.tables 0 t) (rw setting-own.0 at s.is));
       }
 
-  segment-next : segmentOf shift (k + 1) ≡ at.segment + 2 ^ shift
+  segment-next : segment_of shift (k + 1) ≡ at.segment + 2 ^ shift
   segment-next = let own = setting-own.0 in omega (arith, add-mul k 1 (2 ^ shift))
 
   -- no segment is left for another: they are marks of the path
@@ -113,10 +113,10 @@ module _ {kinds : List ℕ} {shift k : ℕ} {at : Cursor} {fields tables : List 
 
   -- the next mark
   pub setting-next : {to : Cursor} {fields' tables' : List ℕ} → Before kinds shift (k + 1) fields' tables' → 2 ^ shift < length kinds - at.segment
-      → to ≡ cursorOf kinds (at.segment + 2 ^ shift) → Setting kinds shift to (k + 1) fields' tables'
+      → to ≡ cursor_of kinds (at.segment + 2 ^ shift) → Setting kinds shift to (k + 1) fields' tables'
   setting-next stored more e =
       let next = segment-next in
-      record { set = stored; is = e ∙ ap (cursorOf kinds) (sym next); inside = omega arith }
+      record { set = stored; is = e ∙ ap (cursor_of kinds) (sym next); inside = omega arith }
 
 -- ---- from a mark
 
@@ -125,14 +125,14 @@ module _ {kinds : List ℕ} {shift : ℕ} {fields tables : List ℕ} {from : Cur
   pub mark-lt : segment / 2 ^ shift < 256
   mark-lt = (div-lt_iff_lt-mul (pow_pos shift)).1 (lt_of_lt_of_le s.inside s.marks.reach.far)
 
-  pub mark-le : segmentOf shift (segment / 2 ^ shift) ≤ segment
+  pub mark-le : segment_of shift (segment / 2 ^ shift) ≤ segment
   mark-le = div-mul-le_self segment (2 ^ shift)
 
   -- nothing is cut off
-  pub mark-whole : segmentOf shift (segment / 2 ^ shift) % 2 ^ 64 ≡ segmentOf shift (segment / 2 ^ shift)
+  pub mark-whole : segment_of shift (segment / 2 ^ shift) % 2 ^ 64 ≡ segment_of shift (segment / 2 ^ shift)
   mark-whole = mod-eq_of_lt (let h = mark-le in let few = s.move.few in let inside = s.inside in omega arith)
 
-  pub mark-moves : {start n t : ℕ} → start ≡ segmentOf shift (segment / 2 ^ shift) → n ≡ get_or fields (segment / 2 ^ shift) 0 → t ≡ get_or tables (segment / 2 ^ shift) 0
+  pub mark-moves : {start n t : ℕ} → start ≡ segment_of shift (segment / 2 ^ shift) → n ≡ get_or fields (segment / 2 ^ shift) 0 → t ≡ get_or tables (segment / 2 ^ shift) 0
       → Moving kinds (record { segment = start; fields = n; tables = t }) segment
   mark-moves e p q =
       let h = mark-le in

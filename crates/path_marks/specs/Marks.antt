@@ -2,31 +2,31 @@
 use Rattle.std.specs.Prelude.{ℕ, ◌+◌, ◌*◌, ◌^◌, ◌≤◌, ◌<◌, ◌≡◌, List, length, get_or}
 use Rattle.path_stored.specs.Near.{Known}
 use Rattle.path_place.specs.declared.cursors.Cursor.{Cursor}
-use Rattle.path_place.specs.Cursors.{cursorOf, Moving}
+use Rattle.path_place.specs.Cursors.{cursor_of, Moving}
 
 -- the segment of the mark k: they stand 2 ^ shift segments apart
-abbrev pub segmentOf : ℕ → ℕ → ℕ
-segmentOf shift k = k * 2 ^ shift
+abbrev pub segment_of : ℕ → ℕ → ℕ
+segment_of shift k = k * 2 ^ shift
 
 -- the cursor that the mark k keeps
 abbrev pub mark_of : ℕ → List ℕ → List ℕ → ℕ → Cursor
-mark_of shift fields tables k = record { segment = segmentOf shift k; fields = get_or fields k 0; tables = get_or tables k 0 }
+mark_of shift fields tables k = record { segment = segment_of shift k; fields = get_or fields k 0; tables = get_or tables k 0 }
 
 -- 256 marks reach over so many segments
 pub record Reach (count shift : ℕ) : Type 0 where
-  pub far : count ≤ segmentOf shift 256
+  pub far : count ≤ segment_of shift 256
   pub small : shift ≤ 16
 
 -- a place for each mark
 pub record Sized (fields tables : List ℕ) : Type 0 where
-  pub fieldsAre : length fields ≡ 256
-  pub tablesAre : length tables ≡ 256
+  pub fields_are : length fields ≡ 256
+  pub tables_are : length tables ≡ 256
 
 -- each mark that stands on the path is the cursor of its segment
 pub record Marks (kinds : List ℕ) (shift : ℕ) (fields tables : List ℕ) : Type 0 where
   pub sized : Sized fields tables
   pub reach : Reach (length kinds) shift
-  pub are : (k : ℕ) → segmentOf shift k < length kinds → mark_of shift fields tables k ≡ cursorOf kinds (segmentOf shift k)
+  pub are : (k : ℕ) → segment_of shift k < length kinds → mark_of shift fields tables k ≡ cursor_of kinds (segment_of shift k)
 
 -- a path that marks can be set on
 pub record Markable (kinds fields tables : List ℕ) : Type 0 where

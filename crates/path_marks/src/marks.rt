@@ -1,7 +1,7 @@
 // Marks: how many fields and table entries stand before every so many segments, at 256 places at most. They are a power of two of
 // segments apart, which is kept as its exponent, the shift.
 ghost use Rattle.std.specs.Prelude.{◌≡◌, ◌≤◌, true};
-ghost use Rattle.path_place.specs.Cursors.{Moving, cursorOf};
+ghost use Rattle.path_place.specs.Cursors.{Moving, cursor_of};
 ghost use Rattle.path_marks.specs.Marks.{Leap, Markable, Marks, Reach, Reaching, Short};
 
 use path_place::inner::forward;
@@ -124,7 +124,7 @@ pub fn is_near(kinds: &[u8], from: Cursor, segment: usize) -> bool
 // The cursor of such a segment.
 pub fn reached(kinds: &[u8], from: Cursor, segment: usize) -> Cursor
     requires { Reaching kinds.now from segment }
-    ensures { result ≡ cursorOf kinds.now segment }
+    ensures { result ≡ cursor_of kinds.now segment }
 {
     let start = from.segment;
     Cursor {

@@ -8,42 +8,42 @@ use Rattle.flight.specs.declared.single.Placed.TheVariants as Placed
 use Rattle.flight.specs.declared.single.Turned.{Turned}
 use Rattle.bezier.specs.declared.quads.QuadBezier.{QuadBezier}
 use Rattle.bezier.specs.declared.cubics.CubicBezierCurve.{CubicBezierCurve}
-use Rattle.bezier.specs.Quads.{quadPlacedOf, quadHeadingOf}
-use Rattle.bezier.specs.Cubics.{cubicPlacedOf, cubicHeadingOf}
+use Rattle.bezier.specs.Quads.{quad_placed_of, quad_heading_of}
+use Rattle.bezier.specs.Cubics.{cubic_placed_of, cubic_heading_of}
 use Rattle.ellipse.specs.declared.ends.Arc.{Arc}
 use Rattle.arc.specs.declared.arcs.EllipticalArc.{EllipticalArc}
-use Rattle.arc.specs.Lines.{linePositionOf, lineTangentOf}
-use Rattle.arc.specs.Arcs.{chordLine, arcPlacedOf, arcHeadingOf, inDegrees}
+use Rattle.arc.specs.Lines.{line_position_of, line_tangent_of}
+use Rattle.arc.specs.Arcs.{chord_line, arc_placed_of, arc_heading_of, in_degrees}
 use Rattle.path_segment.specs.declared.segments.PathSegment.{PathSegment}
 use Rattle.path_segment.specs.declared.segments.PathSegment.TheVariants as Segment
 
 -- a quad, a cubic and an arc with their table, as the Rust holds them
-abbrev pub quadWith : Point → Point → Point → Table → QuadBezier
-quadWith start control end table = record { start = start; control = control; end = end; table = table }
+abbrev pub quad_with : Point → Point → Point → Table → QuadBezier
+quad_with start control end table = record { start = start; control = control; end = end; table = table }
 
-abbrev pub cubicWith : Point → Point → Point → Point → Table → CubicBezierCurve
-cubicWith start control1 control2 end table = record { start = start; control1 = control1; control2 = control2; end = end; table = table }
+abbrev pub cubic_with : Point → Point → Point → Point → Table → CubicBezierCurve
+cubic_with start control1 control2 end table = record { start = start; control1 = control1; control2 = control2; end = end; table = table }
 
-abbrev pub arcWith : Arc → Table → EllipticalArc
-arcWith shape table = record { shape = shape; line_fallback = false; table = table }
+abbrev pub arc_with : Arc → Table → EllipticalArc
+arc_with shape table = record { shape = shape; line_fallback = false; table = table }
 
 -- `position`: of a line `lerp_point` at the clamped t, whatever its length; of a fallback its line's
 unfoldable pub position_of : PathSegment → Table → Float → Placed
-position_of (Segment.Line line) table along = Placed.At (linePositionOf line along)
-position_of (Segment.Quad start control end) table along = quadPlacedOf (quadWith start control end table) along
-position_of (Segment.Cubic start control1 control2 end) table along = cubicPlacedOf (cubicWith start control1 control2 end table) along
-position_of (Segment.Arc shape) table along = arcPlacedOf (arcWith shape table) along
-position_of (Segment.Fallback shape) table along = Placed.At (linePositionOf (chordLine shape) along)
+position_of (Segment.Line line) table along = Placed.At (line_position_of line along)
+position_of (Segment.Quad start control end) table along = quad_placed_of (quad_with start control end table) along
+position_of (Segment.Cubic start control1 control2 end) table along = cubic_placed_of (cubic_with start control1 control2 end table) along
+position_of (Segment.Arc shape) table along = arc_placed_of (arc_with shape table) along
+position_of (Segment.Fallback shape) table along = Placed.At (line_position_of (chord_line shape) along)
 
 -- `tangent`
-unfoldable pub tangentOf : PathSegment → Table → Float → Placed
-tangentOf (Segment.Line line) table along = Placed.At (lineTangentOf line)
-tangentOf (Segment.Quad start control end) table along = quadHeadingOf (quadWith start control end table) along
-tangentOf (Segment.Cubic start control1 control2 end) table along = cubicHeadingOf (cubicWith start control1 control2 end table) along
-tangentOf (Segment.Arc shape) table along = arcHeadingOf (arcWith shape table) along
-tangentOf (Segment.Fallback shape) table along = Placed.At (lineTangentOf (chordLine shape))
+unfoldable pub tangent_of : PathSegment → Table → Float → Placed
+tangent_of (Segment.Line line) table along = Placed.At (line_tangent_of line)
+tangent_of (Segment.Quad start control end) table along = quad_heading_of (quad_with start control end table) along
+tangent_of (Segment.Cubic start control1 control2 end) table along = cubic_heading_of (cubic_with start control1 control2 end table) along
+tangent_of (Segment.Arc shape) table along = arc_heading_of (arc_with shape table) along
+tangent_of (Segment.Fallback shape) table along = Placed.At (line_tangent_of (chord_line shape))
 
 -- `rotation_deg`: that of the tangent
-unfoldable pub rotationOf : PathSegment → Table → Float → Turned
-unfolding tangentOf
-rotationOf segment table along = inDegrees (tangentOf segment table along)
+unfoldable pub rotation_of : PathSegment → Table → Float → Turned
+unfolding tangent_of
+rotation_of segment table along = in_degrees (tangent_of segment table along)

@@ -1,7 +1,7 @@
 // The queries of one segment. The progress is along the segment, from 0 to 1; what lies outside is clamped and a NaN is 0. The
 // table stands beside the segment: one that is not sound is refused, and a line and a line fallback have none.
 ghost use Rattle.std.specs.Prelude.{◌≡◌};
-ghost use Rattle.path_part.specs.Parts.{position_of, tangentOf, rotationOf};
+ghost use Rattle.path_part.specs.Parts.{position_of, tangent_of, rotation_of};
 
 use arc::{EllipticalArc, arc_position, arc_tangent, chord_line, line_position, line_tangent};
 use bezier::{
@@ -60,7 +60,7 @@ pub fn position(segment: PathSegment, table: Table, along: Progress) -> Placed
 
 // Where it heads, with the length 1, or (0, 0) where nothing tells.
 pub fn tangent(segment: PathSegment, table: Table, along: Progress) -> Placed
-    ensures { result ≡ tangentOf segment table along.value }
+    ensures { result ≡ tangent_of segment table along.value }
 {
     match segment {
         PathSegment::Line(line) => Placed::At(line_tangent(line)),
@@ -106,7 +106,7 @@ pub fn tangent(segment: PathSegment, table: Table, along: Progress) -> Placed
 
 // That heading in degrees from the x axis towards the y axis.
 pub fn rotation_deg(segment: PathSegment, table: Table, along: Progress) -> Turned
-    ensures { result ≡ rotationOf segment table along.value }
+    ensures { result ≡ rotation_of segment table along.value }
 {
     match tangent(segment, table, along) {
         Placed::At(to) => Turned::Degrees(tidy(angles::rotation_deg(to))),

@@ -8,12 +8,12 @@ use lib.Seq.{get_or-drop}
 use lib.Ieee.{Float, nan, binary32, lt, le}
 use lib.Ieee.Bits.{cond_no}
 use lib.Ieee.Fits.{nan-fits}
-use Rattle.floats.specs.Floats.{zeroF, epsilonF}
+use Rattle.floats.specs.Floats.{zero_f, epsilon_f}
 use Rattle.floats.proofs.Order.{lt→not-le}
-use Rattle.table.specs.Lookup.{firstNotBelow, target_of}
-use Rattle.table.specs.Spots.{pathTotal, spotWithin, spotAt, spot_of}
+use Rattle.table.specs.Lookup.{first_not_below, target_of}
+use Rattle.table.specs.Spots.{path_total, spot_within, spot_at, spot_of}
 use Rattle.table_order.specs.Stated.{F32Table}
-use Rattle.path_segment.specs.Segments.{tableAt}
+use Rattle.path_segment.specs.Segments.{table_at}
 use Rattle.path_stored.proofs.Values.{F32s}
 use Rattle.path_place.specs.Places.{TableThere}
 use Rattle.path_place.proofs.Tables.{there-sound}
@@ -28,7 +28,7 @@ take-fits (suc n) (x ∷ xs) values zero = values 0
 take-fits (suc n) (x ∷ xs) values (suc k) = take-fits n xs (λ i. values (suc i)) k
 
 module _ {tables : List Float} (values : F32s tables) where
-  pub table-held : {first : ℕ} → TableThere tables first → F32Table (tableAt tables first).entries (tableAt tables first).total
+  pub table-held : {first : ℕ} → TableThere tables first → F32Table (table_at tables first).entries (table_at tables first).total
   table-held {first} there =
       record {
         table = there-sound there;
@@ -39,12 +39,12 @@ module _ {tables : List Float} (values : F32s tables) where
 -- ---- the pick
 
 -- with the target above 0 and below the total, the segment is the first whose running length is not below the target
-pub picked-inside : (lengths : List Float) (p : Float) → T (lt epsilonF (pathTotal lengths)) → T (lt zeroF (target_of (pathTotal lengths) p)) → T (lt (target_of (pathTotal lengths) p) (pathTotal lengths))
-    → spot_of lengths p ≡ spotWithin lengths (target_of (pathTotal lengths) p) (firstNotBelow (target_of (pathTotal lengths) p) lengths)
-unfolding spot_of spotAt
+pub picked-inside : (lengths : List Float) (p : Float) → T (lt epsilon_f (path_total lengths)) → T (lt zero_f (target_of (path_total lengths) p)) → T (lt (target_of (path_total lengths) p) (path_total lengths))
+    → spot_of lengths p ≡ spot_within lengths (target_of (path_total lengths) p) (first_not_below (target_of (path_total lengths) p) lengths)
+unfolding spot_of spot_at
 picked-inside lengths p long above below =
-    let total = pathTotal lengths in
+    let total = path_total lengths in
     let target = target_of total p in
-    cond_no (le total epsilonF) _ _ (lt→not-le total epsilonF long)
-    ∙ cond_no (le target zeroF) _ _ (lt→not-le target zeroF above)
+    cond_no (le total epsilon_f) _ _ (lt→not-le total epsilon_f long)
+    ∙ cond_no (le target zero_f) _ _ (lt→not-le target zero_f above)
     ∙ cond_no (le total target) _ _ (lt→not-le total target below)

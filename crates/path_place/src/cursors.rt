@@ -1,7 +1,7 @@
 // A walk over the kinds of a path, which keeps where the next segment's fields and table stand.
 ghost use Rattle.std.specs.Prelude.{◌≡◌, ◌≤◌, length};
-ghost use Rattle.path_stored.specs.Stored.{mostSegments};
-ghost use Rattle.path_place.specs.Cursors.{Backward, Onward, cursorOf};
+ghost use Rattle.path_stored.specs.Stored.{most_segments};
+ghost use Rattle.path_place.specs.Cursors.{Backward, Onward, cursor_of};
 
 use path_segment::{table_width, width};
 use path_stored::inner::{fields_before, tables_before};
@@ -16,7 +16,7 @@ pub struct Cursor {
 
 // The first segment.
 pub fn first_cursor(kinds: &[u8]) -> Cursor
-    ensures { result ≡ cursorOf kinds.now 0 }
+    ensures { result ≡ cursor_of kinds.now 0 }
 {
     Cursor {
         segment: 0,
@@ -27,9 +27,9 @@ pub fn first_cursor(kinds: &[u8]) -> Cursor
 
 // A segment, by counting all that stands before it.
 pub fn cursor_at(kinds: &[u8], segment: usize) -> Cursor
-    requires kinds_len_bound { length kinds.now ≤ mostSegments }
+    requires kinds_len_bound { length kinds.now ≤ most_segments }
     requires segment_in_bounds { segment ≤ length kinds.now }
-    ensures { result ≡ cursorOf kinds.now segment }
+    ensures { result ≡ cursor_of kinds.now segment }
 {
     Cursor {
         segment,
@@ -41,7 +41,7 @@ pub fn cursor_at(kinds: &[u8], segment: usize) -> Cursor
 // From a segment on to a later one.
 pub fn forward(kinds: &[u8], from: Cursor, segment: usize) -> Cursor
     requires { Onward kinds.now from segment }
-    ensures { result ≡ cursorOf kinds.now segment }
+    ensures { result ≡ cursor_of kinds.now segment }
 {
     let mut at = from.segment;
     let mut fields = from.fields;
@@ -62,7 +62,7 @@ pub fn forward(kinds: &[u8], from: Cursor, segment: usize) -> Cursor
 // From a segment back to an earlier one.
 pub fn back(kinds: &[u8], from: Cursor, segment: usize) -> Cursor
     requires { Backward kinds.now from segment }
-    ensures { result ≡ cursorOf kinds.now segment }
+    ensures { result ≡ cursor_of kinds.now segment }
 {
     let mut at = from.segment;
     let mut fields = from.fields;

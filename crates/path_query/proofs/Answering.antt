@@ -11,28 +11,28 @@ use Rattle.answers.specs.declared.refusals.Refusal.TheVariants.{BadPath}
 use Rattle.flight.specs.declared.Flight.{Flight}
 use Rattle.flight.specs.declared.Flown.TheVariants as Flown
 use Rattle.path_stored.specs.Buffers.{Buffers}
-use Rattle.path_stored.specs.Stored.{isStored}
-use Rattle.path_query.specs.Flights.{nowhereF, flownOf, flightOf}
-use Rattle.path_query.specs.Answered.{flewOf}
+use Rattle.path_stored.specs.Stored.{is_stored}
+use Rattle.path_query.specs.Flights.{nowhere_f, flown_of, flight_of}
+use Rattle.path_query.specs.Answered.{flew_of}
 
 -- ---- what a path with or without a segment gives
 pub some-kinds : {count : ℕ} → 0 < count → eqb count 0 ≡ false
 some-kinds {count} some = ne_eqb count 0 (λ (e : count ≡ 0). omega arith)
 
 module _ (b : Buffers) (p : Float) where
-  pub flight-some : 0 < length b.kinds → flownOf b p ≡ flightOf b p
-  unfolding flightOf
+  pub flight-some : 0 < length b.kinds → flown_of b p ≡ flight_of b p
+  unfolding flight_of
   flight-some some = rw (some-kinds some)
 
-  pub flight-none : length b.kinds ≡ 0 → nowhereF ≡ flightOf b p
-  unfolding flightOf
+  pub flight-none : length b.kinds ≡ 0 → nowhere_f ≡ flight_of b p
+  unfolding flight_of
   flight-none none = rw (eq-eqb _ _ none)
 
   -- ---- the answers
-  pub flew-well : (flight : Flight) → isStored b ≡ true → flight ≡ flightOf b p → Flown.At flight ≡ flewOf b p
-  unfolding flewOf
+  pub flew-well : (flight : Flight) → is_stored b ≡ true → flight ≡ flight_of b p → Flown.At flight ≡ flew_of b p
+  unfolding flew_of
   flew-well flight stored same = rw stored (ap Flown.At same)
 
-  pub flew-bad : isStored b ≡ false → Flown.Refused BadPath ≡ flewOf b p
-  unfolding flewOf
+  pub flew-bad : is_stored b ≡ false → Flown.Refused BadPath ≡ flew_of b p
+  unfolding flew_of
   flew-bad bad = rw bad

@@ -1,23 +1,23 @@
 -- What the queries answer (document 01, "A path or spline query: 12 only."). Definitions only.
 use Rattle.std.specs.Prelude.{cond, Float}
 use Rattle.answers.specs.declared.refusals.Refusal.TheVariants.{BadPath}
-use Rattle.angles.specs.Angles.{rotationDegOf}
+use Rattle.angles.specs.Angles.{rotation_deg_of}
 use Rattle.flight.specs.declared.Flown.{Flown}
 use Rattle.flight.specs.declared.Flown.TheVariants as Flown
 use Rattle.flight.specs.declared.single.Turned.{Turned}
 use Rattle.flight.specs.declared.single.Turned.TheVariants as Turned
 use Rattle.path_stored.specs.Buffers.{Buffers}
-use Rattle.path_stored.specs.Stored.{isStored}
-use Rattle.path_query.specs.Flights.{flightOf}
+use Rattle.path_stored.specs.Stored.{is_stored}
+use Rattle.path_query.specs.Flights.{flight_of}
 
-unfoldable pub flewOf : Buffers → Float → Flown
-flewOf b progress = cond (isStored b) (Flown.At (flightOf b progress)) (Flown.Refused BadPath)
+unfoldable pub flew_of : Buffers → Float → Flown
+flew_of b progress = cond (is_stored b) (Flown.At (flight_of b progress)) (Flown.Refused BadPath)
 
 -- `PathEvaluate`'s own `rotation_deg`: that of the tangent
-abbrev pub turnFrom : Flown → Turned
-turnFrom (Flown.At flight) = Turned.Degrees (rotationDegOf flight.tangent)
-turnFrom (Flown.Refused refusal) = Turned.Refused refusal
+abbrev pub turn_from : Flown → Turned
+turn_from (Flown.At flight) = Turned.Degrees (rotation_deg_of flight.tangent)
+turn_from (Flown.Refused refusal) = Turned.Refused refusal
 
-unfoldable pub turnedOf : Buffers → Float → Turned
-unfolding flewOf
-turnedOf b progress = turnFrom (flewOf b progress)
+unfoldable pub turned_of : Buffers → Float → Turned
+unfolding flew_of
+turned_of b progress = turn_from (flew_of b progress)

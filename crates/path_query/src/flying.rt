@@ -1,8 +1,8 @@
 // The query without the check, for callers that know the path to be a stored one.
 ghost use Rattle.std.specs.Prelude.{◌≡◌};
 ghost use Rattle.path_stored.specs.Buffers.{before, lent};
-ghost use Rattle.path_stored.specs.Stored.{Stored, segmentIn};
-ghost use Rattle.path_query.specs.Flights.{Flyable, Seated, flightOf, flownOf, flownWithin, nowhereF};
+ghost use Rattle.path_stored.specs.Stored.{Stored, segment_in};
+ghost use Rattle.path_query.specs.Flights.{Flyable, Seated, flight_of, flown_of, flown_within, nowhere_f};
 
 use flight::{Flight, Found};
 use math::{Point, tidy_point};
@@ -18,7 +18,7 @@ use table::inner::{raw_parameter_in, spot};
 // The segment at which a cursor stands.
 fn segment_here(kinds: &[u8], fields: &[f32], tables: &[f32], at: Cursor) -> PathSegment
     requires { Seated kinds.now fields.now tables.now at }
-    ensures { result ≡ segmentIn kinds.now fields.now at.segment }
+    ensures { result ≡ segment_in kinds.now fields.now at.segment }
 {
     let segment = at.segment;
     segment_at(kinds[segment], fields, at.fields)
@@ -33,7 +33,7 @@ pub fn flown_within(
     along: Progress,
 ) -> Flight
     requires { Seated kinds.now fields.now tables.now at }
-    ensures { result ≡ flownWithin kinds.now fields.now tables.now at.segment along.value }
+    ensures { result ≡ flown_within kinds.now fields.now tables.now at.segment along.value }
 {
     let segment = segment_here(kinds, fields, tables, at);
     let raw = raw_within(kinds, tables, at, along);
@@ -57,7 +57,7 @@ fn flown(
     progress: Progress,
 ) -> Flight
     requires { Flyable (lent kinds fields tables lengths commands) }
-    ensures { result ≡ flownOf (before kinds fields tables lengths commands) progress.value }
+    ensures { result ≡ flown_of (before kinds fields tables lengths commands) progress.value }
 {
     let found = spot(lengths, progress);
     let along = found.progress;
@@ -67,7 +67,7 @@ fn flown(
 
 // What is flown on a path without segments: nothing, at (0, 0), with the raw parameter 0.
 pub fn nowhere() -> Flight
-    ensures { result ≡ nowhereF }
+    ensures { result ≡ nowhere_f }
 {
     let origin = Point { x: 0.0, y: 0.0 };
     let single = [0.0f32; 1];
@@ -90,7 +90,7 @@ pub fn flight(
     progress: Progress,
 ) -> Flight
     requires { Stored (lent kinds fields tables lengths commands) }
-    ensures { result ≡ flightOf (before kinds fields tables lengths commands) progress.value }
+    ensures { result ≡ flight_of (before kinds fields tables lengths commands) progress.value }
 {
     if kinds.len() == 0 {
         return nowhere();

@@ -3,7 +3,7 @@ use Prim.Native.Nat.{ℕ, zero, suc, ◌≤◌}
 use mathlib.Core.Path.{◌≡◌, refl, sym}
 use mathlib.Core.Bool.{true, false, false≢true}
 use native.Mathlib.Omega.{arith}
-use Rattle.path_segment.specs.Segments.{width_of, tables_of, hasTable}
+use Rattle.path_segment.specs.Segments.{width_of, tables_of, has_table}
 
 -- ---- kinds that are none of those listed
 
@@ -16,8 +16,8 @@ unknown-width (suc (suc (suc zero))) a b c d e = absurd (d refl)
 unknown-width (suc (suc (suc (suc zero)))) a b c d e = absurd (e refl)
 unknown-width (suc (suc (suc (suc (suc kind))))) a b c d e = refl
 
-pub no-table-for : (kind : ℕ) → (kind ≡ 1 → ⊥) → (kind ≡ 2 → ⊥) → (kind ≡ 3 → ⊥) → false ≡ hasTable kind
-unfolding hasTable tables_of
+pub no-table-for : (kind : ℕ) → (kind ≡ 1 → ⊥) → (kind ≡ 2 → ⊥) → (kind ≡ 3 → ⊥) → false ≡ has_table kind
+unfolding has_table tables_of
 no-table-for zero b c d = refl
 no-table-for (suc zero) b c d = absurd (b refl)
 no-table-for (suc (suc zero)) b c d = absurd (c refl)
@@ -46,8 +46,8 @@ tables-most (suc (suc (suc (suc zero)))) = omega arith
 tables-most (suc (suc (suc (suc (suc kind))))) = omega arith
 
 -- a kind has one table or none
-pub one_table : (kind : ℕ) → hasTable kind ≡ true → tables_of kind ≡ 1
-unfolding hasTable tables_of
+pub one_table : (kind : ℕ) → has_table kind ≡ true → tables_of kind ≡ 1
+unfolding has_table tables_of
 one_table zero e = absurd (false≢true e)
 one_table (suc zero) e = refl
 one_table (suc (suc zero)) e = refl
@@ -55,8 +55,8 @@ one_table (suc (suc (suc zero))) e = refl
 one_table (suc (suc (suc (suc zero)))) e = absurd (false≢true e)
 one_table (suc (suc (suc (suc (suc kind))))) e = absurd (false≢true e)
 
-pub none-table : (kind : ℕ) → hasTable kind ≡ false → tables_of kind ≡ 0
-unfolding hasTable tables_of
+pub none-table : (kind : ℕ) → has_table kind ≡ false → tables_of kind ≡ 0
+unfolding has_table tables_of
 none-table zero e = refl
 none-table (suc zero) e = absurd (false≢true (sym e))
 none-table (suc (suc zero)) e = absurd (false≢true (sym e))

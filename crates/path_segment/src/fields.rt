@@ -1,7 +1,7 @@
 // A segment's fields and its table in the buffers of a stored path: read, and stored.
 ghost use Rattle.std.specs.Prelude.{◌≡◌, [], ◌+◌, ◌≤◌, ◌<◌, length, drop};
 ghost use Rattle.std.proofs.lemmas.List.Edits.{sets};
-ghost use Rattle.path_segment.specs.Segments.{width_of, xy, shapeFields, fields_of, shape_of, segmentOf, tableNumbers, tableAt, tableStored, TableStored};
+ghost use Rattle.path_segment.specs.Segments.{width_of, xy, shape_fields, fields_of, shape_of, segment_of, table_numbers, table_at, table_stored, TableStored};
 
 use crate::segments::{PathSegment, has_table, kind, segment_length, segment_table};
 use arc::LineSegment;
@@ -45,7 +45,7 @@ fn put_cubic(
 
 fn put_shape(fields: &mut [f32], at: usize, shape: Arc)
     requires { at + 11 ≤ length fields.old }
-    ensures { fields.new ≡ sets fields.old at (shapeFields shape) }
+    ensures { fields.new ≡ sets fields.old at (shape_fields shape) }
 {
     put_cubic(
         fields,
@@ -105,7 +105,7 @@ fn shape_at(fields: &[f32], at: usize) -> Arc
 pub fn segment_at(kind: u8, fields: &[f32], at: usize) -> PathSegment
     requires kind_bound { kind < 5 }
     requires kind_in_bounds { at + width_of kind ≤ length fields.now }
-    ensures { result ≡ segmentOf kind (drop at fields.now) }
+    ensures { result ≡ segment_of kind (drop at fields.now) }
 {
     match kind {
         0 => {
@@ -132,7 +132,7 @@ pub fn segment_at(kind: u8, fields: &[f32], at: usize) -> PathSegment
 // The table whose 33 numbers stand from `at` on: 32 entries, then the total.
 pub fn table_at(tables: &[f32], at: usize) -> Table
     requires { at + 33 ≤ length tables.now }
-    ensures { result ≡ tableAt tables.now at }
+    ensures { result ≡ table_at tables.now at }
 {
     let mut entries = [0.0f32; 32];
     let mut k = 0usize;
@@ -149,7 +149,7 @@ pub fn table_at(tables: &[f32], at: usize) -> Table
 // Stores a table's 33 numbers from `at` on.
 pub fn put_table(tables: &mut [f32], at: usize, table: Table)
     requires { at + 33 ≤ length tables.old }
-    ensures { tables.new ≡ sets tables.old at (tableNumbers table) }
+    ensures { tables.new ≡ sets tables.old at (table_numbers table) }
 {
     let entries = table.entries;
     let mut k = 0usize;
@@ -162,7 +162,7 @@ pub fn put_table(tables: &mut [f32], at: usize, table: Table)
 
 // Stores a segment's table from `at` on, where it has one, and gives the segment's length.
 pub fn store_table(tables: &mut [f32], at: usize, segment: PathSegment) -> f32
-    requires { at + length (tableStored segment) ≤ length tables.old }
+    requires { at + length (table_stored segment) ≤ length tables.old }
     ensures { TableStored at segment tables.old result tables.new }
 {
     if has_table(kind(segment)) {

@@ -1,7 +1,7 @@
 // The segments of a path.
 ghost use Rattle.std.specs.Prelude.{◌≡◌, ◌*◌};
 ghost use Rattle.path_segment.specs.declared.segments.PathSegment.TheVariants as Segment;
-ghost use Rattle.path_segment.specs.Segments.{kind_of, width_of, tables_of, hasTable, tableFor, lengthFor};
+ghost use Rattle.path_segment.specs.Segments.{kind_of, width_of, tables_of, has_table, table_for, length_for};
 
 use arc::{LineSegment, arc_table, chord_line, line_length, no_table};
 use bezier::{cubic_table, quad_table};
@@ -69,7 +69,7 @@ pub fn width(kind: u8) -> usize
 
 // Whether a segment of a kind stores a table.
 pub fn has_table(kind: u8) -> bool
-    ensures { result ≡ hasTable kind }
+    ensures { result ≡ has_table kind }
 {
     match kind {
         1 => true,
@@ -91,7 +91,7 @@ pub fn table_width(kind: u8) -> usize
 
 // The table of a segment. A line and a line fallback store none; what stands for it is not sound.
 pub fn segment_table(segment: PathSegment) -> Table
-    ensures { result ≡ tableFor segment }
+    ensures { result ≡ table_for segment }
 {
     match segment {
         PathSegment::Line(_) => no_table(),
@@ -113,26 +113,26 @@ pub fn segment_table(segment: PathSegment) -> Table
 
 // How long a quad, a cubic and an arc are. Each has a function of its own, so that their tables take turns on the stack.
 fn quad_length(start: Point, control: Point, end: Point) -> f32
-    ensures { result ≡ lengthFor (Segment.Quad start control end) }
+    ensures { result ≡ length_for (Segment.Quad start control end) }
 {
     tidy(quad_table(start, control, end).total)
 }
 
 fn cubic_length(start: Point, control1: Point, control2: Point, end: Point) -> f32
-    ensures { result ≡ lengthFor (Segment.Cubic start control1 control2 end) }
+    ensures { result ≡ length_for (Segment.Cubic start control1 control2 end) }
 {
     tidy(cubic_table(start, control1, control2, end).total)
 }
 
 fn arc_length(shape: Arc) -> f32
-    ensures { result ≡ lengthFor (Segment.Arc shape) }
+    ensures { result ≡ length_for (Segment.Arc shape) }
 {
     tidy(arc_table(shape).total)
 }
 
 // How long a segment is: its table's total, or the length of its line. Infinite or a NaN where that is so.
 pub fn segment_length(segment: PathSegment) -> f32
-    ensures { result ≡ lengthFor segment }
+    ensures { result ≡ length_for segment }
 {
     match segment {
         PathSegment::Line(line) => line_length(line),

@@ -14,7 +14,7 @@ use Rattle.path_segment.specs.Segments.{width_of, tables_of}
 use Rattle.path_segment.proofs.Widths.{tables-most}
 use Rattle.path_stored.specs.Stored.{before}
 use Rattle.path_stored.specs.Counts.{Adds}
-use Rattle.path_stored.specs.Near.{laid, itself, moreFields, Known, Eight, Near}
+use Rattle.path_stored.specs.Near.{laid, itself, more_fields, Known, Eight, Near}
 use Rattle.path_stored.proofs.Counting.{before-zero, sum_more}
 
 -- ---- one kind
@@ -31,7 +31,7 @@ table-digit (suc (suc (suc (suc (suc kind))))) known = absurd (omega arith)
 
 -- a kind's fields, and that they are not fewer than 4
 fields-digits : (kind : ℕ) → kind < 5
-    → (2 * kind + (1 * kind + 5) / 8 % 2 ≡ moreFields kind + 2 * ((1 * kind + 4) / 8 % 2)) × (width_of kind ≡ 4 + moreFields kind) × (moreFields kind ≤ 7)
+    → (2 * kind + (1 * kind + 5) / 8 % 2 ≡ more_fields kind + 2 * ((1 * kind + 4) / 8 % 2)) × (width_of kind ≡ 4 + more_fields kind) × (more_fields kind ≤ 7)
 unfolding width_of
 fields-digits zero known = (refl, refl, omega arith)
 fields-digits (suc zero) known = (refl, refl, omega arith)
@@ -236,7 +236,7 @@ module _ (kinds : List ℕ) (known : Known kinds) where
   laid_same f g same (suc n) at inside = ap₂ (λ (x : ℕ) (y : ℕ). x * 256 + y) (laid_same f g same n (suc at) (omega arith)) (same (get_or kinds at 0) (known at (omega arith)))
 
   fields_laid : (n at : ℕ) → at + n ≤ length kinds → 2 * laid itself kinds at n + laid (λ (kind : ℕ). (1 * kind + 5) / 8 % 2) kinds at n
-      ≡ laid moreFields kinds at n + 2 * laid (λ (kind : ℕ). (1 * kind + 4) / 8 % 2) kinds at n
+      ≡ laid more_fields kinds at n + 2 * laid (λ (kind : ℕ). (1 * kind + 4) / 8 % 2) kinds at n
   unfolding laid
   fields_laid zero at inside = refl
   fields_laid (suc n) at inside = omega (arith, fields_laid n (suc at) (omega arith), (fields-digits (get_or kinds at 0) (known at (omega arith))).0)
@@ -258,24 +258,24 @@ module _ (kinds : List ℕ) (known : Known kinds) where
         let e : word + more * 72340172838076673 ≡ 1 * laid itself kinds at n + more * 72340172838076673 = omega (arith, is) in
         ap (λ (x : ℕ). bit_and (x / 8) 72340172838076673) e ∙ digits 1 more (λ kind known. omega arith) none 8 n at short inside
 
-    pub field-lanes : 2 * word + bit_and ((word + 361700864190383365) / 8) 72340172838076673 ≡ laid moreFields kinds at n + 2 * bit_and ((word + 289360691352306692) / 8) 72340172838076673
+    pub field-lanes : 2 * word + bit_and ((word + 361700864190383365) / 8) 72340172838076673 ≡ laid more_fields kinds at n + 2 * bit_and ((word + 289360691352306692) / 8) 72340172838076673
     field-lanes = omega (arith, is, with-more 5 (lit< tt), with-more 4 (lit< tt), fields_laid n at inside)
 
   -- ---- 4 fields each, and those above
 
-  fields-above : (i : ℕ) → i ≤ length kinds → before width_of kinds i ≡ 4 * i + before moreFields kinds i
-  fields-above zero inside = omega (arith, before-zero width_of kinds, before-zero moreFields kinds)
+  fields-above : (i : ℕ) → i ≤ length kinds → before width_of kinds i ≡ 4 * i + before more_fields kinds i
+  fields-above zero inside = omega (arith, before-zero width_of kinds, before-zero more_fields kinds)
   fields-above (suc i) inside =
       let next : i + 1 ≡ suc i = omega arith in
       let h : i < length kinds = omega arith in
       let w = sum_more width_of kinds i h refl refl in
-      let m = sum_more moreFields kinds i h refl refl in
-      omega (arith, fields-above i (omega arith), w, m, ap (before width_of kinds) next, ap (before moreFields kinds) next, (fields-digits (get_or kinds i 0) (known i h)).1)
+      let m = sum_more more_fields kinds i h refl refl in
+      omega (arith, fields-above i (omega arith), w, m, ap (before width_of kinds) next, ap (before more_fields kinds) next, (fields-digits (get_or kinds i 0) (known i h)).1)
 
-  pub all-fields : (from to more : ℕ) → from ≤ to → to ≤ length kinds → Adds moreFields kinds from to more → Adds width_of kinds from to (4 * (to - from) + more)
+  pub all-fields : (from to more : ℕ) → from ≤ to → to ≤ length kinds → Adds more_fields kinds from to more → Adds width_of kinds from to (4 * (to - from) + more)
   all-fields from to more order inside a = omega (arith, fields-above from (omega arith), fields-above to inside)
 
-pub more-few : (kind : ℕ) → kind < 5 → moreFields kind ≤ 7
+pub more-few : (kind : ℕ) → kind < 5 → more_fields kind ≤ 7
 more-few kind known = (fields-digits kind known).2
 
 pub tables-few : (kind : ℕ) → kind < 5 → tables_of kind ≤ 7

@@ -7,15 +7,15 @@ use native.Mathlib.Omega.{arith}
 use lib.Dec.{T}
 use lib.Ieee.{Float}
 use lib.ListN.{length, get_or}
-use Rattle.table.specs.Sound.{tableIsSound}
-use Rattle.path_segment.specs.Segments.{width_of, tables_of, hasTable, tableAt}
+use Rattle.table.specs.Sound.{table_is_sound}
+use Rattle.path_segment.specs.Segments.{width_of, tables_of, has_table, table_at}
 use Rattle.path_segment.proofs.Widths.{one_table}
 use Rattle.path_stored.specs.Buffers.{Buffers}
-use Rattle.path_stored.specs.Stored.{before, isStored, Stored, Fielded, Tabled, tableIn}
+use Rattle.path_stored.specs.Stored.{before, is_stored, Stored, Fielded, Tabled, table_in}
 use Rattle.path_stored.proofs.Counting.{before-fits}
 use Rattle.path_stored.proofs.Rule.{stored-rule}
 
-module _ (b : Buffers) (stored : T (isStored b)) where
+module _ (b : Buffers) (stored : T (is_stored b)) where
   pub stored-fielded : Fielded b.kinds b.fields
   stored-fielded = let s = stored-rule b stored in record { few = s.few; known = s.known; counted = s.numbers }
 
@@ -26,7 +26,7 @@ module _ (b : Buffers) (stored : T (isStored b)) where
 pub segment-fields : {kinds : List ℕ} {fields : List Float} → Fielded kinds fields → (i : ℕ) → i < length kinds → before width_of kinds i + width_of (get_or kinds i 0) ≤ length fields
 segment-fields {kinds} {fields} p i inside = let r = before-fits width_of kinds i inside in let q = p.counted in omega arith
 
-module _ {kinds : List ℕ} {tables : List Float} (p : Tabled kinds tables) (i : ℕ) (inside : i < length kinds) (has : hasTable (get_or kinds i 0) ≡ true) where
+module _ {kinds : List ℕ} {tables : List Float} (p : Tabled kinds tables) (i : ℕ) (inside : i < length kinds) (has : has_table (get_or kinds i 0) ≡ true) where
   below : before tables_of kinds i < before tables_of kinds (length kinds)
   below = let r = before-fits tables_of kinds i inside in omega (arith, one_table (get_or kinds i 0) has)
 
@@ -35,6 +35,6 @@ module _ {kinds : List ℕ} {tables : List Float} (p : Tabled kinds tables) (i :
   segment-table = let q = p.counted in omega (arith, below)
 
   -- and is sound
-  pub table-in-sound : T (tableIsSound (tableIn kinds tables i).entries (tableIn kinds tables i).total)
-  unfolding tableIn
+  pub table-in-sound : T (table_is_sound (table_in kinds tables i).entries (table_in kinds tables i).total)
+  unfolding table_in
   table-in-sound = rw has (p.each (before tables_of kinds i) below)

@@ -9,11 +9,11 @@ use lib.Dec.{leb}
 use lib.ListN.{length, get_or}
 use Rattle.path_segment.specs.Segments.{width_of, tables_of}
 use Rattle.path_segment.proofs.Widths.{width-most, tables-most}
-use Rattle.path_stored.specs.Stored.{before, mostSegments}
-use Rattle.path_stored.specs.Counts.{Adds, ShortStep, Span, oneFrom}
+use Rattle.path_stored.specs.Stored.{before, most_segments}
+use Rattle.path_stored.specs.Counts.{Adds, ShortStep, Span, one_from}
 use Rattle.path_stored.proofs.Counting.{sum_more, before-most}
 
-pub one_at_most : (least kind : ℕ) → oneFrom least kind ≤ 1
+pub one_at_most : (least kind : ℕ) → one_from least kind ≤ 1
 one_at_most least kind = go (leb least kind)
   where
     go : (b : Bool) → cond b 1 0 ≤ 1
@@ -21,7 +21,7 @@ one_at_most least kind = go (leb least kind)
     go false = omega arith
 
 -- the fields of a kind, from what kinds have more than those before them
-width-parts : (kind : ℕ) → width_of kind + 11 * oneFrom 5 kind ≡ 4 + 2 * oneFrom 1 kind + 2 * oneFrom 2 kind + 3 * oneFrom 3 kind
+width-parts : (kind : ℕ) → width_of kind + 11 * one_from 5 kind ≡ 4 + 2 * one_from 1 kind + 2 * one_from 2 kind + 3 * one_from 3 kind
 unfolding width_of
 width-parts zero = refl
 width-parts (suc zero) = refl
@@ -48,7 +48,7 @@ pub fields-start : (kinds : List ℕ) (from : ℕ) → FieldCounts kinds from fr
 fields-start kinds from = record { sum = omega arith; grows = omega arith; few1 = omega arith; few2 = omega arith; few3 = omega arith; few5 = omega arith }
 
 pub fields-more : {kinds : List ℕ} {from j from1 from2 from3 from5 : ℕ} (one1 one2 one3 one5 : ℕ) → FieldCounts kinds from j from1 from2 from3 from5 → from ≤ j → j < length kinds
-    → one1 ≡ oneFrom 1 (get_or kinds j 0) → one2 ≡ oneFrom 2 (get_or kinds j 0) → one3 ≡ oneFrom 3 (get_or kinds j 0) → one5 ≡ oneFrom 5 (get_or kinds j 0)
+    → one1 ≡ one_from 1 (get_or kinds j 0) → one2 ≡ one_from 2 (get_or kinds j 0) → one3 ≡ one_from 3 (get_or kinds j 0) → one5 ≡ one_from 5 (get_or kinds j 0)
     → FieldCounts kinds from (j + 1) (from1 + one1) (from2 + one2) (from3 + one3) (from5 + one5)
 fields-more {kinds} {from} {j} one1 one2 one3 one5 n order inside e1 e2 e3 e5 =
     let kind = get_or kinds j 0 in

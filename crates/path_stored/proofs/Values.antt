@@ -4,18 +4,18 @@ use mathlib.Core.List.{List, [], ◌∷◌, ◌++◌}
 use lib.Dec.{T}
 use lib.Ieee.{Float, binary32, add, fits}
 use lib.Ieee.Fits.{nan-fits, add-fits}
-use Rattle.floats.specs.Floats.{zeroF}
+use Rattle.floats.specs.Floats.{zero_f}
 use Rattle.math.specs.declared.points.Point.{Point}
 use Rattle.table.specs.Lookup.{at}
-use Rattle.table_samples.specs.Samples.{total_of, lengthsOf, table_of}
+use Rattle.table_samples.specs.Samples.{total_of, lengths_of, table_of}
 use Rattle.table_samples.proofs.Made.{made-fits, made-total-fits}
-use Rattle.bezier.specs.Quads.{quadSampleOf}
-use Rattle.bezier.specs.Cubics.{cubicSampleOf}
-use Rattle.ellipse.specs.Shape.{pointOn}
+use Rattle.bezier.specs.Quads.{quad_sample_of}
+use Rattle.bezier.specs.Cubics.{cubic_sample_of}
+use Rattle.ellipse.specs.Shape.{point_on}
 use Rattle.path_segment.specs.declared.segments.PathSegment.{PathSegment}
 use Rattle.path_segment.specs.declared.segments.PathSegment.TheVariants as Segment
-use Rattle.path_segment.specs.Segments.{tables_of, hasTable, tableFor, tableNumbers, tableStored, lengthFor}
-use Rattle.path_stored.specs.Layout.{tablesOfAll, runningOf, lengthsOfAll}
+use Rattle.path_segment.specs.Segments.{tables_of, has_table, table_for, table_numbers, table_stored, length_for}
+use Rattle.path_stored.specs.Layout.{tables_of_all, running_of, lengths_of_all}
 
 -- each number of a list is an f32 value
 abbrev pub F32s : List Float → Type 0
@@ -31,35 +31,35 @@ append-fit (x ∷ xs) ys f g (suc k) = append-fit xs ys (λ i. f (suc i)) g k
 
 -- ---- the tables
 
-made-fit : (formula : Float → Point) → F32s (tableNumbers (table_of formula))
+made-fit : (formula : Float → Point) → F32s (table_numbers (table_of formula))
 unfolding table_of
-made-fit formula = append-fit (lengthsOf formula 31) (total_of formula 31 ∷ []) (made-fits formula 31) total-fits
+made-fit formula = append-fit (lengths_of formula 31) (total_of formula 31 ∷ []) (made-fits formula 31) total-fits
   where
     total-fits : F32s (total_of formula 31 ∷ [])
     total-fits zero = made-total-fits formula 31
     total-fits (suc k) = nan-fits binary32
 
-table-fit : (segment : PathSegment) → F32s (tableStored segment)
-unfolding tableStored tableFor hasTable tables_of
+table-fit : (segment : PathSegment) → F32s (table_stored segment)
+unfolding table_stored table_for has_table tables_of
 table-fit (Segment.Line line) = none-fit
-table-fit (Segment.Quad start control end) = made-fit (quadSampleOf start control end)
-table-fit (Segment.Cubic start control1 control2 end) = made-fit (cubicSampleOf start control1 control2 end)
-table-fit (Segment.Arc shape) = made-fit (pointOn shape)
+table-fit (Segment.Quad start control end) = made-fit (quad_sample_of start control end)
+table-fit (Segment.Cubic start control1 control2 end) = made-fit (cubic_sample_of start control1 control2 end)
+table-fit (Segment.Arc shape) = made-fit (point_on shape)
 table-fit (Segment.Fallback shape) = none-fit
 
-pub tables-fit : (segments : List PathSegment) → F32s (tablesOfAll segments)
-unfolding tablesOfAll
+pub tables-fit : (segments : List PathSegment) → F32s (tables_of_all segments)
+unfolding tables_of_all
 tables-fit [] = none-fit
-tables-fit (segment ∷ segments) = append-fit (tableStored segment) (tablesOfAll segments) (table-fit segment) (tables-fit segments)
+tables-fit (segment ∷ segments) = append-fit (table_stored segment) (tables_of_all segments) (table-fit segment) (tables-fit segments)
 
 -- ---- the running lengths
 
-running-fit : (start : Float) (segments : List PathSegment) → F32s (runningOf start segments)
-unfolding runningOf
+running-fit : (start : Float) (segments : List PathSegment) → F32s (running_of start segments)
+unfolding running_of
 running-fit start [] k = nan-fits binary32
-running-fit start (segment ∷ segments) zero = add-fits binary32 start (lengthFor segment)
-running-fit start (segment ∷ segments) (suc k) = running-fit (add binary32 start (lengthFor segment)) segments k
+running-fit start (segment ∷ segments) zero = add-fits binary32 start (length_for segment)
+running-fit start (segment ∷ segments) (suc k) = running-fit (add binary32 start (length_for segment)) segments k
 
-pub lengths-fit : (segments : List PathSegment) → F32s (lengthsOfAll segments)
-unfolding lengthsOfAll
-lengths-fit segments = running-fit zeroF segments
+pub lengths-fit : (segments : List PathSegment) → F32s (lengths_of_all segments)
+unfolding lengths_of_all
+lengths-fit segments = running-fit zero_f segments

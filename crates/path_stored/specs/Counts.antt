@@ -1,10 +1,10 @@
 -- The fields and the tables of a part of a path: its segments from one on to before another, counted from 0. Definitions only.
 use Rattle.std.specs.Prelude.{ℕ, ◌+◌, ◌≤◌, ◌≡◌, cond, List, leb, length}
-use Rattle.path_stored.specs.Stored.{before, mostSegments}
+use Rattle.path_stored.specs.Stored.{before, most_segments}
 
 -- a part of a path
 pub record Span (kinds : List ℕ) (from to : ℕ) : Type 0 where
-  pub few : length kinds ≤ mostSegments
+  pub few : length kinds ≤ most_segments
   pub order : from ≤ to
   pub inside : to ≤ length kinds
 
@@ -18,8 +18,8 @@ abbrev pub Adds : (ℕ → ℕ) → List ℕ → ℕ → ℕ → ℕ → Type 0
 Adds f kinds from to sum = before f kinds from + sum ≡ before f kinds to
 
 -- 1 for a kind from `least` on
-abbrev pub oneFrom : ℕ → ℕ → ℕ
-oneFrom least kind = cond (leb least kind) 1 0
+abbrev pub one_from : ℕ → ℕ → ℕ
+one_from least kind = cond (leb least kind) 1 0
 
 -- the next part of a longer one
 pub record ShortStep (at to end : ℕ) : Type 0 where

@@ -12,8 +12,8 @@ abbrev pub itself : ℕ → ℕ
 itself kind = kind
 
 -- its fields above 4, which every kind has
-abbrev pub moreFields : ℕ → ℕ
-moreFields kind = width_of kind - 4
+abbrev pub more_fields : ℕ → ℕ
+more_fields kind = width_of kind - 4
 
 -- there are eight kinds before one
 pub record WordBefore (kinds : List ℕ) (end : ℕ) : Type 0 where

@@ -1,7 +1,7 @@
 // The stored path check.
 ghost use Rattle.std.specs.Prelude.{◌≡◌, ◌≤◌, ◌*◌, length};
 ghost use Rattle.path_stored.specs.Buffers.{before};
-ghost use Rattle.path_stored.specs.Stored.{mostSegments, areKnown, tablesAreSound, neverFall, isStored};
+ghost use Rattle.path_stored.specs.Stored.{most_segments, are_known, tables_are_sound, never_fall, is_stored};
 
 use crate::parts::{fields_before, tables_before};
 use table::inner::row_is_sound;
@@ -9,7 +9,7 @@ use table::lengths_are_sound;
 
 // Whether all kinds are known. The loop goes on past one that is not, as those below.
 fn are_known(kinds: &[u8]) -> bool
-    ensures { result ≡ areKnown kinds.now }
+    ensures { result ≡ are_known kinds.now }
 {
     let mut known = true;
     let mut i = 0usize;
@@ -22,9 +22,9 @@ fn are_known(kinds: &[u8]) -> bool
 
 // Whether the n tables that stand one after the other are sound.
 fn tables_are_sound(tables: &[f32], n: usize) -> bool
-    requires n_le_most_segments { n ≤ mostSegments }
+    requires n_le_most_segments { n ≤ most_segments }
     requires tables_len { length tables.now ≡ 33 * n }
-    ensures { result ≡ tablesAreSound tables.now n }
+    ensures { result ≡ tables_are_sound tables.now n }
 {
     let mut j = 0usize;
     while j < n {
@@ -42,7 +42,7 @@ fn tables_are_sound(tables: &[f32], n: usize) -> bool
 // Whether no command number is below the one before it. The loop goes on past one that is: without a way out in its middle it is
 // compiled to tests of several numbers at a time.
 fn never_fall(commands: &[u32]) -> bool
-    ensures { result ≡ neverFall 0 commands.now }
+    ensures { result ≡ never_fall 0 commands.now }
 {
     let mut rise = true;
     let mut previous = 0u32;
@@ -65,7 +65,7 @@ pub fn check_path(
     lengths: &[f32],
     commands: &[u32],
 ) -> bool
-    ensures { result ≡ isStored (before kinds fields tables lengths commands) }
+    ensures { result ≡ is_stored (before kinds fields tables lengths commands) }
 {
     let count = kinds.len();
     if 65536 < count {

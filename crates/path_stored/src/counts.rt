@@ -2,7 +2,7 @@
 // compiled to counts of sixteen kinds at once.
 ghost use Rattle.std.specs.Prelude.{◌≡◌, ◌<◌};
 ghost use Rattle.path_segment.specs.Segments.{width_of, tables_of};
-ghost use Rattle.path_stored.specs.Counts.{Adds, ShortSpan, ShortStep, Span, oneFrom};
+ghost use Rattle.path_stored.specs.Counts.{Adds, ShortSpan, ShortStep, Span, one_from};
 
 use path_segment::has_table;
 
@@ -15,7 +15,7 @@ fn wide(x: u8) -> usize
 
 // 1 for a kind from `least` on.
 fn one_from(least: u8, kind: u8) -> u8
-    ensures { result ≡ oneFrom least kind }
+    ensures { result ≡ one_from least kind }
 {
     if least <= kind { 1 } else { 0 }
 }

@@ -3,7 +3,7 @@
 ghost use Rattle.std.specs.Prelude.{◌≡◌, ◌-◌, ◌≤◌, ◌<◌};
 ghost use Rattle.path_segment.specs.Segments.{width_of, tables_of};
 ghost use Rattle.path_stored.specs.Counts.{Adds};
-ghost use Rattle.path_stored.specs.Near.{Eight, LastFew, Near, WordBefore, itself, laid, moreFields};
+ghost use Rattle.path_stored.specs.Near.{Eight, LastFew, Near, WordBefore, itself, laid, more_fields};
 
 // The same number.
 fn wide(kind: u8) -> u64
@@ -49,7 +49,7 @@ fn tables_of_last(kinds: &[u8], end: usize, few: usize) -> u64
 // from 4 on, where kind + 4 has it.
 fn fields_of_last(kinds: &[u8], end: usize, few: usize) -> u64
     requires { LastFew kinds.now end few }
-    ensures { result ≡ laid moreFields kinds.now (end - few) few }
+    ensures { result ≡ laid more_fields kinds.now (end - few) few }
 {
     let word = last_few(kinds, end, few);
     let from3 = ((word + 0x0505_0505_0505_0505) >> 3) & 0x0101_0101_0101_0101;

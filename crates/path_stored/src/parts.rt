@@ -1,8 +1,8 @@
 // What is read of a stored path, for callers that know it to be one.
 ghost use Rattle.std.specs.Prelude.{◌≡◌, ◌≤◌, ◌<◌, length};
-ghost use Rattle.table.specs.Spots.{pathTotal};
+ghost use Rattle.table.specs.Spots.{path_total};
 ghost use Rattle.path_segment.specs.Segments.{width_of, tables_of};
-ghost use Rattle.path_stored.specs.Stored.{before, mostSegments, Fielded, Tabled, segmentIn, tableIn};
+ghost use Rattle.path_stored.specs.Stored.{before, most_segments, Fielded, Tabled, segment_in, table_in};
 
 use crate::counts::{fields_between, tables_between};
 use arc::no_table;
@@ -14,7 +14,7 @@ use table::inner::length_before;
 
 // How many fields stand before those of segment i.
 pub fn fields_before(kinds: &[u8], i: usize) -> usize
-    requires kinds_len_bound { length kinds.now ≤ mostSegments }
+    requires kinds_len_bound { length kinds.now ≤ most_segments }
     requires i_in_bounds { i ≤ length kinds.now }
     ensures { result ≡ before width_of kinds.now i }
 {
@@ -23,7 +23,7 @@ pub fn fields_before(kinds: &[u8], i: usize) -> usize
 
 // How many tables stand before that of segment i.
 pub fn tables_before(kinds: &[u8], i: usize) -> usize
-    requires kinds_len_bound { length kinds.now ≤ mostSegments }
+    requires kinds_len_bound { length kinds.now ≤ most_segments }
     requires i_in_bounds { i ≤ length kinds.now }
     ensures { result ≡ before tables_of kinds.now i }
 {
@@ -34,7 +34,7 @@ pub fn tables_before(kinds: &[u8], i: usize) -> usize
 pub fn segment(kinds: &[u8], fields: &[f32], i: usize) -> PathSegment
     requires fielded { Fielded kinds.now fields.now }
     requires i_in_bounds { i < length kinds.now }
-    ensures { result ≡ segmentIn kinds.now fields.now i }
+    ensures { result ≡ segment_in kinds.now fields.now i }
 {
     let at = fields_before(kinds, i);
     segment_at(kinds[i], fields, at)
@@ -44,7 +44,7 @@ pub fn segment(kinds: &[u8], fields: &[f32], i: usize) -> PathSegment
 pub fn segment_table(kinds: &[u8], tables: &[f32], i: usize) -> Table
     requires tabled { Tabled kinds.now tables.now }
     requires i_in_bounds { i < length kinds.now }
-    ensures { result ≡ tableIn kinds.now tables.now i }
+    ensures { result ≡ table_in kinds.now tables.now i }
 {
     if has_table(kinds[i]) {
         let n = tables_before(kinds, i);
@@ -55,7 +55,7 @@ pub fn segment_table(kinds: &[u8], tables: &[f32], i: usize) -> Table
 
 // How long a path is: its last running length, or 0 without a segment.
 pub fn total(lengths: &[f32]) -> f32
-    ensures { result ≡ pathTotal lengths.now }
+    ensures { result ≡ path_total lengths.now }
 {
     let count = lengths.len();
     tidy(length_before(lengths, count))

@@ -1,7 +1,7 @@
 // What a path answers about its segments. Each entry checks the path first, and refuses what is not stored.
 ghost use Rattle.std.specs.Prelude.{◌≡◌};
 ghost use Rattle.path_stored.specs.Buffers.{before};
-ghost use Rattle.path_stored.specs.Queries.{countedOf, emptinessOf, measuredOf, nothingOf, part_of};
+ghost use Rattle.path_stored.specs.Queries.{counted_of, emptiness_of, measured_of, nothing_of, part_of};
 
 use crate::checking::check_path;
 use crate::inner;
@@ -55,7 +55,7 @@ pub fn len(
     lengths: &[f32],
     commands: &[u32],
 ) -> Counted
-    ensures { result ≡ countedOf (before kinds fields tables lengths commands) }
+    ensures { result ≡ counted_of (before kinds fields tables lengths commands) }
 {
     if check_path(kinds, fields, tables, lengths, commands) {
         return Counted::Segments(kinds.len());
@@ -71,7 +71,7 @@ pub fn is_empty(
     lengths: &[f32],
     commands: &[u32],
 ) -> Emptiness
-    ensures { result ≡ emptinessOf (before kinds fields tables lengths commands) }
+    ensures { result ≡ emptiness_of (before kinds fields tables lengths commands) }
 {
     if check_path(kinds, fields, tables, lengths, commands) {
         if kinds.len() == 0 {
@@ -90,7 +90,7 @@ pub fn arc_length(
     lengths: &[f32],
     commands: &[u32],
 ) -> Measured
-    ensures { result ≡ measuredOf (before kinds fields tables lengths commands) }
+    ensures { result ≡ measured_of (before kinds fields tables lengths commands) }
 {
     if check_path(kinds, fields, tables, lengths, commands) {
         return Measured::Length(inner::total(lengths));
@@ -100,7 +100,7 @@ pub fn arc_length(
 
 // The part of a path that has no such segment.
 fn nothing(found: Found) -> Part
-    ensures { result ≡ nothingOf found }
+    ensures { result ≡ nothing_of found }
 {
     let table = no_table();
     Part { found, table }

@@ -3,23 +3,23 @@ use mathlib.Core.Path.{◌≡◌, refl, ap}
 use mathlib.Core.Bool.{true}
 use lib.ListN.{length}
 use Rattle.ellipse.specs.declared.ends.Chord.{Chord}
-use Rattle.ellipse.specs.Ends.{fromEndsOf}
-use Rattle.arc.specs.Arcs.{fallbackShape}
-use Rattle.path_segment.specs.Segments.{hasTable, tables_of}
+use Rattle.ellipse.specs.Ends.{from_ends_of}
+use Rattle.arc.specs.Arcs.{fallback_shape}
+use Rattle.path_segment.specs.Segments.{has_table, tables_of}
 use Rattle.path_segment.proofs.Tables.{table-some, table_none}
 use Rattle.path_segment.specs.declared.segments.PathSegment.TheVariants.{Arc, Fallback}
-use Rattle.path_bounds.specs.Calm.{isCalmArc}
+use Rattle.path_bounds.specs.Calm.{is_calm_arc}
 use Rattle.path_drawing.specs.declared.pens.Pen.{Pen}
 use Rattle.path_drawing.specs.declared.strokes.Drawn.TheVariants.{Segment}
-use Rattle.path_storing.specs.Tallies.{grownOf, countedOf}
+use Rattle.path_storing.specs.Tallies.{grown_of, counted_of}
 use Rattle.path_storing.specs.declared.tallies.Tally.{Tally}
 use Rattle.path_storing.specs.declared.tallies.Tallied.TheVariants.{To}
 
 module _ (tally : Tally) (chord : Chord) (next : Pen) where
-  pub fallback-counted : To (grownOf tally next 11 0) ≡ countedOf tally (Segment (Fallback (fallbackShape chord)) next)
-  unfolding countedOf hasTable tables_of
-  fallback-counted = rw (ap length (table_none (Fallback (fallbackShape chord)) refl))
+  pub fallback-counted : To (grown_of tally next 11 0) ≡ counted_of tally (Segment (Fallback (fallback_shape chord)) next)
+  unfolding counted_of has_table tables_of
+  fallback-counted = rw (ap length (table_none (Fallback (fallback_shape chord)) refl))
 
-  pub arc-counted : isCalmArc (fromEndsOf chord) ≡ true → To (grownOf tally next 11 33) ≡ countedOf tally (Segment (Arc (fromEndsOf chord)) next)
-  unfolding countedOf hasTable tables_of
-  arc-counted calm = rw (calm, table-some (Arc (fromEndsOf chord)) refl)
+  pub arc-counted : is_calm_arc (from_ends_of chord) ≡ true → To (grown_of tally next 11 33) ≡ counted_of tally (Segment (Arc (from_ends_of chord)) next)
+  unfolding counted_of has_table tables_of
+  arc-counted calm = rw (calm, table-some (Arc (from_ends_of chord)) refl)

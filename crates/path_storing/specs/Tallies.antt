@@ -3,11 +3,11 @@ use Rattle.std.specs.Prelude.{ℕ, ◌+◌, Bool, true, ◌&&◌, cond, length}
 use Rattle.math.specs.declared.points.Point.{Point}
 use Rattle.commands.specs.declared.command.PathCommand.{PathCommand}
 use Rattle.commands.specs.declared.command.PathCommand.TheVariants.{MoveTo, LineTo, QuadTo, CubicTo, ArcTo, ClosePath}
-use Rattle.path_segment.specs.Segments.{fields_of, tableStored}
+use Rattle.path_segment.specs.Segments.{fields_of, table_stored}
 use Rattle.path_segment.specs.declared.segments.PathSegment.{PathSegment}
 use Rattle.path_segment.specs.declared.segments.PathSegment.TheVariants.{Line, Quad, Cubic, Arc, Fallback}
-use Rattle.path_bounds.specs.Calm.{isCalm, isCalmArc}
-use Rattle.path_drawing.specs.Drawing.{drawnOf, drawOf}
+use Rattle.path_bounds.specs.Calm.{is_calm, is_calm_arc}
+use Rattle.path_drawing.specs.Drawing.{drawn_of, draw_of}
 use Rattle.path_drawing.specs.declared.pens.Pen.{Pen}
 use Rattle.path_drawing.specs.declared.strokes.Drawn.{Drawn}
 use Rattle.path_drawing.specs.declared.strokes.Drawn.TheVariants.{Moved, Segment, OutOfRange}
@@ -26,39 +26,39 @@ abbrev pub FewIn : Tally → Type 0
 FewIn tally = Few tally.segments tally.fields tally.tables
 
 -- after a command that draws no segment, and after one of so many fields, with so many numbers in its table
-abbrev pub stayedOf : Tally → Pen → Tally
-stayedOf tally next = record { pen = next; segments = tally.segments; fields = tally.fields; tables = tally.tables }
+abbrev pub stayed_of : Tally → Pen → Tally
+stayed_of tally next = record { pen = next; segments = tally.segments; fields = tally.fields; tables = tally.tables }
 
-abbrev pub grownOf : Tally → Pen → ℕ → ℕ → Tally
-grownOf tally next own more = record { pen = next; segments = tally.segments + 1; fields = tally.fields + own; tables = tally.tables + more }
+abbrev pub grown_of : Tally → Pen → ℕ → ℕ → Tally
+grown_of tally next own more = record { pen = next; segments = tally.segments + 1; fields = tally.fields + own; tables = tally.tables + more }
 
 -- a line or a curve to an end, where its points are calm
-unfoldable pub strokedOf : Tally → Bool → Point → ℕ → ℕ → Tallied
-strokedOf tally calm end own more =
-    cond calm (To (cond tally.pen.placed (grownOf tally (drawnOf tally.pen end) own more) (stayedOf tally (drawnOf tally.pen end)))) Unsure
+unfoldable pub stroked_of : Tally → Bool → Point → ℕ → ℕ → Tallied
+stroked_of tally calm end own more =
+    cond calm (To (cond tally.pen.placed (grown_of tally (drawn_of tally.pen end) own more) (stayed_of tally (drawn_of tally.pen end)))) Unsure
 
 -- the points that a command names; radii are no points
-abbrev pub namesCalm : PathCommand → Bool
-namesCalm (MoveTo point) = isCalm point
-namesCalm (LineTo end) = isCalm end
-namesCalm (QuadTo control end) = isCalm control && isCalm end
-namesCalm (CubicTo control1 control2 end) = (isCalm control1 && isCalm control2) && isCalm end
-namesCalm (ArcTo radii rotation large sweep end) = isCalm end
-namesCalm ClosePath = true
+abbrev pub names_calm : PathCommand → Bool
+names_calm (MoveTo point) = is_calm point
+names_calm (LineTo end) = is_calm end
+names_calm (QuadTo control end) = is_calm control && is_calm end
+names_calm (CubicTo control1 control2 end) = (is_calm control1 && is_calm control2) && is_calm end
+names_calm (ArcTo radii rotation large sweep end) = is_calm end
+names_calm ClosePath = true
 
 -- of the segments between calm points only an arc may be long: its centre, radii and angles tell
-abbrev pub isBounded : PathSegment → Bool
-isBounded (Line line) = true
-isBounded (Quad start control end) = true
-isBounded (Cubic start control1 control2 end) = true
-isBounded (Arc shape) = isCalmArc shape
-isBounded (Fallback shape) = true
+abbrev pub is_bounded : PathSegment → Bool
+is_bounded (Line line) = true
+is_bounded (Quad start control end) = true
+is_bounded (Cubic start control1 control2 end) = true
+is_bounded (Arc shape) = is_calm_arc shape
+is_bounded (Fallback shape) = true
 
-unfoldable pub countedOf : Tally → Drawn → Tallied
-countedOf tally (Moved next) = To (stayedOf tally next)
-countedOf tally (Segment segment next) = cond (isBounded segment) (To (grownOf tally next (length (fields_of segment)) (length (tableStored segment)))) Unsure
-countedOf tally OutOfRange = Unsure
+unfoldable pub counted_of : Tally → Drawn → Tallied
+counted_of tally (Moved next) = To (stayed_of tally next)
+counted_of tally (Segment segment next) = cond (is_bounded segment) (To (grown_of tally next (length (fields_of segment)) (length (table_stored segment)))) Unsure
+counted_of tally OutOfRange = Unsure
 
-unfoldable pub talliedOf : Tally → PathCommand → Tallied
-unfolding countedOf
-talliedOf tally command = cond (namesCalm command) (countedOf tally (drawOf tally.pen command)) Unsure
+unfoldable pub tallied_of : Tally → PathCommand → Tallied
+unfolding counted_of
+tallied_of tally command = cond (names_calm command) (counted_of tally (draw_of tally.pen command)) Unsure

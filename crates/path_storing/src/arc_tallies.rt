@@ -1,7 +1,7 @@
 // Counting what an arc stores: whether it is long is judged by what stands before its angles, which are not taken.
 ghost use Rattle.std.specs.Prelude.{◌≡◌};
-ghost use Rattle.path_drawing.specs.Drawing.{drawnOf, arcStrokeOf};
-ghost use Rattle.path_storing.specs.Tallies.{FewIn, countedOf};
+ghost use Rattle.path_drawing.specs.Drawing.{drawn_of, arc_stroke_of};
+ghost use Rattle.path_storing.specs.Tallies.{FewIn, counted_of};
 
 use crate::tallies::{Tallied, Tally, grown, stayed};
 use arc::is_fallback;
@@ -13,7 +13,7 @@ use path_drawing::drawn;
 // What an arc from the current point comes to, where both its ends are calm.
 pub(crate) fn count_arc(so_far: Tally, chord: Chord) -> Tallied
     requires { FewIn so_far }
-    ensures { result ≡ countedOf so_far (arcStrokeOf so_far.pen.placed chord (drawnOf so_far.pen chord.end)) }
+    ensures { result ≡ counted_of so_far (arc_stroke_of so_far.pen.placed chord (drawn_of so_far.pen chord.end)) }
 {
     let pen = so_far.pen;
     let end = chord.end;

@@ -5,7 +5,7 @@ ghost use Rattle.arc.specs.Lines.{line_of};
 ghost use Rattle.commands.specs.declared.command.PathCommand.TheVariants.{LineTo, QuadTo, CubicTo};
 ghost use Rattle.path_stored.specs.Buffers.{after, before, lent};
 ghost use Rattle.path_segment.specs.declared.segments.PathSegment.TheVariants.{Line};
-ghost use Rattle.path_drawing.specs.Drawing.{drawnOf, drawOf};
+ghost use Rattle.path_drawing.specs.Drawing.{drawn_of, draw_of};
 ghost use Rattle.path_drawing.specs.declared.strokes.Drawn.TheVariants.{Segment};
 ghost use Rattle.path_storing.specs.Sites.{FewAt, Room, Laid};
 
@@ -36,8 +36,8 @@ fn lay_line(
     lengths: &mut [f32],
     commands: &mut [u32],
 ) -> Site
-    requires { FewAt site × Room site (Segment (Line (line_of site.pen.current end)) (drawnOf site.pen end)) (lent kinds fields tables lengths commands) }
-    ensures { Laid site number (Segment (Line (line_of site.pen.current end)) (drawnOf site.pen end))
+    requires { FewAt site × Room site (Segment (Line (line_of site.pen.current end)) (drawn_of site.pen end)) (lent kinds fields tables lengths commands) }
+    ensures { Laid site number (Segment (Line (line_of site.pen.current end)) (drawn_of site.pen end))
         (before kinds fields tables lengths commands) result (after kinds fields tables lengths commands) }
 {
     let pen = site.pen;
@@ -70,8 +70,8 @@ pub fn line_to(
     lengths: &mut [f32],
     commands: &mut [u32],
 ) -> Site
-    requires { FewAt site × Room site (drawOf site.pen (LineTo end)) (lent kinds fields tables lengths commands) }
-    ensures { Laid site number (drawOf site.pen (LineTo end)) (before kinds fields tables lengths commands) result (after kinds fields tables lengths commands) }
+    requires { FewAt site × Room site (draw_of site.pen (LineTo end)) (lent kinds fields tables lengths commands) }
+    ensures { Laid site number (draw_of site.pen (LineTo end)) (before kinds fields tables lengths commands) result (after kinds fields tables lengths commands) }
 {
     let pen = site.pen;
     if pen.placed {
@@ -92,8 +92,8 @@ pub fn quad_to(
     lengths: &mut [f32],
     commands: &mut [u32],
 ) -> Site
-    requires { FewAt site × Room site (drawOf site.pen (QuadTo control end)) (lent kinds fields tables lengths commands) }
-    ensures { Laid site number (drawOf site.pen (QuadTo control end)) (before kinds fields tables lengths commands) result (after kinds fields tables lengths commands) }
+    requires { FewAt site × Room site (draw_of site.pen (QuadTo control end)) (lent kinds fields tables lengths commands) }
+    ensures { Laid site number (draw_of site.pen (QuadTo control end)) (before kinds fields tables lengths commands) result (after kinds fields tables lengths commands) }
 {
     let pen = site.pen;
     if pen.placed {
@@ -140,8 +140,8 @@ pub fn cubic_to(
     lengths: &mut [f32],
     commands: &mut [u32],
 ) -> Site
-    requires { FewAt site × Room site (drawOf site.pen (CubicTo control1 control2 end)) (lent kinds fields tables lengths commands) }
-    ensures { Laid site number (drawOf site.pen (CubicTo control1 control2 end)) (before kinds fields tables lengths commands) result (after kinds fields tables lengths commands) }
+    requires { FewAt site × Room site (draw_of site.pen (CubicTo control1 control2 end)) (lent kinds fields tables lengths commands) }
+    ensures { Laid site number (draw_of site.pen (CubicTo control1 control2 end)) (before kinds fields tables lengths commands) result (after kinds fields tables lengths commands) }
 {
     let pen = site.pen;
     if pen.placed {

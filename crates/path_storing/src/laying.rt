@@ -1,10 +1,10 @@
 // A command at a site: judged and counted, and then stored. The callers know that there are few segments.
 ghost use Rattle.std.specs.Prelude.{◌≡◌};
 ghost use Rattle.path_stored.specs.Buffers.{after, before, lent};
-ghost use Rattle.path_drawing.specs.Drawing.{fresh_of, drawOf};
-ghost use Rattle.path_drawing.specs.Building.{lengthAfter};
+ghost use Rattle.path_drawing.specs.Drawing.{fresh_of, draw_of};
+ghost use Rattle.path_drawing.specs.Building.{length_after};
 ghost use Rattle.path_drawing.specs.declared.strokes.Drawn.TheVariants.{Segment};
-ghost use Rattle.path_storing.specs.Sites.{FewAt, siteAt, Room, SegmentLaid, Laid, after_of, movedOf, advanceOf};
+ghost use Rattle.path_storing.specs.Sites.{FewAt, site_at, Room, SegmentLaid, Laid, after_of, moved_of, advance_of};
 
 use crate::direct::line_to;
 use crate::sites::{Advanced, Site};
@@ -17,7 +17,7 @@ use path_segment::{PathSegment, kind, segment_length, table_width, width};
 
 // The site after a segment, where `length` is the running length up to its end.
 fn after(site: Site, segment: PathSegment, length: f32, pen: Pen) -> Site
-    requires { FewAt site × (length ≡ lengthAfter site.length segment) }
+    requires { FewAt site × (length ≡ length_after site.length segment) }
     ensures { result ≡ after_of site segment pen }
 {
     let byte = kind(segment);
@@ -34,7 +34,7 @@ fn after(site: Site, segment: PathSegment, length: f32, pen: Pen) -> Site
 
 // The site after a command that draws no segment.
 pub(crate) fn moved(site: Site, pen: Pen) -> Site
-    ensures { result ≡ movedOf site pen }
+    ensures { result ≡ moved_of site pen }
 {
     Site {
         pen,
@@ -48,7 +48,7 @@ pub(crate) fn moved(site: Site, pen: Pen) -> Site
 // Judges a command at a site and counts what it stores.
 pub fn advance(site: Site, command: PathCommand) -> Advanced
     requires { FewAt site }
-    ensures { result ≡ advanceOf site command }
+    ensures { result ≡ advance_of site command }
 {
     let pen = site.pen;
     match draw(pen, command) {
@@ -79,8 +79,8 @@ pub(crate) fn store_segment(
     lengths: &mut [f32],
     commands: &mut [u32],
 ) -> f32
-    requires { Room (siteAt passed index own more) (Segment segment fresh_of) (lent kinds fields tables lengths commands) }
-    ensures { SegmentLaid (siteAt passed index own more) number segment (before kinds fields tables lengths commands) result (after kinds fields tables lengths commands) }
+    requires { Room (site_at passed index own more) (Segment segment fresh_of) (lent kinds fields tables lengths commands) }
+    ensures { SegmentLaid (site_at passed index own more) number segment (before kinds fields tables lengths commands) result (after kinds fields tables lengths commands) }
 {
     kinds[index] = kind(segment);
     put_segment(fields, own, segment);
@@ -132,8 +132,8 @@ pub fn lay_any(
     lengths: &mut [f32],
     commands: &mut [u32],
 ) -> Site
-    requires { FewAt site × Room site (drawOf site.pen command) (lent kinds fields tables lengths commands) }
-    ensures { Laid site number (drawOf site.pen command) (before kinds fields tables lengths commands) result (after kinds fields tables lengths commands) }
+    requires { FewAt site × Room site (draw_of site.pen command) (lent kinds fields tables lengths commands) }
+    ensures { Laid site number (draw_of site.pen command) (before kinds fields tables lengths commands) result (after kinds fields tables lengths commands) }
 {
     let pen = site.pen;
     match draw(pen, command) {
@@ -159,8 +159,8 @@ pub fn lay(
     lengths: &mut [f32],
     commands: &mut [u32],
 ) -> Site
-    requires { FewAt site × Room site (drawOf site.pen command) (lent kinds fields tables lengths commands) }
-    ensures { Laid site number (drawOf site.pen command) (before kinds fields tables lengths commands) result (after kinds fields tables lengths commands) }
+    requires { FewAt site × Room site (draw_of site.pen command) (lent kinds fields tables lengths commands) }
+    ensures { Laid site number (draw_of site.pen command) (before kinds fields tables lengths commands) result (after kinds fields tables lengths commands) }
 {
     if let PathCommand::LineTo(end) = command {
         return line_to(site, number, end, kinds, fields, tables, lengths, commands);

@@ -1,9 +1,9 @@
 // Counting what commands store, with no length measured: where every point is calm no running length is refused, and nothing else of a
 // length is asked before anything is stored.
 ghost use Rattle.std.specs.Prelude.{◌≡◌, ◌≤◌};
-ghost use Rattle.path_drawing.specs.Drawing.{drawOf};
+ghost use Rattle.path_drawing.specs.Drawing.{draw_of};
 ghost use Rattle.path_storing.specs.Sites.{start_of};
-ghost use Rattle.path_storing.specs.Tallies.{FewIn, tally_of, stayedOf, grownOf, strokedOf, isBounded, countedOf, talliedOf};
+ghost use Rattle.path_storing.specs.Tallies.{FewIn, tally_of, stayed_of, grown_of, stroked_of, is_bounded, counted_of, tallied_of};
 
 use crate::arc_tallies::count_arc;
 use commands::PathCommand;
@@ -57,7 +57,7 @@ pub fn opening() -> Tally
 
 // The tally after a command that draws no segment.
 pub(crate) fn stayed(so_far: Tally, pen: Pen) -> Tally
-    ensures { result ≡ stayedOf so_far pen }
+    ensures { result ≡ stayed_of so_far pen }
 {
     Tally {
         pen,
@@ -70,7 +70,7 @@ pub(crate) fn stayed(so_far: Tally, pen: Pen) -> Tally
 // The tally after a segment of `own` fields, with `more` numbers in its table.
 pub(crate) fn grown(so_far: Tally, pen: Pen, own: usize, more: usize) -> Tally
     requires { FewIn so_far × (own ≤ 11) × (more ≤ 33) }
-    ensures { result ≡ grownOf so_far pen own more }
+    ensures { result ≡ grown_of so_far pen own more }
 {
     Tally {
         pen,
@@ -83,7 +83,7 @@ pub(crate) fn grown(so_far: Tally, pen: Pen, own: usize, more: usize) -> Tally
 // A line or a curve up to a point, where all its points are calm.
 fn stroked(so_far: Tally, calm: bool, end: Point, own: usize, more: usize) -> Tallied
     requires { FewIn so_far × (own ≤ 11) × (more ≤ 33) }
-    ensures { result ≡ strokedOf so_far calm end own more }
+    ensures { result ≡ stroked_of so_far calm end own more }
 {
     if calm {
         let pen = so_far.pen;
@@ -98,7 +98,7 @@ fn stroked(so_far: Tally, calm: bool, end: Point, own: usize, more: usize) -> Ta
 
 // Whether a segment between calm points is not long: an arc is judged by its fields.
 fn is_bounded(segment: PathSegment) -> bool
-    ensures { result ≡ isBounded segment }
+    ensures { result ≡ is_bounded segment }
 {
     match segment {
         PathSegment::Line(_) => true,
@@ -121,7 +121,7 @@ fn is_bounded(segment: PathSegment) -> bool
 // What any command draws, where it names calm points.
 fn count_any(so_far: Tally, command: PathCommand) -> Tallied
     requires { FewIn so_far }
-    ensures { result ≡ countedOf so_far (drawOf so_far.pen command) }
+    ensures { result ≡ counted_of so_far (draw_of so_far.pen command) }
 {
     let pen = so_far.pen;
     match draw(pen, command) {
@@ -142,7 +142,7 @@ fn count_any(so_far: Tally, command: PathCommand) -> Tallied
 // Counts what a command stores.
 pub fn count(so_far: Tally, command: PathCommand) -> Tallied
     requires { FewIn so_far }
-    ensures { result ≡ talliedOf so_far command }
+    ensures { result ≡ tallied_of so_far command }
 {
     match command {
         PathCommand::MoveTo(point) => {

@@ -7,10 +7,10 @@ use Rattle.answers.specs.declared.refusals.Refusal.TheVariants.{UnexpectedEnd, E
 use Rattle.math.specs.declared.points.Point.{Point}
 use Rattle.commands.specs.declared.command.PathCommand.TheVariants.{MoveTo, LineTo, CubicTo, ClosePath}
 use Rattle.svg.specs.Texts.{Outcome, commands, refusal}
-use Rattle.svg.specs.Readings.{readPathOf}
+use Rattle.svg.specs.Readings.{read_path_of}
 use Rattle.svg.proofs.Readings.{readings}
-use Rattle.path_drawing.specs.Drawing.{fresh_of, drawOf}
-use Rattle.path_drawing.specs.Building.{path, buildFrom, buildOf}
+use Rattle.path_drawing.specs.Drawing.{fresh_of, draw_of}
+use Rattle.path_drawing.specs.Building.{path, build_from, build_of}
 
 -- a point by the bits of its coordinates
 abbrev point : ℕ → ℕ → Point
@@ -18,7 +18,7 @@ point x y = record { x = of_bits binary32 x; y = of_bits binary32 y }
 
 -- a text into buffers with room for it
 abbrev read : List ℕ → Outcome
-read text = readPathOf text 8 16 8
+read text = read_path_of text 8 16 8
 
 pub readings-whole :
     -- the empty text
@@ -41,6 +41,6 @@ pub readings-whole :
     -- `M0 0A1 1 0 2 0 3 4`
     × (read (77 ∷ 48 ∷ 32 ∷ 48 ∷ 65 ∷ 49 ∷ 32 ∷ 49 ∷ 32 ∷ 48 ∷ 32 ∷ 50 ∷ 32 ∷ 48 ∷ 32 ∷ 51 ∷ 32 ∷ 52 ∷ []) ≡ refusal (ExpectedFlag 11))
     -- the list of `ZL1 2` builds no segment
-    × (buildOf (ClosePath ∷ LineTo (point 0x3f80_0000 0x4000_0000) ∷ []) ≡ path [])
-unfolding buildOf buildFrom drawOf fresh_of
+    × (build_of (ClosePath ∷ LineTo (point 0x3f80_0000 0x4000_0000) ∷ []) ≡ path [])
+unfolding build_of build_from draw_of fresh_of
 readings-whole = let r = readings in (r.0, r.1, r.2, r.3, r.4, r.5, r.6, r.7, r.8, refl)

@@ -3,10 +3,10 @@
 use Rattle.std.specs.Prelude.{ℕ, ◌≡◌, cond, List, [], ltb, length}
 use Rattle.answers.specs.declared.refusals.Refusal.TheVariants.{TooLong}
 use Rattle.commands.specs.declared.command.PathCommand.{PathCommand}
-use Rattle.svg.specs.Texts.{Outcome, commands, refusal as unread, commandsOf}
+use Rattle.svg.specs.Texts.{Outcome, commands, refusal as unread, commands_of}
 use Rattle.path_stored.specs.Buffers.{Buffers}
-use Rattle.path_drawing.specs.Building.{Built, refusal, buildOf, drawersOf}
-use Rattle.path_build.specs.Answers.{roomed, Answers, measureOf}
+use Rattle.path_drawing.specs.Building.{Built, refusal, build_of, drawers_of}
+use Rattle.path_build.specs.Answers.{roomed, Answers, measure_of}
 use Rattle.path_build.specs.Paths.{lent_of}
 use Rattle.path_build.specs.declared.sizes.Building.{Building}
 use Rattle.path_build.specs.declared.sizes.Counts.{Counts}
@@ -15,32 +15,32 @@ use Rattle.path_text.specs.declared.texts.Found.{Found}
 use Rattle.path_text.specs.declared.texts.Found.TheVariants.{Counted, Unread, Unbuilt}
 
 -- "the first of 2 to 7 in the text", and where it reads "segment by segment 10 before 11"
-abbrev pub builtFrom : Outcome → Built
-builtFrom (commands list) = buildOf list
-builtFrom (unread reason) = refusal reason
+abbrev pub built_from : Outcome → Built
+built_from (commands list) = build_of list
+built_from (unread reason) = refusal reason
 
 -- the numbers of the commands that draw
-abbrev pub drawersIn : Outcome → List ℕ
-drawersIn (commands list) = drawersOf list
-drawersIn (unread reason) = []
+abbrev pub drawers_in : Outcome → List ℕ
+drawers_in (commands list) = drawers_of list
+drawers_in (unread reason) = []
 
 -- 1, 2 to 7 in the whole text, 10 and 11 segment by segment
-unfoldable pub buildReadOf : List ℕ → Built
-buildReadOf text = cond (ltb 65536 (length text)) (refusal (TooLong (length text))) (builtFrom (commandsOf text))
+unfoldable pub build_read_of : List ℕ → Built
+build_read_of text = cond (ltb 65536 (length text)) (refusal (TooLong (length text))) (built_from (commands_of text))
 
 -- then 8
-abbrev pub buildTextOf : List ℕ → Counts → Built
-buildTextOf text lent = roomed lent (buildReadOf text)
+abbrev pub build_text_of : List ℕ → Counts → Built
+build_text_of text lent = roomed lent (build_read_of text)
 
-abbrev pub drawersTextOf : List ℕ → List ℕ
-drawersTextOf text = drawersIn (commandsOf text)
+abbrev pub drawers_text_of : List ℕ → List ℕ
+drawers_text_of text = drawers_in (commands_of text)
 
 -- the entry's one record of equations
 abbrev pub BuildFromText : List ℕ → Buffers → Building → Buffers → Type 0
-BuildFromText text b r b' = Answers (buildTextOf text (lent_of b)) (drawersTextOf text) b r b'
+BuildFromText text b r b' = Answers (build_text_of text (lent_of b)) (drawers_text_of text) b r b'
 
 -- what a first pass that stops at the first refusal of either kind finds; one of building may have one of reading after it
 abbrev pub Finds : List ℕ → Found → Type 0
-Finds text (Counted segments fields tables) = Size.Counted segments fields tables ≡ measureOf (builtFrom (commandsOf text))
-Finds text (Unread reason) = commandsOf text ≡ unread reason
-Finds text (Unbuilt reason) = (list : List PathCommand) → commandsOf text ≡ commands list → buildOf list ≡ refusal reason
+Finds text (Counted segments fields tables) = Size.Counted segments fields tables ≡ measure_of (built_from (commands_of text))
+Finds text (Unread reason) = commands_of text ≡ unread reason
+Finds text (Unbuilt reason) = (list : List PathCommand) → commands_of text ≡ commands list → build_of list ≡ refusal reason

@@ -1,8 +1,8 @@
 // The entry over a text.
 ghost use Rattle.std.specs.Prelude.{◌≡◌};
 ghost use Rattle.path_stored.specs.Buffers.{after, before};
-ghost use Rattle.path_build.specs.Answers.{measureOf};
-ghost use Rattle.path_text.specs.Builds.{buildReadOf, BuildFromText};
+ghost use Rattle.path_build.specs.Answers.{measure_of};
+ghost use Rattle.path_text.specs.Builds.{build_read_of, BuildFromText};
 
 use crate::texts::{Found, fill, measure, unbuilt};
 use answers::Refusal;
@@ -11,7 +11,7 @@ use path_build::inner::{Counts, Size, room};
 
 // What a text builds: the places needed, or its first refusal, where any of reading comes before one of building.
 fn size_of(text: &[u8]) -> Size
-    ensures { result ≡ measureOf (buildReadOf text.now) }
+    ensures { result ≡ measure_of (build_read_of text.now) }
 {
     let size = text.len();
     if 65536 < size {

@@ -1,9 +1,9 @@
 // The two passes over a text: the first counts, and measures only where it must, the second stores.
 ghost use Rattle.std.specs.Prelude.{◌≡◌, ◌≤◌, length};
-ghost use Rattle.svg.specs.Texts.{commandsOf};
+ghost use Rattle.svg.specs.Texts.{commands_of};
 ghost use Rattle.path_stored.specs.Buffers.{after, before, lent};
-ghost use Rattle.path_build.specs.Answers.{measureOf, Foretells, Holding, Filled};
-ghost use Rattle.path_text.specs.Builds.{builtFrom, buildReadOf, drawersTextOf, Finds};
+ghost use Rattle.path_build.specs.Answers.{measure_of, Foretells, Holding, Filled};
+ghost use Rattle.path_text.specs.Builds.{built_from, build_read_of, drawers_text_of, Finds};
 ghost use Rattle.path_text.specs.declared.texts.Found.TheVariants.{Unbuilt};
 
 use answers::Refusal;
@@ -30,7 +30,7 @@ pub enum Found {
 // What a text builds, where it reads and no length need be measured to tell.
 fn survey(text: &[u8]) -> Outlook
     requires { length text.now ≤ 65536 }
-    ensures { Foretells (builtFrom (commandsOf text.now)) result }
+    ensures { Foretells (built_from (commands_of text.now)) result }
 {
     let mut reader = fresh();
     let mut tally = opening();
@@ -118,7 +118,7 @@ pub(crate) fn measure(text: &[u8]) -> Found
 // a pass of its own would lie on the stack of every call.
 pub(crate) fn unbuilt(text: &[u8], refusal: Refusal) -> Size
     requires { (length text.now ≤ 65536) × Finds text.now (Unbuilt refusal) }
-    ensures { result ≡ measureOf (builtFrom (commandsOf text.now)) }
+    ensures { result ≡ measure_of (built_from (commands_of text.now)) }
 {
     let mut reader = fresh();
     loop {
@@ -145,8 +145,8 @@ pub(crate) fn fill(
     lengths: &mut [f32],
     commands: &mut [u32],
 )
-    requires { Holding (buildReadOf text.now) (lent kinds fields tables lengths commands) }
-    ensures { Filled (buildReadOf text.now) (drawersTextOf text.now)
+    requires { Holding (build_read_of text.now) (lent kinds fields tables lengths commands) }
+    ensures { Filled (build_read_of text.now) (drawers_text_of text.now)
         (before kinds fields tables lengths commands) (after kinds fields tables lengths commands) }
 {
     let mut reader = fresh();

@@ -10,15 +10,15 @@ use lib.Ieee.{Float}
 use Rattle.answers.specs.Report.{written}
 use Rattle.answers.proofs.Writing.{written-more, length-written}
 use Rattle.math.specs.declared.points.Point.{Point}
-use Rattle.polyline.specs.Points.{twoOf, rows_of}
+use Rattle.polyline.specs.Points.{two_of, rows_of}
 
-pub two-put : (l : List Float) (i : ℕ) (p : Point) (x y : Float) → x ≡ p.x → y ≡ p.y → set (set l i x) (i + 1) y ≡ sets l i (twoOf p)
+pub two-put : (l : List Float) (i : ℕ) (p : Point) (x y : Float) → x ≡ p.x → y ≡ p.y → set (set l i x) (i + 1) y ≡ sets l i (two_of p)
 two-put l i p x y e f = rw (e, f, add-one)
 
 pub rows-length : (point : ℕ → Point) (k : ℕ) → length (rows_of point k) ≡ 2 * k
 unfolding rows_of
 rows-length point zero = refl
-rows-length point (suc k) = length-append (rows_of point k) (twoOf (point k)) ∙ (let e = rows-length point k in omega arith)
+rows-length point (suc k) = length-append (rows_of point k) (two_of (point k)) ∙ (let e = rows-length point k in omega arith)
 
 pub rows_none : (point : ℕ → Point) (before : List Float) → before ≡ written (rows_of point 0) before
 unfolding rows_of
@@ -27,14 +27,14 @@ rows_none point before = refl
 module _ (point : ℕ → Point) (before : List Float) where
   -- one more row
   pub rows_more :
-      (k : ℕ) (now after : List Float) (p : Point) → 2 * k + 2 ≤ length before → now ≡ written (rows_of point k) before → p ≡ point k → after ≡ sets now (2 * k) (twoOf p)
+      (k : ℕ) (now after : List Float) (p : Point) → 2 * k + 2 ≤ length before → now ≡ written (rows_of point k) before → p ≡ point k → after ≡ sets now (2 * k) (two_of p)
       → after ≡ written (rows_of point (k + 1)) before
   unfolding rows_of
   rows_more k now after p room e f g =
       let n = rows-length point k in
-      g ∙ ap (λ (l : List Float). sets l (2 * k) (twoOf p)) e ∙ ap (λ (q : Point). sets (written (rows_of point k) before) (2 * k) (twoOf q)) f
-      ∙ ap (λ (i : ℕ). sets (written (rows_of point k) before) i (twoOf (point k))) (sym n)
-      ∙ written-more (rows_of point k) (twoOf (point k)) before (omega arith)
+      g ∙ ap (λ (l : List Float). sets l (2 * k) (two_of p)) e ∙ ap (λ (q : Point). sets (written (rows_of point k) before) (2 * k) (two_of q)) f
+      ∙ ap (λ (i : ℕ). sets (written (rows_of point k) before) i (two_of (point k))) (sym n)
+      ∙ written-more (rows_of point k) (two_of (point k)) before (omega arith)
       ∙ ap (λ (i : ℕ). written (rows_of point i) before) (sym (add-one k))
 
   -- what is written so far has the output's length

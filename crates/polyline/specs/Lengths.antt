@@ -3,37 +3,37 @@
 use Rattle.std.specs.Prelude.{ℕ, zero, suc, ◌-◌, cond, List, [], ◌∷◌, ltb, length, Float}
 use Rattle.std.specs.Float.Ieee.Scale.{finite}
 use Rattle.math.specs.Math.{distance_of}
-use Rattle.table.specs.Sums.{runningSums, sum_of}
-use Rattle.polyline.specs.Points.{count_of, pointAt}
+use Rattle.table.specs.Sums.{running_sums, sum_of}
+use Rattle.polyline.specs.Points.{count_of, point_at}
 use Rattle.polyline.specs.declared.outline.Measured.{Measured}
 use Rattle.polyline.specs.declared.outline.Measured.TheVariants.{Total, NotFinite}
 
 -- the distance from the point i to the next
-unfoldable pub legOf : List Float → ℕ → Float
-legOf points i = distance_of (pointAt points i) (pointAt points (suc i))
+unfoldable pub leg_of : List Float → ℕ → Float
+leg_of points i = distance_of (point_at points i) (point_at points (suc i))
 
 -- k legs, from the leg i on
-unfoldable pub legsFrom : List Float → ℕ → ℕ → List Float
-legsFrom points zero i = []
-legsFrom points (suc k) i = legOf points i ∷ legsFrom points k (suc i)
+unfoldable pub legs_from : List Float → ℕ → ℕ → List Float
+legs_from points zero i = []
+legs_from points (suc k) i = leg_of points i ∷ legs_from points k (suc i)
 
 -- all legs: one fewer than there are points
-unfoldable pub legsOf : List Float → List Float
-legsOf points = legsFrom points (count_of points - 1) 0
+unfoldable pub legs_of : List Float → List Float
+legs_of points = legs_from points (count_of points - 1) 0
 
 -- the running length at each point, and the last of them
-unfoldable pub lengthsOf : List Float → List Float
-lengthsOf points = runningSums (legsOf points)
+unfoldable pub lengths_of : List Float → List Float
+lengths_of points = running_sums (legs_of points)
 
 unfoldable pub total_of : List Float → Float
-total_of points = sum_of (legsOf points)
+total_of points = sum_of (legs_of points)
 
 -- "a running length becomes infinite or NaN": the "first such .. polyline point", or how many there are where each is finite
-unfoldable pub firstNotFinite : List Float → ℕ
-firstNotFinite [] = 0
-firstNotFinite (own ∷ lengths) = cond (finite own) (suc (firstNotFinite lengths)) 0
+unfoldable pub first_not_finite : List Float → ℕ
+first_not_finite [] = 0
+first_not_finite (own ∷ lengths) = cond (finite own) (suc (first_not_finite lengths)) 0
 
-unfoldable pub measuredOf : List Float → Measured
-measuredOf points =
-    let place = firstNotFinite (lengthsOf points) in
-    cond (ltb place (length (lengthsOf points))) (NotFinite place) (Total (total_of points))
+unfoldable pub measured_of : List Float → Measured
+measured_of points =
+    let place = first_not_finite (lengths_of points) in
+    cond (ltb place (length (lengths_of points))) (NotFinite place) (Total (total_of points))

@@ -8,14 +8,14 @@ use Rattle.table.specs.Lookup.{at}
 abbrev pub count_of : List Float → ℕ
 count_of points = length points / 2
 
-unfoldable pub pointAt : List Float → ℕ → Point
-pointAt points i = point_of (at points (2 * i)) (at points (2 * i + 1))
+unfoldable pub point_at : List Float → ℕ → Point
+point_at points i = point_of (at points (2 * i)) (at points (2 * i + 1))
 
 -- a point's numbers
-abbrev pub twoOf : Point → List Float
-twoOf p = p.x ∷ p.y ∷ []
+abbrev pub two_of : Point → List Float
+two_of p = p.x ∷ p.y ∷ []
 
 -- the numbers of the first k points of a list whose point number i is `point i`
 unfoldable pub rows_of : (ℕ → Point) → ℕ → List Float
 rows_of point zero = []
-rows_of point (suc k) = rows_of point k ++ twoOf (point k)
+rows_of point (suc k) = rows_of point k ++ two_of (point k)

@@ -1,6 +1,6 @@
 // Point lists judged: an odd count of numbers, then more than 4,096 points.
 ghost use Rattle.std.specs.Prelude.{◌≡◌};
-ghost use Rattle.polyline.specs.Judging.{isOdd, isLong, judgeOf, judgeTwoOf};
+ghost use Rattle.polyline.specs.Judging.{is_odd, is_long, judge_of, judge_two_of};
 
 use answers::Refusal;
 
@@ -11,20 +11,20 @@ pub enum Judged {
 }
 
 fn is_odd(points: &[f32]) -> bool
-    ensures { result ≡ isOdd points.now }
+    ensures { result ≡ is_odd points.now }
 {
     points.len() % 2 == 1
 }
 
 fn is_long(points: &[f32]) -> bool
-    ensures { result ≡ isLong points.now }
+    ensures { result ≡ is_long points.now }
 {
     4096 < points.len() / 2
 }
 
 // One list.
 pub fn judge(points: &[f32]) -> Judged
-    ensures { result ≡ judgeOf points.now }
+    ensures { result ≡ judge_of points.now }
 {
     if is_odd(points) {
         return Judged::Refused(Refusal::BadList(points.len() / 2));
@@ -37,7 +37,7 @@ pub fn judge(points: &[f32]) -> Judged
 
 // Two lists: each step judges the first, then the second.
 pub fn judge_two(first: &[f32], second: &[f32]) -> Judged
-    ensures { result ≡ judgeTwoOf first.now second.now }
+    ensures { result ≡ judge_two_of first.now second.now }
 {
     if is_odd(first) {
         return Judged::Refused(Refusal::BadList(first.len() / 2));

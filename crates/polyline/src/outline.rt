@@ -1,8 +1,8 @@
 // What asks for points or places that are there.
 ghost use Rattle.std.specs.Prelude.{◌≡◌, ◌+◌, ◌*◌, ◌≤◌, ◌<◌, length};
 ghost use Rattle.std.proofs.lemmas.List.Edits.{sets};
-ghost use Rattle.polyline.specs.Points.{count_of, pointAt, twoOf};
-ghost use Rattle.polyline.specs.Lengths.{legOf, measuredOf};
+ghost use Rattle.polyline.specs.Points.{count_of, point_at, two_of};
+ghost use Rattle.polyline.specs.Lengths.{leg_of, measured_of};
 
 use floats::{is_finite, tidy};
 use math::{Point, distance};
@@ -10,7 +10,7 @@ use math::{Point, distance};
 // The point number i.
 pub fn point_at(points: &[f32], i: usize) -> Point
     requires { i < count_of points.now }
-    ensures { result ≡ pointAt points.now i }
+    ensures { result ≡ point_at points.now i }
 {
     Point {
         x: points[2 * i],
@@ -21,7 +21,7 @@ pub fn point_at(points: &[f32], i: usize) -> Point
 // Puts a point at its two places, the point number i of the output, and touches no other.
 pub fn put_point(out: &mut [f32], i: usize, p: Point)
     requires { 2 * i + 2 ≤ length out.old }
-    ensures { out.new ≡ sets out.old (2 * i) (twoOf p) }
+    ensures { out.new ≡ sets out.old (2 * i) (two_of p) }
 {
     out[2 * i] = tidy(p.x);
     out[2 * i + 1] = tidy(p.y);
@@ -30,7 +30,7 @@ pub fn put_point(out: &mut [f32], i: usize, p: Point)
 // The distance from the point number i to the next one.
 pub fn leg(points: &[f32], i: usize) -> f32
     requires { i + 1 < count_of points.now }
-    ensures { result ≡ legOf points.now i }
+    ensures { result ≡ leg_of points.now i }
 {
     distance(point_at(points, i), point_at(points, i + 1))
 }
@@ -44,7 +44,7 @@ pub enum Measured {
 }
 
 pub fn measure(points: &[f32]) -> Measured
-    ensures { result ≡ measuredOf points.now }
+    ensures { result ≡ measured_of points.now }
 {
     let count = points.len() / 2;
     let mut total: f32 = 0.0;

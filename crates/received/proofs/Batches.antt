@@ -9,18 +9,18 @@ use borrow.Author.Tests.{ltb-false}
 use lib.Dec.{T, ltb}
 use lib.ListN.{length, get_or}
 use lib.Ieee.{Float, nan, lt, le}
-use Rattle.floats.specs.Floats.{zeroF, oneF, epsilonF, clamp01Of}
-use Rattle.table.specs.Spots.{pathTotal}
+use Rattle.floats.specs.Floats.{zero_f, one_f, epsilon_f, clamp01_of}
+use Rattle.table.specs.Spots.{path_total}
 use Rattle.table_order.specs.Stated.{NoStepBack}
 use Rattle.table_order.specs.Swept.{Inside}
 use Rattle.path_stored.specs.Buffers.{Buffers}
 use Rattle.path_place.specs.declared.places.Place.{Place}
 use Rattle.path_place.specs.Places.{placed}
-use Rattle.path_place.specs.Demand.{targetAlong, EnclosedBy, SweptBy}
+use Rattle.path_place.specs.Demand.{target_along, EnclosedBy, SweptBy}
 use Rattle.path_query.proofs.Demand3.{pair-once}
 use Rattle.path_batch.specs.declared.batches.Batch.{Batch}
 use Rattle.path_batch.specs.declared.batches.Batch.TheVariants as Batch
-use Rattle.path_batch.specs.Batches.{batchAnswer, flightsBy}
+use Rattle.path_batch.specs.Batches.{batch_answer, flights_by}
 use Rattle.path_batch.specs.Ordered.{OrderedPlaces, OrderedBatch, OrderedFlights, OrderedFlown}
 use Rattle.c_answer.specs.Given.{Given}
 use Rattle.c_answer.proofs.Giving.{given-accepted}
@@ -37,7 +37,7 @@ long-enough answer number code zero = go (ltb (length answer) 8) refl (sym code 
     go false e f = ltb-false (length answer) 8 e
 
 module _ (b : Buffers) (progresses : List Float) (answer : List ℕ) {answer' : List ℕ} {returned : ℕ} (zero : returned ≡ 0)
-    (some : 0 < length b.kinds) (long : T (lt epsilonF (pathTotal b.lengths))) where
+    (some : 0 < length b.kinds) (long : T (lt epsilon_f (path_total b.lengths))) where
   -- its outputs hold the pairs, each at its place
   pub places-received : (segments : List ℕ) (raws : List Float) {segments' : List ℕ} {raws' : List Float}
       → PlacesGiven b progresses segments raws answer returned segments' raws' answer'
@@ -46,7 +46,7 @@ module _ (b : Buffers) (progresses : List Float) (answer : List ℕ) {answer' : 
   places-received segments raws {segments'} {raws'} given ordered =
       go (places_by b progresses segments raws) given.reported (ordered (long-enough answer _ given.reported.code zero))
     where
-      go : (batch : Batch) → Given (batchAnswer batch) answer returned answer' → OrderedBatch batch b progresses segments' raws' → OrderedPlaces b progresses segments' raws'
+      go : (batch : Batch) → Given (batch_answer batch) answer returned answer' → OrderedBatch batch b progresses segments' raws' → OrderedPlaces b progresses segments' raws'
       go (Batch.Filled count) g shows = shows some long
       go (Batch.Refused refusal) g shows = absurd (given-accepted refusal g zero)
 
@@ -56,9 +56,9 @@ module _ (b : Buffers) (progresses : List Float) (answer : List ℕ) {answer' : 
       → OrderedFlownGiven b progresses segments raws out answer segments' raws' out'
       → OrderedFlights b progresses segments' raws' out'
   flights-received segments raws out {segments'} {raws'} {out'} given ordered =
-      go (flightsBy b progresses segments raws out) given.reported (ordered (long-enough answer _ given.reported.code zero))
+      go (flights_by b progresses segments raws out) given.reported (ordered (long-enough answer _ given.reported.code zero))
     where
-      go : (batch : Batch) → Given (batchAnswer batch) answer returned answer' → OrderedFlown batch b progresses segments' raws' out' → OrderedFlights b progresses segments' raws' out'
+      go : (batch : Batch) → Given (batch_answer batch) answer returned answer' → OrderedFlown batch b progresses segments' raws' out' → OrderedFlights b progresses segments' raws' out'
       go (Batch.Filled count) g shows = shows some long
       go (Batch.Refused refusal) g shows = absurd (given-accepted refusal g zero)
 
@@ -70,11 +70,11 @@ moved {i} {j} {k} {l} {x} {y} {u} {v} e f g h n =
     (subst (λ (a : Float). NoStepBack j a k u) (sym f) (subst (λ (a : ℕ). NoStepBack j y a u) (sym g) (subst (λ (a : Float). NoStepBack j y l a) (sym h) n)))
 
 module _ {b : Buffers} {ps qs : List Float} {segments others : List ℕ} {raws more : List Float} (o : OrderedPlaces b ps segments raws) (s : OrderedPlaces b qs others more) where
-  pub places-never-back : (j k : ℕ) → j < length ps → k < length qs → T (le (clamp01Of (get_or ps j nan)) (clamp01Of (get_or qs k nan)))
+  pub places-never-back : (j k : ℕ) → j < length ps → k < length qs → T (le (clamp01_of (get_or ps j nan)) (clamp01_of (get_or qs k nan)))
       → NoStepBack (get_or segments j 0) (get_or raws j nan) (get_or others k 0) (get_or more k nan)
   places-never-back j k a z h =
       let same = pair-once o.calls s.calls (get_or qs k nan) in
-      moved (o.segmentsAre j a) (o.rawsAre j a) (s.segmentsAre k z ∙ ap (λ (pair : Place). pair.segment) same) (s.rawsAre k z ∙ ap (λ (pair : Place). pair.raw.value) same)
+      moved (o.segments_are j a) (o.raws_are j a) (s.segments_are k z ∙ ap (λ (pair : Place). pair.segment) same) (s.raws_are k z ∙ ap (λ (pair : Place). pair.raw.value) same)
       (o.calls.demand.order (get_or ps j nan) (get_or qs k nan) h)
 
 module _ {b : Buffers} {ps : List Float} {segments : List ℕ} {raws : List Float} (o : OrderedPlaces b ps segments raws) (k : ℕ) (inside : k < length ps) where
@@ -86,20 +86,20 @@ module _ {b : Buffers} {ps : List Float} {segments : List ℕ} {raws : List Floa
   there = placed (get_or segments k 0) (get_or raws k nan)
 
   stands : there ≡ o.calls.pair (get_or ps k nan)
-  stands = rw (o.segmentsAre k inside, o.rawsAre k inside) refl
+  stands = rw (o.segments_are k inside, o.raws_are k inside) refl
 
   -- what counts as 0 is at the first segment's 0, and what counts as 1 at the last one's 1
-  pub place-starts : clamp01Of (get_or ps k nan) ≡ zeroF → (get_or segments k 0 ≡ 0) × (get_or raws k nan ≡ zeroF)
+  pub place-starts : clamp01_of (get_or ps k nan) ≡ zero_f → (get_or segments k 0 ≡ 0) × (get_or raws k nan ≡ zero_f)
   place-starts e =
       let at = o.calls.demand.counts p ∙ ap o.calls.pair e ∙ o.calls.demand.starts in
-      (o.segmentsAre k inside ∙ ap (λ (pair : Place). pair.segment) at, o.rawsAre k inside ∙ ap (λ (pair : Place). pair.raw.value) at)
+      (o.segments_are k inside ∙ ap (λ (pair : Place). pair.segment) at, o.raws_are k inside ∙ ap (λ (pair : Place). pair.raw.value) at)
 
-  pub place-ends : clamp01Of (get_or ps k nan) ≡ oneF → (get_or segments k 0 ≡ length b.kinds - 1) × (get_or raws k nan ≡ oneF)
+  pub place-ends : clamp01_of (get_or ps k nan) ≡ one_f → (get_or segments k 0 ≡ length b.kinds - 1) × (get_or raws k nan ≡ one_f)
   place-ends e =
       let at = o.calls.demand.counts p ∙ ap o.calls.pair e ∙ o.calls.demand.ends in
-      (o.segmentsAre k inside ∙ ap (λ (pair : Place). pair.segment) at, o.rawsAre k inside ∙ ap (λ (pair : Place). pair.raw.value) at)
+      (o.segments_are k inside ∙ ap (λ (pair : Place). pair.segment) at, o.raws_are k inside ∙ ap (λ (pair : Place). pair.raw.value) at)
 
   -- between them the running lengths of the segment enclose the target, and the entries of its table too
-  pub place-enclosed : Inside (pathTotal b.lengths) (targetAlong b.lengths (get_or ps k nan))
+  pub place-enclosed : Inside (path_total b.lengths) (target_along b.lengths (get_or ps k nan))
       → EnclosedBy b (get_or ps k nan) (placed (get_or segments k 0) (get_or raws k nan)) × SweptBy b (get_or ps k nan) (placed (get_or segments k 0) (get_or raws k nan))
   place-enclosed within = (subst (EnclosedBy b p) (sym stands) (o.calls.demand.enclosed p within), subst (SweptBy b p) (sym stands) (o.calls.demand.swept p within))

@@ -3,17 +3,17 @@ use Rattle.std.proofs.Common.{◌≡◌, ℕ, zero, suc, ◌+◌, ◌-◌, ◌<�
 use lib.Seq.{append_snoc}
 use lib.Ieee.{Float, nan}
 use Rattle.floats.specs.Floats.{bits_of}
-use Rattle.replay_records.specs.Records.{patternOf, float_of}
-use Rattle.replay_records.specs.Numbers.{onwardOf, numbersOf, same_numbers, sameBytes}
+use Rattle.replay_records.specs.Records.{pattern_of, float_of}
+use Rattle.replay_records.specs.Numbers.{onward_of, numbers_of, same_numbers, same_bytes}
 use Rattle.replay_records.proofs.Digits.{text-ends}
 
 -- ---- past the text's end
 module _ (text : List ℕ) (step : ℕ) where
-  past_end : (p : ℕ) → length text ≤ p → patternOf text p ≡ 0
+  past_end : (p : ℕ) → length text ≤ p → pattern_of text p ≡ 0
   past_end p h = sym (text-ends text p (omega arith))
 
-  numbers-past : (count p q : ℕ) → length text ≤ p → length text ≤ q → numbersOf text p step count ≡ numbersOf text q step count
-  unfolding numbersOf
+  numbers-past : (count p q : ℕ) → length text ≤ p → length text ≤ q → numbers_of text p step count ≡ numbers_of text q step count
+  unfolding numbers_of
   numbers-past zero p q h g = refl
   numbers-past (suc count) p q h g =
       let a = past_end p h in
@@ -31,14 +31,14 @@ module _ (text : List ℕ) (step : ℕ) where
       cc
 
   module _ (offset : ℕ) where
-    numbers-onward : (count : ℕ) → numbersOf text (onwardOf text offset step) step count ≡ numbersOf text (offset + step) step count
+    numbers-onward : (count : ℕ) → numbers_of text (onward_of text offset step) step count ≡ numbers_of text (offset + step) step count
     numbers-onward count = go (ltb offset (length text)) refl
       where
-        go : (b : Bool) → ltb offset (length text) ≡ b → numbersOf text (cond b (offset + step) offset) step count ≡ numbersOf text (offset + step) step count
+        go : (b : Bool) → ltb offset (length text) ≡ b → numbers_of text (cond b (offset + step) offset) step count ≡ numbers_of text (offset + step) step count
         go true e = refl
         go false e = let h = ltb-false offset (length text) e in numbers-past count offset (offset + step) h (omega arith)
 
-    same-onward : (numbers : List Float) → same_numbers numbers text (onwardOf text offset step) step ≡ same_numbers numbers text (offset + step) step
+    same-onward : (numbers : List Float) → same_numbers numbers text (onward_of text offset step) step ≡ same_numbers numbers text (offset + step) step
     same-onward numbers = go (ltb offset (length text)) refl
       where
         go : (b : Bool) → ltb offset (length text) ≡ b → same_numbers numbers text (cond b (offset + step) offset) step ≡ same_numbers numbers text (offset + step) step
@@ -49,15 +49,15 @@ module _ (text : List ℕ) (step : ℕ) where
 pub record Reading (text : List ℕ) (at step : ℕ) (before out : List Float) (offset i : ℕ) : Type 0 where
   pub size : length out ≡ length before
   pub upto : i ≤ length before
-  pub rest : take i out ++ numbersOf text offset step (length before - i) ≡ numbersOf text at step (length before)
+  pub rest : take i out ++ numbers_of text offset step (length before - i) ≡ numbers_of text at step (length before)
 
 module _ (text : List ℕ) (at step : ℕ) (before : List Float) where
   pub reading-start : Reading text at step before before at 0
-  reading-start = record { size = refl; upto = omega arith; rest = ap (λ (k : ℕ). numbersOf text at step k) (let e : length before - 0 ≡ length before = omega arith in e) }
+  reading-start = record { size = refl; upto = omega arith; rest = ap (λ (k : ℕ). numbers_of text at step k) (let e : length before - 0 ≡ length before = omega arith in e) }
 
   module _ (out : List Float) (offset i : ℕ) (r : Reading text at step before out offset i) where
-    pub reading-more : (x : Float) (next : ℕ) → i < length out → x ≡ float_of (patternOf text offset) → next ≡ onwardOf text offset step → Reading text at step before (set out i x) next (i + 1)
-    unfolding numbersOf
+    pub reading-more : (x : Float) (next : ℕ) → i < length out → x ≡ float_of (pattern_of text offset) → next ≡ onward_of text offset step → Reading text at step before (set out i x) next (i + 1)
+    unfolding numbers_of
     reading-more x next inside e f =
         let s = r.size in
         let m = length before - (i + 1) in
@@ -66,22 +66,22 @@ module _ (text : List ℕ) (at step : ℕ) (before : List Float) where
           size = length-set out i x ∙ s;
           upto = omega arith;
           rest =
-              ap (λ (p : ℕ). take (i + 1) (set out i x) ++ numbersOf text p step m) f
+              ap (λ (p : ℕ). take (i + 1) (set out i x) ++ numbers_of text p step m) f
               ∙ ap (λ (l : List Float). take (i + 1) (set out i x) ++ l) (numbers-onward text step offset m)
-              ∙ ap (λ (k : ℕ). take k (set out i x) ++ numbersOf text (offset + step) step m) (add-one i)
-              ∙ ap (λ (l : List Float). l ++ numbersOf text (offset + step) step m) (take-suc-set out i x inside)
-              ∙ append_snoc (take i out) x (numbersOf text (offset + step) step m)
-              ∙ ap (λ (y : Float). take i out ++ y ∷ numbersOf text (offset + step) step m) e
-              ∙ ap (λ (k : ℕ). take i out ++ numbersOf text offset step k) (sym left)
+              ∙ ap (λ (k : ℕ). take k (set out i x) ++ numbers_of text (offset + step) step m) (add-one i)
+              ∙ ap (λ (l : List Float). l ++ numbers_of text (offset + step) step m) (take-suc-set out i x inside)
+              ∙ append_snoc (take i out) x (numbers_of text (offset + step) step m)
+              ∙ ap (λ (y : Float). take i out ++ y ∷ numbers_of text (offset + step) step m) e
+              ∙ ap (λ (k : ℕ). take i out ++ numbers_of text offset step k) (sym left)
               ∙ r.rest;
         }
 
-    pub reading-done : length out ≤ i → out ≡ numbersOf text at step (length before)
-    unfolding numbersOf
+    pub reading-done : length out ≤ i → out ≡ numbers_of text at step (length before)
+    unfolding numbers_of
     reading-done past =
         let s = r.size in
         let none : length before - i ≡ 0 = omega arith in
-        sym (take_all i out past) ∙ sym (nothing (take i out)) ∙ ap (λ (k : ℕ). take i out ++ numbersOf text offset step k) (sym none) ∙ r.rest
+        sym (take_all i out past) ∙ sym (nothing (take i out)) ∙ ap (λ (k : ℕ). take i out ++ numbers_of text offset step k) (sym none) ∙ r.rest
       where
         nothing : (xs : List Float) → xs ++ [] ≡ xs
         nothing [] = refl
@@ -97,12 +97,12 @@ module _ (numbers : List Float) (text : List ℕ) (at step : ℕ) where
   agreeing-start = record { upto = omega arith; rest = refl }
 
   module _ (offset i : ℕ) (a : Agreeing numbers text at step offset i) where
-    module _ (inside : i < length numbers) (own due : ℕ) (o : own ≡ bits_of (get_or numbers i nan)) (d : due ≡ patternOf text offset) where
+    module _ (inside : i < length numbers) (own due : ℕ) (o : own ≡ bits_of (get_or numbers i nan)) (d : due ≡ pattern_of text offset) where
       parted : same_numbers (drop i numbers) text offset step ≡ (eqb own due && same_numbers (drop (suc i) numbers) text (offset + step) step)
       unfolding same_numbers
       parted = rw (drop-cons numbers i nan inside, o, d) refl
 
-      pub agreeing-more : (next : ℕ) → own ≡ due → next ≡ onwardOf text offset step → Agreeing numbers text at step next (i + 1)
+      pub agreeing-more : (next : ℕ) → own ≡ due → next ≡ onward_of text offset step → Agreeing numbers text at step next (i + 1)
       agreeing-more next e f = record {
         upto = omega arith;
         rest =
@@ -123,16 +123,16 @@ module _ (numbers : List Float) (text : List ℕ) (at step : ℕ) where
 -- ---- bytes held against bytes
 pub record Matching (bytes : List ℕ) (by : ℕ) (text : List ℕ) (at i : ℕ) : Type 0 where
   pub upto : i ≤ length bytes
-  pub rest : sameBytes (drop i bytes) by text (at + i) ≡ sameBytes bytes by text at
+  pub rest : same_bytes (drop i bytes) by text (at + i) ≡ same_bytes bytes by text at
 
 module _ (bytes : List ℕ) (by : ℕ) (text : List ℕ) (at : ℕ) where
   pub matching-start : Matching bytes by text at 0
-  matching-start = record { upto = omega arith; rest = ap (sameBytes bytes by text) (let e : at + 0 ≡ at = omega arith in e) }
+  matching-start = record { upto = omega arith; rest = ap (same_bytes bytes by text) (let e : at + 0 ≡ at = omega arith in e) }
 
   module _ (i : ℕ) (m : Matching bytes by text at i) where
     module _ (inside : i < length bytes) (same : Bool) (s : same ≡ eqb (get_or bytes i 0 + by) (get_or text (at + i) 0)) where
-      split : sameBytes (drop i bytes) by text (at + i) ≡ (same && sameBytes (drop (i + 1) bytes) by text (at + (i + 1)))
-      unfolding sameBytes
+      split : same_bytes (drop i bytes) by text (at + i) ≡ (same && same_bytes (drop (i + 1) bytes) by text (at + (i + 1)))
+      unfolding same_bytes
       split =
           let up : at + (i + 1) ≡ at + i + 1 = omega arith in
           rw (drop-cons bytes i 0 inside, s, up, add-one i) refl
@@ -140,12 +140,12 @@ module _ (bytes : List ℕ) (by : ℕ) (text : List ℕ) (at : ℕ) where
       pub matching-more : same ≡ true → Matching bytes by text at (i + 1)
       matching-more e = record {
         upto = omega arith;
-        rest = sym (split ∙ ap (λ (b : Bool). b && sameBytes (drop (i + 1) bytes) by text (at + (i + 1))) e) ∙ m.rest;
+        rest = sym (split ∙ ap (λ (b : Bool). b && same_bytes (drop (i + 1) bytes) by text (at + (i + 1))) e) ∙ m.rest;
       }
 
-      pub matching-not : same ≡ false → false ≡ sameBytes bytes by text at
-      matching-not e = sym (split ∙ ap (λ (b : Bool). b && sameBytes (drop (i + 1) bytes) by text (at + (i + 1))) e) ∙ m.rest
+      pub matching-not : same ≡ false → false ≡ same_bytes bytes by text at
+      matching-not e = sym (split ∙ ap (λ (b : Bool). b && same_bytes (drop (i + 1) bytes) by text (at + (i + 1))) e) ∙ m.rest
 
-    pub matching-done : length bytes ≤ i → true ≡ sameBytes bytes by text at
-    unfolding sameBytes
-    matching-done past = ap (λ (xs : List ℕ). sameBytes xs by text (at + i)) (sym (drop_of_length-le bytes past)) ∙ m.rest
+    pub matching-done : length bytes ≤ i → true ≡ same_bytes bytes by text at
+    unfolding same_bytes
+    matching-done past = ap (λ (xs : List ℕ). same_bytes xs by text (at + i)) (sym (drop_of_length-le bytes past)) ∙ m.rest

@@ -2,9 +2,9 @@
 use Rattle.std.specs.Prelude.{ℕ, ◌+◌, ◌%◌, ◌^◌, Bool, cond}
 use Rattle.replay_records.specs.declared.counts.Count.{Count}
 
-abbrev pub noneYet : Count
-noneYet = record { replayed = 0; different = 0 }
+abbrev pub none_yet : Count
+none_yet = record { replayed = 0; different = 0 }
 
 -- one answer more, which agrees or differs
-abbrev pub seenAs : Count → Bool → Count
-seenAs count agrees = record { replayed = (count.replayed + 1) % 2 ^ 32; different = cond agrees count.different ((count.different + 1) % 2 ^ 32) }
+abbrev pub seen_as : Count → Bool → Count
+seen_as count agrees = record { replayed = (count.replayed + 1) % 2 ^ 32; different = cond agrees count.different ((count.different + 1) % 2 ^ 32) }

@@ -7,23 +7,23 @@ use Rattle.flight.specs.declared.single.Placed.{Placed}
 use Rattle.flight.specs.declared.single.Placed.TheVariants as Placed
 use Rattle.flight.specs.declared.single.Turned.{Turned}
 use Rattle.flight.specs.declared.single.Turned.TheVariants as Turned
-use Rattle.replay_records.specs.Records.{patternOf}
-use Rattle.replay_records.specs.Given.{hasBits, samePoint}
+use Rattle.replay_records.specs.Records.{pattern_of}
+use Rattle.replay_records.specs.Given.{has_bits, same_point}
 
-abbrev pub verdictNumber : Verdict → ℕ
-verdictNumber Verdict.Accepted = 0
-verdictNumber (Verdict.Refused refusal) = number_of refusal
+abbrev pub verdict_number : Verdict → ℕ
+verdict_number Verdict.Accepted = 0
+verdict_number (Verdict.Refused refusal) = number_of refusal
 
-abbrev pub placedAs : Placed → ℕ → ℕ → ℕ → Bool
-placedAs (Placed.At p) due x y = due == 0 && samePoint p x y
-placedAs (Placed.Refused refusal) due x y = number_of refusal == due
+abbrev pub placed_as : Placed → ℕ → ℕ → ℕ → Bool
+placed_as (Placed.At p) due x y = due == 0 && same_point p x y
+placed_as (Placed.Refused refusal) due x y = number_of refusal == due
 
-abbrev pub turnedAs : Turned → ℕ → ℕ → Bool
-turnedAs (Turned.Degrees own) due degrees = due == 0 && hasBits own degrees
-turnedAs (Turned.Refused refusal) due degrees = number_of refusal == due
+abbrev pub turned_as : Turned → ℕ → ℕ → Bool
+turned_as (Turned.Degrees own) due degrees = due == 0 && has_bits own degrees
+turned_as (Turned.Refused refusal) due degrees = number_of refusal == due
 
 -- a place, a direction and a heading, five patterns one after the other
-abbrev pub sameAnswers : Placed → Placed → Turned → List ℕ → ℕ → Bool
-sameAnswers position tangent heading text at =
-    placedAs position 0 (patternOf text at) (patternOf text (at + 8)) && placedAs tangent 0 (patternOf text (at + 16)) (patternOf text (at + 24))
-    && turnedAs heading 0 (patternOf text (at + 32))
+abbrev pub same_answers : Placed → Placed → Turned → List ℕ → ℕ → Bool
+same_answers position tangent heading text at =
+    placed_as position 0 (pattern_of text at) (pattern_of text (at + 8)) && placed_as tangent 0 (pattern_of text (at + 16)) (pattern_of text (at + 24))
+    && turned_as heading 0 (pattern_of text (at + 32))

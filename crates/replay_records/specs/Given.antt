@@ -5,17 +5,17 @@ use Rattle.answers.specs.Answers.{listed}
 use Rattle.floats.specs.Floats.{bits_of}
 use Rattle.math.specs.declared.points.Point.{Point}
 use Rattle.math.specs.Math.{point_of}
-use Rattle.replay_records.specs.Records.{patternOf, float_of}
+use Rattle.replay_records.specs.Records.{pattern_of, float_of}
 
-abbrev pub hasBits : Float → ℕ → Bool
-hasBits x due = bits_of x == due
+abbrev pub has_bits : Float → ℕ → Bool
+has_bits x due = bits_of x == due
 
-abbrev pub samePoint : Point → ℕ → ℕ → Bool
-samePoint p x y = hasBits p.x x && hasBits p.y y
+abbrev pub same_point : Point → ℕ → ℕ → Bool
+same_point p x y = has_bits p.x x && has_bits p.y y
 
 -- x at the offset, y eight digits past it
-abbrev pub pointFrom : List ℕ → ℕ → Point
-pointFrom text at = point_of (float_of (patternOf text at)) (float_of (patternOf text (at + 8)))
+abbrev pub point_from : List ℕ → ℕ → Point
+point_from text at = point_of (float_of (pattern_of text at)) (float_of (pattern_of text (at + 8)))
 
 -- the first of the values, or 0
 abbrev pub first_of : Values → ℕ

@@ -1,7 +1,7 @@
 // How the programs go through their lists: each block stands after the letter of its kind, and of each kind it is counted how many
 // answers were replayed and how many differ.
 ghost use Rattle.std.specs.Prelude.{◌≡◌};
-ghost use Rattle.replay_records.specs.Counts.{noneYet, seenAs};
+ghost use Rattle.replay_records.specs.Counts.{none_yet, seen_as};
 
 use std::num::wrapping_add_u32;
 
@@ -13,7 +13,7 @@ pub struct Count {
 }
 
 pub fn none() -> Count
-    ensures { result ≡ noneYet }
+    ensures { result ≡ none_yet }
 {
     Count {
         replayed: 0,
@@ -23,7 +23,7 @@ pub fn none() -> Count
 
 // One answer more.
 pub fn seen(count: Count, agrees: bool) -> Count
-    ensures { result ≡ seenAs count agrees }
+    ensures { result ≡ seen_as count agrees }
 {
     let replayed = wrapping_add_u32(count.replayed, 1);
     let different = count.different;

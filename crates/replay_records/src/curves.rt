@@ -1,6 +1,6 @@
 // Answers about curves held against what is recorded: a refusal by its number, a place or a heading by its bits.
 ghost use Rattle.std.specs.Prelude.{◌≡◌, ◌+◌, ◌≤◌, length};
-ghost use Rattle.replay_records.specs.Curves.{verdictNumber, placedAs, turnedAs, sameAnswers};
+ghost use Rattle.replay_records.specs.Curves.{verdict_number, placed_as, turned_as, same_answers};
 
 use crate::given::{has_bits, same_point};
 use crate::pattern;
@@ -9,7 +9,7 @@ use flight::{Placed, Turned, Verdict};
 
 // The number of a refusal, or 0.
 pub fn number_of(verdict: Verdict) -> u32
-    ensures { result ≡ verdictNumber verdict }
+    ensures { result ≡ verdict_number verdict }
 {
     match verdict {
         Verdict::Accepted => 0,
@@ -19,7 +19,7 @@ pub fn number_of(verdict: Verdict) -> u32
 
 // Whether a place or a direction was given with these bits and the refusal's number is 0, or it was refused under that number.
 pub fn placed(found: Placed, due: u32, x: u32, y: u32) -> bool
-    ensures { result ≡ placedAs found due x y }
+    ensures { result ≡ placed_as found due x y }
 {
     match found {
         Placed::At(p) => (due == 0) & same_point(p, x, y),
@@ -29,7 +29,7 @@ pub fn placed(found: Placed, due: u32, x: u32, y: u32) -> bool
 
 // The same of a heading.
 pub fn turned(found: Turned, due: u32, degrees: u32) -> bool
-    ensures { result ≡ turnedAs found due degrees }
+    ensures { result ≡ turned_as found due degrees }
 {
     match found {
         Turned::Degrees(own) => (due == 0) & has_bits(own, degrees),
@@ -46,7 +46,7 @@ pub fn same_answers(
     at: usize,
 ) -> bool
     requires { at + 40 ≤ length text.now }
-    ensures { result ≡ sameAnswers position tangent heading text.now at }
+    ensures { result ≡ same_answers position tangent heading text.now at }
 {
     let here = placed(position, 0, pattern(text, at), pattern(text, at + 8));
     let there = placed(tangent, 0, pattern(text, at + 16), pattern(text, at + 24));

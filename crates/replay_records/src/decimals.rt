@@ -1,10 +1,10 @@
 // Numbers of one, two or three decimal digits.
 ghost use Rattle.std.specs.Prelude.{◌≡◌, ◌+◌, ◌<◌, ◌≤◌, length};
-ghost use Rattle.replay_records.specs.Decimals.{decimalOf, one_of, twoOf, threeOf};
+ghost use Rattle.replay_records.specs.Decimals.{decimal_of, one_of, two_of, three_of};
 
 // What a digit stands for, and 9 for any other byte.
 fn decimal(byte: u8) -> usize
-    ensures value { result ≡ decimalOf byte }
+    ensures value { result ≡ decimal_of byte }
     ensures upper_bound { result < 10 }
 {
     if byte < b'0' {
@@ -29,7 +29,7 @@ pub fn one(text: &[u8], at: usize) -> usize
 // The number that the two digits at this offset stand for.
 pub fn two(text: &[u8], at: usize) -> usize
     requires { at + 2 ≤ length text.now }
-    ensures value { result ≡ twoOf text.now at }
+    ensures value { result ≡ two_of text.now at }
     ensures upper_bound { result < 100 }
 {
     one(text, at) * 10 + one(text, at + 1)
@@ -38,7 +38,7 @@ pub fn two(text: &[u8], at: usize) -> usize
 // The number that the three digits at this offset stand for.
 pub fn three(text: &[u8], at: usize) -> usize
     requires { at + 3 ≤ length text.now }
-    ensures value { result ≡ threeOf text.now at }
+    ensures value { result ≡ three_of text.now at }
     ensures upper_bound { result < 1000 }
 {
     two(text, at) * 10 + one(text, at + 2)

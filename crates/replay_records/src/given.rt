@@ -1,6 +1,6 @@
 // Answers held against what is recorded: a number, a point, and the first of the values that a refusal carries.
 ghost use Rattle.std.specs.Prelude.{◌≡◌, ◌+◌, ◌≤◌, length};
-ghost use Rattle.replay_records.specs.Given.{hasBits, samePoint, pointFrom, first_of};
+ghost use Rattle.replay_records.specs.Given.{has_bits, same_point, point_from, first_of};
 
 use crate::{float, pattern};
 use answers::Values;
@@ -9,14 +9,14 @@ use math::Point;
 
 // Whether x has these bits; a NaN has 7FC00000.
 pub fn has_bits(x: f32, due: u32) -> bool
-    ensures { result ≡ hasBits x due }
+    ensures { result ≡ has_bits x due }
 {
     bits(x) == due
 }
 
 // Whether a point's coordinates have these bits.
 pub fn same_point(p: Point, x: u32, y: u32) -> bool
-    ensures { result ≡ samePoint p x y }
+    ensures { result ≡ same_point p x y }
 {
     has_bits(p.x, x) & has_bits(p.y, y)
 }
@@ -24,7 +24,7 @@ pub fn same_point(p: Point, x: u32, y: u32) -> bool
 // The point of the two patterns at this offset.
 pub fn point(text: &[u8], at: usize) -> Point
     requires { at + 16 ≤ length text.now }
-    ensures { result ≡ pointFrom text.now at }
+    ensures { result ≡ point_from text.now at }
 {
     Point {
         x: float(pattern(text, at)),

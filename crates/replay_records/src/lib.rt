@@ -8,7 +8,7 @@ mod given;
 mod numbers;
 
 ghost use Rattle.std.specs.Prelude.{◌≡◌, ◌<◌};
-ghost use Rattle.replay_records.specs.Records.{digitOf, half_of, patternOf, float_of};
+ghost use Rattle.replay_records.specs.Records.{digit_of, half_of, pattern_of, float_of};
 
 pub use counts::{Count, kind, none, seen, tell};
 pub use curves::{number_of, placed, same_answers, turned};
@@ -19,7 +19,7 @@ pub use numbers::{lent, read_numbers, same_bytes, same_numbers};
 // The number that eight upper-case hexadecimal digits from this offset on stand for, and 0 where the
 // text ends before. Any other byte counts as a digit 0.
 pub fn pattern(text: &[u8], at: usize) -> u32
-    ensures { result ≡ patternOf text.now at }
+    ensures { result ≡ pattern_of text.now at }
 {
     if text.len() < 8 {
         return 0;
@@ -40,7 +40,7 @@ fn half(a: u8, b: u8, c: u8, d: u8) -> u32
 }
 
 fn digit(byte: u8) -> u32
-    ensures value { result ≡ digitOf byte }
+    ensures value { result ≡ digit_of byte }
     ensures upper_bound { result < 16 }
 {
     if byte < b'0' {

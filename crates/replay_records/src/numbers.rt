@@ -1,14 +1,14 @@
 // Rows of a record: patterns a step apart as numbers or held against numbers, how many of them are lent, and bytes held against
 // bytes.
 ghost use Rattle.std.specs.Prelude.{◌≡◌, ◌+◌, ◌≤◌, min, length, ◌==◌};
-ghost use Rattle.replay_records.specs.Numbers.{Begins, onwardOf, numbersOf, same_numbers, sameBytes};
+ghost use Rattle.replay_records.specs.Numbers.{Begins, onward_of, numbers_of, same_numbers, same_bytes};
 
 use crate::{float, pattern};
 use floats::bits;
 
 // The offset of a row's next pattern. Past the text's end it stays where it is, for every pattern there is 0.
 fn onward(text: &[u8], offset: usize, step: u32) -> usize
-    ensures { result ≡ onwardOf text.now offset step }
+    ensures { result ≡ onward_of text.now offset step }
 {
     if offset < text.len() {
         offset + step as usize
@@ -19,7 +19,7 @@ fn onward(text: &[u8], offset: usize, step: u32) -> usize
 
 // Puts the floats of as many patterns as out has numbers into it: the first from `at` on, each `step` bytes past the one before.
 pub fn read_numbers(text: &[u8], at: usize, step: u32, out: &mut [f32])
-    ensures { out.new ≡ numbersOf text.now at step (length out.old) }
+    ensures { out.new ≡ numbers_of text.now at step (length out.old) }
 {
     let mut offset = at;
     let mut i = 0usize;
@@ -68,7 +68,7 @@ fn is_above(byte: u8, by: u8, due: u8) -> bool
 // Whether the text has these bytes from `at` on, each raised by `by`: 0 for letters, b'0' for numbers that are recorded as digits.
 pub fn same_bytes(bytes: &[u8], by: u8, text: &[u8], at: usize) -> bool
     requires { at + length bytes.now ≤ length text.now }
-    ensures { result ≡ sameBytes bytes.now by text.now at }
+    ensures { result ≡ same_bytes bytes.now by text.now at }
 {
     let mut i = 0usize;
     while i < bytes.len() {

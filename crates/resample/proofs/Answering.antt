@@ -13,11 +13,11 @@ use Rattle.answers.specs.declared.refusals.Values.TheVariants.{One}
 use Rattle.answers.specs.declared.refusals.Refusal.{Refusal}
 use Rattle.answers.specs.declared.refusals.Refusal.TheVariants.{NoRoom, Range}
 use Rattle.polyline.specs.Points.{count_of}
-use Rattle.polyline.specs.Judging.{judgeOf}
+use Rattle.polyline.specs.Judging.{judge_of}
 use Rattle.polyline.specs.declared.judging.Judged.TheVariants as Judged
 use Rattle.resample.specs.Spacing as Spacing
 use Rattle.resample.specs.Planning.{plan_of, rows_by, need_of, Planned}
-use Rattle.resample.specs.Resample.{Outcome, numbers, refusal, resampleOf, Resample}
+use Rattle.resample.specs.Resample.{Outcome, numbers, refusal, resample_of, Resample}
 use Rattle.resample.specs.declared.spreading.Way.{Way}
 use Rattle.resample.specs.declared.spreading.Way.TheVariants.{Copies, Spread}
 use Rattle.resample.specs.declared.spreading.Plan.TheVariants as Plan
@@ -36,27 +36,27 @@ module _ (points : List Float) (count : ℕ) (way : Way) (room : ℕ) (p : Plann
 
 -- ---- the ways out of the entry
 module _ (points : List Float) (count : ℕ) (before : List Float) where
-  refuses : (reason : Refusal) → resampleOf points count (length before) ≡ refusal reason → Resample points count before (Resampled.Refused reason) before
+  refuses : (reason : Refusal) → resample_of points count (length before) ≡ refusal reason → Resample points count before (Resampled.Refused reason) before
   refuses reason e = record { answer = rw e; output = rw e }
 
-  first-refused : (reason : Refusal) → judgeOf points ≡ Judged.Refused reason → resampleOf points count (length before) ≡ refusal reason
-  unfolding resampleOf
+  first-refused : (reason : Refusal) → judge_of points ≡ Judged.Refused reason → resample_of points count (length before) ≡ refusal reason
+  unfolding resample_of
   first-refused reason e = rw e
 
-  pub points-refused : (reason : Refusal) → judgeOf points ≡ Judged.Refused reason → Resample points count before (Resampled.Refused reason) before
+  pub points-refused : (reason : Refusal) → judge_of points ≡ Judged.Refused reason → Resample points count before (Resampled.Refused reason) before
   points-refused reason e = refuses reason (first-refused reason e)
 
-  module _ (fine : judgeOf points ≡ Judged.Fine) where
-    long : 4096 < count → resampleOf points count (length before) ≡ refusal (Range count)
-    unfolding resampleOf
+  module _ (fine : judge_of points ≡ Judged.Fine) where
+    long : 4096 < count → resample_of points count (length before) ≡ refusal (Range count)
+    unfolding resample_of
     long h = rw (fine, lt-ltb 4096 count h)
 
     pub count_long : 4096 < count → Resample points count before (Resampled.Refused (Range count)) before
     count_long h = refuses (Range count) (long h)
 
     module _ (few : count ≤ 4096) where
-      broken : (reason : Refusal) → plan_of points count ≡ Plan.Refused reason → resampleOf points count (length before) ≡ refusal reason
-      unfolding resampleOf
+      broken : (reason : Refusal) → plan_of points count ≡ Plan.Refused reason → resample_of points count (length before) ≡ refusal reason
+      unfolding resample_of
       broken reason e = rw (fine, le-ltb 4096 count few, e)
 
       pub plan-refused : (reason : Refusal) → plan_of points count ≡ Plan.Refused reason → Resample points count before (Resampled.Refused reason) before
@@ -66,12 +66,12 @@ module _ (points : List Float) (count : ℕ) (before : List Float) where
         size : length (rows_by points count way) ≡ need
         size = need-is points count way ∙ sym n
 
-        short : length before < need → resampleOf points count (length before) ≡ refusal (NoRoom (One need))
-        unfolding resampleOf
+        short : length before < need → resample_of points count (length before) ≡ refusal (NoRoom (One need))
+        unfolding resample_of
         short h = rw (fine, le-ltb 4096 count few, go, size, lt-ltb (length before) need h)
 
-        enough : need ≤ length before → resampleOf points count (length before) ≡ numbers (rows_by points count way)
-        unfolding resampleOf
+        enough : need ≤ length before → resample_of points count (length before) ≡ numbers (rows_by points count way)
+        unfolding resample_of
         enough h = rw (fine, le-ltb 4096 count few, go, size, le-ltb (length before) need h)
 
         pub no_room : length before < need → Resample points count before (Resampled.Refused (NoRoom (One need))) before

@@ -16,7 +16,7 @@ use Rattle.floats.proofs.Whole.{whole-value, whole-mono}
 use Rattle.floats.proofs.Monotone.{mul_mono, div_mono}
 use Rattle.floats.proofs.Rounded.{mul-rounds, div-rounds}
 use Rattle.floats.proofs.Held.{rounds-kind, rounds-real}
-use Rattle.resample.specs.Spacing.{targetAt}
+use Rattle.resample.specs.Spacing.{target_at}
 
 -- a count as an f32
 abbrev pub whole : ℕ → Float
@@ -75,8 +75,8 @@ module _ (last : ℕ) (some : 0 < last) (few : last ≤ 4095) where
   quotient-mono p q (inr a) (inr b) h = rw (a, b) (top-divided (div binary32 (inf false) (whole last)) (whole last) (top-real (whole last) last-nonneg) last-nonneg last-above)
 
   -- a later output's target is not below an earlier one's
-  pub target-mono : (total : Float) (i j : ℕ) → T (nonneg total) → i ≤ j → j ≤ last → T (le (targetAt total last i) (targetAt total last j))
-  unfolding targetAt
+  pub target-mono : (total : Float) (i j : ℕ) → T (nonneg total) → i ≤ j → j ≤ last → T (le (target_at total last i) (target_at total last j))
+  unfolding target_at
   target-mono total i j nn h l =
       let I = (whole-value binary32 i (le_trans h (le_trans l counted))).0 in
       let J = (whole-value binary32 j (le_trans l counted)).0 in

@@ -1,33 +1,33 @@
 -- What the output of `resample` gets (document 01, "Points and shapes"). Definitions only.
 use Rattle.std.specs.Prelude.{ℕ, ◌*◌, ◌≤◌, ◌≡◌, ◌||◌, cond, List, [], eqb, length, Float}
 use Rattle.std.specs.Float.Ieee.{le}
-use Rattle.floats.specs.Floats.{epsilonF}
+use Rattle.floats.specs.Floats.{epsilon_f}
 use Rattle.answers.specs.declared.refusals.Refusal.TheVariants as Refusal
-use Rattle.polyline.specs.Points.{count_of, pointAt, rows_of}
-use Rattle.polyline.specs.Lengths.{measuredOf}
+use Rattle.polyline.specs.Points.{count_of, point_at, rows_of}
+use Rattle.polyline.specs.Lengths.{measured_of}
 use Rattle.polyline.specs.declared.outline.Measured.{Measured}
 use Rattle.polyline.specs.declared.outline.Measured.TheVariants.{Total, NotFinite}
-use Rattle.resample.specs.Spacing.{spreadAt}
+use Rattle.resample.specs.Spacing.{spread_at}
 use Rattle.resample.specs.declared.spreading.Way.{Way}
 use Rattle.resample.specs.declared.spreading.Way.TheVariants.{Nothing, Copies, Spread}
 use Rattle.resample.specs.declared.spreading.Plan.{Plan}
 use Rattle.resample.specs.declared.spreading.Plan.TheVariants.{Go, Refused}
 
 -- "a total of at most 2^-23 gives copies too"; 11 carries the "first such .. polyline point"
-unfoldable pub byLength : Measured → Plan
-byLength (NotFinite number) = Refused (Refusal.NotFinite number)
-byLength (Total total) = cond (le total epsilonF) (Go Copies) (Go (Spread total))
+unfoldable pub by_length : Measured → Plan
+by_length (NotFinite number) = Refused (Refusal.NotFinite number)
+by_length (Total total) = cond (le total epsilon_f) (Go Copies) (Go (Spread total))
 
 -- "no points or count 0 gives nothing, one point or count 1 copies of the first (no lengths summed, so no 11)"
 unfoldable pub plan_of : List Float → ℕ → Plan
 plan_of points count =
-    cond (eqb (count_of points) 0 || eqb count 0) (Go Nothing) (cond (eqb (count_of points) 1 || eqb count 1) (Go Copies) (byLength (measuredOf points)))
+    cond (eqb (count_of points) 0 || eqb count 0) (Go Nothing) (cond (eqb (count_of points) 1 || eqb count 1) (Go Copies) (by_length (measured_of points)))
 
 -- the numbers of the output
 abbrev pub rows_by : List Float → ℕ → Way → List Float
 rows_by points count Nothing = []
-rows_by points count Copies = rows_of (λ i. pointAt points 0) count
-rows_by points count (Spread total) = rows_of (spreadAt points total count) count
+rows_by points count Copies = rows_of (λ i. point_at points 0) count
+rows_by points count (Spread total) = rows_of (spread_at points total count) count
 
 -- how many they are
 abbrev pub need_of : Way → ℕ → ℕ

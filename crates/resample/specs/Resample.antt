@@ -5,7 +5,7 @@ use Rattle.answers.specs.Report.{written}
 use Rattle.answers.specs.declared.refusals.Values.TheVariants.{One}
 use Rattle.answers.specs.declared.refusals.Refusal.{Refusal}
 use Rattle.answers.specs.declared.refusals.Refusal.TheVariants.{NoRoom, Range}
-use Rattle.polyline.specs.Judging.{judgeOf}
+use Rattle.polyline.specs.Judging.{judge_of}
 use Rattle.polyline.specs.declared.judging.Judged.{Judged}
 use Rattle.polyline.specs.declared.judging.Judged.TheVariants as Judged
 use Rattle.resample.specs.Planning.{plan_of, rows_by}
@@ -29,13 +29,13 @@ abbrev pub roomed : ℕ → List Float → Outcome
 roomed room list = cond (ltb room (length list)) (refusal (NoRoom (One (length list)))) (numbers list)
 
 -- 11 comes before 8
-abbrev pub byPlan : List Float → ℕ → ℕ → Plan → Outcome
-byPlan points count room (Plan.Go way) = roomed room (rows_by points count way)
-byPlan points count room (Plan.Refused reason) = refusal reason
+abbrev pub by_plan : List Float → ℕ → ℕ → Plan → Outcome
+by_plan points count room (Plan.Go way) = roomed room (rows_by points count way)
+by_plan points count room (Plan.Refused reason) = refusal reason
 
 -- into an output of so many places; 13: "resampled count above 4,096"
-unfoldable pub resampleOf : List Float → ℕ → ℕ → Outcome
-resampleOf points count room = after (judgeOf points) (cond (ltb 4096 count) (refusal (Range count)) (byPlan points count room (plan_of points count)))
+unfoldable pub resample_of : List Float → ℕ → ℕ → Outcome
+resample_of points count room = after (judge_of points) (cond (ltb 4096 count) (refusal (Range count)) (by_plan points count room (plan_of points count)))
 
 -- the number and the values of each case; an accepted call answers with the count of its numbers
 abbrev pub answer_of : Resampled → Answer
@@ -52,5 +52,5 @@ written_by (numbers list) = list
 written_by (refusal reason) = []
 
 pub record Resample (points : List Float) (count : ℕ) (before : List Float) (r : Resampled) (after : List Float) : Type 0 where
-  pub answer : answer_of r ≡ answered (resampleOf points count (length before))
-  pub output : after ≡ written (written_by (resampleOf points count (length before))) before
+  pub answer : answer_of r ≡ answered (resample_of points count (length before))
+  pub output : after ≡ written (written_by (resample_of points count (length before))) before

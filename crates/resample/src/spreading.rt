@@ -1,8 +1,8 @@
 // The parts of `resample`, which a morph takes for each of its shapes: what to give, and giving it.
 ghost use Rattle.std.specs.Prelude.{◌≡◌, ◌*◌, ◌≤◌, ◌<◌, length};
 ghost use Rattle.answers.specs.Report.{written};
-ghost use Rattle.polyline.specs.Points.{count_of, pointAt, rows_of};
-ghost use Rattle.resample.specs.Spacing.{spreadAt, Spread};
+ghost use Rattle.polyline.specs.Points.{count_of, point_at, rows_of};
+ghost use Rattle.resample.specs.Spacing.{spread_at, Spread};
 ghost use Rattle.resample.specs.Planning.{plan_of, need_of, rows_by, Planned};
 
 use crate::walking::{Stretch, advance, between, target_at};
@@ -70,7 +70,7 @@ pub fn needed(way: Way, count: usize) -> usize
 fn copy(points: &[f32], count: usize, out: &mut [f32])
     requires points_nonzero { 0 < count_of points.now }
     requires count_in_bounds { 2 * count ≤ length out.old }
-    ensures { out.new ≡ written (rows_of (λ i. pointAt points.now 0) count) out.old }
+    ensures { out.new ≡ written (rows_of (λ i. point_at points.now 0) count) out.old }
 {
     let first = point_at(points, 0);
     let mut i: usize = 0;
@@ -83,7 +83,7 @@ fn copy(points: &[f32], count: usize, out: &mut [f32])
 // The first point, evenly spaced ones, the last point.
 fn spread(points: &[f32], count: usize, total: f32, out: &mut [f32])
     requires { Spread points.now count total (length out.old) }
-    ensures { out.new ≡ written (rows_of (spreadAt points.now total count) count) out.old }
+    ensures { out.new ≡ written (rows_of (spread_at points.now total count) count) out.old }
 {
     put_point(out, 0, point_at(points, 0));
     let last = count - 1;

@@ -2,7 +2,7 @@
 // length is kept, for which the caller would have to lend room.
 ghost use Rattle.std.specs.Prelude.{◌≡◌, ◌≤◌, ◌<◌};
 ghost use Rattle.polyline.specs.Points.{count_of};
-ghost use Rattle.resample.specs.Spacing.{targetAt, pick_of, stretchAt, betweenOf, Evenly, Reached};
+ghost use Rattle.resample.specs.Spacing.{target_at, pick_of, stretch_at, between_of, Evenly, Reached};
 
 use math::{Point, lerp_point};
 use polyline::inner::{leg, point_at};
@@ -20,7 +20,7 @@ pub struct Stretch {
 // How far along a line of this length the output point i lies, where `last` is the last one.
 pub fn target_at(total: f32, i: usize, last: usize) -> f32
     requires { Evenly i last }
-    ensures { result ≡ targetAt total last i }
+    ensures { result ≡ target_at total last i }
 {
     total * i as f32 / last as f32
 }
@@ -28,7 +28,7 @@ pub fn target_at(total: f32, i: usize, last: usize) -> f32
 // Walks on to the first running length that is not below the target, or to the last point.
 pub fn advance(points: &[f32], from: Stretch, target: f32) -> Stretch
     requires { Reached points.now from target }
-    ensures { result ≡ stretchAt points.now (pick_of points.now target) }
+    ensures { result ≡ stretch_at points.now (pick_of points.now target) }
 {
     let last = points.len() / 2 - 1;
     let mut upper = from.upper;
@@ -56,7 +56,7 @@ pub fn advance(points: &[f32], from: Stretch, target: f32) -> Stretch
 // The point at a target on a stretch.
 pub fn between(points: &[f32], stretch: Stretch, target: f32) -> Point
     requires { stretch.upper < count_of points.now }
-    ensures { result ≡ betweenOf points.now stretch target }
+    ensures { result ≡ between_of points.now stretch target }
 {
     let upper = stretch.upper;
     if upper == 0 {

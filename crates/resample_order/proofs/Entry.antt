@@ -12,7 +12,7 @@ use lib.ListN.{length, drop}
 use lib.Seq.{get_or-append-add}
 use lib.Ieee.{Float, nan, lt, le}
 use lib.Ieee.Scale.{finite}
-use Rattle.floats.specs.Floats.{epsilonF}
+use Rattle.floats.specs.Floats.{epsilon_f}
 use Rattle.floats.proofs.Tests.{failed}
 use Rattle.floats.proofs.Order.{lt→not-le}
 use Rattle.answers.specs.Answers.{accepted}
@@ -23,43 +23,43 @@ use Rattle.answers.proofs.Settled.{refused-not-accepted}
 use Rattle.math.specs.declared.points.Point.{Point}
 use Rattle.math.specs.Math.{point_of}
 use Rattle.table.specs.Lookup.{at}
-use Rattle.polyline.specs.Points.{count_of, pointAt, twoOf, rows_of}
-use Rattle.polyline.specs.Lengths.{total_of, measuredOf}
-use Rattle.polyline.specs.Judging.{judgeOf}
+use Rattle.polyline.specs.Points.{count_of, point_at, two_of, rows_of}
+use Rattle.polyline.specs.Lengths.{total_of, measured_of}
+use Rattle.polyline.specs.Judging.{judge_of}
 use Rattle.polyline.specs.declared.judging.Judged.{Judged}
 use Rattle.polyline.specs.declared.judging.Judged.TheVariants as Judged
 use Rattle.polyline.specs.declared.outline.Measured.{Measured}
 use Rattle.polyline.specs.declared.outline.Measured.TheVariants as Measured
 use Rattle.polyline.proofs.Measuring.{measured-whole}
 use Rattle.polyline.proofs.Rows.{rows-length}
-use Rattle.resample.specs.Spacing.{spreadAt}
+use Rattle.resample.specs.Spacing.{spread_at}
 use Rattle.resample.specs.Planning.{plan_of, rows_by}
-use Rattle.resample.specs.Resample.{Outcome, numbers, refusal, after, byPlan, roomed, resampleOf, answered, written_by, Resample}
+use Rattle.resample.specs.Resample.{Outcome, numbers, refusal, after, by_plan, roomed, resample_of, answered, written_by, Resample}
 use Rattle.resample.specs.declared.spreading.Way.{Way}
 use Rattle.resample.specs.declared.spreading.Way.TheVariants as Way
 use Rattle.resample.specs.declared.spreading.Plan.{Plan}
 use Rattle.resample.specs.declared.spreading.Plan.TheVariants as Plan
 use Rattle.resample.specs.declared.resampling.Resampled.TheVariants.{Numbers}
 use Rattle.resample.proofs.Plans.{plan-broken, plan-spread}
-use Rattle.resample_order.specs.Ordered.{chosen_of, shareAt, OnLeg, InOrder}
+use Rattle.resample_order.specs.Ordered.{chosen_of, share_at, OnLeg, InOrder}
 use Rattle.resample_order.proofs.Theorems.{Asked, spread-in-order}
 
 -- ---- a point among the rows
 module _ (point : ℕ → Point) where
-  row_at : (k i : ℕ) (rest : List Float) → i < k → pointAt (rows_of point k ++ rest) i ≡ point i
-  unfolding rows_of pointAt
+  row_at : (k i : ℕ) (rest : List Float) → i < k → point_at (rows_of point k ++ rest) i ≡ point i
+  unfolding rows_of point_at
   row_at zero i rest h = absurd (not-suc-le-zero h)
   row_at (suc k) i rest h = elim (eq-or-lt_of_le (le_of_suc-le-suc h)) [
-    | inr l ↦ ap (λ (xs : List Float). pointAt xs i) (append_assoc (rows_of point k) (twoOf (point k)) rest) ∙ row_at k i (twoOf (point k) ++ rest) l
+    | inr l ↦ ap (λ (xs : List Float). point_at xs i) (append_assoc (rows_of point k) (two_of (point k)) rest) ∙ row_at k i (two_of (point k) ++ rest) l
     | inl e ↦
-        ap (λ (xs : List Float). pointAt xs i) (append_assoc (rows_of point k) (twoOf (point k)) rest)
-        ∙ ap (pointAt (rows_of point k ++ (twoOf (point k) ++ rest))) e
+        ap (λ (xs : List Float). point_at xs i) (append_assoc (rows_of point k) (two_of (point k)) rest)
+        ∙ ap (point_at (rows_of point k ++ (two_of (point k) ++ rest))) e
         ∙ both (place 0 (2 * k) (let n = rows-length point k in omega arith)) (place 1 (2 * k + 1) (let n = rows-length point k in omega arith))
         ∙ ap point (sym e)
   ]
     where
-      place : (j m : ℕ) → m ≡ length (rows_of point k) + j → at (rows_of point k ++ (twoOf (point k) ++ rest)) m ≡ at (twoOf (point k) ++ rest) j
-      place j m e = ap (at (rows_of point k ++ (twoOf (point k) ++ rest))) e ∙ get_or-append-add (rows_of point k) (twoOf (point k) ++ rest) j nan
+      place : (j m : ℕ) → m ≡ length (rows_of point k) + j → at (rows_of point k ++ (two_of (point k) ++ rest)) m ≡ at (two_of (point k) ++ rest) j
+      place j m e = ap (at (rows_of point k ++ (two_of (point k) ++ rest))) e ∙ get_or-append-add (rows_of point k) (two_of (point k) ++ rest) j nan
 
       both : {x y : Float} → x ≡ (point k).x → y ≡ (point k).y → point_of x y ≡ point k
       both p q = rw (p, q) refl
@@ -78,16 +78,16 @@ not-numbers : {reason : Refusal} {list : List Float} → refusal reason ≡ numb
 not-numbers e = let z : ◌≡◌ {A = ℕ} 0 1 = cc in omega arith
 
 module _ (points : List Float) (count room : ℕ) (list : List Float) where
-  given : resampleOf points count room ≡ numbers list → Written points count list
-  unfolding resampleOf
-  given = go (judgeOf points) (ltb 4096 count) (plan_of points count) refl (λ n. nltb→le 4096 count n)
+  given : resample_of points count room ≡ numbers list → Written points count list
+  unfolding resample_of
+  given = go (judge_of points) (ltb 4096 count) (plan_of points count) refl (λ n. nltb→le 4096 count n)
     where
       placed : (way : Way) (b : Bool) → cond b (refusal (NoRoom (One (length (rows_by points count way))))) (numbers (rows_by points count way)) ≡ numbers list → list ≡ rows_by points count way
       placed way true e = absurd (not-numbers e)
       placed way false e = sym (same_numbers e)
 
       go : (j : Judged) (b : Bool) (p : Plan) → plan_of points count ≡ p → (T (not b) → count ≤ 4096)
-          → after j (cond b (refusal (Range count)) (byPlan points count room p)) ≡ numbers list → Written points count list
+          → after j (cond b (refusal (Range count)) (by_plan points count room p)) ≡ numbers list → Written points count list
       go (Judged.Refused reason) b p planned few e = absurd (not-numbers e)
       go Judged.Fine true p planned few e = absurd (not-numbers e)
       go Judged.Fine false (Plan.Refused reason) planned few e = absurd (not-numbers e)
@@ -99,12 +99,12 @@ unlike false h = refl
 
 -- ---- what was planned, from the start of an output
 module _ (points : List Float) (count : ℕ) (way : Way) (few : count ≤ 4096) (planned : plan_of points count ≡ Plan.Go way)
-    (two : 2 ≤ count_of points) (more : 2 ≤ count) (long : T (lt epsilonF (total_of points))) where
+    (two : 2 ≤ count_of points) (more : 2 ≤ count) (long : T (lt epsilon_f (total_of points))) where
   abbrev total : Float
   total = total_of points
 
   spread : (way ≡ Way.Spread total) × T (finite total)
-  spread = go (measuredOf points) refl
+  spread = go (measured_of points) refl
     where
       none : count_of points ≡ 0 → ⊥
       none e = omega arith
@@ -124,20 +124,20 @@ module _ (points : List Float) (count : ℕ) (way : Way) (few : count ≤ 4096) 
       broken : {reason : Refusal} {way : Way} → Plan.Refused reason ≡ Plan.Go way → ⊥
       broken e = let z : ◌≡◌ {A = ℕ} 0 1 = cc in omega arith
 
-      go : (m : Measured) → measuredOf points ≡ m → (way ≡ Way.Spread total) × T (finite total)
+      go : (m : Measured) → measured_of points ≡ m → (way ≡ Way.Spread total) × T (finite total)
       go (Measured.NotFinite number) e = absurd (broken (plan-broken points count none asked one single number e ∙ planned))
       go (Measured.Total sum) e =
           let w = measured-whole points sum e in
-          let short : le sum epsilonF ≡ false = unlike (le sum epsilonF) (lt→not-le sum epsilonF (subst (λ (x : Float). T (lt epsilonF x)) (sym w.sum) long)) in
+          let short : le sum epsilon_f ≡ false = unlike (le sum epsilon_f) (lt→not-le sum epsilon_f (subst (λ (x : Float). T (lt epsilon_f x)) (sym w.sum) long)) in
           (same_way (sym planned ∙ sym (plan-spread points count none asked one single sum e short)) ∙ ap Way.Spread w.sum, subst (λ (x : Float). T (finite x)) w.sum w.fine)
 
-  pub rows-in-order : (rest now : List Float) → now ≡ rows_by points count way ++ rest → InOrder points total count (pointAt now) (chosen_of points total count) (shareAt points total count)
+  pub rows-in-order : (rest now : List Float) → now ≡ rows_by points count way ++ rest → InOrder points total count (point_at now) (chosen_of points total count) (share_at points total count)
   rows-in-order rest now is =
       let s = spread in
-      stands s.1 (λ i l. ap (λ (xs : List Float). pointAt xs i) (is ∙ ap (λ (w : Way). rows_by points count w ++ rest) s.0) ∙ row_at (spreadAt points total count) count i rest l)
+      stands s.1 (λ i l. ap (λ (xs : List Float). point_at xs i) (is ∙ ap (λ (w : Way). rows_by points count w ++ rest) s.0) ∙ row_at (spread_at points total count) count i rest l)
     where
-      stands : T (finite total) → ((i : ℕ) → i < count → pointAt now i ≡ spreadAt points total count i)
-          → InOrder points total count (pointAt now) (chosen_of points total count) (shareAt points total count)
+      stands : T (finite total) → ((i : ℕ) → i < count → point_at now i ≡ spread_at points total count i)
+          → InOrder points total count (point_at now) (chosen_of points total count) (share_at points total count)
       stands fine same =
           let r = spread-in-order points total count (record { two = two; more = more; few = few; sum = refl; fine = fine; long = long }) in
           record {
@@ -145,22 +145,22 @@ module _ (points : List Float) (count : ℕ) (way : Way) (few : count ≤ 4096) 
             ends = (same (count - 1) (omega arith) ∙ r.ends.0, r.ends.1);
             rises = r.rises;
             order = r.order;
-            between = λ i a b. subst (OnLeg points (chosen_of points total count i) (shareAt points total count i)) (sym (same i (omega arith))) (r.between i a b);
+            between = λ i a b. subst (OnLeg points (chosen_of points total count i) (share_at points total count i)) (sym (same i (omega arith))) (r.between i a b);
             enclosed = r.enclosed;
           }
 
 -- ---- the theorem
 module _ (points : List Float) (count n : ℕ) (before now : List Float) (call : Resample points count before (Numbers n) now)
-    (two : 2 ≤ count_of points) (more : 2 ≤ count) (long : T (lt epsilonF (total_of points))) where
-  is-numbers : (o : Outcome) → resampleOf points count (length before) ≡ o → accepted (n ∷ []) ≡ answered o → now ≡ written_by o ++ drop (length (written_by o)) before
-      → (list : List Float) × (resampleOf points count (length before) ≡ numbers list) × (now ≡ list ++ drop (length list) before)
+    (two : 2 ≤ count_of points) (more : 2 ≤ count) (long : T (lt epsilon_f (total_of points))) where
+  is-numbers : (o : Outcome) → resample_of points count (length before) ≡ o → accepted (n ∷ []) ≡ answered o → now ≡ written_by o ++ drop (length (written_by o)) before
+      → (list : List Float) × (resample_of points count (length before) ≡ numbers list) × (now ≡ list ++ drop (length list) before)
   is-numbers (numbers list) e a w = (list, e, w)
   is-numbers (refusal reason) e a w = absurd (refused-not-accepted reason (n ∷ []) (sym a))
 
   -- Over an accepted call, the points in the lent output stand on the line in order.
-  pub resampled-in-order : InOrder points (total_of points) count (pointAt now) (chosen_of points (total_of points) count) (shareAt points (total_of points) count)
+  pub resampled-in-order : InOrder points (total_of points) count (point_at now) (chosen_of points (total_of points) count) (share_at points (total_of points) count)
   resampled-in-order =
-      let o = is-numbers (resampleOf points count (length before)) refl call.answer call.output in
+      let o = is-numbers (resample_of points count (length before)) refl call.answer call.output in
       let w = given points count (length before) o.0 o.1 in
       rows-in-order points count w.way w.few w.planned two more long (drop (length o.0) before) now
       (o.2 ∙ ap (λ (xs : List Float). xs ++ drop (length o.0) before) w.rows)

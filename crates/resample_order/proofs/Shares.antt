@@ -7,7 +7,7 @@ use mathlib.Core.Bool.{Bool, true, false}
 use lib.Dec.{T}
 use lib.Ieee.{Float, nan, inf, fin, is_nan, binary32, add, neg, sub, div, lt, le, eq}
 use lib.Ieee.Positive.{num, den}
-use Rattle.floats.specs.Floats.{zeroF, oneF}
+use Rattle.floats.specs.Floats.{zero_f, one_f}
 use Rattle.floats.specs.Kinds.{real, nonneg}
 use Rattle.floats.proofs.Order.{le-self}
 use Rattle.floats.proofs.Fractions.{nonneg-real}
@@ -82,14 +82,14 @@ module _ (a b : Float) (leg : Leg a b) where
       subst (λ (x : Float). T (le x (quotient u))) (sym (quotient-infinite t d)) (subst (λ (x : Float). T (le (inf false) x)) (sym (quotient-infinite u e)) (top (inf false) infinite-real))
 
   -- ---- the share
-  pub share-at-least : (t : Float) → Reaches t → T (le a t) → T (le zeroF (share_of a b t))
+  pub share-at-least : (t : Float) → Reaches t → T (le a t) → T (le zero_f (share_of a b t))
   unfolding share_of
-  share-at-least t r from = clamp-at-least zeroF oneF zero-le-one (quotient t) (quotient-real t r from)
+  share-at-least t r from = clamp-at-least zero_f one_f zero-le-one (quotient t) (quotient-real t r from)
 
-  pub share-at-most : (t : Float) → Reaches t → T (le a t) → T (le (share_of a b t) oneF)
+  pub share-at-most : (t : Float) → Reaches t → T (le a t) → T (le (share_of a b t) one_f)
   unfolding share_of
-  share-at-most t r from = clamp-at-most zeroF oneF zero-le-one (quotient t) (quotient-real t r from)
+  share-at-most t r from = clamp-at-most zero_f one_f zero-le-one (quotient t) (quotient-real t r from)
 
   pub share-grows : (t u : Float) → Reaches t → Reaches u → T (le a t) → T (le a u) → T (le t u) → T (le (share_of a b t) (share_of a b u))
   unfolding share_of
-  share-grows t u r s f g h = clamp-mono zeroF oneF zero-le-one (quotient t) (quotient u) (quotient-grows t u r s f g h)
+  share-grows t u r s f g h = clamp-mono zero_f one_f zero-le-one (quotient t) (quotient u) (quotient-grows t u r s f g h)

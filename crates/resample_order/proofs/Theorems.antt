@@ -13,7 +13,7 @@ use lib.ListN.{length}
 use lib.Ieee.{Float, binary32, add, fits, lt, le}
 use lib.Ieee.Fits.{add-fits}
 use lib.Ieee.Scale.{finite}
-use Rattle.floats.specs.Floats.{zeroF, oneF, epsilonF}
+use Rattle.floats.specs.Floats.{zero_f, one_f, epsilon_f}
 use Rattle.floats.specs.Kinds.{nonneg}
 use Rattle.floats.proofs.Tests.{clashing}
 use Rattle.floats.proofs.Order.{le_lt_trans, le-self, lt→le}
@@ -21,22 +21,22 @@ use Rattle.floats.proofs.Fractions.{nonneg-real}
 use Rattle.floats.proofs.Held.{Held}
 use Rattle.floats.proofs.Constants.{zero_held, one-held, zero-le-one}
 use Rattle.math.specs.declared.points.Point.{Point}
-use Rattle.math.specs.Math.{lerpPointOf}
-use Rattle.table.specs.Lookup.{at, last_of, firstNotBelow, share_of}
-use Rattle.table.specs.Sound.{tableIsSound}
+use Rattle.math.specs.Math.{lerp_point_of}
+use Rattle.table.specs.Lookup.{at, last_of, first_not_below, share_of}
+use Rattle.table.specs.Sound.{table_is_sound}
 use Rattle.table.proofs.Lengths.{Sound, table-sound, entry-nonneg, total-nonneg, start-at-most, entries-le}
 use Rattle.table.proofs.Search.{first-is}
 use Rattle.table.proofs.Enclosure.{Encloses, enclosed}
 use Rattle.table_order.specs.Stated.{NoStepBack}
 use Rattle.table_order.specs.Swept.{Enclose}
 use Rattle.table_order.proofs.Spots.{no-step-back}
-use Rattle.polyline.specs.Points.{count_of, pointAt}
-use Rattle.polyline.specs.Lengths.{lengthsOf, total_of}
+use Rattle.polyline.specs.Points.{count_of, point_at}
+use Rattle.polyline.specs.Lengths.{lengths_of, total_of}
 use Rattle.polyline.proofs.Legs.{lengths-count, lengths-first, lengths-next, lengths-sound}
-use Rattle.resample.specs.Spacing.{targetAt, pick_of, stretchAt, betweenOf, alongOf, spreadAt}
+use Rattle.resample.specs.Spacing.{target_at, pick_of, stretch_at, between_of, along_of, spread_at}
 use Rattle.resample.proofs.Targets.{target-mono}
 use Rattle.resample.proofs.Walk.{pick-inside, pick-mono}
-use Rattle.resample_order.specs.Ordered.{shareIn, chosen_of, shareAt, OnLeg, InOrder}
+use Rattle.resample_order.specs.Ordered.{share_in, chosen_of, share_at, OnLeg, InOrder}
 use Rattle.resample_order.proofs.Targets.{Reaches, target-reaches, target-above}
 use Rattle.resample_order.proofs.Shares.{Leg, share-at-least, share-at-most, share-grows}
 
@@ -47,7 +47,7 @@ pub record Asked (points : List Float) (total : Float) (count : ℕ) : Type 0 wh
   pub few : count ≤ 4096
   pub sum : total ≡ total_of points
   pub fine : T (finite total)
-  pub long : T (lt epsilonF total)
+  pub long : T (lt epsilon_f total)
 
 -- ---- which output: the first, the last, one between
 data Which (last i : ℕ) : Type 0 where
@@ -61,13 +61,13 @@ which last (suc i) h = elim (eq-or-lt_of_le h) [ inl e ↦ end (omega arith) e |
 
 module _ (points : List Float) (total : Float) (count : ℕ) (asked : Asked points total count) where
   abbrev lengths : List Float
-  lengths = lengthsOf points
+  lengths = lengths_of points
 
   abbrev last : ℕ
   last = count - 1
 
   abbrev target : ℕ → Float
-  target i = targetAt total last i
+  target i = target_at total last i
 
   abbrev pick : ℕ → ℕ
   pick i = pick_of points (target i)
@@ -80,7 +80,7 @@ module _ (points : List Float) (total : Float) (count : ℕ) (asked : Asked poin
 
   -- ---- the running lengths
   sound : Sound (last_of lengths) lengths total
-  sound = table-sound lengths total (subst (λ (x : Float). T (tableIsSound lengths x)) (sym asked.sum) (lengths-sound points (subst (λ (x : Float). T (finite x)) asked.sum asked.fine)))
+  sound = table-sound lengths total (subst (λ (x : Float). T (table_is_sound lengths x)) (sym asked.sum) (lengths-sound points (subst (λ (x : Float). T (finite x)) asked.sum asked.fine)))
 
   above : T (nonneg total)
   above = total-nonneg sound
@@ -106,19 +106,19 @@ module _ (points : List Float) (total : Float) (count : ℕ) (asked : Asked poin
     reaches : Reaches (target i)
     reaches = target-reaches last some few total i above (omega arith)
 
-    past-zero : T (lt zeroF (target i))
+    past-zero : T (lt zero_f (target i))
     past-zero = target-above last some few total i above asked.long from (omega arith)
 
-    pick_first : pick i ≤ firstNotBelow (target i) lengths
+    pick_first : pick i ≤ first_not_below (target i) lengths
     unfolding pick_of
     pick_first = min-le_left _ _
 
     pick_some : 1 ≤ pick i
     unfolding pick_of
-    pick_some = le-min (later (firstNotBelow (target i) lengths) (first-is lengths (target i)).found) (let t = asked.two in omega arith)
+    pick_some = le-min (later (first_not_below (target i) lengths) (first-is lengths (target i)).found) (let t = asked.two in omega arith)
       where
         later : (k : ℕ) → T (not (lt (at lengths k) (target i))) → 1 ≤ k
-        later zero h = absurd (clashing (lt (at lengths 0) (target i)) (le_lt_trans (at lengths 0) zeroF (target i) (start-at-most sound) past-zero) h)
+        later zero h = absurd (clashing (lt (at lengths 0) (target i)) (le_lt_trans (at lengths 0) zero_f (target i) (start-at-most sound) past-zero) h)
         later (suc k) h = omega arith
 
     pick-upto : pick i ≤ count_of points - 1
@@ -130,12 +130,12 @@ module _ (points : List Float) (total : Float) (count : ℕ) (asked : Asked poin
     from_start : T (le (at lengths (pick i - 1)) (target i))
     from_start = lt→le (at lengths (pick i - 1)) (target i) starts-below
 
-    share-low : T (le zeroF (shareIn points (pick i) (target i)))
-    unfolding shareIn
+    share-low : T (le zero_f (share_in points (pick i) (target i)))
+    unfolding share_in
     share-low = share-at-least (at lengths (pick i - 1)) (at lengths (pick i)) (leg (pick i) pick-upto) (target i) reaches from_start
 
-    share-high : T (le (shareIn points (pick i) (target i)) oneF)
-    unfolding shareIn
+    share-high : T (le (share_in points (pick i) (target i)) one_f)
+    unfolding share_in
     share-high = share-at-most (at lengths (pick i - 1)) (at lengths (pick i)) (leg (pick i) pick-upto) (target i) reaches from_start
 
     -- ---- what is chosen
@@ -143,27 +143,27 @@ module _ (points : List Float) (total : Float) (count : ℕ) (asked : Asked poin
     unfolding chosen_of
     chosen-inner = rw (ne_eqb i 0 (λ z. omega arith), ne_eqb i last (λ z. omega arith)) refl
 
-    share-inner : shareAt points total count i ≡ shareIn points (pick i) (target i)
-    unfolding shareAt
+    share-inner : share_at points total count i ≡ share_in points (pick i) (target i)
+    unfolding share_at
     share-inner = rw (ne_eqb i 0 (λ z. omega arith), ne_eqb i last (λ z. omega arith)) refl
 
-    output-inner : spreadAt points total count i ≡ lerpPointOf (pointAt points (pick i - 1)) (pointAt points (pick i)) (shareIn points (pick i) (target i))
-    unfolding spreadAt alongOf betweenOf stretchAt shareIn
+    output-inner : spread_at points total count i ≡ lerp_point_of (point_at points (pick i - 1)) (point_at points (pick i)) (share_in points (pick i) (target i))
+    unfolding spread_at along_of between_of stretch_at share_in
     output-inner = let s = pick_some in rw (ne_eqb i 0 (λ z. omega arith), ne_eqb i last (λ z. omega arith), ne_eqb (pick i) 0 (λ z. omega arith)) refl
 
-    on-leg : OnLeg points (chosen_of points total count i) (shareAt points total count i) (spreadAt points total count i)
+    on-leg : OnLeg points (chosen_of points total count i) (share_at points total count i) (spread_at points total count i)
     on-leg = rw (chosen-inner, share-inner) (record { first = pick_some; last = pick-upto; from = share-low; upto = share-high; lies = output-inner })
 
     encloses : T (lt (target i) total) → Enclose (at lengths (chosen_of points total count i - 1)) (at lengths (chosen_of points total count i)) (target i)
     unfolding pick_of
     encloses below = rw chosen-inner (record { lower = starts-below; upper = own })
       where
-        here : Encloses (last_of lengths) lengths (target i) (firstNotBelow (target i) lengths)
+        here : Encloses (last_of lengths) lengths (target i) (first_not_below (target i) lengths)
         here = enclosed sound (target i) past-zero below
 
-        same : pick i ≡ firstNotBelow (target i) lengths
+        same : pick i ≡ first_not_below (target i) lengths
         same =
-            let first = firstNotBelow (target i) lengths in
+            let first = first_not_below (target i) lengths in
             let upto : first ≤ pick i = le-min (le_refl first) (let u = here.upto in let e = last-length in omega arith) in
             let p = pick_first in
             omega arith
@@ -176,52 +176,52 @@ module _ (points : List Float) (total : Float) (count : ℕ) (asked : Asked poin
   unfolding chosen_of
   chosen-first = refl
 
-  share-first : shareAt points total count 0 ≡ zeroF
-  unfolding shareAt
+  share-first : share_at points total count 0 ≡ zero_f
+  unfolding share_at
   share-first = refl
 
-  output-first : spreadAt points total count 0 ≡ pointAt points 0
-  unfolding spreadAt
+  output-first : spread_at points total count 0 ≡ point_at points 0
+  unfolding spread_at
   output-first = refl
 
   chosen-end : chosen_of points total count last ≡ count_of points - 1
   unfolding chosen_of
   chosen-end = let s = some in rw (ne_eqb last 0 (λ z. omega arith), eq-eqb last last refl) refl
 
-  share-end : shareAt points total count last ≡ oneF
-  unfolding shareAt
+  share-end : share_at points total count last ≡ one_f
+  unfolding share_at
   share-end = let s = some in rw (ne_eqb last 0 (λ z. omega arith), eq-eqb last last refl) refl
 
-  output-end : spreadAt points total count last ≡ pointAt points (count_of points - 1)
-  unfolding spreadAt
+  output-end : spread_at points total count last ≡ point_at points (count_of points - 1)
+  unfolding spread_at
   output-end = let s = some in rw (ne_eqb last 0 (λ z. omega arith), eq-eqb last last refl) refl
 
   -- ---- the pair of leg and share
   abbrev Forward : ℕ → ℕ → Type 0
-  Forward i j = NoStepBack (chosen_of points total count i) (shareAt points total count i) (chosen_of points total count j) (shareAt points total count j)
+  Forward i j = NoStepBack (chosen_of points total count i) (share_at points total count i) (chosen_of points total count j) (share_at points total count j)
 
   forward : (i j : ℕ) → i ≤ j → Which last i → Which last j → Forward i j
-  forward i j h (first e) (first f) = rw (e, f, chosen-first, share-first) (inr (refl, le-self zeroF (nonneg-real zeroF zero_held.nn)))
+  forward i j h (first e) (first f) = rw (e, f, chosen-first, share-first) (inr (refl, le-self zero_f (nonneg-real zero_f zero_held.nn)))
   forward i j h (first e) (end a f) = rw (e, f, chosen-first, chosen-end) (inl (let t = asked.two in omega arith))
   forward i j h (first e) (inner a b) = rw (e, chosen-first, chosen-inner j a b) (inl (pick_some j a b))
   forward i j h (end a e) (first f) = absurd (omega arith)
-  forward i j h (end a e) (end b f) = rw (e, f, share-end) (inr (refl, le-self oneF (nonneg-real oneF one-held.nn)))
+  forward i j h (end a e) (end b f) = rw (e, f, share-end) (inr (refl, le-self one_f (nonneg-real one_f one-held.nn)))
   forward i j h (end a e) (inner b c) = absurd (omega arith)
   forward i j h (inner a b) (first f) = absurd (omega arith)
   forward i j h (inner a b) (end c f) =
       rw (f, chosen-end, share-end, chosen-inner i a b, share-inner i a b)
-      (no-step-back (pick i) (count_of points - 1) (shareIn points (pick i) (target i)) oneF (pick-upto i a b) (λ e. share-high i a b))
+      (no-step-back (pick i) (count_of points - 1) (share_in points (pick i) (target i)) one_f (pick-upto i a b) (λ e. share-high i a b))
   forward i j h (inner a b) (inner c d) =
       rw (chosen-inner i a b, share-inner i a b, chosen-inner j c d, share-inner j c d)
-      (no-step-back (pick i) (pick j) (shareIn points (pick i) (target i)) (shareIn points (pick j) (target j)) (pick-mono points (target i) (target j) rises) (λ e. grows e))
+      (no-step-back (pick i) (pick j) (share_in points (pick i) (target i)) (share_in points (pick j) (target j)) (pick-mono points (target i) (target j) rises) (λ e. grows e))
     where
       rises : T (le (target i) (target j))
       rises = target-mono last some few total i j above h (omega arith)
 
-      grows : pick i ≡ pick j → T (le (shareIn points (pick i) (target i)) (shareIn points (pick j) (target j)))
+      grows : pick i ≡ pick j → T (le (share_in points (pick i) (target i)) (share_in points (pick j) (target j)))
       grows e =
-          subst (λ (k : ℕ). T (le (shareIn points (pick i) (target i)) (shareIn points k (target j)))) e
-          (unfold shareIn in
+          subst (λ (k : ℕ). T (le (share_in points (pick i) (target i)) (share_in points k (target j)))) e
+          (unfold share_in in
           (share-grows (at lengths (pick i - 1)) (at lengths (pick i)) (leg (pick i) (pick-upto i a b)) (target i) (target j) (reaches i a b) (reaches j c d) (from_start i a b)
           (subst (λ (k : ℕ). T (le (at lengths (k - 1)) (target j))) (sym e) (from_start j c d)) rises))
 
@@ -233,11 +233,11 @@ module _ (points : List Float) (total : Float) (count : ℕ) (asked : Asked poin
   not-before a b x y (inr e) = let f = e.0 in omega arith
 
   -- The points that the contract of `resample` puts stand on the line in order.
-  pub spread-in-order : InOrder points total count (spreadAt points total count) (chosen_of points total count) (shareAt points total count)
+  pub spread-in-order : InOrder points total count (spread_at points total count) (chosen_of points total count) (share_at points total count)
   spread-in-order = record {
     starts = (output-first, chosen-first);
     ends = (output-end, chosen-end);
-    rises = λ i j h l. not-before (chosen_of points total count i) (chosen_of points total count j) (shareAt points total count i) (shareAt points total count j) (pair-order i j h l);
+    rises = λ i j h l. not-before (chosen_of points total count i) (chosen_of points total count j) (share_at points total count i) (share_at points total count j) (pair-order i j h l);
     order = pair-order;
     between = on-leg;
     enclosed = encloses;

@@ -12,23 +12,23 @@ use lib.Ieee.{Float, nan, inf, fin, binary32, round, mul, of_int, of_bits, to_bi
 use lib.Ieee.Back.{round_whole}
 use lib.Ieee.Bits.{of_bits-to_bits, to_bits-lt}
 use lib.Ieee.Scale.{round_same}
-use Rattle.floats.specs.Patterns.{hidden, infinityBits}
+use Rattle.floats.specs.Patterns.{hidden, infinity_bits}
 use Rattle.root.proofs.Units.{units-of-value}
 use Rattle.trig_rule.specs.Rule.{Is}
 use Rattle.trig_rule.specs.Steps.{plain, sign_bit}
 use Rattle.trig_rule.proofs.Patterns.{bit, normal-value, subnormal-value, finite-lt}
 use Rattle.trig_rule.proofs.Angles.{signed}
 use Rattle.trig.proofs.Frame.{number-bits}
-use Rattle.rotation.specs.Rotation.{fullTurn, unitsAt, reducedOf}
+use Rattle.rotation.specs.Rotation.{full_turn, units_at, reduced_of}
 use Rattle.rotation.proofs.Turns.{rest-high, rest-low}
 use Rattle.rotation.proofs.Values.{mul-values}
-use Rattle.rotation.proofs.Laws.{sizeIn, reduced-within, beyond-is}
+use Rattle.rotation.proofs.Laws.{size_in, reduced-within, beyond-is}
 
 -- ---- 360 among the patterns
-units_under : (a : ℕ) → a ≤ 0x43b4_0000 → unitsAt a ≤ fullTurn
+units_under : (a : ℕ) → a ≤ 0x43b4_0000 → units_at a ≤ full_turn
 units_under a h = go (dec_le 135 (a / hidden))
   where
-    go : Dec (135 ≤ a / hidden) → unitsAt a ≤ fullTurn
+    go : Dec (135 ≤ a / hidden) → units_at a ≤ full_turn
     go (yes k) =
         let d : a % hidden + hidden ≤ 11796480 = omega arith in
         let e : a / hidden - 1 ≤ 134 = omega arith in
@@ -38,10 +38,10 @@ units_under a h = go (dec_le 135 (a / hidden))
         let e : a / hidden - 1 ≤ 133 = let g = lt_of_not-le f in omega arith in
         le_trans (mul-le-mul d (pow_mono e)) (lit≤ tt)
 
-units-over : (a : ℕ) → 0x43b4_0000 < a → fullTurn < unitsAt a
+units-over : (a : ℕ) → 0x43b4_0000 < a → full_turn < units_at a
 units-over a h = go (dec_le 136 (a / hidden))
   where
-    go : Dec (136 ≤ a / hidden) → fullTurn < unitsAt a
+    go : Dec (136 ≤ a / hidden) → full_turn < units_at a
     go (yes k) =
         let d : hidden ≤ a % hidden + hidden = omega arith in
         let e : 135 ≤ a / hidden - 1 = omega arith in
@@ -65,7 +65,7 @@ module _ (a : ℕ) (beyond : 0x43b4_0000 < a) (low : a / hidden < 153) where
 
   pub low-is :
       mul binary32 (of_int binary32 (pos ((a % hidden + hidden) % (45 * 2 ^ (153 - a / hidden) % 2 ^ 32)))) (of_bits binary32 ((a / hidden - 23) * hidden))
-      ≡ round binary32 false (unitsAt a % fullTurn) (2 ^ 149)
+      ≡ round binary32 false (units_at a % full_turn) (2 ^ 149)
   unfolding of_int
   low-is =
       let d = a % hidden + hidden in
@@ -86,7 +86,7 @@ module _ (a : ℕ) (beyond : 0x43b4_0000 < a) (low : a / hidden < 153) where
       ∙ ap (λ (n : ℕ). round binary32 false n (2 ^ 149)) (sym (rest-low d (e - 1) (omega arith) ∙ ap (λ (n : ℕ). d % (45 * 2 ^ n) * 2 ^ (e - 1)) down))
 
 -- from 2 ^ 26 on every size is a multiple of 8
-pub high_is : (a : ℕ) → 153 ≤ a / hidden → (r : ℕ) → r ≡ (a % hidden + hidden) * 2 ^ (a / hidden - 153) % 45 → of_int binary32 (pos (r * 8)) ≡ round binary32 false (unitsAt a % fullTurn) (2 ^ 149)
+pub high_is : (a : ℕ) → 153 ≤ a / hidden → (r : ℕ) → r ≡ (a % hidden + hidden) * 2 ^ (a / hidden - 153) % 45 → of_int binary32 (pos (r * 8)) ≡ round binary32 false (units_at a % full_turn) (2 ^ 149)
 unfolding of_int
 high_is a h r e =
     let z : a / hidden - 1 - 152 ≡ a / hidden - 153 = omega arith in
@@ -97,25 +97,25 @@ high_is a h r e =
 
 -- ---- a rotation by its bits
 module _ (x : Float) (held : T (fits binary32 x)) where
-  pub within-bits : plain x ≤ 0x43b4_0000 → reducedOf x ≡ x
+  pub within-bits : plain x ≤ 0x43b4_0000 → reduced_of x ≡ x
   within-bits h = reduced-within x (small (dec_le hidden (plain x)))
     where
-      of-units : (n : ℕ) → Is (of_bits binary32 (plain x)) false n → n ≤ fullTurn → sizeIn x ≤ fullTurn
-      of-units n v l = subst (λ (k : ℕ). k ≤ fullTurn) (sym (units-of-value binary32 x (signed x held).minus n ((signed x held).value n v))) l
+      of-units : (n : ℕ) → Is (of_bits binary32 (plain x)) false n → n ≤ full_turn → size_in x ≤ full_turn
+      of-units n v l = subst (λ (k : ℕ). k ≤ full_turn) (sym (units-of-value binary32 x (signed x held).minus n ((signed x held).value n v))) l
 
-      small : Dec (hidden ≤ plain x) → sizeIn x ≤ fullTurn
-      small (yes k) = of-units (unitsAt (plain x)) (normal-value (plain x) k (omega arith)) (units_under (plain x) h)
+      small : Dec (hidden ≤ plain x) → size_in x ≤ full_turn
+      small (yes k) = of-units (units_at (plain x)) (normal-value (plain x) k (omega arith)) (units_under (plain x) h)
       small (no f) = of-units (plain x) (subnormal-value (plain x) (lt_of_not-le f)) (le_trans (le_of_lt (lt_of_not-le f)) (lit≤ tt))
 
-pub infinite-bits : (x : Float) → T (fits binary32 x) → infinityBits ≤ plain x → reducedOf x ≡ x
-unfolding reducedOf
+pub infinite-bits : (x : Float) → T (fits binary32 x) → infinity_bits ≤ plain x → reduced_of x ≡ x
+unfolding reduced_of
 infinite-bits nan held h = refl
 infinite-bits (inf s) held h = refl
 infinite-bits (fin s m e) held h =
-    let l = finite-lt (to_bits binary32 (fin s m e)) s m e (to_bits-lt binary32 (fin s m e) held) (of_bits-to_bits binary32 (fin s m e) held) in absurd (lt_irrefl infinityBits (lt_of_le_of_lt h l))
+    let l = finite-lt (to_bits binary32 (fin s m e)) s m e (to_bits-lt binary32 (fin s m e) held) (of_bits-to_bits binary32 (fin s m e) held) in absurd (lt_irrefl infinity_bits (lt_of_le_of_lt h l))
 
-pub beyond-bits : (x : Float) (s : Bool) → T (fits binary32 x) → sign_bit x ≡ bit s → 0x43b4_0000 < plain x → plain x < infinityBits → reducedOf x ≡ round binary32 s (unitsAt (plain x) % fullTurn) (2 ^ 149)
-beyond-bits x s held sign lo hi = go x s held sign lo hi ((signed x held).value (unitsAt (plain x)) (normal-value (plain x) (omega arith) hi)) (one_bit (signed x held).minus s (sym (signed x held).bits ∙ sign))
+pub beyond-bits : (x : Float) (s : Bool) → T (fits binary32 x) → sign_bit x ≡ bit s → 0x43b4_0000 < plain x → plain x < infinity_bits → reduced_of x ≡ round binary32 s (units_at (plain x) % full_turn) (2 ^ 149)
+beyond-bits x s held sign lo hi = go x s held sign lo hi ((signed x held).value (units_at (plain x)) (normal-value (plain x) (omega arith) hi)) (one_bit (signed x held).minus s (sym (signed x held).bits ∙ sign))
   where
     one_bit : (s t : Bool) → bit s ≡ bit t → s ≡ t
     one_bit true true e = refl
@@ -129,13 +129,13 @@ beyond-bits x s held sign lo hi = go x s held sign lo hi ((signed x held).value 
         apart : ◌≡◌ {A = ℕ} 0 1 → ⊥
         apart e = omega arith
 
-    go : (x : Float) (s : Bool) (held : T (fits binary32 x)) → sign_bit x ≡ bit s → 0x43b4_0000 < plain x → plain x < infinityBits → Is x (signed x held).minus (unitsAt (plain x)) → (signed x held).minus ≡ s
-        → reducedOf x ≡ round binary32 s (unitsAt (plain x) % fullTurn) (2 ^ 149)
+    go : (x : Float) (s : Bool) (held : T (fits binary32 x)) → sign_bit x ≡ bit s → 0x43b4_0000 < plain x → plain x < infinity_bits → Is x (signed x held).minus (units_at (plain x)) → (signed x held).minus ≡ s
+        → reduced_of x ≡ round binary32 s (units_at (plain x) % full_turn) (2 ^ 149)
     go nan s held sign lo hi v e = absurd v
     go (inf t) s held sign lo hi v e = absurd v
     go (fin t m g) s held sign lo hi v e =
         let y = fin t m g in
-        let n : sizeIn y ≡ unitsAt (plain y) = units-of-value binary32 y (signed y held).minus (unitsAt (plain y)) v in
-        beyond-is t m g (subst (λ (k : ℕ). fullTurn < k) (sym n) (units-over (plain y) lo))
-        ∙ ap (λ (k : ℕ). round binary32 t (k % fullTurn) (2 ^ 149)) n
-        ∙ ap (λ (b : Bool). round binary32 b (unitsAt (plain y) % fullTurn) (2 ^ 149)) (v.0 ∙ e)
+        let n : size_in y ≡ units_at (plain y) = units-of-value binary32 y (signed y held).minus (units_at (plain y)) v in
+        beyond-is t m g (subst (λ (k : ℕ). full_turn < k) (sym n) (units-over (plain y) lo))
+        ∙ ap (λ (k : ℕ). round binary32 t (k % full_turn) (2 ^ 149)) n
+        ∙ ap (λ (b : Bool). round binary32 b (units_at (plain y) % full_turn) (2 ^ 149)) (v.0 ∙ e)

@@ -10,11 +10,11 @@ use lib.Ieee.Fits.{down_pos, and_i, div-fits}
 use lib.Ieee.Scale.{finite}
 use Rattle.floats.proofs.Signs.{SignedLe, signed→le}
 use Rattle.floats.proofs.Within.{Within, holds-scaled, round-within, mul-within}
-use Rattle.trig_rule.specs.Rule.{inReach, Is}
-use Rattle.trig_rule.specs.Steps.{sineOf, cosineOf}
+use Rattle.trig_rule.specs.Rule.{in_the_reach, Is}
+use Rattle.trig_rule.specs.Steps.{sine_of, cosine_of}
 use Rattle.trig_rule.proofs.Ruled.{sine-keeps-rule, cosine-keeps-rule}
-use Rattle.math.specs.Math.{piF, halfTurnF, degToRadOf}
-use Rattle.rotation.specs.Rotation.{reducedOf, phi_of}
+use Rattle.math.specs.Math.{pi_f, half_turn_f, deg_to_rad_of}
+use Rattle.rotation.specs.Rotation.{reduced_of, phi_of}
 use Rattle.rotation.proofs.Laws.{own-size, Within360, reduced-within360}
 
 -- ---- 360 degrees are at most 8 radians
@@ -29,12 +29,12 @@ degrees-within (fin s m e) w =
           (le_trans (le_of_eq (own-size s m e w.held).1) (le_trans (mul-le-mul_right (down e) w.size) (le_of_eq (mul_right_comm 360 (2 ^ 149) (down e))))) (pow_pos 149);
     }
 
-pi-within : Within 4 piF
-unfolding piF of_bits
+pi-within : Within 4 pi_f
+unfolding pi_f of_bits
 pi-within = record { whole = tt; bound = lit≤ tt }
 
-half-turns : (x : Float) → Within 1440 x → Within 8 (div binary32 x halfTurnF)
-unfolding div halfTurnF of_bits
+half-turns : (x : Float) → Within 1440 x → Within 8 (div binary32 x half_turn_f)
+unfolding div half_turn_f of_bits
 half-turns nan w = absurd w.whole
 half-turns (inf s) w = absurd w.whole
 half-turns (fin s m e) w =
@@ -44,12 +44,12 @@ half-turns (fin s m e) w =
     fits_in : (a d : ℕ) → a ≤ 1440 * d → a * 1 ≤ 8 * (180 * d)
     fits_in a d h = omega arith
 
-radians-within : (y : Float) → Within360 y → Within 8 (degToRadOf y)
-unfolding degToRadOf
-radians-within y w = half-turns (mul binary32 y piF) (mul-within binary32 360 4 y piF (holds-scaled binary32 6 45 5 (lit< tt) (lit≤ tt) (lit≤ tt)) (degrees-within y w) pi-within)
+radians-within : (y : Float) → Within360 y → Within 8 (deg_to_rad_of y)
+unfolding deg_to_rad_of
+radians-within y w = half-turns (mul binary32 y pi_f) (mul-within binary32 360 4 y pi_f (holds-scaled binary32 6 45 5 (lit< tt) (lit≤ tt) (lit≤ tt)) (degrees-within y w) pi-within)
 
 -- ---- so every finite rotation is in reach
-near-reach : (z : Float) → Within 8 z → T (inReach z)
+near-reach : (z : Float) → Within 8 z → T (in_the_reach z)
 unfolding le of_bits
 near-reach nan w = absurd w.whole
 near-reach (inf s) w = absurd w.whole
@@ -75,18 +75,18 @@ number_of (fin t m e) s n v = tt
 module _ (degrees : Float) (held : T (fits binary32 degrees)) (number : T (finite degrees)) where
   pub phi-within : Within 8 (phi_of degrees)
   unfolding phi_of
-  phi-within = radians-within (reducedOf degrees) (reduced-within360 degrees held number)
+  phi-within = radians-within (reduced_of degrees) (reduced-within360 degrees held number)
 
-  pub phi-in-reach : T (inReach (phi_of degrees))
+  pub phi-in-reach : T (in_the_reach (phi_of degrees))
   phi-in-reach = near-reach (phi_of degrees) phi-within
 
   -- sine and cosine of phi are no NaN
   phi-fits : T (fits binary32 (phi_of degrees))
-  unfolding phi_of degToRadOf
-  phi-fits = div-fits binary32 (mul binary32 (reducedOf degrees) piF) halfTurnF
+  unfolding phi_of deg_to_rad_of
+  phi-fits = div-fits binary32 (mul binary32 (reduced_of degrees) pi_f) half_turn_f
 
-  pub sine-number : T (not (is_nan (sineOf (phi_of degrees))))
-  sine-number = let rule = sine-keeps-rule (phi_of degrees) phi-fits phi-in-reach in number_of (sineOf (phi_of degrees)) rule.negative rule.units rule.answer
+  pub sine-number : T (not (is_nan (sine_of (phi_of degrees))))
+  sine-number = let rule = sine-keeps-rule (phi_of degrees) phi-fits phi-in-reach in number_of (sine_of (phi_of degrees)) rule.negative rule.units rule.answer
 
-  pub cosine-number : T (not (is_nan (cosineOf (phi_of degrees))))
-  cosine-number = let rule = cosine-keeps-rule (phi_of degrees) phi-fits phi-in-reach in number_of (cosineOf (phi_of degrees)) rule.negative rule.units rule.answer
+  pub cosine-number : T (not (is_nan (cosine_of (phi_of degrees))))
+  cosine-number = let rule = cosine-keeps-rule (phi_of degrees) phi-fits phi-in-reach in number_of (cosine_of (phi_of degrees)) rule.negative rule.units rule.answer

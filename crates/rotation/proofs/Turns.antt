@@ -7,7 +7,7 @@ use native.Mathlib.Omega.{arith}
 use lib.Dec.{lit<}
 use lib.Pow.{pow-add, pow_pos}
 use Rattle.root.proofs.Middles.{Few}
-use Rattle.rotation.specs.Rotation.{fullTurn}
+use Rattle.rotation.specs.Rotation.{full_turn}
 
 -- ---- a rest, in other units
 pub mod-scaled : (a b u : ℕ) → 0 < b → 0 < u → a * u % (b * u) ≡ a % b * u
@@ -49,21 +49,21 @@ eights-rest a k = mod-first a (2 ^ (k % 12)) ∙ sym (cycle a (k / 12) (k % 12))
 
 -- ---- the two powers of 2
 module _ (d z : ℕ) where
-  pub rest-high : 152 ≤ z → d * 2 ^ z % fullTurn ≡ d * 2 ^ (z - 152) % 45 * 2 ^ 152
+  pub rest-high : 152 ≤ z → d * 2 ^ z % full_turn ≡ d * 2 ^ (z - 152) % 45 * 2 ^ 152
   rest-high h =
       let e : z ≡ z - 152 + 152 = omega arith in
-      ap (λ (n : ℕ). d * 2 ^ n % fullTurn) e
-      ∙ ap (λ (n : ℕ). n % fullTurn) (ap (λ (n : ℕ). d * n) (pow-add 2 (z - 152) 152) ∙ sym (mul_assoc d (2 ^ (z - 152)) (2 ^ 152)))
+      ap (λ (n : ℕ). d * 2 ^ n % full_turn) e
+      ∙ ap (λ (n : ℕ). n % full_turn) (ap (λ (n : ℕ). d * n) (pow-add 2 (z - 152) 152) ∙ sym (mul_assoc d (2 ^ (z - 152)) (2 ^ 152)))
       ∙ mod-scaled (d * 2 ^ (z - 152)) 45 (2 ^ 152) (lit< tt) (pow_pos 152)
 
-  pub rest-low : z ≤ 152 → d * 2 ^ z % fullTurn ≡ d % (45 * 2 ^ (152 - z)) * 2 ^ z
+  pub rest-low : z ≤ 152 → d * 2 ^ z % full_turn ≡ d % (45 * 2 ^ (152 - z)) * 2 ^ z
   rest-low h =
       let e : 152 - z + z ≡ 152 = omega arith in
-      let turn : fullTurn ≡ 45 * 2 ^ (152 - z) * 2 ^ z = ap (λ (n : ℕ). 45 * 2 ^ n) (sym e) ∙ ap (λ (n : ℕ). 45 * n) (pow-add 2 (152 - z) z) ∙ sym (mul_assoc 45 (2 ^ (152 - z)) (2 ^ z)) in
+      let turn : full_turn ≡ 45 * 2 ^ (152 - z) * 2 ^ z = ap (λ (n : ℕ). 45 * 2 ^ n) (sym e) ∙ ap (λ (n : ℕ). 45 * n) (pow-add 2 (152 - z) z) ∙ sym (mul_assoc 45 (2 ^ (152 - z)) (2 ^ z)) in
       ap (λ (n : ℕ). d * 2 ^ z % n) turn ∙ mod-scaled d (45 * 2 ^ (152 - z)) (2 ^ z) (mul-pos (lit< tt) (pow_pos (152 - z))) (pow_pos z)
 
 -- ---- so the rest has no more digits than the size
-pub rest-few : {n : ℕ} → Few 24 n → Few 24 (n % fullTurn)
+pub rest-few : {n : ℕ} → Few 24 n → Few 24 (n % full_turn)
 rest-few {n} y = go (dec_le 152 y.zeros)
   where
     d : ℕ
@@ -72,18 +72,18 @@ rest-few {n} y = go (dec_le 152 y.zeros)
     z : ℕ
     z = y.zeros
 
-    go : Dec (152 ≤ z) → Few 24 (n % fullTurn)
+    go : Dec (152 ≤ z) → Few 24 (n % full_turn)
     go (yes h) =
         record {
           digits = d * 2 ^ (z - 152) % 45;
           zeros = 152;
           few = lt_of_lt_of_le (mod-lt (d * 2 ^ (z - 152)) (lit< tt)) (omega arith);
-          same = ap (λ (k : ℕ). k % fullTurn) y.same ∙ rest-high d z h;
+          same = ap (λ (k : ℕ). k % full_turn) y.same ∙ rest-high d z h;
         }
     go (no f) =
         record {
           digits = d % (45 * 2 ^ (152 - z));
           zeros = z;
           few = lt_of_le_of_lt (mod-le d (45 * 2 ^ (152 - z))) y.few;
-          same = ap (λ (k : ℕ). k % fullTurn) y.same ∙ rest-low d z (le_of_lt (lt_of_not-le f));
+          same = ap (λ (k : ℕ). k % full_turn) y.same ∙ rest-low d z (le_of_lt (lt_of_not-le f));
         }

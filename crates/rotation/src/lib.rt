@@ -2,8 +2,8 @@
 ghost use Rattle.std.specs.Prelude.{◌≡◌, false, ◌*◌, ◌^◌, ◌%◌, ◌<◌};
 ghost use Rattle.std.specs.Float.{binary32};
 ghost use Rattle.std.specs.Float.Ieee.{round};
-ghost use Rattle.floats.specs.Patterns.{infinityBits};
-ghost use Rattle.rotation.specs.Rotation.{fullTurn, unitsAt, reducedOf, phi_of};
+ghost use Rattle.floats.specs.Patterns.{infinity_bits};
+ghost use Rattle.rotation.specs.Rotation.{full_turn, units_at, reduced_of, phi_of};
 
 // m·2^k times 8 degrees without full turns, which are 45 times 8 degrees. 2^12 is 1 more than a multiple of 45, so that only the
 // rest of k counts.
@@ -16,8 +16,8 @@ fn eights(m: u32, k: u32) -> u32
 // What is left of a size beyond 360, given by its bits: its 24 digits count 2^(e - 150), and 360 is 45·2^(153 - e) of these.
 // Both factors and their product are f32 exactly.
 fn rest(a: u32) -> f32
-    requires { (0x43b4_0000 < a) × (a < infinityBits) }
-    ensures { result ≡ round binary32 false (unitsAt a % fullTurn) (2 ^ 149) }
+    requires { (0x43b4_0000 < a) × (a < infinity_bits) }
+    ensures { result ≡ round binary32 false (units_at a % full_turn) (2 ^ 149) }
 {
     let m = a % 0x80_0000 + 0x80_0000;
     let e = a / 0x80_0000;
@@ -31,7 +31,7 @@ fn rest(a: u32) -> f32
 // What is left of a rotation in full turns of 360 degrees, with its sign and without rounding. A rotation of at most 360 in size
 // stays, 360 itself too, and so do infinity and NaN.
 pub fn reduced(degrees: f32) -> f32
-    ensures { result ≡ reducedOf degrees }
+    ensures { result ≡ reduced_of degrees }
 {
     if degrees != degrees {
         return degrees;

@@ -9,7 +9,7 @@ use lib.Dec.{ltb}
 use borrow.Author.Tests.{lt-ltb, le-ltb, ltb-true, ltb-false}
 use lib.ListN.{length, get_or, get_or-eq_default}
 use Rattle.scan.specs.Bytes.{among}
-use Rattle.scan.specs.Runs.{stands, pastOne, pastAll}
+use Rattle.scan.specs.Runs.{stands, past_one, past_all}
 use Rattle.scan.proofs.ByteLaws.{clash, either_way}
 use Rattle.scan.proofs.ScanLaws.{scan-pass, scan-stop, scan-end, scan-onward, scan-within, scan-passed, scan-stopped, scan-again}
 
@@ -23,29 +23,29 @@ module _ (class text : List ℕ) (at : ℕ) where
   unfolding stands
   stands-past past = simp (le-ltb at (length text) past)
 
-  pub one-taken : at < length text → among (get_or text at 0) class ≡ true → at + 1 ≡ pastOne class text at
-  unfolding pastOne
+  pub one-taken : at < length text → among (get_or text at 0) class ≡ true → at + 1 ≡ past_one class text at
+  unfolding past_one
   one-taken inside is = sym (ap (λ t. cond t (at + 1) at) (stands-inside inside ∙ is))
 
-  pub one_left : at < length text → among (get_or text at 0) class ≡ false → at ≡ pastOne class text at
-  unfolding pastOne
+  pub one_left : at < length text → among (get_or text at 0) class ≡ false → at ≡ past_one class text at
+  unfolding past_one
   one_left inside isnt = sym (ap (λ t. cond t (at + 1) at) (stands-inside inside ∙ isnt))
 
-  pub one_end : length text ≤ at → at ≡ pastOne class text at
-  unfolding pastOne
+  pub one_end : length text ≤ at → at ≡ past_one class text at
+  unfolding past_one
   one_end past = sym (ap (λ t. cond t (at + 1) at) (stands-past past))
 
   -- a byte of the class stands at a place: the run from the next place ends where the run from here does
-  pub all_pass : at < length text → among (get_or text at 0) class ≡ true → pastAll class text (at + 1) ≡ pastAll class text at
-  unfolding pastAll
+  pub all_pass : at < length text → among (get_or text at 0) class ≡ true → past_all class text (at + 1) ≡ past_all class text at
+  unfolding past_all
   all_pass inside is = scan-pass (λ byte. among byte class) text 0 at inside is
 
-  pub all-stop : at < length text → among (get_or text at 0) class ≡ false → pastAll class text at ≡ at
-  unfolding pastAll
+  pub all-stop : at < length text → among (get_or text at 0) class ≡ false → past_all class text at ≡ at
+  unfolding past_all
   all-stop inside isnt = scan-stop (λ byte. among byte class) text 0 at inside isnt
 
-  pub all_end : length text ≤ at → pastAll class text at ≡ at
-  unfolding pastAll
+  pub all_end : length text ≤ at → past_all class text at ≡ at
+  unfolding past_all
   all_end past = scan-end (λ byte. among byte class) text at past
 
   -- the byte at a place, which is 0 past the text, tells as much: 0 is of no class
@@ -54,23 +54,23 @@ module _ (class text : List ℕ) (at : ℕ) where
       ⊎_elim (λ e. ltb-true at (length text) e) (λ e. absurd (clash is (ap (λ b. among b class) (get_or-eq_default text 0 (ltb-false at (length text) e)) ∙ none)))
       (either_way (ltb at (length text)))
 
-  pub one_byte : among 0 class ≡ false → among (get_or text at 0) class ≡ true → at + 1 ≡ pastOne class text at
+  pub one_byte : among 0 class ≡ false → among (get_or text at 0) class ≡ true → at + 1 ≡ past_one class text at
   one_byte none is = one-taken (byte_inside none is) is
 
-  pub one_none : among (get_or text at 0) class ≡ false → at ≡ pastOne class text at
+  pub one_none : among (get_or text at 0) class ≡ false → at ≡ past_one class text at
   one_none isnt =
       ⊎_elim (λ e. one_left (ltb-true at (length text) e) isnt) (λ e. one_end (ltb-false at (length text) e)) (either_way (ltb at (length text)))
 
-  pub all_none : among (get_or text at 0) class ≡ false → pastAll class text at ≡ at
+  pub all_none : among (get_or text at 0) class ≡ false → past_all class text at ≡ at
   all_none isnt =
       ⊎_elim (λ e. all-stop (ltb-true at (length text) e) isnt) (λ e. all_end (ltb-false at (length text) e)) (either_way (ltb at (length text)))
 
   -- a byte of the class stands at a place, or none does and the place is past the run
-  pub one-step : (stands text at class ≡ true → pastOne class text at ≡ at + 1) × (stands text at class ≡ false → pastOne class text at ≡ at)
-  unfolding pastOne
+  pub one-step : (stands text at class ≡ true → past_one class text at ≡ at + 1) × (stands text at class ≡ false → past_one class text at ≡ at)
+  unfolding past_one
   one-step = (ap (λ t. cond t (at + 1) at), ap (λ t. cond t (at + 1) at))
 
-  pub one-onward : at ≤ pastOne class text at
+  pub one-onward : at ≤ past_one class text at
   one-onward =
       ⊎_elim (λ h. let e = one-step.0 h in omega arith) (λ h. let e = one-step.1 h in omega arith) (either_way (stands text at class))
 
@@ -83,27 +83,27 @@ module _ (class text : List ℕ) (at : ℕ) where
   pub stands-among : stands text at class ≡ true → among (get_or text at 0) class ≡ true
   stands-among h = sym (stands-inside (stands-within h)) ∙ h
 
-  pub one-within : at ≤ length text → pastOne class text at ≤ length text
+  pub one-within : at ≤ length text → past_one class text at ≤ length text
   one-within inside =
       ⊎_elim (λ h. let e = one-step.0 h in let w = stands-within h in omega arith) (λ h. let e = one-step.1 h in omega arith)
       (either_way (stands text at class))
 
-  pub all-onward : at ≤ pastAll class text at
-  unfolding pastAll
+  pub all-onward : at ≤ past_all class text at
+  unfolding past_all
   all-onward = scan-onward (λ byte. among byte class) text at
 
-  pub all-within : at ≤ length text → pastAll class text at ≤ length text
-  unfolding pastAll
+  pub all-within : at ≤ length text → past_all class text at ≤ length text
+  unfolding past_all
   all-within inside = scan-within (λ byte. among byte class) text at inside
 
   -- every byte of a run is of the class
-  pub all-passed : (k : ℕ) → at ≤ k → k < pastAll class text at → among (get_or text k 0) class ≡ true
-  unfolding pastAll
+  pub all-passed : (k : ℕ) → at ≤ k → k < past_all class text at → among (get_or text k 0) class ≡ true
+  unfolding past_all
   all-passed k from upto = scan-passed (λ byte. among byte class) text 0 at k from upto
 
 module _ (class text : List ℕ) (at : ℕ) where
   -- at every place of a run a byte of the class stands
-  pub all-stands : (k : ℕ) → at ≤ k → k < pastAll class text at → stands text k class ≡ true
+  pub all-stands : (k : ℕ) → at ≤ k → k < past_all class text at → stands text k class ≡ true
   all-stands k from upto = ⊎_elim within (λ e. absurd (past (ltb-false at (length text) e))) (either_way (ltb at (length text)))
     where
       within : ltb at (length text) ≡ true → stands text k class ≡ true
@@ -114,18 +114,18 @@ module _ (class text : List ℕ) (at : ℕ) where
       past : length text ≤ at → ⊥
       past h = omega (arith, all_end class text at h)
 
-  all-fails : pastAll class text at < length text → among (get_or text (pastAll class text at) 0) class ≡ false
-  unfolding pastAll
+  all-fails : past_all class text at < length text → among (get_or text (past_all class text at) 0) class ≡ false
+  unfolding past_all
   all-fails inside = scan-stopped (λ byte. among byte class) text 0 at inside
 
   -- where a run ends no byte of the class stands
-  pub all-stopped : stands text (pastAll class text at) class ≡ false
-  all-stopped = ⊎_elim inside (λ e. stands-past class text _ (ltb-false _ (length text) e)) (either_way (ltb (pastAll class text at) (length text)))
+  pub all-stopped : stands text (past_all class text at) class ≡ false
+  all-stopped = ⊎_elim inside (λ e. stands-past class text _ (ltb-false _ (length text) e)) (either_way (ltb (past_all class text at) (length text)))
     where
-      inside : ltb (pastAll class text at) (length text) ≡ true → stands text (pastAll class text at) class ≡ false
+      inside : ltb (past_all class text at) (length text) ≡ true → stands text (past_all class text at) class ≡ false
       inside e = let h = ltb-true _ (length text) e in stands-inside class text _ h ∙ all-fails h
 
   -- and a second run does not move
-  pub all-again : pastAll class text (pastAll class text at) ≡ pastAll class text at
-  unfolding pastAll
+  pub all-again : past_all class text (past_all class text at) ≡ past_all class text at
+  unfolding past_all
   all-again = scan-again (λ byte. among byte class) text 0 at

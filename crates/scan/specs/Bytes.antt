@@ -19,15 +19,15 @@ abbrev pub points : List ℕ
 points = 46 ∷ []
 
 -- E and e
-abbrev pub exponentMarks : List ℕ
-exponentMarks = 69 ∷ 101 ∷ []
+abbrev pub exponent_marks : List ℕ
+exponent_marks = 69 ∷ 101 ∷ []
 
 abbrev pub commas : List ℕ
 commas = 44 ∷ []
 
 -- "white space is without FF": space, tab, CR, LF, in the order of the grammar's wsp
-abbrev pub whiteSpace : List ℕ
-whiteSpace = 32 ∷ 9 ∷ 13 ∷ 10 ∷ []
+abbrev pub white_space : List ℕ
+white_space = 32 ∷ 9 ∷ 13 ∷ 10 ∷ []
 
 -- "Separators: comma, space, tab, LF, FF, CR"
 abbrev pub separators : List ℕ
@@ -38,5 +38,5 @@ abbrev pub flags : List ℕ
 flags = 48 ∷ 49 ∷ []
 
 -- "a number must start (digit, + - .)"
-abbrev pub numberStarts : List ℕ
-numberStarts = 43 ∷ 45 ∷ 46 ∷ 48 ∷ 49 ∷ 50 ∷ 51 ∷ 52 ∷ 53 ∷ 54 ∷ 55 ∷ 56 ∷ 57 ∷ []
+abbrev pub number_starts : List ℕ
+number_starts = 43 ∷ 45 ∷ 46 ∷ 48 ∷ 49 ∷ 50 ∷ 51 ∷ 52 ∷ 53 ∷ 54 ∷ 55 ∷ 56 ∷ 57 ∷ []

@@ -3,34 +3,34 @@
 -- longest text."
 use Rattle.std.specs.Prelude.{ℕ, ◌+◌, ◌≤◌, ◌<◌, ◌≡◌, Bool, true, ◌&&◌, cond, ◌⊎◌, List, ltb, eqb, length, get_or}
 use Rattle.scan.specs.Bytes.{among, digits}
-use Rattle.scan.specs.Runs.{pastDigitsOf, pastSignOf, pastPointOf, pastMarkOf}
+use Rattle.scan.specs.Runs.{past_digits_of, past_sign_of, past_point_of, past_mark_of}
 use Rattle.scan.specs.declared.numbers.Places.{Places}
 use Rattle.scan.specs.declared.numbers.Number.{Number}
 use Rattle.scan.specs.declared.numbers.Number.TheVariants.{Scanned, NoDigit, NoExponentDigit}
 
 -- of the number that starts at a place: where its digits start, past the sign
 unfoldable pub whole_of : List ℕ → ℕ → ℕ
-whole_of text at = pastSignOf text at
+whole_of text at = past_sign_of text at
 
 -- where the point stands, or would stand: past the digits
 unfoldable pub point_of : List ℕ → ℕ → ℕ
-point_of text at = pastDigitsOf text (whole_of text at)
+point_of text at = past_digits_of text (whole_of text at)
 
 -- where the digits after the point start
-unfoldable pub fractionOf : List ℕ → ℕ → ℕ
-fractionOf text at = pastPointOf text (point_of text at)
+unfoldable pub fraction_of : List ℕ → ℕ → ℕ
+fraction_of text at = past_point_of text (point_of text at)
 
 -- where the e stands, or would stand: past the digits after the point. Without a point no digit stands there, and the place is the same.
 unfoldable pub mark_of : List ℕ → ℕ → ℕ
-mark_of text at = pastDigitsOf text (fractionOf text at)
+mark_of text at = past_digits_of text (fraction_of text at)
 
 -- where the exponent's digits start: past the e and its sign
-unfoldable pub exponentOf : List ℕ → ℕ → ℕ
-exponentOf text at = pastMarkOf text (mark_of text at)
+unfoldable pub exponent_of : List ℕ → ℕ → ℕ
+exponent_of text at = past_mark_of text (mark_of text at)
 
 -- where the number ends. Without an e no digit stands there, and the place is the same.
 unfoldable pub end_of : List ℕ → ℕ → ℕ
-end_of text at = pastDigitsOf text (exponentOf text at)
+end_of text at = past_digits_of text (exponent_of text at)
 
 -- its places together
 unfoldable pub places_of : List ℕ → ℕ → Places
@@ -39,24 +39,24 @@ places_of text at =
       start = at;
       whole = whole_of text at;
       point = point_of text at;
-      fraction = fractionOf text at;
+      fraction = fraction_of text at;
       mark = mark_of text at;
-      exponent = exponentOf text at;
+      exponent = exponent_of text at;
       end = end_of text at;
     }
 
 -- no digit before the point and none after it: "at least one digit in all (else 3 at its start)"
-unfoldable pub noDigit : List ℕ → ℕ → Bool
-noDigit text at = eqb (whole_of text at) (point_of text at) && eqb (fractionOf text at) (mark_of text at)
+unfoldable pub no_digit : List ℕ → ℕ → Bool
+no_digit text at = eqb (whole_of text at) (point_of text at) && eqb (fraction_of text at) (mark_of text at)
 
 -- an e and no digit after it: "exponent without digit (offset of the e)"
-unfoldable pub noExponentDigit : List ℕ → ℕ → Bool
-noExponentDigit text at = ltb (mark_of text at) (exponentOf text at) && eqb (exponentOf text at) (end_of text at)
+unfoldable pub no_exponent_digit : List ℕ → ℕ → Bool
+no_exponent_digit text at = ltb (mark_of text at) (exponent_of text at) && eqb (exponent_of text at) (end_of text at)
 
 -- the number that starts at a place, or why there is none and where
-unfoldable pub scanNumberOf : List ℕ → ℕ → Number
-scanNumberOf text at =
-    cond (noDigit text at) (NoDigit at) (cond (noExponentDigit text at) (NoExponentDigit (mark_of text at)) (Scanned (places_of text at)))
+unfoldable pub scan_number_of : List ℕ → ℕ → Number
+scan_number_of text at =
+    cond (no_digit text at) (NoDigit at) (cond (no_exponent_digit text at) (NoExponentDigit (mark_of text at)) (Scanned (places_of text at)))
 
 -- what a converter may rely on: the places lie in the text in their order, with digits where digits are due, "at least one digit in all", and
 -- an exponent with a digit or none

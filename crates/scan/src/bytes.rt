@@ -1,6 +1,6 @@
 // The classes of bytes that path data is made of.
 ghost use Rattle.std.specs.Prelude.{◌≡◌};
-ghost use Rattle.scan.specs.Bytes.{among, digits, signs, exponentMarks, whiteSpace, separators, flags, numberStarts};
+ghost use Rattle.scan.specs.Bytes.{among, digits, signs, exponent_marks, white_space, separators, flags, number_starts};
 
 pub fn is_digit(byte: u8) -> bool
     ensures { result ≡ among byte digits }
@@ -16,14 +16,14 @@ pub fn is_sign(byte: u8) -> bool
 
 // The e of an exponent, in either case.
 pub fn is_exponent_mark(byte: u8) -> bool
-    ensures { result ≡ among byte exponentMarks }
+    ensures { result ≡ among byte exponent_marks }
 {
     (byte == b'e') | (byte == b'E')
 }
 
 // White space of strict reading, which a form feed is not.
 pub fn is_white(byte: u8) -> bool
-    ensures { result ≡ among byte whiteSpace }
+    ensures { result ≡ among byte white_space }
 {
     (byte == b' ') | (byte == b'\t') | (byte == b'\r') | (byte == b'\n')
 }
@@ -48,7 +48,7 @@ pub fn is_flag(byte: u8) -> bool
 
 // Whether a number can start with the byte.
 pub fn starts_number(byte: u8) -> bool
-    ensures { result ≡ among byte numberStarts }
+    ensures { result ≡ among byte number_starts }
 {
     ((48 <= byte) & (byte <= 57)) | (byte == b'+') | (byte == b'-') | (byte == b'.')
 }

@@ -1,7 +1,7 @@
 // A number of path data, found by its places; what it is worth is another crate's matter.
 ghost use Rattle.std.specs.Prelude.{◌≡◌};
-ghost use Rattle.scan.specs.Runs.{pastMarkOf};
-ghost use Rattle.scan.specs.Numbers.{scanNumberOf};
+ghost use Rattle.scan.specs.Runs.{past_mark_of};
+ghost use Rattle.scan.specs.Numbers.{scan_number_of};
 
 use crate::bytes::is_exponent_mark;
 use crate::runs::{past_digits, past_point, past_sign};
@@ -36,7 +36,7 @@ pub enum Number {
 
 // Past the e of an exponent and its sign, if an e stands there.
 fn past_mark(text: &[u8], at: usize) -> usize
-    ensures { result ≡ pastMarkOf text.now at }
+    ensures { result ≡ past_mark_of text.now at }
 {
     if at < text.len() {
         if is_exponent_mark(text[at]) {
@@ -48,7 +48,7 @@ fn past_mark(text: &[u8], at: usize) -> usize
 
 // The number that starts at a place. Separators are not passed here.
 pub fn scan_number(text: &[u8], at: usize) -> Number
-    ensures { result ≡ scanNumberOf text.now at }
+    ensures { result ≡ scan_number_of text.now at }
 {
     let whole = past_sign(text, at);
     let point = past_digits(text, whole);

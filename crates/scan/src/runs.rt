@@ -1,18 +1,18 @@
 // The place past what stands at a place: a run of bytes of one class, or one optional byte.
 ghost use Rattle.std.specs.Prelude.{◌≡◌};
-ghost use Rattle.scan.specs.Runs.{byteAtOf, pastDigitsOf, pastWhiteOf, pastSeparatorsOf, pastSignOf, pastPointOf, pastCommaOf};
+ghost use Rattle.scan.specs.Runs.{byte_at_of, past_digits_of, past_white_of, past_separators_of, past_sign_of, past_point_of, past_comma_of};
 
 use crate::bytes::{is_digit, is_separator, is_sign, is_white};
 
 // The byte at a place, and 0 past the text.
 pub fn byte_at(text: &[u8], at: usize) -> u8
-    ensures { result ≡ byteAtOf text.now at }
+    ensures { result ≡ byte_at_of text.now at }
 {
     if at < text.len() { text[at] } else { 0 }
 }
 
 pub fn past_digits(text: &[u8], at: usize) -> usize
-    ensures { result ≡ pastDigitsOf text.now at }
+    ensures { result ≡ past_digits_of text.now at }
 {
     let mut i = at;
     while i < text.len() {
@@ -26,7 +26,7 @@ pub fn past_digits(text: &[u8], at: usize) -> usize
 }
 
 pub fn past_white(text: &[u8], at: usize) -> usize
-    ensures { result ≡ pastWhiteOf text.now at }
+    ensures { result ≡ past_white_of text.now at }
 {
     let mut i = at;
     while i < text.len() {
@@ -40,7 +40,7 @@ pub fn past_white(text: &[u8], at: usize) -> usize
 }
 
 pub fn past_separators(text: &[u8], at: usize) -> usize
-    ensures { result ≡ pastSeparatorsOf text.now at }
+    ensures { result ≡ past_separators_of text.now at }
 {
     let mut i = at;
     while i < text.len() {
@@ -54,7 +54,7 @@ pub fn past_separators(text: &[u8], at: usize) -> usize
 }
 
 pub fn past_sign(text: &[u8], at: usize) -> usize
-    ensures { result ≡ pastSignOf text.now at }
+    ensures { result ≡ past_sign_of text.now at }
 {
     if at < text.len() {
         if is_sign(text[at]) {
@@ -65,7 +65,7 @@ pub fn past_sign(text: &[u8], at: usize) -> usize
 }
 
 pub fn past_point(text: &[u8], at: usize) -> usize
-    ensures { result ≡ pastPointOf text.now at }
+    ensures { result ≡ past_point_of text.now at }
 {
     if at < text.len() {
         if text[at] == b'.' {
@@ -76,7 +76,7 @@ pub fn past_point(text: &[u8], at: usize) -> usize
 }
 
 pub fn past_comma(text: &[u8], at: usize) -> usize
-    ensures { result ≡ pastCommaOf text.now at }
+    ensures { result ≡ past_comma_of text.now at }
 {
     if at < text.len() {
         if text[at] == b',' {

@@ -16,9 +16,9 @@ use Rattle.season_plan.specs.Rows.{marked}
 use Rattle.season_plan.specs.Plans.{Outcome, refused}
 use Rattle.season_sheet.specs.Sheet.{lines_of}
 use Rattle.season_sheet.specs.declared.measures.Lengths.{Lengths}
-use Rattle.season_feed.specs.Seasons.{outcomesOf, sheetFor, sheetOf, mostPlans}
-use Rattle.season_feed.specs.Telling.{roomed, linesBy, LinesGiven, toldOf, Told}
-use Rattle.season_feed.specs.Standing.{Standing, Open, Stands, endsWhole, endCounts, SheetTold}
+use Rattle.season_feed.specs.Seasons.{outcomes_of, sheet_for, sheet_of, most_plans}
+use Rattle.season_feed.specs.Telling.{roomed, lines_by, LinesGiven, told_of, Told}
+use Rattle.season_feed.specs.Standing.{Standing, Open, Stands, ends_whole, end_counts, SheetTold}
 use Rattle.season_feed.specs.declared.sheets.Sheeted.{Sheeted}
 use Rattle.season_feed.specs.declared.sheets.Sheeted.TheVariants.{Written, Refused}
 use Rattle.season_feed.specs.declared.feeding.Season.{Season}
@@ -55,21 +55,21 @@ module _ (lines before : List ℕ) {most size : ℕ} {little less : List ℕ} (c
 
 module _ (input : List ℕ) {before after : List ℕ} {r : Sheeted} where
   -- not too many plans: the lines of the outcomes are the sheet
-  told-lines : {lines : List ℕ} (outcomes : List Outcome) → outcomesOf input ≡ outcomes → length outcomes ≤ mostPlans → lines ≡ sheetFor outcomes → LinesGiven lines before r after → Told input before r after
-  unfolding toldOf sheetOf
+  told-lines : {lines : List ℕ} (outcomes : List Outcome) → outcomes_of input ≡ outcomes → length outcomes ≤ most_plans → lines ≡ sheet_for outcomes → LinesGiven lines before r after → Told input before r after
+  unfolding told_of sheet_of
   told-lines {lines} outcomes e few f p =
-      let few-plans : ltb mostPlans (length (outcomesOf input)) ≡ false = le-ltb mostPlans (length (outcomesOf input)) (omega (arith, few, ap length e)) in
-      let own : LinesGiven (sheetFor (outcomesOf input)) before r after = subst (λ (l : List ℕ). LinesGiven l before r after) (f ∙ ap sheetFor (sym e)) p in
+      let few-plans : ltb most_plans (length (outcomes_of input)) ≡ false = le-ltb most_plans (length (outcomes_of input)) (omega (arith, few, ap length e)) in
+      let own : LinesGiven (sheet_for (outcomes_of input)) before r after = subst (λ (l : List ℕ). LinesGiven l before r after) (f ∙ ap sheet_for (sym e)) p in
       record { answer = rw few-plans own.answer; bytes = rw few-plans own.bytes }
 
-told-many : (input before : List ℕ) → mostPlans < length (outcomesOf input) → Told input before (Refused (Range mostPlans)) before
-unfolding toldOf
-told-many input before h = record { answer = rw (lt-ltb mostPlans (length (outcomesOf input)) h) refl; bytes = rw (lt-ltb mostPlans (length (outcomesOf input)) h) refl }
+told-many : (input before : List ℕ) → most_plans < length (outcomes_of input) → Told input before (Refused (Range most_plans)) before
+unfolding told_of
+told-many input before h = record { answer = rw (lt-ltb most_plans (length (outcomes_of input)) h) refl; bytes = rw (lt-ltb most_plans (length (outcomes_of input)) h) refl }
 
 -- ---- the three ends
 
 module _ {season : Season} {text counts before after : List ℕ} {r : Sheeted} where
-  pub sheet-whole : true ≡ endsWhole season.phase → LinesGiven (lines_of counts season.lengths) before r after → SheetTold season text counts before r counts after
+  pub sheet-whole : true ≡ ends_whole season.phase → LinesGiven (lines_of counts season.lengths) before r after → SheetTold season text counts before r counts after
   sheet-whole e p =
       record {
         all = λ bytes s o.
@@ -78,22 +78,22 @@ module _ {season : Season} {text counts before after : List ℕ} {r : Sheeted} w
       }
 
   pub sheet-cut :
-      {counts' : List ℕ} → false ≡ endsWhole season.phase → (season.plans ≡ mostPlans → ⊥) → counts' ≡ marked (13 ∷ []) counts
+      {counts' : List ℕ} → false ≡ ends_whole season.phase → (season.plans ≡ most_plans → ⊥) → counts' ≡ marked (13 ∷ []) counts
       → LinesGiven (lines_of counts' season.lengths) before r after → SheetTold season text counts before r counts' after
   sheet-cut e h f p =
       record {
         all = λ bytes s o.
-            let few : length s.done < mostPlans = omega (arith, s.tally.plans-are, s.tally.most, h) in
+            let few : length s.done < most_plans = omega (arith, s.tally.plans-are, s.tally.most, h) in
             told-lines bytes (s.done ++ (refused 13 ∷ [])) (ends-cut bytes s.done season.phase text (sym e) o s.standing few)
             (omega (arith, few, length-append s.done (refused 13 ∷ []))) (ended-sheet s.tally f) p;
-        counted = rw (sym e, ne_eqb season.plans mostPlans h) f;
+        counted = rw (sym e, ne_eqb season.plans most_plans h) f;
       }
 
-pub sheet-many : {season : Season} {text counts before : List ℕ} → false ≡ endsWhole season.phase → season.plans ≡ mostPlans → SheetTold season text counts before (Refused (Range mostPlans)) counts before
+pub sheet-many : {season : Season} {text counts before : List ℕ} → false ≡ ends_whole season.phase → season.plans ≡ most_plans → SheetTold season text counts before (Refused (Range most_plans)) counts before
 sheet-many {season} {text} {counts} {before} e h =
     record {
       all = λ bytes s o. told-many bytes before (ends-many bytes s.done season.phase text (sym e) o s.standing (omega (arith, s.tally.plans-are, h)));
-      counted = rw (sym e, eq-eqb season.plans mostPlans h) refl;
+      counted = rw (sym e, eq-eqb season.plans most_plans h) refl;
     }
 
 -- ---- any two allowed results are equal: two sheets of the same bytes are the same bytes

@@ -8,7 +8,7 @@ use native.Mathlib.Omega.{arith}
 use borrow.Author.Tests.{ltb-true, ltb-false}
 use lib.Dec.{ltb}
 use lib.ListN.{length, get_or}
-use Rattle.season_sheet.specs.Lengths.{noneOf, moreOf, measured, Among, sum_of, Extremes}
+use Rattle.season_sheet.specs.Lengths.{none_of, more_of, measured, Among, sum_of, Extremes}
 use Rattle.season_sheet.specs.declared.measures.Lengths.{Lengths}
 
 -- the lesser of two is no more than either and one of them
@@ -54,7 +54,7 @@ record Since (xs : List ℕ) (m r : Lengths) : Type 0 where
   sum : r.sum ≡ m.sum + sum_of xs
 
 since : (xs : List ℕ) (m : Lengths) → Since xs m (measured xs m)
-unfolding measured moreOf sum_of
+unfolding measured more_of sum_of
 since [] m =
     record {
       low = omega arith;
@@ -65,9 +65,9 @@ since [] m =
       long-one = inl refl;
       sum = omega arith;
     }
-since (x ∷ xs) m = go (since xs (moreOf m x)) (lesser x m.shortest) (greater m.longest x)
+since (x ∷ xs) m = go (since xs (more_of m x)) (lesser x m.shortest) (greater m.longest x)
   where
-    go : Since xs (moreOf m x) (measured xs (moreOf m x)) → Lesser x m.shortest (moreOf m x).shortest → Greater m.longest x (moreOf m x).longest → Since (x ∷ xs) m (measured xs (moreOf m x))
+    go : Since xs (more_of m x) (measured xs (more_of m x)) → Lesser x m.shortest (more_of m x).shortest → Greater m.longest x (more_of m x).longest → Since (x ∷ xs) m (measured xs (more_of m x))
     go s l g =
         record {
           low = omega (arith, s.low, l.second);
@@ -79,26 +79,26 @@ since (x ∷ xs) m = go (since xs (moreOf m x)) (lesser x m.shortest) (greater m
           sum = s.sum ∙ (let e : m.sum + x + sum_of xs ≡ m.sum + (x + sum_of xs) = omega arith in e);
         }
       where
-        least : (i : ℕ) → i < length (x ∷ xs) → (measured xs (moreOf m x)).shortest ≤ get_or (x ∷ xs) i 0
+        least : (i : ℕ) → i < length (x ∷ xs) → (measured xs (more_of m x)).shortest ≤ get_or (x ∷ xs) i 0
         least zero h = omega (arith, s.low, l.first)
         least (suc i) h = s.least i (omega arith)
 
-        most : (i : ℕ) → i < length (x ∷ xs) → get_or (x ∷ xs) i 0 ≤ (measured xs (moreOf m x)).longest
+        most : (i : ℕ) → i < length (x ∷ xs) → get_or (x ∷ xs) i 0 ≤ (measured xs (more_of m x)).longest
         most zero h = omega (arith, s.high, g.second)
         most (suc i) h = s.most i (omega arith)
 
 -- of one length or more, none above 1,000,000,000
 pub measured-extremes :
-    (x : ℕ) (xs : List ℕ) → ((i : ℕ) → i < length (x ∷ xs) → get_or (x ∷ xs) i 0 ≤ 1000000000) → Extremes (x ∷ xs) (measured (x ∷ xs) noneOf)
+    (x : ℕ) (xs : List ℕ) → ((i : ℕ) → i < length (x ∷ xs) → get_or (x ∷ xs) i 0 ≤ 1000000000) → Extremes (x ∷ xs) (measured (x ∷ xs) none_of)
 measured-extremes x xs few =
-    let s = since (x ∷ xs) noneOf in
+    let s = since (x ∷ xs) none_of in
     let first : x ≤ 1000000000 = few 0 (omega arith) in
-    let low : (measured (x ∷ xs) noneOf).shortest ≤ x = s.least 0 (omega arith) in
-    let high : x ≤ (measured (x ∷ xs) noneOf).longest = s.most 0 (omega arith) in
+    let low : (measured (x ∷ xs) none_of).shortest ≤ x = s.least 0 (omega arith) in
+    let high : x ≤ (measured (x ∷ xs) none_of).longest = s.most 0 (omega arith) in
     record {
-      shortest-met = ⊎_elim (λ e. here x xs (let f : (measured (x ∷ xs) noneOf).shortest ≡ 1000000000 = e in omega (arith, f, low, first))) (λ a. a) s.short-one;
+      shortest-met = ⊎_elim (λ e. here x xs (let f : (measured (x ∷ xs) none_of).shortest ≡ 1000000000 = e in omega (arith, f, low, first))) (λ a. a) s.short-one;
       shortest-least = s.least;
-      longest-met = ⊎_elim (λ e. here x xs (let f : (measured (x ∷ xs) noneOf).longest ≡ 0 = e in omega (arith, f, high))) (λ a. a) s.long-one;
+      longest-met = ⊎_elim (λ e. here x xs (let f : (measured (x ∷ xs) none_of).longest ≡ 0 = e in omega (arith, f, high))) (λ a. a) s.long-one;
       longest-most = s.most;
       sum-whole = s.sum ∙ (let e : 0 + sum_of (x ∷ xs) ≡ sum_of (x ∷ xs) = omega arith in e);
     }

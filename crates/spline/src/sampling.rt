@@ -1,7 +1,7 @@
 // Samples along points that the caller has judged: two numbers each, at most 4,096.
 ghost use Rattle.std.specs.Prelude.{◌≡◌, ◌+◌, ◌-◌, ◌<◌, ◌≤◌};
 ghost use Rattle.polyline.specs.Points.{count_of};
-ghost use Rattle.spline.specs.Formula.{scaledOf, index_of, beforeSpan, afterSpan, alongOf, curveOf, splineSampleOf, splineDirectionOf, InSpans};
+ghost use Rattle.spline.specs.Formula.{scaled_of, index_of, before_span, after_span, along_of, curve_of, spline_sample_of, spline_direction_of, InSpans};
 
 use crate::formula::span;
 use math::{Point, clamp01, lerp_point, normalize, sub};
@@ -21,7 +21,7 @@ fn span_index(segments: usize, scaled: f32) -> usize
 // The point before a span; before the first span it is the first point.
 pub fn before_span(points: &[f32], index: usize) -> Point
     requires { index < count_of points.now }
-    ensures { result ≡ beforeSpan points.now index }
+    ensures { result ≡ before_span points.now index }
 {
     if index == 0 {
         return point_at(points, 0);
@@ -32,7 +32,7 @@ pub fn before_span(points: &[f32], index: usize) -> Point
 // The point after a span; after the last span it is the last point.
 pub fn after_span(points: &[f32], index: usize) -> Point
     requires { index + 1 < count_of points.now }
-    ensures { result ≡ afterSpan points.now index }
+    ensures { result ≡ after_span points.now index }
 {
     let count = points.len() / 2;
     if index + 2 < count {
@@ -44,7 +44,7 @@ pub fn after_span(points: &[f32], index: usize) -> Point
 // The point of the span number `index` at what is left of `scaled`.
 fn along(points: &[f32], scaled: f32, index: usize) -> Point
     requires { (index + 1 < count_of points.now) × (count_of points.now ≤ 4096) }
-    ensures { result ≡ alongOf points.now scaled index }
+    ensures { result ≡ along_of points.now scaled index }
 {
     let t = scaled - index as f32;
     let p0 = before_span(points, index);
@@ -57,7 +57,7 @@ fn along(points: &[f32], scaled: f32, index: usize) -> Point
 // The point at a raw parameter along three points or more.
 fn curve(points: &[f32], raw: RawParameter) -> Point
     requires { (3 ≤ count_of points.now) × (count_of points.now ≤ 4096) }
-    ensures { result ≡ curveOf points.now (count_of points.now - 1) (scaledOf (count_of points.now - 1) raw.value) }
+    ensures { result ≡ curve_of points.now (count_of points.now - 1) (scaled_of (count_of points.now - 1) raw.value) }
 {
     let segments = points.len() / 2 - 1;
     let scaled = clamp01(number_of(raw)) * segments as f32;
@@ -68,7 +68,7 @@ fn curve(points: &[f32], raw: RawParameter) -> Point
 // The point at a raw parameter, by the number of points.
 pub fn sample(points: &[f32], raw: RawParameter) -> Point
     requires { count_of points.now ≤ 4096 }
-    ensures { result ≡ splineSampleOf points.now raw.value }
+    ensures { result ≡ spline_sample_of points.now raw.value }
 {
     let count = points.len() / 2;
     if count == 0 {
@@ -89,7 +89,7 @@ pub fn sample(points: &[f32], raw: RawParameter) -> Point
 // The direction at a raw parameter, with the length 1: of the only leg, or between two samples a thousandth to each side.
 pub fn direction(points: &[f32], raw: RawParameter) -> Point
     requires { count_of points.now ≤ 4096 }
-    ensures { result ≡ splineDirectionOf points.now raw.value }
+    ensures { result ≡ spline_direction_of points.now raw.value }
 {
     let count = points.len() / 2;
     if count < 2 {

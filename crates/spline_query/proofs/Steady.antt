@@ -17,43 +17,43 @@ use Rattle.table_order.proofs.Swept.{steady}
 use Rattle.flight.specs.declared.Flown.{Flown}
 use Rattle.flight.specs.declared.Flown.TheVariants as Flown
 use Rattle.polyline.specs.Points.{count_of}
-use Rattle.polyline.specs.Judging.{isOdd}
-use Rattle.spline_table.specs.Tables.{lastEntryOf, mostPoints, entries, splineTableOf}
+use Rattle.polyline.specs.Judging.{is_odd}
+use Rattle.spline_table.specs.Tables.{last_entry_of, most_points, entries, spline_table_of}
 use Rattle.spline_table.proofs.Made.{accepted-when, entries-count, made_table}
-use Rattle.spline_query.specs.Queries.{splineTotal, splineIsSound, splineRaw, splineFlightOf, splineFlownOf}
+use Rattle.spline_query.specs.Queries.{spline_total, spline_is_sound, spline_raw, spline_flight_of, spline_flown_of}
 use Rattle.spline_query.specs.Ordered.{InOrder}
 use Rattle.spline_query.proofs.Checking.{sound-spline, sound-table}
 
 -- ---- a stored spline: what is lent as f32 values, and passes the check
-module _ (points table : List Float) (sound : T (splineIsSound points table)) (values : (k : ℕ) → T (fits binary32 (at table k))) where
-  pub spline-steady : Steady (last_of table) table (splineTotal table) (splineRaw table)
+module _ (points table : List Float) (sound : T (spline_is_sound points table)) (values : (k : ℕ) → T (fits binary32 (at table k))) where
+  pub spline-steady : Steady (last_of table) table (spline_total table) (spline_raw table)
   spline-steady = steady (record { table = sound-table (sound-spline points table sound); values = values; total-value = values _ })
 
   -- every call is answered, at the raw parameter of the lookup
-  spline-flown : (p : Float) → splineFlownOf points table p ≡ Flown.At (splineFlightOf points table p)
-  unfolding splineFlownOf
-  spline-flown p = cond_yes (splineIsSound points table) (Flown.At (splineFlightOf points table p)) _ sound
+  spline-flown : (p : Float) → spline_flown_of points table p ≡ Flown.At (spline_flight_of points table p)
+  unfolding spline_flown_of
+  spline-flown p = cond_yes (spline_is_sound points table) (Flown.At (spline_flight_of points table p)) _ sound
 
   pub spline-in-order : InOrder points table
-  unfolding splineFlightOf
+  unfolding spline_flight_of
   spline-in-order =
       let c = (sound-spline points table sound).counted in
-      let last : last_of table ≡ lastEntryOf (count_of points) = omega arith in
-      record { raw = splineRaw table; answered = spline-flown; steady = subst (λ (n : ℕ). Steady n table (splineTotal table) (splineRaw table)) last spline-steady }
+      let last : last_of table ≡ last_entry_of (count_of points) = omega arith in
+      record { raw = spline_raw table; answered = spline-flown; steady = subst (λ (n : ℕ). Steady n table (spline_total table) (spline_raw table)) last spline-steady }
 
 -- ---- a made spline: what `spline_table` stored passes the check, and is steady
-module _ (points : List Float) (room : ℕ) (stored : List Float) (made : splineTableOf points room ≡ entries stored) where
-  pub made-steady : Steady (last_of stored) stored (splineTotal stored) (splineRaw stored)
+module _ (points : List Float) (room : ℕ) (stored : List Float) (made : spline_table_of points room ≡ entries stored) where
+  pub made-steady : Steady (last_of stored) stored (spline_total stored) (spline_raw stored)
   made-steady = steady (made_table points room stored made)
 
-  pub made-sound : T (splineIsSound points stored)
-  unfolding splineIsSound
+  pub made-sound : T (spline_is_sound points stored)
+  unfolding spline_is_sound
   made-sound =
       let a = accepted-when points stored room made in
-      let even : not (isOdd points) ≡ true = ap not a.even in
-      let size : length stored ≡ lastEntryOf (count_of points) + 1 = ap length a.whole ∙ entries-count points in
-      let few : leb (count_of points) mostPoints ≡ true = le-leb (count_of points) mostPoints a.few in
-      let whole : eqb (length stored) (lastEntryOf (count_of points) + 1) ≡ true = eq-eqb (length stored) (lastEntryOf (count_of points) + 1) size in
+      let even : not (is_odd points) ≡ true = ap not a.even in
+      let size : length stored ≡ last_entry_of (count_of points) + 1 = ap length a.whole ∙ entries-count points in
+      let few : leb (count_of points) most_points ≡ true = le-leb (count_of points) most_points a.few in
+      let whole : eqb (length stored) (last_entry_of (count_of points) + 1) ≡ true = eq-eqb (length stored) (last_entry_of (count_of points) + 1) size in
       rw (even, few, whole) (made_table points room stored made).table.sound
 
   -- so every call on a table that was made is answered in order

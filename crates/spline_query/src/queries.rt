@@ -1,7 +1,7 @@
 // The entries: each judges the spline that it is given and refuses what is not sound.
 ghost use Rattle.std.specs.Prelude.{◌≡◌};
 ghost use Rattle.spline_query.specs.Ordered.{SplineOrdered};
-ghost use Rattle.spline_query.specs.Queries.{splineFlownOf, splineTurnedOf, splineMeasuredOf};
+ghost use Rattle.spline_query.specs.Queries.{spline_flown_of, spline_turned_of, spline_measured_of};
 
 use crate::inner;
 use crate::soundness::spline_is_sound;
@@ -22,7 +22,7 @@ pub enum Measured {
 // below two points the raw parameter is the clamped progress, the position the point itself or (0, 0), the tangent (0, 0). An
 // unsound spline is refused.
 pub fn spline_flight(points: &[f32], table: &[f32], progress: Progress) -> Flown
-    ensures value { result ≡ splineFlownOf points.now table.now progress.value }
+    ensures value { result ≡ spline_flown_of points.now table.now progress.value }
     ensures spline_ordered { SplineOrdered result points.now table.now }
 {
     if spline_is_sound(points, table) {
@@ -34,7 +34,7 @@ pub fn spline_flight(points: &[f32], table: &[f32], progress: Progress) -> Flown
 // Where a spline heads at a progress, in degrees from the x axis towards the y axis, or 0 where nothing tells. An unsound spline
 // is refused.
 pub fn spline_rotation_deg(points: &[f32], table: &[f32], progress: Progress) -> Turned
-    ensures { result ≡ splineTurnedOf points.now table.now progress.value }
+    ensures { result ≡ spline_turned_of points.now table.now progress.value }
 {
     if spline_is_sound(points, table) {
         let there = inner::flight(points, table, progress);
@@ -45,7 +45,7 @@ pub fn spline_rotation_deg(points: &[f32], table: &[f32], progress: Progress) ->
 
 // How long a spline is: its last entry. An unsound spline is refused.
 pub fn spline_length(points: &[f32], table: &[f32]) -> Measured
-    ensures { result ≡ splineMeasuredOf points.now table.now }
+    ensures { result ≡ spline_measured_of points.now table.now }
 {
     if spline_is_sound(points, table) {
         return Measured::Length(tidy(inner::total(points, table)));

@@ -12,7 +12,7 @@ use lib.Ieee.{Float, nan, binary32, sub, mul, of_int}
 use Rattle.lengths.proofs.Lists.{Passing, passing-more}
 use Rattle.math.specs.declared.points.Point.{Point}
 use Rattle.table.specs.Lookup.{at}
-use Rattle.table_samples.specs.Samples.{sampleAt}
+use Rattle.table_samples.specs.Samples.{sample_at}
 use Rattle.spline_table.specs.Rows.{Scaled, Laid, Apart, Differences}
 
 -- ---- the first is set when the others are done
@@ -46,28 +46,28 @@ module _ {f : Float → Float} {marks : List Float} {next : Float} {r : List Flo
 
 -- ---- the samples of a formula from sample k on, one coordinate of them
 abbrev pub Drawn : (Point → Float) → (Float → Point) → ℕ → ℕ → List Float → Type 0
-Drawn coordinate formula n k samples = (i : ℕ) → i ≤ 16 → at samples i ≡ coordinate (sampleAt formula n (k + i))
+Drawn coordinate formula n k samples = (i : ℕ) → i ≤ 16 → at samples i ≡ coordinate (sample_at formula n (k + i))
 
 module _ (coordinate : Point → Float) (formula : Float → Point) (n k : ℕ) where
   pub drawn : {f : Float → Float} {marks : List Float} {first next : Float} {r : List Float} → Laid f marks first next r
-      → first ≡ coordinate (sampleAt formula n k) → next ≡ coordinate (sampleAt formula n (k + 16))
-      → ((i : ℕ) → 0 < i → i < 16 → f (at marks i) ≡ coordinate (sampleAt formula n (k + i))) → Drawn coordinate formula n k r
-  drawn l starts ends each zero h = l.starts ∙ starts ∙ ap (λ (m : ℕ). coordinate (sampleAt formula n m)) (sym (add-zero k))
+      → first ≡ coordinate (sample_at formula n k) → next ≡ coordinate (sample_at formula n (k + 16))
+      → ((i : ℕ) → 0 < i → i < 16 → f (at marks i) ≡ coordinate (sample_at formula n (k + i))) → Drawn coordinate formula n k r
+  drawn l starts ends each zero h = l.starts ∙ starts ∙ ap (λ (m : ℕ). coordinate (sample_at formula n m)) (sym (add-zero k))
   drawn {f} {marks} {first} {next} {r} l starts ends each (suc i) h = by (eq-or-lt_of_le h)
     where
-      by : (suc i ≡ 16) ⊎ (suc i < 16) → at r (suc i) ≡ coordinate (sampleAt formula n (k + suc i))
-      by (inl e) = ap (at r) e ∙ l.ends ∙ ends ∙ ap (λ (m : ℕ). coordinate (sampleAt formula n (k + m))) (sym e)
+      by : (suc i ≡ 16) ⊎ (suc i < 16) → at r (suc i) ≡ coordinate (sample_at formula n (k + suc i))
+      by (inl e) = ap (at r) e ∙ l.ends ∙ ends ∙ ap (λ (m : ℕ). coordinate (sample_at formula n (k + m))) (sym e)
       by (inr g) = l.between (suc i) (omega arith) g ∙ each (suc i) (omega arith) g
 
   pub drawn-apart : (samples r : List Float) → Drawn coordinate formula n k samples → Apart samples r → (i : ℕ) → i < 16
-      → at r i ≡ sub binary32 (coordinate (sampleAt formula n (suc (k + i)))) (coordinate (sampleAt formula n (k + i)))
+      → at r i ≡ sub binary32 (coordinate (sample_at formula n (suc (k + i)))) (coordinate (sample_at formula n (k + i)))
   drawn-apart samples r d a i h =
-      a i h ∙ ap (λ (z : Float). sub binary32 z (at samples i)) (d (i + 1) (omega arith) ∙ ap (λ (m : ℕ). coordinate (sampleAt formula n m)) (let e : k + (i + 1) ≡ suc (k + i) = omega arith in e))
-      ∙ ap (sub binary32 (coordinate (sampleAt formula n (suc (k + i))))) (d i (omega arith))
+      a i h ∙ ap (λ (z : Float). sub binary32 z (at samples i)) (d (i + 1) (omega arith) ∙ ap (λ (m : ℕ). coordinate (sample_at formula n m)) (let e : k + (i + 1) ≡ suc (k + i) = omega arith in e))
+      ∙ ap (sub binary32 (coordinate (sample_at formula n (suc (k + i))))) (d i (omega arith))
 
 -- both coordinates
 pub drawn-row : (formula : Float → Point) (n k : ℕ) (across along x y : List Float) (next : Point)
-    → Drawn (λ (p : Point). p.x) formula n k across → Drawn (λ (p : Point). p.y) formula n k along → Apart across x → Apart along y → next ≡ sampleAt formula n (k + 16)
+    → Drawn (λ (p : Point). p.x) formula n k across → Drawn (λ (p : Point). p.y) formula n k along → Apart across x → Apart along y → next ≡ sample_at formula n (k + 16)
     → Differences formula n k (record { x = x; y = y; next = next })
 drawn-row formula n k across along x y next dx dy ax ay e = record {
   across = drawn-apart (λ (p : Point). p.x) formula n k across x dx ax;

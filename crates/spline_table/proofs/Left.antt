@@ -12,7 +12,7 @@ use lib.IntN.{pos}
 use lib.Ieee.{Float, nan, inf, fin, binary32, sub, le, of_int, to_unsigned, up, down}
 use lib.Ieee.Fits.{down_pos}
 use lib.Ieee.Positive.{num, den, den_pos}
-use Rattle.floats.specs.Floats.{zeroF}
+use Rattle.floats.specs.Floats.{zero_f}
 use Rattle.floats.specs.Kinds.{nonneg}
 use Rattle.floats.proofs.Tests.{decide}
 use Rattle.floats.proofs.Fractions.{le→cross, cross→le}
@@ -67,7 +67,7 @@ module _ (segments : ℕ) (x : Float) (i : InSpans segments x) where
   some-value = whole-value binary32 segments (le_trans i.few (lit≤ tt))
 
   pub scaled-nonneg : T (nonneg x)
-  scaled-nonneg = nonneg-between zeroF x count zero_held.nn some-value.0 i.from i.upto
+  scaled-nonneg = nonneg-between zero_f x count zero_held.nn some-value.0 i.from i.upto
 
   at_most : num x ≤ segments * den x
   at_most =

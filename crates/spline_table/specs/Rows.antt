@@ -2,12 +2,12 @@
 use Rattle.std.specs.Prelude.{ℕ, suc, ◌+◌, ◌≤◌, ◌<◌, ◌≡◌, List, length, get_or, take, pos, Float}
 use Rattle.std.specs.Float.{nan, binary32}
 use Rattle.std.specs.Float.Ieee.{sub, mul, of_int}
-use Rattle.floats.specs.Floats.{clamp01Of}
+use Rattle.floats.specs.Floats.{clamp01_of}
 use Rattle.answers.specs.Report.{written}
 use Rattle.math.specs.declared.points.Point.{Point}
 use Rattle.table.specs.Lookup.{at, mark_of}
-use Rattle.table_samples.specs.Samples.{sampleAt, lengthsOf}
-use Rattle.spline.specs.Formula.{splineSampleOf, blend_of}
+use Rattle.table_samples.specs.Samples.{sample_at, lengths_of}
+use Rattle.spline.specs.Formula.{spline_sample_of, blend_of}
 use Rattle.spline_table.specs.declared.rows.Walk.{Walk}
 use Rattle.spline_table.specs.declared.rows.Row.{Row}
 use Rattle.spline_table.specs.Tables.{Sampled}
@@ -19,27 +19,27 @@ walk_of previous total = record { previous = previous; total = total }
 -- the sample k of n, and the running length at it
 pub record Walking (formula : Float → Point) (n : ℕ) (walk : Walk) (k : ℕ) : Type 0 where
   pub upto : k ≤ n
-  pub here : walk.previous ≡ sampleAt formula n k
-  pub sum : walk.total ≡ at (lengthsOf formula n) k
+  pub here : walk.previous ≡ sample_at formula n k
+  pub sum : walk.total ≡ at (lengths_of formula n) k
 
 -- a whole row lies ahead of the sample k, which is `first`
 pub record Ahead (points : List Float) (last : ℕ) (first : Point) (k : ℕ) : Type 0 where
   pub sampled : Sampled points last
   pub whole : k + 16 ≤ last
-  pub here : first ≡ sampleAt (splineSampleOf points) last k
+  pub here : first ≡ sample_at (spline_sample_of points) last k
 
 -- the same of a walk, with room for the entries
 pub record Roomed (points : List Float) (last : ℕ) (walk : Walk) (k : ℕ) (table : List Float) : Type 0 where
   pub sampled : Sampled points last
   pub whole : k + 16 ≤ last
-  pub walking : Walking (splineSampleOf points) last walk k
+  pub walking : Walking (spline_sample_of points) last walk k
   pub room : last < length table
 
 -- the differences from sample k to the next, and so on for 16 samples, and the sample after them
 pub record Differences (formula : Float → Point) (n k : ℕ) (row : Row) : Type 0 where
-  pub across : (i : ℕ) → i < 16 → get_or row.x i nan ≡ sub binary32 (sampleAt formula n (suc (k + i))).x (sampleAt formula n (k + i)).x
-  pub along : (i : ℕ) → i < 16 → get_or row.y i nan ≡ sub binary32 (sampleAt formula n (suc (k + i))).y (sampleAt formula n (k + i)).y
-  pub next : row.next ≡ sampleAt formula n (k + 16)
+  pub across : (i : ℕ) → i < 16 → get_or row.x i nan ≡ sub binary32 (sample_at formula n (suc (k + i))).x (sample_at formula n (k + i)).x
+  pub along : (i : ℕ) → i < 16 → get_or row.y i nan ≡ sub binary32 (sample_at formula n (suc (k + i))).y (sample_at formula n (k + i)).y
+  pub next : row.next ≡ sample_at formula n (k + 16)
 
 -- the entries before k stand at the start of the table, and past them what stood there before
 abbrev pub Entered : List Float → List Float → ℕ → List Float → Type 0
@@ -52,8 +52,8 @@ Grown lengths j k table after = (before : List Float) → Entered lengths before
 -- ---- one coordinate of a row
 
 -- the mark at which the sample i of n is taken
-abbrev pub clampedMarkOf : ℕ → ℕ → Float
-clampedMarkOf n i = clamp01Of (mark_of n i)
+abbrev pub clamped_mark_of : ℕ → ℕ → Float
+clamped_mark_of n i = clamp01_of (mark_of n i)
 
 -- the same along this many spans; nothing is said of the row's first sample, which is taken already
 pub record Scaled (marks : List Float) (segments : ℕ) (r : List Float) : Type 0 where
@@ -61,8 +61,8 @@ pub record Scaled (marks : List Float) (segments : ℕ) (r : List Float) : Type 
   pub each : (i : ℕ) → 0 < i → i < 16 → at r i ≡ mul binary32 (at marks i) (of_int binary32 (pos segments))
 
 -- between four numbers, at what is left of `scaled` past `low`
-abbrev pub blendAt : Float → Float → Float → Float → Float → Float → Float
-blendAt p0 p1 p2 p3 low scaled =
+abbrev pub blend_at : Float → Float → Float → Float → Float → Float → Float
+blend_at p0 p1 p2 p3 low scaled =
     let t = sub binary32 scaled low in
     blend_of p0 p1 p2 p3 t (mul binary32 t t) (mul binary32 (mul binary32 t t) t)
 

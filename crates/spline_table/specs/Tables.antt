@@ -6,29 +6,29 @@ use Rattle.answers.specs.Report.{written}
 use Rattle.answers.specs.declared.refusals.Values.TheVariants.{One}
 use Rattle.answers.specs.declared.refusals.Refusal.{Refusal}
 use Rattle.answers.specs.declared.refusals.Refusal.TheVariants.{BadList, Range, NotFinite, NoRoom}
-use Rattle.table_samples.specs.Samples.{lengthsOf}
+use Rattle.table_samples.specs.Samples.{lengths_of}
 use Rattle.polyline.specs.Points.{count_of}
-use Rattle.polyline.specs.Lengths.{firstNotFinite}
-use Rattle.polyline.specs.Judging.{isOdd}
-use Rattle.spline.specs.Formula.{splineSampleOf}
+use Rattle.polyline.specs.Lengths.{first_not_finite}
+use Rattle.polyline.specs.Judging.{is_odd}
+use Rattle.spline.specs.Formula.{spline_sample_of}
 use Rattle.spline_table.specs.declared.tables.Tabled.{Tabled}
 use Rattle.spline_table.specs.declared.tables.Tabled.TheVariants.{Stored, Refused}
 
 -- ---- the entries
 
 -- "Spline table: 16 entries per span plus one, a single 0 below two points.": the number of the last entry, by how many points there are
-abbrev pub lastEntryOf : ℕ → ℕ
-lastEntryOf points = 16 * (points - 1)
+abbrev pub last_entry_of : ℕ → ℕ
+last_entry_of points = 16 * (points - 1)
 
 -- the running lengths of the samples, the sample i at i/n where n is the number of the last entry
-unfoldable pub splineLengthsOf : List Float → List Float
-splineLengthsOf points = lengthsOf (splineSampleOf points) (lastEntryOf (count_of points))
+unfoldable pub spline_lengths_of : List Float → List Float
+spline_lengths_of points = lengths_of (spline_sample_of points) (last_entry_of (count_of points))
 
 -- ---- what is refused
 
 -- "points above 4,096"
-abbrev pub mostPoints : ℕ
-mostPoints = 4096
+abbrev pub most_points : ℕ
+most_points = 4096
 
 -- what making a table comes to
 pub data Outcome : Type 0 where
@@ -37,7 +37,7 @@ pub data Outcome : Type 0 where
 
 -- 11, with the "first such .. spline entry"
 abbrev pub measured : List Float → Outcome
-measured lengths = cond (ltb (firstNotFinite lengths) (length lengths)) (refusal (NotFinite (firstNotFinite lengths))) (entries lengths)
+measured lengths = cond (ltb (first_not_finite lengths) (length lengths)) (refusal (NotFinite (first_not_finite lengths))) (entries lengths)
 
 -- 8: "all else is right and a lent output is too short", with "the count needed of each output"
 abbrev pub roomed : ℕ → Outcome → Outcome
@@ -45,16 +45,16 @@ roomed room (entries lengths) = cond (ltb room (length lengths)) (refusal (NoRoo
 roomed room (refusal reason) = refusal reason
 
 -- "For points: 9, 13 .., 11, 8"; 9 carries "half the count rounded down", 13 "the number"
-unfoldable pub splineTableOf : List Float → ℕ → Outcome
-splineTableOf points room =
-    cond (isOdd points) (refusal (BadList (count_of points)))
-    (cond (ltb mostPoints (count_of points)) (refusal (Range (count_of points)))
-    (roomed room (measured (splineLengthsOf points))))
+unfoldable pub spline_table_of : List Float → ℕ → Outcome
+spline_table_of points room =
+    cond (is_odd points) (refusal (BadList (count_of points)))
+    (cond (ltb most_points (count_of points)) (refusal (Range (count_of points)))
+    (roomed room (measured (spline_lengths_of points))))
 
 -- ---- what the two passes ask: points that were judged, and the number of their last entry; the second one, room for the entries
 pub record Sampled (points : List Float) (last : ℕ) : Type 0 where
-  pub few : count_of points ≤ mostPoints
-  pub counted : last ≡ lastEntryOf (count_of points)
+  pub few : count_of points ≤ most_points
+  pub counted : last ≡ last_entry_of (count_of points)
 
 pub record Roomy (points : List Float) (last : ℕ) (table : List Float) : Type 0 where
   pub sampled : Sampled points last
@@ -78,5 +78,5 @@ places_of (entries lengths) = lengths
 places_of (refusal reason) = []
 
 pub record SplineTable (points before : List Float) (r : Tabled) (after : List Float) : Type 0 where
-  pub answer : answer_of r ≡ answered (splineTableOf points (length before))
-  pub places : after ≡ written (places_of (splineTableOf points (length before))) before
+  pub answer : answer_of r ≡ answered (spline_table_of points (length before))
+  pub places : after ≡ written (places_of (spline_table_of points (length before))) before

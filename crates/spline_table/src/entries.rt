@@ -2,11 +2,11 @@
 // stores. Points near the origin have no such length, so that their samples are taken once.
 ghost use Rattle.std.specs.Prelude.{◌≡◌, ◌≤◌};
 ghost use Rattle.answers.specs.Report.{written};
-ghost use Rattle.table_samples.specs.Samples.{lengthsOf};
-ghost use Rattle.polyline.specs.Lengths.{firstNotFinite};
-ghost use Rattle.spline.specs.Formula.{splineSampleOf};
-ghost use Rattle.spline_table.specs.Tables.{lastEntryOf, mostPoints, Sampled, Roomy};
-ghost use Rattle.spline_table.specs.Near.{allNear};
+ghost use Rattle.table_samples.specs.Samples.{lengths_of};
+ghost use Rattle.polyline.specs.Lengths.{first_not_finite};
+ghost use Rattle.spline.specs.Formula.{spline_sample_of};
+ghost use Rattle.spline_table.specs.Tables.{last_entry_of, most_points, Sampled, Roomy};
+ghost use Rattle.spline_table.specs.Near.{all_near};
 
 use crate::rows::{Walk, fill_row};
 use floats::is_finite;
@@ -17,8 +17,8 @@ use table::inner::mark;
 
 // The number of the last entry: 16 entries for each span, one span fewer than points.
 pub fn last_entry(count: usize) -> usize
-    requires { count ≤ mostPoints }
-    ensures { result ≡ lastEntryOf count }
+    requires { count ≤ most_points }
+    ensures { result ≡ last_entry_of count }
 {
     if count == 0 {
         return 0;
@@ -28,7 +28,7 @@ pub fn last_entry(count: usize) -> usize
 
 // Whether every number is at most 2^40 in size. A NaN is not.
 fn all_near(numbers: &[f32]) -> bool
-    ensures { result ≡ allNear numbers.now }
+    ensures { result ≡ all_near numbers.now }
 {
     let mut near = true;
     let mut i = 0usize;
@@ -43,7 +43,7 @@ fn all_near(numbers: &[f32]) -> bool
 // need no sample for that.
 pub fn first_not_finite(points: &[f32], last: usize) -> usize
     requires { Sampled points.now last }
-    ensures { result ≡ firstNotFinite (lengthsOf (splineSampleOf points.now) last) }
+    ensures { result ≡ first_not_finite (lengths_of (spline_sample_of points.now) last) }
 {
     if all_near(points) {
         return last + 1;
@@ -54,7 +54,7 @@ pub fn first_not_finite(points: &[f32], last: usize) -> usize
 // The same by the samples.
 fn first_measured(points: &[f32], last: usize) -> usize
     requires { Sampled points.now last }
-    ensures { result ≡ firstNotFinite (lengthsOf (splineSampleOf points.now) last) }
+    ensures { result ≡ first_not_finite (lengths_of (spline_sample_of points.now) last) }
 {
     let mut previous = sample(points, mark(0, last));
     let mut total = 0.0f32;
@@ -75,7 +75,7 @@ fn first_measured(points: &[f32], last: usize) -> usize
 // Stores the running lengths of the samples from the start of `table`: a row of 16 for each span, and the last.
 pub fn fill(points: &[f32], last: usize, table: &mut [f32])
     requires { Roomy points.now last table.old }
-    ensures { table.new ≡ written (lengthsOf (splineSampleOf points.now) last) table.old }
+    ensures { table.new ≡ written (lengths_of (spline_sample_of points.now) last) table.old }
 {
     let mut walk = Walk {
         previous: sample(points, mark(0, last)),

@@ -1,10 +1,10 @@
 // One coordinate of a row of 16 samples. No step of a loop waits for another and none branches, so that the compiler works out four at
 // once.
 ghost use Rattle.std.specs.Prelude.{◌≡◌, ℕ, ◌+◌, ◌^◌, ◌≤◌, ◌<◌, pos};
-ghost use Rattle.math.specs.Math.{lerpOf};
+ghost use Rattle.math.specs.Math.{lerp_of};
 ghost use Rattle.table.specs.Lookup.{at};
-ghost use Rattle.spline_table.specs.Near.{every, isBetween};
-ghost use Rattle.spline_table.specs.Rows.{clampedMarkOf, Scaled, blendAt, Laid, Apart};
+ghost use Rattle.spline_table.specs.Near.{every, is_between};
+ghost use Rattle.spline_table.specs.Rows.{clamped_mark_of, Scaled, blend_at, Laid, Apart};
 
 use floats::clamp01;
 use math::lerp;
@@ -14,7 +14,7 @@ use spline::inner::blend;
 fn clamped_mark(i: usize, n: usize) -> f32
     requires i_bound { i < 2 ^ 16 }
     requires n_bound { n < 2 ^ 16 }
-    ensures { result ≡ clampedMarkOf n i }
+    ensures { result ≡ clamped_mark_of n i }
 {
     clamp01((i as u16) as f32 / (n as u16) as f32)
 }
@@ -23,7 +23,7 @@ fn clamped_mark(i: usize, n: usize) -> f32
 pub(crate) fn clamped_marks(last: usize, k: usize) -> [f32; 16]
     requires k_bound { k + 16 ≤ last }
     requires last_bound { last < 2 ^ 16 }
-    ensures { (i : ℕ) → i < 16 → at result i ≡ clampedMarkOf last (k + i) }
+    ensures { (i : ℕ) → i < 16 → at result i ≡ clamped_mark_of last (k + i) }
 {
     let mut r = [0.0f32; 16];
     let mut i = 0usize;
@@ -52,7 +52,7 @@ pub(crate) fn scaled(own: &[f32; 16], segments: usize, low: f32) -> [f32; 16]
 
 // Whether every number is from `low` up to below `high`.
 pub(crate) fn all_between(numbers: &[f32], low: f32, high: f32) -> bool
-    ensures { result ≡ every (isBetween low high) numbers.now }
+    ensures { result ≡ every (is_between low high) numbers.now }
 {
     let mut all = true;
     let mut i = 0usize;
@@ -66,7 +66,7 @@ pub(crate) fn all_between(numbers: &[f32], low: f32, high: f32) -> bool
 
 // The samples from a to b.
 pub(crate) fn leg_samples(a: f32, b: f32, first: f32, next: f32, own: &[f32; 16]) -> [f32; 17]
-    ensures { Laid (lerpOf a b) own.now first next result }
+    ensures { Laid (lerp_of a b) own.now first next result }
 {
     let mut r = [next; 17];
     let mut i = 0usize;
@@ -89,7 +89,7 @@ pub(crate) fn span_samples(
     next: f32,
     own: &[f32; 16],
 ) -> [f32; 17]
-    ensures { Laid (blendAt p0 p1 p2 p3 low) own.now first next result }
+    ensures { Laid (blend_at p0 p1 p2 p3 low) own.now first next result }
 {
     let mut r = [next; 17];
     let mut i = 0usize;

@@ -1,8 +1,8 @@
 // A row of 16 entries, one span. Its samples are taken and its steps measured together, so that the compiler works out several at once.
 ghost use Rattle.std.specs.Prelude.{◌≡◌, ◌+◌, ◌≤◌};
 ghost use Rattle.polyline.specs.Points.{count_of};
-ghost use Rattle.table_samples.specs.Samples.{lengthsOf};
-ghost use Rattle.spline.specs.Formula.{splineSampleOf};
+ghost use Rattle.table_samples.specs.Samples.{lengths_of};
+ghost use Rattle.spline.specs.Formula.{spline_sample_of};
 ghost use Rattle.spline_table.specs.Rows.{Walking, Ahead, Roomed, Differences, Grown};
 
 use crate::lanes::{all_between, clamped_marks, differences_of, leg_samples, scaled, span_samples};
@@ -31,7 +31,7 @@ struct Row {
 // The row from sample k on, which is `first`, each sample found anew.
 fn one_by_one(points: &[f32], last: usize, k: usize, first: Point) -> Row
     requires { Ahead points.now last first k }
-    ensures { Differences (splineSampleOf points.now) last k result }
+    ensures { Differences (spline_sample_of points.now) last k result }
 {
     let mut x = [1.0f32; 32];
     let mut y = [1.0f32; 32];
@@ -55,7 +55,7 @@ fn one_by_one(points: &[f32], last: usize, k: usize, first: Point) -> Row
 fn leg_row(points: &[f32], last: usize, k: usize, first: Point) -> Row
     requires ahead { Ahead points.now last first k }
     requires points_value { count_of points.now ≡ 2 }
-    ensures { Differences (splineSampleOf points.now) last k result }
+    ensures { Differences (spline_sample_of points.now) last k result }
 {
     let next = sample(points, mark(k + 16, last));
     let own = clamped_marks(last, k);
@@ -73,7 +73,7 @@ fn leg_row(points: &[f32], last: usize, k: usize, first: Point) -> Row
 fn span_row(points: &[f32], last: usize, k: usize, first: Point) -> Row
     requires ahead { Ahead points.now last first k }
     requires bound { 3 ≤ count_of points.now }
-    ensures { Differences (splineSampleOf points.now) last k result }
+    ensures { Differences (spline_sample_of points.now) last k result }
 {
     let index = k / 16;
     let low = (index as u16) as f32;
@@ -98,7 +98,7 @@ fn span_row(points: &[f32], last: usize, k: usize, first: Point) -> Row
 // The row from sample k on, by the number of points.
 fn differences(points: &[f32], last: usize, k: usize, first: Point) -> Row
     requires { Ahead points.now last first k }
-    ensures { Differences (splineSampleOf points.now) last k result }
+    ensures { Differences (spline_sample_of points.now) last k result }
 {
     if points.len() / 2 == 2 {
         return leg_row(points, last, k, first);
@@ -109,8 +109,8 @@ fn differences(points: &[f32], last: usize, k: usize, first: Point) -> Row
 // Stores the entries number k to k + 15 and goes on to the sample k + 16.
 pub(crate) fn fill_row(points: &[f32], last: usize, k: usize, walk: Walk, table: &mut [f32]) -> Walk
     requires { Roomed points.now last walk k table.old }
-    ensures walked { Walking (splineSampleOf points.now) last result (k + 16) }
-    ensures stored { Grown (lengthsOf (splineSampleOf points.now) last) k (k + 16) table.old table.new }
+    ensures walked { Walking (spline_sample_of points.now) last result (k + 16) }
+    ensures stored { Grown (lengths_of (spline_sample_of points.now) last) k (k + 16) table.old table.new }
 {
     let first = walk.previous;
     let row = differences(points, last, k, first);

@@ -5,96 +5,96 @@ use Rattle.answers.specs.declared.refusals.Refusal.{Refusal}
 use Rattle.answers.specs.declared.refusals.Refusal.TheVariants.{TooLong, UnexpectedEnd, ExpectedNumber, InvalidNumber, ExpectedFlag}
 use Rattle.answers.specs.declared.refusals.Refusal.TheVariants.{UnsupportedCommand, MissingMoveTo, NoRoom, BadList, RotationRange, NotFinite, BadPath, Range}
 use Rattle.math.specs.declared.points.Point.{Point}
-use Rattle.commands.specs.Stored.{letterOf, argumentsOf}
+use Rattle.commands.specs.Stored.{letter_of, arguments_of}
 use Rattle.commands.specs.declared.command.PathCommand.{PathCommand}
-use Rattle.station_lines.specs.Numbers.{bitsField, numberField, decimalOf}
+use Rattle.station_lines.specs.Numbers.{bits_field, number_field, decimal_of}
 use Rattle.flight.specs.declared.Found.{Found}
 use Rattle.flight.specs.declared.Found.TheVariants.{Segment, Nothing}
 
 -- numbers as bits, each after a space
-unfoldable pub bitsFields : List Float → List ℕ
-unfolding bitsField
-bitsFields [] = []
-bitsFields (value ∷ values) = bitsField value ++ bitsFields values
+unfoldable pub bits_fields : List Float → List ℕ
+unfolding bits_field
+bits_fields [] = []
+bits_fields (value ∷ values) = bits_field value ++ bits_fields values
 
 abbrev pub feed : List ℕ
 feed = 10 ∷ []
 
 -- "Command: letter, numbers as bits", and the offset of the letter that made it (document 02, L5), in bytes of the path's text
-unfoldable pub argumentFields : PathCommand → List ℕ
-unfolding bitsFields
-argumentFields command = bitsFields (argumentsOf command)
+unfoldable pub argument_fields : PathCommand → List ℕ
+unfolding bits_fields
+argument_fields command = bits_fields (arguments_of command)
 
-unfoldable pub commandLine : PathCommand → ℕ → List ℕ
-unfolding argumentFields numberField
-commandLine command offset = letterOf command ∷ argumentFields command ++ (numberField offset ++ feed)
+unfoldable pub command_line : PathCommand → ℕ → List ℕ
+unfolding argument_fields number_field
+command_line command offset = letter_of command ∷ argument_fields command ++ (number_field offset ++ feed)
 
-unfoldable pub pointFields : Point → List ℕ
-unfolding bitsFields
-pointFields point = bitsFields (point.x ∷ point.y ∷ [])
+unfoldable pub point_fields : Point → List ℕ
+unfolding bits_fields
+point_fields point = bits_fields (point.x ∷ point.y ∷ [])
 
 -- "Segment: line, quad, cubic, arc or fallback, and running length", and the number of its command (document 02, L5), from 0
 abbrev pub names : List (List ℕ)
 names = (108 ∷ 105 ∷ 110 ∷ 101 ∷ []) ∷ (113 ∷ 117 ∷ 97 ∷ 100 ∷ []) ∷ (99 ∷ 117 ∷ 98 ∷ 105 ∷ 99 ∷ []) ∷ (97 ∷ 114 ∷ 99 ∷ []) ∷ []
 
-abbrev pub lastName : List ℕ
-lastName = 102 ∷ 97 ∷ 108 ∷ 108 ∷ 98 ∷ 97 ∷ 99 ∷ 107 ∷ []
+abbrev pub last_name : List ℕ
+last_name = 102 ∷ 97 ∷ 108 ∷ 108 ∷ 98 ∷ 97 ∷ 99 ∷ 107 ∷ []
 
-unfoldable pub kindName : ℕ → List ℕ
-kindName kind = get_or names kind lastName
+unfoldable pub kind_name : ℕ → List ℕ
+kind_name kind = get_or names kind last_name
 
-unfoldable pub segmentLine : ℕ → Float → ℕ → List ℕ
-unfolding kindName bitsField numberField
-segmentLine kind running command = kindName kind ++ (bitsField running ++ (numberField command ++ feed))
+unfoldable pub segment_line : ℕ → Float → ℕ → List ℕ
+unfolding kind_name bits_field number_field
+segment_line kind running command = kind_name kind ++ (bits_field running ++ (number_field command ++ feed))
 
 -- "Output, each section after its count": a word, a space, a count
-unfoldable pub headerLine : List ℕ → ℕ → List ℕ
-unfolding numberField
-headerLine word count = word ++ (numberField count ++ feed)
+unfoldable pub header_line : List ℕ → ℕ → List ℕ
+unfolding number_field
+header_line word count = word ++ (number_field count ++ feed)
 
 -- a number alone
-unfoldable pub amountLine : ℕ → List ℕ
-unfolding decimalOf
-amountLine value = decimalOf value ++ feed
+unfoldable pub amount_line : ℕ → List ℕ
+unfolding decimal_of
+amount_line value = decimal_of value ++ feed
 
 -- "segment number (a minus sign if none)"
-unfoldable pub segmentField : Found → List ℕ
-unfolding decimalOf
-segmentField (Segment number) = 32 ∷ decimalOf number
-segmentField Nothing = 32 ∷ 45 ∷ []
+unfoldable pub segment_field : Found → List ℕ
+unfolding decimal_of
+segment_field (Segment number) = 32 ∷ decimal_of number
+segment_field Nothing = 32 ∷ 45 ∷ []
 
 -- "Station k: k, segment number (a minus sign if none), x, y, tangent"
-unfoldable pub stationLine : ℕ → Found → Point → Point → List ℕ
-unfolding decimalOf segmentField pointFields
-stationLine k found position tangent = decimalOf k ++ (segmentField found ++ (pointFields position ++ (pointFields tangent ++ feed)))
+unfoldable pub station_line : ℕ → Found → Point → Point → List ℕ
+unfolding decimal_of segment_field point_fields
+station_line k found position tangent = decimal_of k ++ (segment_field found ++ (point_fields position ++ (point_fields tangent ++ feed)))
 
 -- values to the base 10, each after a space
-unfoldable pub valueFields : List ℕ → List ℕ
-unfolding numberField
-valueFields [] = []
-valueFields (value ∷ values) = numberField value ++ valueFields values
+unfoldable pub value_fields : List ℕ → List ℕ
+unfolding number_field
+value_fields [] = []
+value_fields (value ∷ values) = number_field value ++ value_fields values
 
 -- "what it carries": numbers, and a letter as itself
-unfoldable pub carriedFields : Refusal → List ℕ
-unfolding valueFields
-carriedFields (TooLong size) = valueFields (listed (carried_of (TooLong size)))
-carriedFields (UnexpectedEnd at) = valueFields (listed (carried_of (UnexpectedEnd at)))
-carriedFields (ExpectedNumber at) = valueFields (listed (carried_of (ExpectedNumber at)))
-carriedFields (InvalidNumber at) = valueFields (listed (carried_of (InvalidNumber at)))
-carriedFields (ExpectedFlag at) = valueFields (listed (carried_of (ExpectedFlag at)))
-carriedFields (UnsupportedCommand letter at) = 32 ∷ letter ∷ numberField at
-carriedFields (MissingMoveTo at) = valueFields (listed (carried_of (MissingMoveTo at)))
-carriedFields (NoRoom needs) = valueFields (listed (carried_of (NoRoom needs)))
-carriedFields (BadList command) = valueFields (listed (carried_of (BadList command)))
-carriedFields (RotationRange segment) = valueFields (listed (carried_of (RotationRange segment)))
-carriedFields (NotFinite number) = valueFields (listed (carried_of (NotFinite number)))
-carriedFields BadPath = valueFields (listed (carried_of BadPath))
-carriedFields (Range found) = valueFields (listed (carried_of (Range found)))
+unfoldable pub carried_fields : Refusal → List ℕ
+unfolding value_fields
+carried_fields (TooLong size) = value_fields (listed (carried_of (TooLong size)))
+carried_fields (UnexpectedEnd at) = value_fields (listed (carried_of (UnexpectedEnd at)))
+carried_fields (ExpectedNumber at) = value_fields (listed (carried_of (ExpectedNumber at)))
+carried_fields (InvalidNumber at) = value_fields (listed (carried_of (InvalidNumber at)))
+carried_fields (ExpectedFlag at) = value_fields (listed (carried_of (ExpectedFlag at)))
+carried_fields (UnsupportedCommand letter at) = 32 ∷ letter ∷ number_field at
+carried_fields (MissingMoveTo at) = value_fields (listed (carried_of (MissingMoveTo at)))
+carried_fields (NoRoom needs) = value_fields (listed (carried_of (NoRoom needs)))
+carried_fields (BadList command) = value_fields (listed (carried_of (BadList command)))
+carried_fields (RotationRange segment) = value_fields (listed (carried_of (RotationRange segment)))
+carried_fields (NotFinite number) = value_fields (listed (carried_of (NotFinite number)))
+carried_fields BadPath = value_fields (listed (carried_of BadPath))
+carried_fields (Range found) = value_fields (listed (carried_of (Range found)))
 
 -- "A refusal prints only `refused`, its number and what it carries."
-unfoldable pub refusalLine : Refusal → List ℕ
-unfolding numberField carriedFields
-refusalLine refusal = (114 ∷ 101 ∷ 102 ∷ 117 ∷ 115 ∷ 101 ∷ 100 ∷ []) ++ (numberField (number_of refusal) ++ (carriedFields refusal ++ feed))
+unfoldable pub refusal_line : Refusal → List ℕ
+unfolding number_field carried_fields
+refusal_line refusal = (114 ∷ 101 ∷ 102 ∷ 117 ∷ 115 ∷ 101 ∷ 100 ∷ []) ++ (number_field (number_of refusal) ++ (carried_fields refusal ++ feed))
 
 -- a segment's number has at most three digits
 abbrev pub FewSegments : Found → Type 0

@@ -1,10 +1,10 @@
 // One function for each kind of line. Each returns the place past the line.
 ghost use Rattle.std.specs.Prelude.{◌+◌, ◌≤◌, ◌<◌, length};
-ghost use Rattle.station_lines.specs.Lines.{pointFields, argumentFields, commandLine, kindName, segmentLine, headerLine};
-ghost use Rattle.station_lines.specs.Lines.{amountLine, segmentField, FewSegments, stationLine, valueFields, carriedFields, refusalLine};
+ghost use Rattle.station_lines.specs.Lines.{point_fields, argument_fields, command_line, kind_name, segment_line, header_line};
+ghost use Rattle.station_lines.specs.Lines.{amount_line, segment_field, FewSegments, station_line, value_fields, carried_fields, refusal_line};
 ghost use Rattle.answers.specs.Answers.{listed};
-ghost use Rattle.commands.specs.Stored.{flagOf};
-ghost use Rattle.station_lines.specs.Numbers.{bitsField};
+ghost use Rattle.commands.specs.Stored.{flag_of};
+ghost use Rattle.station_lines.specs.Numbers.{bits_field};
 ghost use Rattle.station_lines.specs.Put.{PutWithin};
 
 use crate::numbers::{put_bits, put_byte, put_number, put_offset, put_small, put_whole, put_word};
@@ -15,7 +15,7 @@ use math::Point;
 
 fn put_point(out: &mut [u8], at: usize, point: Point) -> usize
     requires { at + 18 ≤ 69632 }
-    ensures { PutWithin 18 (pointFields point) at out.old out.new result }
+    ensures { PutWithin 18 (point_fields point) at out.old out.new result }
 {
     let past_x = put_bits(out, at, point.x);
     put_bits(out, past_x, point.y)
@@ -23,7 +23,7 @@ fn put_point(out: &mut [u8], at: usize, point: Point) -> usize
 
 fn put_flag(out: &mut [u8], at: usize, flag: bool) -> usize
     requires { at + 9 ≤ 69632 }
-    ensures { PutWithin 9 (bitsField (flagOf flag)) at out.old out.new result }
+    ensures { PutWithin 9 (bits_field (flag_of flag)) at out.old out.new result }
 {
     if flag {
         return put_bits(out, at, 1.0);
@@ -33,7 +33,7 @@ fn put_flag(out: &mut [u8], at: usize, flag: bool) -> usize
 
 fn put_quad(out: &mut [u8], at: usize, control: Point, end: Point) -> usize
     requires { at + 36 ≤ 69632 }
-    ensures { PutWithin 36 (argumentFields (PathCommand.QuadTo control end)) at out.old out.new result }
+    ensures { PutWithin 36 (argument_fields (PathCommand.QuadTo control end)) at out.old out.new result }
 {
     let past_control = put_point(out, at, control);
     put_point(out, past_control, end)
@@ -49,7 +49,7 @@ fn put_arc(
     end: Point,
 ) -> usize
     requires { at + 63 ≤ 69632 }
-    ensures { PutWithin 63 (argumentFields (PathCommand.ArcTo radii rotation large_arc sweep end)) at out.old out.new result }
+    ensures { PutWithin 63 (argument_fields (PathCommand.ArcTo radii rotation large_arc sweep end)) at out.old out.new result }
 {
     let past_radii = put_point(out, at, radii);
     let past_rotation = put_bits(out, past_radii, rotation);
@@ -61,7 +61,7 @@ fn put_arc(
 // The numbers of a command.
 fn put_arguments(out: &mut [u8], at: usize, command: PathCommand) -> usize
     requires { at + 63 ≤ 69632 }
-    ensures { PutWithin 63 (argumentFields command) at out.old out.new result }
+    ensures { PutWithin 63 (argument_fields command) at out.old out.new result }
 {
     match command {
         PathCommand::MoveTo(end) => {
@@ -99,7 +99,7 @@ fn put_arguments(out: &mut [u8], at: usize, command: PathCommand) -> usize
 // A command: its letter, its numbers as bits and the offset of the letter that made it.
 pub fn put_command(out: &mut [u8], at: usize, command: PathCommand, offset: usize) -> usize
     requires { (offset < 10000) × (at + 70 ≤ 69632) }
-    ensures { PutWithin 70 (commandLine command offset) at out.old out.new result }
+    ensures { PutWithin 70 (command_line command offset) at out.old out.new result }
 {
     let past_letter = put_byte(out, at, commands::letter(command));
     let past_numbers = put_arguments(out, past_letter, command);
@@ -110,7 +110,7 @@ pub fn put_command(out: &mut [u8], at: usize, command: PathCommand, offset: usiz
 // The name of a segment's kind.
 fn put_kind(out: &mut [u8], at: usize, kind: u8) -> usize
     requires { at + 8 ≤ 69632 }
-    ensures { PutWithin 8 (kindName kind) at out.old out.new result }
+    ensures { PutWithin 8 (kind_name kind) at out.old out.new result }
 {
     if kind == 0 {
         return put_word(out, at, b"line");
@@ -130,7 +130,7 @@ fn put_kind(out: &mut [u8], at: usize, kind: u8) -> usize
 // A segment: the name of its kind, its running length and the number of its command.
 pub fn put_segment(out: &mut [u8], at: usize, kind: u8, running: f32, command: usize) -> usize
     requires { (command < 1000) × (at + 22 ≤ 69632) }
-    ensures { PutWithin 22 (segmentLine kind running command) at out.old out.new result }
+    ensures { PutWithin 22 (segment_line kind running command) at out.old out.new result }
 {
     let past_kind = put_kind(out, at, kind);
     let past_length = put_bits(out, past_kind, running);
@@ -142,7 +142,7 @@ pub fn put_segment(out: &mut [u8], at: usize, kind: u8, running: f32, command: u
 // A section's word and its count.
 pub fn put_header(out: &mut [u8], at: usize, word: &[u8], count: usize) -> usize
     requires { at + (length word.now + 22) ≤ 69632 }
-    ensures { PutWithin (length word.now + 22) (headerLine word.now count) at out.old out.new result }
+    ensures { PutWithin (length word.now + 22) (header_line word.now count) at out.old out.new result }
 {
     let past_word = put_word(out, at, word);
     let past_count = put_number(out, past_word, count);
@@ -152,7 +152,7 @@ pub fn put_header(out: &mut [u8], at: usize, word: &[u8], count: usize) -> usize
 // A number alone.
 pub fn put_amount(out: &mut [u8], at: usize, value: usize) -> usize
     requires { at + 21 ≤ 69632 }
-    ensures { PutWithin 21 (amountLine value) at out.old out.new result }
+    ensures { PutWithin 21 (amount_line value) at out.old out.new result }
 {
     let past_value = put_whole(out, at, value);
     put_byte(out, past_value, b'\n')
@@ -161,7 +161,7 @@ pub fn put_amount(out: &mut [u8], at: usize, value: usize) -> usize
 // The segment on which a station lies.
 fn put_found(out: &mut [u8], at: usize, found: Found) -> usize
     requires { FewSegments found × (at + 4 ≤ 69632) }
-    ensures { PutWithin 4 (segmentField found) at out.old out.new result }
+    ensures { PutWithin 4 (segment_field found) at out.old out.new result }
 {
     let past_space = put_byte(out, at, b' ');
     match found {
@@ -184,7 +184,7 @@ pub fn put_station(
     tangent: Point,
 ) -> usize
     requires { (number < 1000) × FewSegments found × (at + 44 ≤ 69632) }
-    ensures { PutWithin 44 (stationLine number found position tangent) at out.old out.new result }
+    ensures { PutWithin 44 (station_line number found position tangent) at out.old out.new result }
 {
     let past_number = put_small(out, at, number);
     let past_segment = put_found(out, past_number, found);
@@ -195,7 +195,7 @@ pub fn put_station(
 
 fn put_values(out: &mut [u8], at: usize, values: Values) -> usize
     requires { at + 105 ≤ 69632 }
-    ensures { PutWithin 105 (valueFields (listed values)) at out.old out.new result }
+    ensures { PutWithin 105 (value_fields (listed values)) at out.old out.new result }
 {
     match values {
         Values::Nothing => {
@@ -232,7 +232,7 @@ fn put_values(out: &mut [u8], at: usize, values: Values) -> usize
 // What a refusal carries: a letter as itself, numbers to the base 10.
 fn put_carried(out: &mut [u8], at: usize, refusal: Refusal) -> usize
     requires { at + 105 ≤ 69632 }
-    ensures { PutWithin 105 (carriedFields refusal) at out.old out.new result }
+    ensures { PutWithin 105 (carried_fields refusal) at out.old out.new result }
 {
     if let Refusal::UnsupportedCommand(letter, offset) = refusal {
         let past_space = put_byte(out, at, b' ');
@@ -245,7 +245,7 @@ fn put_carried(out: &mut [u8], at: usize, refusal: Refusal) -> usize
 // A refusal: its number and what it carries.
 pub fn put_refusal(out: &mut [u8], at: usize, refusal: Refusal) -> usize
     requires { at + 134 ≤ 69632 }
-    ensures { PutWithin 134 (refusalLine refusal) at out.old out.new result }
+    ensures { PutWithin 134 (refusal_line refusal) at out.old out.new result }
 {
     let past_word = put_word(out, at, b"refused");
     let past_number = put_number(out, past_word, answers::number(refusal) as usize);

@@ -8,9 +8,9 @@ use borrow.Author.Tests.{leb-true, eqb-true}
 use lib.Dec.{leb, eqb}
 use lib.ListN.{length, get_or}
 use Rattle.answers.specs.declared.refusals.Refusal.TheVariants.{Range}
-use Rattle.scan.specs.Runs.{pastDigitsOf}
-use Rattle.decimal_digits.specs.Digits.{digitsIn, val}
-use Rattle.text_reader.specs.Plans.{judged, firstLineOf}
+use Rattle.scan.specs.Runs.{past_digits_of}
+use Rattle.decimal_digits.specs.Digits.{digits_in, val}
+use Rattle.text_reader.specs.Plans.{judged, first_line_of}
 use Rattle.text_reader.specs.declared.line.FirstLine.TheVariants.{Stations, Refused}
 use Rattle.text_reader.proofs.Lines.{feed-inside}
 
@@ -45,16 +45,16 @@ module _ (text : List ℕ) (count next : ℕ) where
 
   module _ (at : ℕ) where
     by_form :
-        (b : Bool) → (leb 1 (pastDigitsOf text at - at) && leb (pastDigitsOf text at - at) 9 && eqb (get_or text (pastDigitsOf text at) 0) 10) ≡ b
-        → cond b (judged (val (digitsIn text at (pastDigitsOf text at))) (pastDigitsOf text at + 1)) (Refused (Range 0)) ≡ Stations count next
+        (b : Bool) → (leb 1 (past_digits_of text at - at) && leb (past_digits_of text at - at) 9 && eqb (get_or text (past_digits_of text at) 0) 10) ≡ b
+        → cond b (judged (val (digits_in text at (past_digits_of text at))) (past_digits_of text at + 1)) (Refused (Range 0)) ≡ Stations count next
         → Asked text count next
     by_form true t e =
-        let f = last_of (leb 1 (pastDigitsOf text at - at)) (leb (pastDigitsOf text at - at) 9) (eqb (get_or text (pastDigitsOf text at) 0) 10) t in
-        let i = feed-inside text (pastDigitsOf text at) (eqb-true (get_or text (pastDigitsOf text at) 0) 10 f) in
-        judged-asked (val (digitsIn text at (pastDigitsOf text at))) (pastDigitsOf text at + 1) e (omega arith)
+        let f = last_of (leb 1 (past_digits_of text at - at)) (leb (past_digits_of text at - at) 9) (eqb (get_or text (past_digits_of text at) 0) 10) t in
+        let i = feed-inside text (past_digits_of text at) (eqb-true (get_or text (past_digits_of text at) 0) 10 f) in
+        judged-asked (val (digits_in text at (past_digits_of text at))) (past_digits_of text at + 1) e (omega arith)
     by_form false t e = let z : ◌≡◌ {A = ℕ} 0 1 = cc in absurd (omega arith)
 
-    pub asked : firstLineOf text at ≡ Stations count next → Asked text count next
-    unfolding firstLineOf
+    pub asked : first_line_of text at ≡ Stations count next → Asked text count next
+    unfolding first_line_of
     asked e =
-        by_form (leb 1 (pastDigitsOf text at - at) && leb (pastDigitsOf text at - at) 9 && eqb (get_or text (pastDigitsOf text at) 0) 10) refl e
+        by_form (leb 1 (past_digits_of text at - at) && leb (past_digits_of text at - at) 9 && eqb (get_or text (past_digits_of text at) 0) 10) refl e

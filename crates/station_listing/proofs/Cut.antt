@@ -12,13 +12,13 @@ use lib.Seq.{take_all, take-take, get_or-take, length-take-le}
 use Rattle.answers.specs.Report.{written}
 use Rattle.answers.specs.declared.refusals.Refusal.TheVariants.{Range}
 use Rattle.scan.specs.Bytes.{among, digits}
-use Rattle.scan.specs.Runs.{pastAll, pastDigitsOf}
+use Rattle.scan.specs.Runs.{past_all, past_digits_of}
 use Rattle.scan.specs.Scan.{leading, scan}
-use Rattle.decimal_digits.specs.Digits.{digitsAmong, digitsIn, val}
-use Rattle.text_reader.specs.Plans.{judged, firstLineOf}
+use Rattle.decimal_digits.specs.Digits.{digits_among, digits_in, val}
+use Rattle.text_reader.specs.Plans.{judged, first_line_of}
 use Rattle.text_reader.specs.declared.line.FirstLine.{FirstLine}
 use Rattle.text_reader.specs.declared.line.FirstLine.TheVariants.{Stations, Refused}
-use Rattle.station_listing.specs.Stations.{plan_of, judgedOf, stationsOf, ReadListed}
+use Rattle.station_listing.specs.Stations.{plan_of, judged_of, stations_of, ReadListed}
 use Rattle.station_listing.specs.Stations as Tool
 
 -- ---- a run at the start of a list
@@ -51,8 +51,8 @@ module _ (test : ℕ → Bool) where
 abbrev run : List ℕ → ℕ
 run text = leading (λ byte. among byte digits) text
 
-end_is : (text : List ℕ) → pastDigitsOf text 0 ≡ run text
-unfolding pastAll scan
+end_is : (text : List ℕ) → past_digits_of text 0 ≡ run text
+unfolding past_all scan
 end_is text = zero-add (run text)
 
 -- ---- the text
@@ -77,37 +77,37 @@ drop-cut (suc p) (suc n) (x ∷ xs) = let z : n - p ≡ suc n - suc p = omega ar
 -- ---- the first line
 
 -- from the place past the digits, the digits and the byte that follows
-abbrev lineBy : ℕ → List ℕ → ℕ → FirstLine
-lineBy end digits byte = cond (leb 1 (end - 0) && leb (end - 0) 9 && eqb byte 10) (judged (val digits) (end + 1)) (Refused (Range 0))
+abbrev line_by : ℕ → List ℕ → ℕ → FirstLine
+line_by end digits byte = cond (leb 1 (end - 0) && leb (end - 0) 9 && eqb byte 10) (judged (val digits) (end + 1)) (Refused (Range 0))
 
-line-is : (text : List ℕ) → firstLineOf text 0 ≡ lineBy (pastDigitsOf text 0) (digitsIn text 0 (pastDigitsOf text 0)) (get_or text (pastDigitsOf text 0) 0)
-unfolding firstLineOf
+line-is : (text : List ℕ) → first_line_of text 0 ≡ line_by (past_digits_of text 0) (digits_in text 0 (past_digits_of text 0)) (get_or text (past_digits_of text 0) 0)
+unfolding first_line_of
 line-is text = refl
 
-refused-line : (end : ℕ) (digits : List ℕ) (byte : ℕ) → 9 < end → lineBy end digits byte ≡ Refused (Range 0)
+refused-line : (end : ℕ) (digits : List ℕ) (byte : ℕ) → 9 < end → line_by end digits byte ≡ Refused (Range 0)
 refused-line end digits byte h = rw (le-leb 1 (end - 0) (omega arith), lt-leb (end - 0) 9 (omega arith)) refl
 
-long-line : (text : List ℕ) → 9 < run text → firstLineOf text 0 ≡ Refused (Range 0)
+long-line : (text : List ℕ) → 9 < run text → first_line_of text 0 ≡ Refused (Range 0)
 long-line text h =
-    line-is text ∙ refused-line (pastDigitsOf text 0) (digitsIn text 0 (pastDigitsOf text 0)) (get_or text (pastDigitsOf text 0) 0) (omega (arith, end_is text))
+    line-is text ∙ refused-line (past_digits_of text 0) (digits_in text 0 (past_digits_of text 0)) (get_or text (past_digits_of text 0) 0) (omega (arith, end_is text))
 
 module _ (input : List ℕ) (n : ℕ) (enough : 4107 ≤ n) where
-  judged-cut : (count next : ℕ) → next ≤ 10 → judgedOf (take n input) (judged count next) ≡ judgedOf input (judged count next)
+  judged-cut : (count next : ℕ) → next ≤ 10 → judged_of (take n input) (judged count next) ≡ judged_of input (judged count next)
   unfolding judged
   judged-cut count next h = by_count (leb 2 count && leb count 1000)
     where
       by_count :
           (b : Bool)
-          → judgedOf (take n input) (cond b (Stations count next) (Refused (Range count))) ≡ judgedOf input (cond b (Stations count next) (Refused (Range count)))
+          → judged_of (take n input) (cond b (Stations count next) (Refused (Range count))) ≡ judged_of input (cond b (Stations count next) (Refused (Range count)))
       by_count true = ap (plan_of count) (drop-cut next n input) ∙ plan-cut count (n - next) (drop next input) (omega arith)
       by_count false = refl
 
-  line-cut : (end : ℕ) (digits : List ℕ) (byte : ℕ) → end ≤ 9 → judgedOf (take n input) (lineBy end digits byte) ≡ judgedOf input (lineBy end digits byte)
+  line-cut : (end : ℕ) (digits : List ℕ) (byte : ℕ) → end ≤ 9 → judged_of (take n input) (line_by end digits byte) ≡ judged_of input (line_by end digits byte)
   line-cut end digits byte h = by_form (leb 1 (end - 0) && leb (end - 0) 9 && eqb byte 10)
     where
       by_form :
           (b : Bool)
-          → judgedOf (take n input) (cond b (judged (val digits) (end + 1)) (Refused (Range 0))) ≡ judgedOf input (cond b (judged (val digits) (end + 1)) (Refused (Range 0)))
+          → judged_of (take n input) (cond b (judged (val digits) (end + 1)) (Refused (Range 0))) ≡ judged_of input (cond b (judged (val digits) (end + 1)) (Refused (Range 0)))
       by_form true = judged-cut (val digits) (end + 1) (omega arith)
       by_form false = refl
 
@@ -119,38 +119,38 @@ module _ (input : List ℕ) (n : ℕ) (enough : 4107 ≤ n) where
       by-run false e = omega (arith, leading-whole (λ byte. among byte digits) n input (ltb-false (run input) n e))
 
   abbrev end : ℕ
-  end = pastDigitsOf input 0
+  end = past_digits_of input 0
 
-  same_end : run input ≤ 9 → pastDigitsOf (take n input) 0 ≡ end
+  same_end : run input ≤ 9 → past_digits_of (take n input) 0 ≡ end
   same_end h = end_is (take n input) ∙ leading-cut (λ byte. among byte digits) n input (omega arith) ∙ sym (end_is input)
 
-  same_line : run input ≤ 9 → firstLineOf (take n input) 0 ≡ lineBy end (digitsIn input 0 end) (get_or input end 0)
+  same_line : run input ≤ 9 → first_line_of (take n input) 0 ≡ line_by end (digits_in input 0 end) (get_or input end 0)
   same_line h =
       let e = end_is input in
       line-is (take n input)
-      ∙ ap (λ (k : ℕ). lineBy k (digitsIn (take n input) 0 k) (get_or (take n input) k 0)) (same_end h)
-      ∙ ap (λ (l : List ℕ). lineBy end (digitsAmong l) (get_or (take n input) end 0)) (take-take (end - 0) n input (omega arith))
-      ∙ ap (λ (b : ℕ). lineBy end (digitsIn input 0 end) b) (get_or-take n input end 0 (omega arith))
+      ∙ ap (λ (k : ℕ). line_by k (digits_in (take n input) 0 k) (get_or (take n input) k 0)) (same_end h)
+      ∙ ap (λ (l : List ℕ). line_by end (digits_among l) (get_or (take n input) end 0)) (take-take (end - 0) n input (omega arith))
+      ∙ ap (λ (b : ℕ). line_by end (digits_in input 0 end) b) (get_or-take n input end 0 (omega arith))
 
-  by-run : (b : Bool) → ltb 9 (run input) ≡ b → judgedOf (take n input) (firstLineOf (take n input) 0) ≡ judgedOf input (firstLineOf input 0)
+  by-run : (b : Bool) → ltb 9 (run input) ≡ b → judged_of (take n input) (first_line_of (take n input) 0) ≡ judged_of input (first_line_of input 0)
   by-run true e =
       let h = ltb-true 9 (run input) e in
-      ap (judgedOf (take n input)) (long-line (take n input) (long-run h)) ∙ sym (ap (judgedOf input) (long-line input h))
+      ap (judged_of (take n input)) (long-line (take n input) (long-run h)) ∙ sym (ap (judged_of input) (long-line input h))
   by-run false e =
       let h = ltb-false 9 (run input) e in
-      ap (judgedOf (take n input)) (same_line h)
-      ∙ line-cut end (digitsIn input 0 end) (get_or input end 0) (omega (arith, end_is input))
-      ∙ sym (ap (judgedOf input) (line-is input))
+      ap (judged_of (take n input)) (same_line h)
+      ∙ line-cut end (digits_in input 0 end) (get_or input end 0) (omega (arith, end_is input))
+      ∙ sym (ap (judged_of input) (line-is input))
 
   -- bytes past the first 4,107 change nothing
-  pub bytes_cut : stationsOf (take n input) ≡ stationsOf input
-  unfolding stationsOf
+  pub bytes_cut : stations_of (take n input) ≡ stations_of input
+  unfolding stations_of
   bytes_cut = by-run (ltb 9 (run input)) refl
 
 -- so does a lent array of 4,107 places or more, filled from the start of any input
 pub read-listed : (plan : List ℕ) (size : ℕ) (before : List ℕ) (r : ℕ) (after : List ℕ) → 4107 ≤ length plan → Tool.Stations (take size plan) before r after → ReadListed plan size before r after
 read-listed plan size before r after enough given input begins =
-    let same : stationsOf (take size plan) ≡ stationsOf input = ap stationsOf (sym begins) ∙ bytes_cut input (length plan) enough in
+    let same : stations_of (take size plan) ≡ stations_of input = ap stations_of (sym begins) ∙ bytes_cut input (length plan) enough in
     record {
       takes = record { count = given.takes.count ∙ ap length same; most = given.takes.most };
       bytes = given.bytes ∙ ap (λ (listing : List ℕ). cond (ltb (length before) (length listing)) before (written listing before)) same;

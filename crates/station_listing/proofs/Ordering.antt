@@ -9,35 +9,35 @@ use borrow.Author.Tests.{le-ltb}
 use lib.Dec.{T}
 use lib.Ieee.{lt}
 use lib.ListN.{length, drop}
-use Rattle.floats.specs.Floats.{epsilonF}
-use Rattle.table.specs.Spots.{pathTotal}
-use Rattle.commands.specs.Stored.{lettersOf}
-use Rattle.svg.specs.Texts.{offsetsOf}
+use Rattle.floats.specs.Floats.{epsilon_f}
+use Rattle.table.specs.Spots.{path_total}
+use Rattle.commands.specs.Stored.{letters_of}
+use Rattle.svg.specs.Texts.{offsets_of}
 use Rattle.path_stored.specs.Buffers.{Buffers}
-use Rattle.path_stored.specs.Layout.{lengthsOfAll, laidOut}
+use Rattle.path_stored.specs.Layout.{lengths_of_all, laid_wholly}
 use Rattle.path_stored.proofs.Rule.{stored-rule}
 use Rattle.path_stored.proofs.Values.{tables-fit, lengths-fit}
 use Rattle.path_place.proofs.AnyLookup.{F32Stored}
-use Rattle.path_drawing.specs.Building.{drawersOf}
+use Rattle.path_drawing.specs.Building.{drawers_of}
 use Rattle.path_build.proofs.Sound.{built-stored}
 use Rattle.station_commands.proofs.PlanLaws.{letters-count}
 use Rattle.station_sections.specs.Ordered.{OrderedStations}
 use Rattle.station_sections.proofs.Ordering.{stations-ordered}
-use Rattle.station_listing.specs.Stations.{sectionsOf, read_of, plan_of, stationsOf}
+use Rattle.station_listing.specs.Stations.{sections_of, read_of, plan_of, stations_of}
 use Rattle.station_listing.specs.Ordered.{Accepted}
 use Rattle.station_listing.proofs.Asking.{asked}
 use Rattle.station_listing.proofs.Flying.{kinds-count}
 
 -- the path of an accepted plan in its five buffers
 abbrev pub built : {input : List ℕ} → Accepted input → Buffers
-built a = laidOut a.segments (drawersOf a.list)
+built a = laid_wholly a.segments (drawers_of a.list)
 
 module _ (input : List ℕ) (a : Accepted input) where
   -- the listing is the three sections of the path built, so that `printed` below speaks of its lines
-  pub listing-sections : stationsOf input ≡ sectionsOf a.list (offsetsOf (drop a.next input)) (built a) a.count
-  unfolding stationsOf plan_of read_of
+  pub listing-sections : stations_of input ≡ sections_of a.list (offsets_of (drop a.next input)) (built a) a.count
+  unfolding stations_of plan_of read_of
   listing-sections =
-      rw (a.asks, le-ltb 4096 (length (drop a.next input)) a.short, a.reads, le-ltb 256 (length (lettersOf a.list)) a.few, a.builds) refl
+      rw (a.asks, le-ltb 4096 (length (drop a.next input)) a.short, a.reads, le-ltb 256 (length (letters_of a.list)) a.few, a.builds) refl
 
   built-values : F32Stored (built a)
   built-values =
@@ -45,11 +45,11 @@ module _ (input : List ℕ) (a : Accepted input) where
       let few = a.few in
       record {
         stored = stored-rule _ (built-stored a.list a.segments (omega arith) a.builds);
-        tableValues = tables-fit a.segments;
-        lengthValues = lengths-fit a.segments;
+        table_values = tables-fit a.segments;
+        length_values = lengths-fit a.segments;
       }
 
-  pub listing-ordered : 0 < length a.segments → T (lt epsilonF (pathTotal (lengthsOfAll a.segments))) → OrderedStations (built a) a.count
+  pub listing-ordered : 0 < length a.segments → T (lt epsilon_f (path_total (lengths_of_all a.segments))) → OrderedStations (built a) a.count
   listing-ordered some long =
       let ask = asked input a.count a.next 0 a.asks in
       let kinds = kinds-count a.segments in

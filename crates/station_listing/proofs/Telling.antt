@@ -11,57 +11,57 @@ use lib.Seq.{take_all}
 use Rattle.answers.specs.declared.refusals.Refusal.{Refusal}
 use Rattle.answers.specs.declared.refusals.Refusal.TheVariants.{TooLong}
 use Rattle.answers.proofs.Writing.{written-more}
-use Rattle.commands.specs.Stored.{lettersOf}
+use Rattle.commands.specs.Stored.{letters_of}
 use Rattle.svg.specs.Lists.{CommandList}
-use Rattle.svg.specs.Texts.{Outcome, commands, refusal, commandsOf, offsetsOf}
+use Rattle.svg.specs.Texts.{Outcome, commands, refusal, commands_of, offsets_of}
 use Rattle.svg.specs.Readings.{ReadPath}
 use Rattle.svg.specs.declared.reading.Reading.{Reading}
 use Rattle.svg.specs.declared.reading.Reading.TheVariants.{Read, Refused as Unread}
-use Rattle.text_reader.specs.Plans.{firstLineOf, past_of}
+use Rattle.text_reader.specs.Plans.{first_line_of, past_of}
 use Rattle.text_reader.specs.declared.line.FirstLine.{FirstLine}
 use Rattle.text_reader.specs.declared.line.FirstLine.TheVariants.{Stations as Asked, Refused}
-use Rattle.station_lines.specs.Lines.{refusalLine}
+use Rattle.station_lines.specs.Lines.{refusal_line}
 use Rattle.station_lines.specs.Put.{PutWithin}
 use Rattle.station_lines.proofs.Putting.{within-as}
-use Rattle.path_build.specs.Lists.{storedList}
-use Rattle.station_listing.specs.Stations.{read_of, plan_of, judgedOf, stationsOf, Takes, Stations, Held}
+use Rattle.path_build.specs.Lists.{stored_list}
+use Rattle.station_listing.specs.Stations.{read_of, plan_of, judged_of, stations_of, Takes, Stations, Held}
 use Rattle.station_listing.proofs.Texts as texts
 use Rattle.station_listing.proofs.Texts.{Spare, crowd, limited}
 
 -- ---- the output
 
 module _ (input before after : List ℕ) (r : ℕ) where
-  pub told-count : PutWithin 69632 (stationsOf input) 0 before after r → Takes input r
+  pub told-count : PutWithin 69632 (stations_of input) 0 before after r → Takes input r
   told-count p = record { count = omega (arith, p.put.past); most = omega (arith, p.within) }
 
   -- what is put from the start is written, where there is room
-  pub told-whole : (s : ℕ) → Takes input s → s ≤ length before → PutWithin 69632 (stationsOf input) 0 before after r → Stations input before r after
+  pub told-whole : (s : ℕ) → Takes input s → s ≤ length before → PutWithin 69632 (stations_of input) 0 before after r → Stations input before r after
   told-whole s n h p =
-      let room : length (stationsOf input) ≤ length before = omega (arith, n.count) in
+      let room : length (stations_of input) ≤ length before = omega (arith, n.count) in
       record {
         takes = told-count p;
-        bytes = rw (le-ltb (length before) (length (stationsOf input)) room) (p.put.memory ∙ written-more [] (stationsOf input) before (omega (arith, room)));
+        bytes = rw (le-ltb (length before) (length (stations_of input)) room) (p.put.memory ∙ written-more [] (stations_of input) before (omega (arith, room)));
       }
 
   -- 69,632 places are enough
-  pub told-long : 69632 ≤ length before → PutWithin 69632 (stationsOf input) 0 before after r → Stations input before r after
+  pub told-long : 69632 ≤ length before → PutWithin 69632 (stations_of input) 0 before after r → Stations input before r after
   told-long h p = told-whole r (told-count p) (omega (arith, p.within)) p
 
 pub told-short : (input before : List ℕ) (r : ℕ) → Takes input r → length before < r → Stations input before r before
 told-short input before r n h =
-    let less : length before < length (stationsOf input) = omega (arith, n.count) in
-    record { takes = n; bytes = rw (lt-ltb (length before) (length (stationsOf input)) less) refl }
+    let less : length before < length (stations_of input) = omega (arith, n.count) in
+    record { takes = n; bytes = rw (lt-ltb (length before) (length (stations_of input)) less) refl }
 
 -- ---- the first line
 
-module _ (input before after : List ℕ) (r : ℕ) (line : FirstLine) (e : line ≡ firstLineOf input 0) where
-  pub line_refused : (reason : Refusal) → line ≡ Refused reason → PutWithin 134 (refusalLine reason) 0 before after r → PutWithin 69632 (stationsOf input) 0 before after r
-  unfolding stationsOf
-  line_refused reason f p = within-as 69632 _ p.put (ap (judgedOf input) (sym f ∙ e)) (omega (arith, p.within))
+module _ (input before after : List ℕ) (r : ℕ) (line : FirstLine) (e : line ≡ first_line_of input 0) where
+  pub line_refused : (reason : Refusal) → line ≡ Refused reason → PutWithin 134 (refusal_line reason) 0 before after r → PutWithin 69632 (stations_of input) 0 before after r
+  unfolding stations_of
+  line_refused reason f p = within-as 69632 _ p.put (ap (judged_of input) (sym f ∙ e)) (omega (arith, p.within))
 
-  pub line-asked : (count next : ℕ) → line ≡ Asked count next → PutWithin 69632 (plan_of count (drop next input)) 0 before after r → PutWithin 69632 (stationsOf input) 0 before after r
-  unfolding stationsOf
-  line-asked count next f p = within-as 69632 _ p.put (ap (judgedOf input) (sym f ∙ e)) (omega (arith, p.within))
+  pub line-asked : (count next : ℕ) → line ≡ Asked count next → PutWithin 69632 (plan_of count (drop next input)) 0 before after r → PutWithin 69632 (stations_of input) 0 before after r
+  unfolding stations_of
+  line-asked count next f p = within-as 69632 _ p.put (ap (judged_of input) (sym f ∙ e)) (omega (arith, p.within))
 
 -- the path of a line that asks starts past it
 pub asked-past : {start : ℕ} {line : FirstLine} (count next : ℕ) → line ≡ Asked count next → start ≡ past_of line 0 → next ≡ start
@@ -73,13 +73,13 @@ asked-past count next f p = sym (p ∙ ap (λ (l : FirstLine). past_of l 0) f)
 -- is what is printed
 printed :
     (text : List ℕ) (count : ℕ) (reason : Refusal) (outcome : Outcome) → limited text outcome ≡ refusal reason
-    → refusalLine reason ≡ read_of count (offsetsOf text) outcome
+    → refusal_line reason ≡ read_of count (offsets_of text) outcome
 unfolding read_of
-printed text count reason (refusal other) e = let f : reason ≡ other = cc in ap refusalLine f
-printed text count reason (commands list) e = by (ltb 256 (length (lettersOf list))) refl e
+printed text count reason (refusal other) e = let f : reason ≡ other = cc in ap refusal_line f
+printed text count reason (commands list) e = by (ltb 256 (length (letters_of list))) refl e
   where
-    by : (b : Bool) → ltb 256 (length (lettersOf list)) ≡ b → cond b (refusal (crowd text list)) (commands list) ≡ refusal reason → refusalLine reason ≡ read_of count (offsetsOf text) (commands list)
-    by true g f = let h : reason ≡ crowd text list = cc in rw g (ap refusalLine h)
+    by : (b : Bool) → ltb 256 (length (letters_of list)) ≡ b → cond b (refusal (crowd text list)) (commands list) ≡ refusal reason → refusal_line reason ≡ read_of count (offsets_of text) (commands list)
+    by true g f = let h : reason ≡ crowd text list = cc in rw g (ap refusal_line h)
     by false g f = let z : ◌≡◌ {A = ℕ} 0 1 = cc in absurd (omega arith)
 
 -- ---- the text
@@ -92,7 +92,7 @@ module _ (input : List ℕ) (start : ℕ) where
   bytes_left = length-drop start input
 
   module _ (count : ℕ) {before after : List ℕ} {r : ℕ} where
-    pub too_long : 4096 < length input - start → PutWithin 134 (refusalLine (TooLong 4097)) 0 before after r → PutWithin 69632 (plan_of count text) 0 before after r
+    pub too_long : 4096 < length input - start → PutWithin 134 (refusal_line (TooLong 4097)) 0 before after r → PutWithin 69632 (plan_of count text) 0 before after r
     unfolding plan_of
     too_long h p = within-as 69632 _ p.put (rw (lt-ltb 4096 (length text) (omega (arith, bytes_left))) refl) (omega (arith, p.within))
 
@@ -104,11 +104,11 @@ module _ (input : List ℕ) (start : ℕ) where
     said : ReadPath text stood reading left
     said = subst (λ (t : List ℕ). ReadPath t stood reading left) (take_all (length input - start) text (omega (arith, bytes_left))) lent
 
-    pub not-read : (count : ℕ) {before after : List ℕ} {r : ℕ} {reason : Refusal} → reading ≡ Unread reason → PutWithin 134 (refusalLine reason) 0 before after r
+    pub not-read : (count : ℕ) {before after : List ℕ} {r : ℕ} {reason : Refusal} → reading ≡ Unread reason → PutWithin 134 (refusal_line reason) 0 before after r
         → PutWithin 69632 (plan_of count text) 0 before after r
     unfolding plan_of
     not-read count {reason = reason} e p =
-        within-as 69632 _ p.put (rw (le-ltb 4096 (length text) short-text) (printed text count reason (commandsOf text) (texts.not-read text short-text said own e))) (omega (arith, p.within))
+        within-as 69632 _ p.put (rw (le-ltb 4096 (length text) short-text) (printed text count reason (commands_of text) (texts.not-read text short-text said own e))) (omega (arith, p.within))
 
     module _ {letters numbers : ℕ} (e : reading ≡ Read letters numbers) where
       pub letters-most : letters ≤ 256
@@ -117,5 +117,5 @@ module _ (input : List ℕ) (start : ℕ) where
       pub numbers-most : numbers ≤ 1792
       numbers-most = texts.numbers-most text short-text said own e
 
-      pub held : Held text (storedList (take letters left.letters) (take numbers left.numbers))
+      pub held : Held text (stored_list (take letters left.letters) (take numbers left.numbers))
       held = texts.held text short-text said own e

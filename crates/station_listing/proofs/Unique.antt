@@ -7,15 +7,15 @@ use native.Mathlib.Omega.{arith}
 use lib.Dec.{ltb}
 use lib.ListN.{length, drop}
 use Rattle.answers.specs.declared.refusals.Refusal.{Refusal}
-use Rattle.commands.specs.Stored.{lettersOf}
+use Rattle.commands.specs.Stored.{letters_of}
 use Rattle.commands.specs.declared.command.PathCommand.{PathCommand}
-use Rattle.svg.specs.Texts.{Outcome, commands, refusal, commandsOf, offsetsOf}
-use Rattle.path_drawing.specs.Building.{Built, path, refusal as unbuilt, buildOf}
-use Rattle.text_reader.specs.Plans.{firstLineOf}
+use Rattle.svg.specs.Texts.{Outcome, commands, refusal, commands_of, offsets_of}
+use Rattle.path_drawing.specs.Building.{Built, path, refusal as unbuilt, build_of}
+use Rattle.text_reader.specs.Plans.{first_line_of}
 use Rattle.text_reader.specs.declared.line.FirstLine.{FirstLine}
 use Rattle.text_reader.specs.declared.line.FirstLine.TheVariants.{Stations as Asked, Refused}
-use Rattle.station_lines.specs.Lines.{headerLine, refusalLine}
-use Rattle.station_listing.specs.Stations.{sectionsOf, builtOf, read_of, plan_of, judgedOf, stationsOf, Stations}
+use Rattle.station_lines.specs.Lines.{header_line, refusal_line}
+use Rattle.station_listing.specs.Stations.{sections_of, built_of, read_of, plan_of, judged_of, stations_of, Stations}
 
 -- any two allowed results are equal
 pub stations-unique : (input before after other : List ℕ) (r s : ℕ) → Stations input before r after → Stations input before s other → (r ≡ s) × (after ≡ other)
@@ -27,28 +27,28 @@ either : (b : Bool) (xs ys : List ℕ) → 0 < length xs → 0 < length ys → 0
 either true xs ys g h = g
 either false xs ys g h = h
 
-some-refusal : (reason : Refusal) → 0 < length (refusalLine reason)
-unfolding refusalLine
+some-refusal : (reason : Refusal) → 0 < length (refusal_line reason)
+unfolding refusal_line
 some-refusal reason = omega arith
 
-some-built : (count : ℕ) (list : List PathCommand) (offsets : List ℕ) (built : Built) → 0 < length (builtOf count list offsets built)
-unfolding sectionsOf headerLine
+some-built : (count : ℕ) (list : List PathCommand) (offsets : List ℕ) (built : Built) → 0 < length (built_of count list offsets built)
+unfolding sections_of header_line
 some-built count list offsets (path segments) = omega arith
 some-built count list offsets (unbuilt reason) = some-refusal reason
 
 some_read : (count : ℕ) (offsets : List ℕ) (o : Outcome) → 0 < length (read_of count offsets o)
 unfolding read_of
-some_read count offsets (commands list) = either (ltb 256 (length (lettersOf list))) _ _ (some-refusal _) (some-built count list offsets (buildOf list))
+some_read count offsets (commands list) = either (ltb 256 (length (letters_of list))) _ _ (some-refusal _) (some-built count list offsets (build_of list))
 some_read count offsets (refusal reason) = some-refusal reason
 
 some-plan : (count : ℕ) (text : List ℕ) → 0 < length (plan_of count text)
 unfolding plan_of
-some-plan count text = either (ltb 4096 (length text)) _ _ (some-refusal _) (some_read count (offsetsOf text) (commandsOf text))
+some-plan count text = either (ltb 4096 (length text)) _ _ (some-refusal _) (some_read count (offsets_of text) (commands_of text))
 
-some-judged : (input : List ℕ) (line : FirstLine) → 0 < length (judgedOf input line)
+some-judged : (input : List ℕ) (line : FirstLine) → 0 < length (judged_of input line)
 some-judged input (Asked count next) = some-plan count (drop next input)
 some-judged input (Refused reason) = some-refusal reason
 
-pub some-listing : (input : List ℕ) → 0 < length (stationsOf input)
-unfolding stationsOf
-some-listing input = some-judged input (firstLineOf input 0)
+pub some-listing : (input : List ℕ) → 0 < length (stations_of input)
+unfolding stations_of
+some-listing input = some-judged input (first_line_of input 0)

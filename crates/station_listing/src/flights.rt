@@ -2,7 +2,7 @@
 ghost use Rattle.std.specs.Prelude.{◌≤◌, drop};
 ghost use Rattle.station_lines.specs.Put.{PutWithin};
 ghost use Rattle.path_stored.specs.Buffers.{before, lent};
-ghost use Rattle.path_build.specs.Lists.{lentList};
+ghost use Rattle.path_build.specs.Lists.{lent_list};
 ghost use Rattle.station_sections.specs.Sections.{Ready};
 ghost use Rattle.station_listing.specs.Stations.{plan_of, Held, Sized, Printed};
 
@@ -53,7 +53,7 @@ pub fn fly(
     letters: &[u8],
     numbers: &[f32],
 ) -> usize
-    requires { Held (drop start input.now) (lentList letters numbers) × (2 ≤ count) × (count ≤ 1000) }
+    requires { Held (drop start input.now) (lent_list letters numbers) × (2 ≤ count) × (count ≤ 1000) }
     ensures { PutWithin 69632 (plan_of count (drop start input.now)) 0 out.old out.new result }
 {
     let mut kinds = [0u8; 256];

@@ -1,7 +1,7 @@
 // A plan: its first line is judged first, then its length, its text, its commands.
 ghost use Rattle.std.specs.Prelude.{◌≤◌, length, drop};
 ghost use Rattle.station_lines.specs.Put.{PutWithin};
-ghost use Rattle.station_listing.specs.Stations.{LineRead, plan_of, stationsOf};
+ghost use Rattle.station_listing.specs.Stations.{LineRead, plan_of, stations_of};
 
 use crate::flights::fly;
 use answers::Refusal;
@@ -44,7 +44,7 @@ fn answer(out: &mut [u8], input: &[u8], start: usize, count: usize) -> usize
 // A plan whose first line is read, and whose path starts at `start`: a refused line is told, and nothing else of the plan.
 fn judged(input: &[u8], start: usize, line: FirstLine, out: &mut [u8]) -> usize
     requires { LineRead input.now start line }
-    ensures { PutWithin 69632 (stationsOf input.now) 0 out.old out.new result }
+    ensures { PutWithin 69632 (stations_of input.now) 0 out.old out.new result }
 {
     match line {
         FirstLine::Refused(reason) => {
@@ -59,7 +59,7 @@ fn judged(input: &[u8], start: usize, line: FirstLine, out: &mut [u8]) -> usize
 // The same by a reader that has moved past the line.
 fn judged_by<'a>(reader: TextReader<'a>, line: FirstLine, out: &mut [u8]) -> usize
     requires { LineRead reader.text.now reader.at line }
-    ensures { PutWithin 69632 (stationsOf reader.entry.text.now) 0 out.old out.new result }
+    ensures { PutWithin 69632 (stations_of reader.entry.text.now) 0 out.old out.new result }
 {
     judged(reader.text, reader.at, line, out)
 }
@@ -67,7 +67,7 @@ fn judged_by<'a>(reader: TextReader<'a>, line: FirstLine, out: &mut [u8]) -> usi
 // Puts the listing of a plan into as many places as there are, and gives its length. A reader goes through the plan: it reads the first
 // line, and moves past it to the path.
 pub fn tell(out: &mut [u8], input: &[u8]) -> usize
-    ensures { PutWithin 69632 (stationsOf input.now) 0 out.old out.new result }
+    ensures { PutWithin 69632 (stations_of input.now) 0 out.old out.new result }
 {
     let first = reader_at(input, 0);
     let line = first.line();

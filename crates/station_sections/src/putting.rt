@@ -2,7 +2,7 @@
 ghost use Rattle.std.specs.Prelude.{◌≡◌, ◌+◌, ◌≤◌, ◌<◌, length};
 ghost use Rattle.path_stored.specs.Buffers.{before, lent};
 ghost use Rattle.station_lines.specs.Put.{PutWithin};
-ghost use Rattle.station_sections.specs.Sections.{Ready, Tellable, progressOf, segmentLines, stationOf, stationLines};
+ghost use Rattle.station_sections.specs.Sections.{Ready, Tellable, progress_of, segment_lines, station_of, station_lines};
 
 use path_query::inner::flight;
 use station_lines::inner::{put_segment, put_station};
@@ -17,7 +17,7 @@ pub fn put_segments(
     commands: &[u32],
 ) -> usize
     requires { Tellable kinds.now lengths.now commands.now × (from + 5632 ≤ 69632) }
-    ensures { PutWithin 5632 (segmentLines kinds.now lengths.now commands.now) from out.old out.new result }
+    ensures { PutWithin 5632 (segment_lines kinds.now lengths.now commands.now) from out.old out.new result }
 {
     let mut at = from;
     let mut k = 0;
@@ -31,7 +31,7 @@ pub fn put_segments(
 // The progress of a station, counted from 0, of so many: the first is at 0 and the last at 1.
 fn progress(number: usize, count: usize) -> Progress
     requires { (number < count) × (2 ≤ count) × (count ≤ 1000) }
-    ensures { result.value ≡ progressOf count number }
+    ensures { result.value ≡ progress_of count number }
 {
     let last = count - 1;
     Progress {
@@ -52,7 +52,7 @@ fn put_one(
     commands: &[u32],
 ) -> usize
     requires { Ready (lent kinds fields tables lengths commands) count × (number < count) × (at + 44 ≤ 69632) }
-    ensures { PutWithin 44 (stationOf (before kinds fields tables lengths commands) count number) at out.old out.new result }
+    ensures { PutWithin 44 (station_of (before kinds fields tables lengths commands) count number) at out.old out.new result }
 {
     let along = progress(number, count);
     let there = flight(kinds, fields, tables, lengths, commands, along);
@@ -74,7 +74,7 @@ pub fn put_stations(
     commands: &[u32],
 ) -> usize
     requires { Ready (lent kinds fields tables lengths commands) count × (from + 44000 ≤ 69632) }
-    ensures { PutWithin 44000 (stationLines (before kinds fields tables lengths commands) count) from out.old out.new result }
+    ensures { PutWithin 44000 (station_lines (before kinds fields tables lengths commands) count) from out.old out.new result }
 {
     let mut at = from;
     let mut number = 0;

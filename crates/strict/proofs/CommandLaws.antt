@@ -8,50 +8,50 @@ use mathlib.Core.Logic.{◌⊎◌, inl, inr, ⊎_elim}
 use native.Mathlib.Omega.{arith}
 use lib.Dec.{T}
 use lib.ListN.{length}
-use Rattle.scan.specs.Bytes.{among, numberStarts}
+use Rattle.scan.specs.Bytes.{among, number_starts}
 use Rattle.scan.specs.Runs.{stands}
 use Rattle.scan.proofs.ByteLaws.{withinb, clash, either_way}
 use Rattle.scan.proofs.RunLaws.{stands-within}
 use Rattle.strict_grammar.specs.Spans.{Span, Byte, ◌·◌, ◌∥◌, opt, star, none, more, longest, sequence, last, then}
-use Rattle.strict_grammar.specs.Grammar.{whiteOf, wsp, comma-wsp, moveto, moveto-argument-sequence, lineto, horizontal-lineto, vertical-lineto, curveto, smooth-curveto}
+use Rattle.strict_grammar.specs.Grammar.{white_of, wsp, comma-wsp, moveto, moveto-argument-sequence, lineto, horizontal-lineto, vertical-lineto, curveto, smooth-curveto}
 use Rattle.strict_grammar.specs.Grammar.{quadratic-bezier-curveto, smooth-quadratic-bezier-curveto, closepath, elliptical-arc, drawto-command}
-use Rattle.strict_grammar.specs.Words.{Past, Lacks, Only, Goes, pastWhiteIn}
+use Rattle.strict_grammar.specs.Words.{Past, Lacks, Only, Goes, past_white_in}
 use Rattle.strict_grammar.specs.declared.Edition.{Edition}
 use Rattle.strict_grammar.proofs.SpanLaws.{standing, not_byte, not-both, other, wider, star-le, run-same, run-found}
 use Rattle.strict_grammar.proofs.Separators.{number-apart}
 use Rattle.strict_argument.specs.Reading
-use Rattle.strict_argument.specs.Reading.{Reads, nowhere, argumentOf}
+use Rattle.strict_argument.specs.Reading.{Reads, nowhere, argument_of}
 use Rattle.strict_argument.specs.declared.groups.Kind.{Kind}
 use Rattle.strict_argument.specs.declared.groups.Kind.TheVariants.{Coordinate, Pair, TwoPairs, ThreePairs, Arc}
 use Rattle.strict_argument.proofs.Starts.{argument-starts, argument-grows}
-use Rattle.strict.specs.Commands.{moveLetters, closeLetters, lettersOf, commandLetters, Reaches, ends, missing, Arguments, Item, Further, Command}
+use Rattle.strict.specs.Commands.{move_letters, close_letters, letters_of, command_letters, Reaches, ends, missing, Arguments, Item, Further, Command}
 use Rattle.strict.proofs.Sequences.{to-star, of-star, items-le}
 use Rattle.strict.proofs.Letters.{kinds-apart, close-apart, move-apart, kind-within, halves}
 
 module _ (edition : Edition) (text : List ℕ) where
-  not_white : (q : ℕ) → stands text q numberStarts ≡ true → stands text q (whiteOf edition) ≡ false
-  not_white q h = other {l = numberStarts} (whiteOf edition) (number-apart edition) (standing numberStarts q h)
+  not_white : (q : ℕ) → stands text q number_starts ≡ true → stands text q (white_of edition) ≡ false
+  not_white q h = other {l = number_starts} (white_of edition) (number-apart edition) (standing number_starts q h)
 
   -- ---- white space and a sequence of arguments
 
-  module _ (kind : Kind) (i m : ℕ) (found : m ≡ pastWhiteIn edition text i) where
+  module _ (kind : Kind) (i m : ℕ) (found : m ≡ past_white_in edition text i) where
     the-white : longest (star (wsp edition text)) i m
-    the-white = subst (λ (y : ℕ). longest (star (wsp edition text)) i y) (sym found) (run-found (whiteOf edition) text i)
+    the-white = subst (λ (y : ℕ). longest (star (wsp edition text)) i y) (sym found) (run-found (white_of edition) text i)
 
-    at-white : (x n : ℕ) → star (wsp edition text) i x → argumentOf edition text kind x n → x ≡ m
+    at-white : (x n : ℕ) → star (wsp edition text) i x → argument_of edition text kind x n → x ≡ m
     at-white x n w p = run-same the-white w (not_white x (argument-starts edition text kind x n p))
 
-    pub arguments-missing : (w : ℕ) → Reads (argumentOf edition text kind) m w → w ≡ nowhere → Reaches (Arguments edition text kind) (Goes edition text) i nowhere
+    pub arguments-missing : (w : ℕ) → Reads (argument_of edition text kind) m w → w ≡ nowhere → Reaches (Arguments edition text kind) (Goes edition text) i nowhere
     arguments-missing w (Reading.ends lt h) e = absurd (omega arith)
     arguments-missing w (Reading.missing _ h) e = missing refl lacks
       where
         lacks : Lacks (Arguments edition text kind) i
         lacks q (x, white, u) =
             let v = to-star u in
-            h v.0 (subst (λ (a : ℕ). argumentOf edition text kind a v.0) (at-white x v.0 white v.1) v.1)
+            h v.0 (subst (λ (a : ℕ). argument_of edition text kind a v.0) (at-white x v.0 white v.1) v.1)
 
     pub arguments-past :
-        (j n : ℕ) → Reads (argumentOf edition text kind) m j → (j ≡ nowhere → ⊥) → Further edition text kind j n → Reaches (Arguments edition text kind) (Goes edition text) i n
+        (j n : ℕ) → Reads (argument_of edition text kind) m j → (j ≡ nowhere → ⊥) → Further edition text kind j n → Reaches (Arguments edition text kind) (Goes edition text) i n
     arguments-past j n (Reading.missing e h) there t = absurd (there e)
     arguments-past j n (Reading.ends lt p) there t =
         ends (⊎_elim (λ e. omega arith) (λ l. l) t.bounded) ((m, the-white.0, of-star p.0 t.past.0), word)
@@ -59,7 +59,7 @@ module _ (edition : Edition) (text : List ℕ) where
         word : (q : ℕ) → Arguments edition text kind i q → (q ≡ n) ⊎ Goes edition text q
         word q (x, w, u) =
             let v = to-star u in
-            let y = p.1 v.0 (subst (λ (a : ℕ). argumentOf edition text kind a v.0) (at-white x v.0 w v.1) v.1) in
+            let y = p.1 v.0 (subst (λ (a : ℕ). argument_of edition text kind a v.0) (at-white x v.0 w v.1) v.1) in
             t.past.1 q (subst (λ (a : ℕ). star (Item edition text kind) a q) y v.2)
 
   arguments-grow : (kind : Kind) (i j : ℕ) → Arguments edition text kind i j → i < j
@@ -80,17 +80,17 @@ module _ (edition : Edition) (text : List ℕ) where
     letter-taken h r (ends lt w) = ends lt ((i + 1, standing class i h, w.0), λ q v. w.1 q (past-letter q v))
     letter-taken h r (missing e w) = missing e (λ q v. w q (past-letter q v))
 
-    has-letter : T (withinb class commandLetters) → (q : ℕ) → (Byte text class · R) i q → stands text i commandLetters ≡ true
-    has-letter t q v = (wider {m = commandLetters} t v.1).there
+    has-letter : T (withinb class command_letters) → (q : ℕ) → (Byte text class · R) i q → stands text i command_letters ≡ true
+    has-letter t q v = (wider {m = command_letters} t v.1).there
 
   -- ---- the moveto, and the drawto-commands by kind
 
   -- a letter of a kind, and its arguments
   abbrev Drawn : Kind → Span
-  Drawn kind = Byte text (lettersOf kind) · Arguments edition text kind
+  Drawn kind = Byte text (letters_of kind) · Arguments edition text kind
 
   abbrev Moved : Span
-  Moved = Byte text moveLetters · Arguments edition text Pair
+  Moved = Byte text move_letters · Arguments edition text Pair
 
   -- a moveto's arguments are a sequence of pairs
   to-moveto : (i q : ℕ) → Moved i q → moveto edition text i q
@@ -104,7 +104,7 @@ module _ (edition : Edition) (text : List ℕ) where
   of-moveto i q (x, b, (y, w, inr (k, p, (m, c, u)))) = (x, b, (y, w, then p c u))
 
   -- a drawto-command is a closepath, or a letter of a kind and its arguments
-  pub by-letter : (i q : ℕ) → drawto-command edition text i q → Byte text closeLetters i q ⊎ ((kind : Kind) × Drawn kind i q)
+  pub by-letter : (i q : ℕ) → drawto-command edition text i q → Byte text close_letters i q ⊎ ((kind : Kind) × Drawn kind i q)
   unfolding drawto-command closepath lineto horizontal-lineto vertical-lineto curveto smooth-curveto quadratic-bezier-curveto smooth-quadratic-bezier-curveto elliptical-arc among
   by-letter i q (inl b) = inl b
   by-letter i q (inr (inl (x, b, u))) = inr (Pair, (x, wider tt b, u))
@@ -126,23 +126,23 @@ module _ (edition : Edition) (text : List ℕ) where
   of-kind ThreePairs i q w = inr (inr (inr (inr (inl w))))
   of-kind Arc i q w = inr (inr (inr (inr (inr (inr (inr (inr w)))))))
 
-  of-close : (i q : ℕ) → Byte text closeLetters i q → drawto-command edition text i q
+  of-close : (i q : ℕ) → Byte text close_letters i q → drawto-command edition text i q
   unfolding drawto-command closepath
   of-close i q b = inl b
 
   -- ---- each command has its letter and a byte
 
-  draw-letter : (i q : ℕ) → drawto-command edition text i q → stands text i commandLetters ≡ true
+  draw-letter : (i q : ℕ) → drawto-command edition text i q → stands text i command_letters ≡ true
   unfolding among
   draw-letter i q d =
-      ⊎_elim (λ b. (wider {l = closeLetters} {m = commandLetters} tt b).there)
-      (λ p. has-letter (lettersOf p.0) (Arguments edition text p.0) i (kind-within p.0) q p.1) (by-letter i q d)
+      ⊎_elim (λ b. (wider {l = close_letters} {m = command_letters} tt b).there)
+      (λ p. has-letter (letters_of p.0) (Arguments edition text p.0) i (kind-within p.0) q p.1) (by-letter i q d)
 
-  move-letter : (i q : ℕ) → moveto edition text i q → stands text i commandLetters ≡ true
+  move-letter : (i q : ℕ) → moveto edition text i q → stands text i command_letters ≡ true
   unfolding among
-  move-letter i q w = has-letter moveLetters (Arguments edition text Pair) i tt q (of-moveto i q w)
+  move-letter i q w = has-letter move_letters (Arguments edition text Pair) i tt q (of-moveto i q w)
 
-  pub command-letter : (begun : Bool) (i q : ℕ) → Command edition text begun i q → stands text i commandLetters ≡ true
+  pub command-letter : (begun : Bool) (i q : ℕ) → Command edition text begun i q → stands text i command_letters ≡ true
   command-letter true i q (inl w) = move-letter i q w
   command-letter true i q (inr w) = draw-letter i q w
   command-letter false i q w = move-letter i q w
@@ -151,11 +151,11 @@ module _ (edition : Edition) (text : List ℕ) where
   lettered-grows class kind i q (x, b, u) = let y = b.next in let z = arguments-grow kind x q u in omega arith
 
   move-grows : (i q : ℕ) → moveto edition text i q → i < q
-  move-grows i q w = lettered-grows moveLetters Pair i q (of-moveto i q w)
+  move-grows i q w = lettered-grows move_letters Pair i q (of-moveto i q w)
 
   draw-grows : (i q : ℕ) → drawto-command edition text i q → i < q
   draw-grows i q d =
-      ⊎_elim (λ b. let y = b.next in omega arith) (λ p. lettered-grows (lettersOf p.0) p.0 i q p.1) (by-letter i q d)
+      ⊎_elim (λ b. let y = b.next in omega arith) (λ p. lettered-grows (letters_of p.0) p.0 i q p.1) (by-letter i q d)
 
   pub command-grows : (begun : Bool) (i q : ℕ) → Command edition text begun i q → i < q
   command-grows true i q (inl w) = move-grows i q w
@@ -166,12 +166,12 @@ module _ (edition : Edition) (text : List ℕ) where
 
   module _ (i : ℕ) where
     -- M: a moveto and no other command
-    module _ (h : stands text i moveLetters ≡ true) where
+    module _ (h : stands text i move_letters ≡ true) where
       no-draw : Lacks (drawto-command edition text) i
       unfolding among
       no-draw q d =
-          ⊎_elim (λ b. not-both {l = moveLetters} {m = closeLetters} tt (standing moveLetters i h) b)
-          (λ p. not-both (move-apart p.0) (standing moveLetters i h) p.1.1) (by-letter i q d)
+          ⊎_elim (λ b. not-both {l = move_letters} {m = close_letters} tt (standing move_letters i h) b)
+          (λ p. not-both (move-apart p.0) (standing move_letters i h) p.1.1) (by-letter i q d)
 
       moved : (begun : Bool) (q : ℕ) → Command edition text begun i q → Moved i q
       moved true q (inl w) = of-moveto i q w
@@ -183,49 +183,49 @@ module _ (edition : Edition) (text : List ℕ) where
       of-moved false q w = to-moveto i q w
 
       pub moves : (begun : Bool) (r : ℕ) → Reaches (Arguments edition text Pair) (Goes edition text) (i + 1) r → Reaches (Command edition text begun) (Goes edition text) i r
-      moves begun r w = go (letter-taken moveLetters (Arguments edition text Pair) i h r w)
+      moves begun r w = go (letter-taken move_letters (Arguments edition text Pair) i h r w)
         where
           go : Reaches Moved (Goes edition text) i r → Reaches (Command edition text begun) (Goes edition text) i r
           go (ends lt v) = ends lt (of-moved begun r v.0, λ q c. v.1 q (moved begun q c))
           go (missing e v) = missing e (λ q c. v q (moved begun q c))
 
     -- another letter: no moveto
-    no_move : stands text i moveLetters ≡ false → Lacks (moveto edition text) i
+    no_move : stands text i move_letters ≡ false → Lacks (moveto edition text) i
     no_move h q w = not_byte h (of-moveto i q w).1
 
-    drawn : stands text i moveLetters ≡ false → (q : ℕ) → Command edition text true i q → drawto-command edition text i q
+    drawn : stands text i move_letters ≡ false → (q : ℕ) → Command edition text true i q → drawto-command edition text i q
     drawn h q (inl w) = absurd (no_move h q w)
     drawn h q (inr d) = d
 
-    close-no-move : stands text i closeLetters ≡ true → stands text i moveLetters ≡ false
+    close-no-move : stands text i close_letters ≡ true → stands text i move_letters ≡ false
     unfolding among
-    close-no-move h = other {l = closeLetters} moveLetters tt (standing closeLetters i h)
+    close-no-move h = other {l = close_letters} move_letters tt (standing close_letters i h)
 
     -- Z: one byte
-    pub closes : length text < nowhere → stands text i closeLetters ≡ true → Reaches (Command edition text true) (Goes edition text) i (i + 1)
+    pub closes : length text < nowhere → stands text i close_letters ≡ true → Reaches (Command edition text true) (Goes edition text) i (i + 1)
     closes room h =
-        let w = stands-within closeLetters text i h in
-        ends (omega arith) (inr (of-close i (i + 1) (standing closeLetters i h)), λ q c. word q (by-letter i q (drawn (close-no-move h) q c)))
+        let w = stands-within close_letters text i h in
+        ends (omega arith) (inr (of-close i (i + 1) (standing close_letters i h)), λ q c. word q (by-letter i q (drawn (close-no-move h) q c)))
       where
-        word : (q : ℕ) → Byte text closeLetters i q ⊎ ((kind : Kind) × Drawn kind i q) → (q ≡ i + 1) ⊎ Goes edition text q
+        word : (q : ℕ) → Byte text close_letters i q ⊎ ((kind : Kind) × Drawn kind i q) → (q ≡ i + 1) ⊎ Goes edition text q
         word q (inl b) = inl b.next
-        word q (inr p) = absurd (not-both (close-apart p.0) (standing closeLetters i h) p.1.1)
+        word q (inr p) = absurd (not-both (close-apart p.0) (standing close_letters i h) p.1.1)
 
-    pub closes-not-begun : stands text i closeLetters ≡ true → Reaches (Command edition text false) (Goes edition text) i nowhere
+    pub closes-not-begun : stands text i close_letters ≡ true → Reaches (Command edition text false) (Goes edition text) i nowhere
     closes-not-begun h = missing refl (no_move (close-no-move h))
 
     -- a letter that takes arguments
-    module _ (kind : Kind) (h : stands text i (lettersOf kind) ≡ true) where
-      kind-no-move : stands text i moveLetters ≡ false
-      kind-no-move = ⊎_elim (λ g. absurd (not-both (move-apart kind) (standing moveLetters i g) (standing (lettersOf kind) i h))) (λ g. g) (either_way (stands text i moveLetters))
+    module _ (kind : Kind) (h : stands text i (letters_of kind) ≡ true) where
+      kind-no-move : stands text i move_letters ≡ false
+      kind-no-move = ⊎_elim (λ g. absurd (not-both (move-apart kind) (standing move_letters i g) (standing (letters_of kind) i h))) (λ g. g) (either_way (stands text i move_letters))
 
-      same_kind : (q : ℕ) → Byte text closeLetters i q ⊎ ((other-kind : Kind) × Drawn other-kind i q) → Drawn kind i q
-      same_kind q (inl b) = absurd (not-both (close-apart kind) b (standing (lettersOf kind) i h))
+      same_kind : (q : ℕ) → Byte text close_letters i q ⊎ ((other-kind : Kind) × Drawn other-kind i q) → Drawn kind i q
+      same_kind q (inl b) = absurd (not-both (close-apart kind) b (standing (letters_of kind) i h))
       same_kind q (inr (m, v)) =
-          ⊎_elim (λ z. subst (λ (y : Kind). Drawn y i q) (sym z) v) (λ t. absurd (not-both t (standing (lettersOf kind) i h) v.1)) (kinds-apart kind m)
+          ⊎_elim (λ z. subst (λ (y : Kind). Drawn y i q) (sym z) v) (λ t. absurd (not-both t (standing (letters_of kind) i h) v.1)) (kinds-apart kind m)
 
       pub takes : (r : ℕ) → Reaches (Arguments edition text kind) (Goes edition text) (i + 1) r → Reaches (Command edition text true) (Goes edition text) i r
-      takes r w = go (letter-taken (lettersOf kind) (Arguments edition text kind) i h r w)
+      takes r w = go (letter-taken (letters_of kind) (Arguments edition text kind) i h r w)
         where
           word : (q : ℕ) → Command edition text true i q → Drawn kind i q
           word q c = same_kind q (by-letter i q (drawn kind-no-move q c))
@@ -238,7 +238,7 @@ module _ (edition : Edition) (text : List ℕ) where
       takes-not-begun = missing refl (no_move kind-no-move)
 
     -- no letter of a command
-    pub no-letter : (begun : Bool) → stands text i commandLetters ≡ false → Reaches (Command edition text begun) (Goes edition text) i nowhere
+    pub no-letter : (begun : Bool) → stands text i command_letters ≡ false → Reaches (Command edition text begun) (Goes edition text) i nowhere
     no-letter begun h = missing refl (λ q c. clash (command-letter begun i q c) h)
 
 -- ---- the reader's answer, by the test for `nowhere`

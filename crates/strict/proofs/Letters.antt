@@ -14,12 +14,12 @@ use Rattle.strict_grammar.specs.Spans.{Byte}
 use Rattle.strict_grammar.proofs.SpanLaws.{inside}
 use Rattle.strict_argument.specs.declared.groups.Kind.{Kind}
 use Rattle.strict_argument.specs.declared.groups.Kind.TheVariants.{Coordinate, Pair, TwoPairs, ThreePairs, Arc}
-use Rattle.strict.specs.Commands.{moveLetters, closeLetters, lettersOf, commandLetters, LetterOf, LetterAt}
+use Rattle.strict.specs.Commands.{move_letters, close_letters, letters_of, command_letters, LetterOf, LetterAt}
 use Rattle.strict.specs.declared.commands.Letter.{Letter}
 use Rattle.strict.specs.declared.commands.Letter.TheVariants.{Moves, Closes, Takes, Other}
 
 -- the letters of two kinds have none in common
-pub kinds-apart : (k m : Kind) → (k ≡ m) ⊎ T (apartb (lettersOf k) (lettersOf m))
+pub kinds-apart : (k m : Kind) → (k ≡ m) ⊎ T (apartb (letters_of k) (letters_of m))
 unfolding among
 kinds-apart Coordinate Coordinate = inl refl
 kinds-apart Coordinate Pair = inr tt
@@ -47,7 +47,7 @@ kinds-apart Arc TwoPairs = inr tt
 kinds-apart Arc ThreePairs = inr tt
 kinds-apart Arc Arc = inl refl
 
-pub close-apart : (k : Kind) → T (apartb closeLetters (lettersOf k))
+pub close-apart : (k : Kind) → T (apartb close_letters (letters_of k))
 unfolding among
 close-apart Coordinate = tt
 close-apart Pair = tt
@@ -55,7 +55,7 @@ close-apart TwoPairs = tt
 close-apart ThreePairs = tt
 close-apart Arc = tt
 
-pub move-apart : (k : Kind) → T (apartb moveLetters (lettersOf k))
+pub move-apart : (k : Kind) → T (apartb move_letters (letters_of k))
 unfolding among
 move-apart Coordinate = tt
 move-apart Pair = tt
@@ -64,7 +64,7 @@ move-apart ThreePairs = tt
 move-apart Arc = tt
 
 -- the letters of a kind are a command's
-pub kind-within : (k : Kind) → T (withinb (lettersOf k) commandLetters)
+pub kind-within : (k : Kind) → T (withinb (letters_of k) command_letters)
 unfolding among
 kind-within Coordinate = tt
 kind-within Pair = tt
@@ -123,19 +123,19 @@ among-neither b (x ∷ l) m f g =
 
 -- a byte that no test takes begins no command
 pub no-letter-of :
-    (b : ℕ) → among b moveLetters ≡ false → among b closeLetters ≡ false → among b (lettersOf Pair) ≡ false
-    → among b (lettersOf Coordinate) ≡ false → among b (lettersOf ThreePairs) ≡ false → among b (lettersOf TwoPairs) ≡ false
-    → among b (lettersOf Arc) ≡ false → among b commandLetters ≡ false
+    (b : ℕ) → among b move_letters ≡ false → among b close_letters ≡ false → among b (letters_of Pair) ≡ false
+    → among b (letters_of Coordinate) ≡ false → among b (letters_of ThreePairs) ≡ false → among b (letters_of TwoPairs) ≡ false
+    → among b (letters_of Arc) ≡ false → among b command_letters ≡ false
 no-letter-of b move close pair coordinate three two arc =
-    among-neither b moveLetters _ move
-    (among-neither b closeLetters _ close
-    (among-neither b (lettersOf Coordinate) _ coordinate
-    (among-neither b (lettersOf Pair) _ pair
-    (among-neither b (lettersOf TwoPairs) _ two (among-neither b (lettersOf ThreePairs) _ three arc)))))
+    among-neither b move_letters _ move
+    (among-neither b close_letters _ close
+    (among-neither b (letters_of Coordinate) _ coordinate
+    (among-neither b (letters_of Pair) _ pair
+    (among-neither b (letters_of TwoPairs) _ two (among-neither b (letters_of ThreePairs) _ three arc)))))
 
 -- what a byte of the text begins stands at its place
 pub letter-stands : (text : List ℕ) (at : ℕ) → at < length text → (r : Letter) → LetterOf (get_or text at 0) r → LetterAt text at r
-letter-stands text at h Moves e = stands-inside moveLetters text at h ∙ e
-letter-stands text at h Closes e = stands-inside closeLetters text at h ∙ e
-letter-stands text at h (Takes kind) e = stands-inside (lettersOf kind) text at h ∙ e
-letter-stands text at h Other e = stands-inside commandLetters text at h ∙ e
+letter-stands text at h Moves e = stands-inside move_letters text at h ∙ e
+letter-stands text at h Closes e = stands-inside close_letters text at h ∙ e
+letter-stands text at h (Takes kind) e = stands-inside (letters_of kind) text at h ∙ e
+letter-stands text at h Other e = stands-inside command_letters text at h ∙ e

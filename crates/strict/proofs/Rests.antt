@@ -9,18 +9,18 @@ use native.Mathlib.Omega.{arith}
 use lib.Dec.{T}
 use borrow.Author.Tests.{ltb-false}
 use lib.ListN.{length}
-use Rattle.scan.specs.Bytes.{among, commas, numberStarts}
+use Rattle.scan.specs.Bytes.{among, commas, number_starts}
 use Rattle.scan.specs.Runs.{stands}
 use Rattle.scan.proofs.ByteLaws.{apartb, clash}
 use Rattle.scan.proofs.RunLaws.{stands-within, stands-past}
 use Rattle.strict_grammar.specs.Spans.{Span, ◌·◌, ◌∥◌, opt, star, none, more, longest, sequence, last, then}
-use Rattle.strict_grammar.specs.Grammar.{whiteOf, wsp, gap, comma-wsp, moveto, drawto-command, drawto-commands, moveto-drawto-command-group, moveto-drawto-command-groups, svg-path, Matches}
-use Rattle.strict_grammar.specs.Words.{Past, Lacks, Goes, pastWhiteIn, pastGapOf}
+use Rattle.strict_grammar.specs.Grammar.{white_of, wsp, gap, comma-wsp, moveto, drawto-command, drawto-commands, moveto-drawto-command-group, moveto-drawto-command-groups, svg-path, Matches}
+use Rattle.strict_grammar.specs.Words.{Past, Lacks, Goes, past_white_in, past_gap_of}
 use Rattle.strict_grammar.specs.declared.Edition.{Edition}
 use Rattle.strict_grammar.specs.declared.Edition.TheVariants.{Svg11, Svg2}
 use Rattle.strict_grammar.proofs.SpanLaws.{standing, other, le-or, joined, star-le, star-stops, star-rest, plus-star, run-same, run-found}
 use Rattle.strict_grammar.proofs.Separators.{comma-apart, number-apart}
-use Rattle.strict.specs.Commands.{commandLetters, Command, aloneOf}
+use Rattle.strict.specs.Commands.{command_letters, Command, alone_of}
 use Rattle.strict.proofs.CommandLaws.{command-letter}
 
 pub data Rest (edition : Edition) (text : List ℕ) (alone : Bool) : Bool → ℕ → Type 0 where
@@ -33,7 +33,7 @@ and-false : (t : Bool) → (t && false) ≡ false
 and-false true = refl
 and-false false = refl
 
-letter-apart : (edition : Edition) → T (apartb commandLetters (whiteOf edition))
+letter-apart : (edition : Edition) → T (apartb command_letters (white_of edition))
 unfolding among
 letter-apart Svg11 = tt
 letter-apart Svg2 = tt
@@ -53,19 +53,19 @@ pub gap-white : (edition : Edition) (text : List ℕ) (i j : ℕ) → gap editio
 gap-white Svg11 text i j w = w
 gap-white Svg2 text i j w = none w
 
-gap-found : (edition : Edition) (text : List ℕ) (i : ℕ) → gap edition text i (pastGapOf edition text i)
-unfolding pastGapOf
-gap-found Svg11 text i = (run-found (whiteOf Svg11) text i).0
+gap-found : (edition : Edition) (text : List ℕ) (i : ℕ) → gap edition text i (past_gap_of edition text i)
+unfolding past_gap_of
+gap-found Svg11 text i = (run-found (white_of Svg11) text i).0
 gap-found Svg2 text i = refl
 
 -- where no white space follows, it is the one that the reader passes
-gap_same : (edition : Edition) (text : List ℕ) (i k : ℕ) → gap edition text i k → stands text k (whiteOf edition) ≡ false → k ≡ pastGapOf edition text i
-unfolding pastGapOf
-gap_same Svg11 text i k w h = run-same (run-found (whiteOf Svg11) text i) w h
+gap_same : (edition : Edition) (text : List ℕ) (i k : ℕ) → gap edition text i k → stands text k (white_of edition) ≡ false → k ≡ past_gap_of edition text i
+unfolding past_gap_of
+gap_same Svg11 text i k w h = run-same (run-found (white_of Svg11) text i) w h
 gap_same Svg2 text i k w h = sym w
 
-pub gap-onward : (edition : Edition) (text : List ℕ) (i k : ℕ) → k ≡ pastGapOf edition text i → i ≤ k
-gap-onward edition text i k e = let h = star-le (gap-white edition text i (pastGapOf edition text i) (gap-found edition text i)) in omega arith
+pub gap-onward : (edition : Edition) (text : List ℕ) (i k : ℕ) → k ≡ past_gap_of edition text i → i ≤ k
+gap-onward edition text i k e = let h = star-le (gap-white edition text i (past_gap_of edition text i) (gap-found edition text i)) in omega arith
 
 module _ (edition : Edition) (text : List ℕ) where
   -- ---- from the groups
@@ -121,37 +121,37 @@ module _ (edition : Edition) (text : List ℕ) where
 
   -- ---- what stands where a command is due: no white space, no comma, no number
 
-  due : (class : List ℕ) → T (apartb commandLetters class) → {alone begun : Bool} {k : ℕ} → Rest edition text alone begun k → stands text k class ≡ false
+  due : (class : List ℕ) → T (apartb command_letters class) → {alone begun : Bool} {k : ℕ} → Rest edition text alone begun k → stands text k class ≡ false
   due class t {k = k} (ended z) = stands-past class text k (omega arith)
-  due class t (goes_on {begun = b} {i = k} j _ c w r) = other class t (standing commandLetters k (command-letter edition text b k j c))
+  due class t (goes_on {begun = b} {i = k} j _ c w r) = other class t (standing command_letters k (command-letter edition text b k j c))
 
-  due-white : {alone begun : Bool} {k : ℕ} → Rest edition text alone begun k → stands text k (whiteOf edition) ≡ false
-  due-white r = due (whiteOf edition) (letter-apart edition) r
+  due-white : {alone begun : Bool} {k : ℕ} → Rest edition text alone begun k → stands text k (white_of edition) ≡ false
+  due-white r = due (white_of edition) (letter-apart edition) r
 
-  due-number : {alone begun : Bool} {k : ℕ} → Rest edition text alone begun k → stands text k numberStarts ≡ false
+  due-number : {alone begun : Bool} {k : ℕ} → Rest edition text alone begun k → stands text k number_starts ≡ false
   unfolding among
-  due-number r = due numberStarts tt r
+  due-number r = due number_starts tt r
 
   due-comma : {alone begun : Bool} {k : ℕ} → Rest edition text alone begun k → stands text k commas ≡ false
   unfolding among
   due-comma r = due commas tt r
 
-  number-no-white : (m : ℕ) → stands text m numberStarts ≡ true → stands text m (whiteOf edition) ≡ false
-  number-no-white m h = other {l = numberStarts} (whiteOf edition) (number-apart edition) (standing numberStarts m h)
+  number-no-white : (m : ℕ) → stands text m number_starts ≡ true → stands text m (white_of edition) ≡ false
+  number-no-white m h = other {l = number_starts} (white_of edition) (number-apart edition) (standing number_starts m h)
 
-  comma-no-white : (m : ℕ) → stands text m commas ≡ true → stands text m (whiteOf edition) ≡ false
-  comma-no-white m h = other {l = commas} (whiteOf edition) (comma-apart edition) (standing commas m h)
+  comma-no-white : (m : ℕ) → stands text m commas ≡ true → stands text m (white_of edition) ≡ false
+  comma-no-white m h = other {l = commas} (white_of edition) (comma-apart edition) (standing commas m h)
 
   -- two runs of white space from one place that end where it does
   ends_same :
-      {i j k : ℕ} → star (wsp edition text) i j → stands text j (whiteOf edition) ≡ false → star (wsp edition text) i k → stands text k (whiteOf edition) ≡ false → j ≡ k
+      {i j k : ℕ} → star (wsp edition text) i j → stands text j (white_of edition) ≡ false → star (wsp edition text) i k → stands text k (white_of edition) ≡ false → j ≡ k
   ends_same {i} {j} {k} a f b g = ⊎_elim (λ h. star-stops f (star-rest a b h)) (λ h. sym (star-stops g (star-rest b a h))) (le-or j k)
 
   -- where a sequence could go on, no command is due after the white space
   module _ {alone : Bool} {j k : ℕ} (w : star (wsp edition text) j k) (r : Rest edition text alone true k) where
-    not-number : (m : ℕ) → star (wsp edition text) j m → stands text m numberStarts ≡ true → ⊥
+    not-number : (m : ℕ) → star (wsp edition text) j m → stands text m number_starts ≡ true → ⊥
     not-number m u h =
-        clash h (subst (λ (y : ℕ). stands text y numberStarts ≡ false) (sym (ends_same u (number-no-white m h) w (due-white r))) (due-number r))
+        clash h (subst (λ (y : ℕ). stands text y number_starts ≡ false) (sym (ends_same u (number-no-white m h) w (due-white r))) (due-number r))
 
     not-comma : (m : ℕ) → star (wsp edition text) j m → stands text m commas ≡ true → ⊥
     not-comma m u h =
@@ -167,18 +167,18 @@ module _ (edition : Edition) (text : List ℕ) where
 
 -- ---- before the first command
 
-pub white-found : (edition : Edition) (text : List ℕ) (i k : ℕ) → k ≡ pastWhiteIn edition text i → longest (star (wsp edition text)) i k
-white-found edition text i k e = subst (λ (y : ℕ). longest (star (wsp edition text)) i y) (sym e) (run-found (whiteOf edition) text i)
+pub white-found : (edition : Edition) (text : List ℕ) (i k : ℕ) → k ≡ past_white_in edition text i → longest (star (wsp edition text)) i k
+white-found edition text i k e = subst (λ (y : ℕ). longest (star (wsp edition text)) i y) (sym e) (run-found (white_of edition) text i)
 
 -- the white space before a rest is all that there is
-led : (edition : Edition) (text : List ℕ) {alone begun : Bool} (k : ℕ) → k ≡ pastWhiteIn edition text 0 → (i : ℕ) → star (wsp edition text) 0 i
+led : (edition : Edition) (text : List ℕ) {alone begun : Bool} (k : ℕ) → k ≡ past_white_in edition text 0 → (i : ℕ) → star (wsp edition text) 0 i
     → Rest edition text alone begun i → i ≡ k
 led edition text k e i w r = run-same (white-found edition text 0 k e) w (due-white edition text r)
 
 abbrev pub Started : Edition → List ℕ → ℕ → Type 0
-Started edition text k = Rest edition text (aloneOf edition k) false k
+Started edition text k = Rest edition text (alone_of edition k) false k
 
-pub to-started : (edition : Edition) (text : List ℕ) (k : ℕ) → k ≡ pastWhiteIn edition text 0 → Matches edition text → Started edition text k
+pub to-started : (edition : Edition) (text : List ℕ) (k : ℕ) → k ≡ past_white_in edition text 0 → Matches edition text → Started edition text k
 unfolding Matches svg-path moveto-drawto-command-groups
 to-started Svg11 text k e (a, w, (b, inl gs, u)) =
     let r = groups Svg11 text gs (length text, u, ended refl) in
@@ -186,8 +186,8 @@ to-started Svg11 text k e (a, w, (b, inl gs, u)) =
 to-started Svg11 text k e (a, w, (b, inr z, u)) =
     ended (sym (led Svg11 text {alone = false} {begun = false} k e (length text) (joined w (subst (λ (q : ℕ). star (wsp Svg11 text) q (length text)) (sym z) u)) (ended refl)))
 to-started Svg2 text k e (inl (a, w, inl m)) =
-    let r = lone (aloneOf Svg2 k) in
-    subst (Rest Svg2 text (aloneOf Svg2 k) false) (led Svg2 text k e a w r) r
+    let r = lone (alone_of Svg2 k) in
+    subst (Rest Svg2 text (alone_of Svg2 k) false) (led Svg2 text k e a w r) r
   where
     lone : (alone : Bool) → Rest Svg2 text alone false a
     lone alone = goes_on {begun = false} (length text) (and-false alone) m refl (ended refl)
@@ -197,16 +197,16 @@ to-started Svg2 text k e (inr (inl gs)) =
     subst (Started Svg2 text) (led Svg2 text k e 0 (none refl) r) r
 to-started Svg2 text k e (inr (inr z)) = ended (sym (led Svg2 text {alone = false} {begun = false} k e 0 (none refl) (ended z)) ∙ z)
 
-of-started : (edition : Edition) (text : List ℕ) (k : ℕ) → k ≡ pastWhiteIn edition text 0 → Started edition text k → Matches edition text
+of-started : (edition : Edition) (text : List ℕ) (k : ℕ) → k ≡ past_white_in edition text 0 → Started edition text k → Matches edition text
 unfolding Matches svg-path
 of-started Svg11 text k e (ended z) = (k, (white-found Svg11 text 0 k e).0, (k, inr refl, subst (star (wsp Svg11 text) k) z (none refl)))
 of-started Svg11 text k e (goes_on j _ m u r) =
     let g = new-group Svg11 text k j m u (tail Svg11 text r) in
     (k, (white-found Svg11 text 0 k e).0, (g.0, inl g.1, g.2))
 of-started Svg2 text k e (ended z) = inl (k, (white-found Svg2 text 0 k e).0, inr z)
-of-started Svg2 text k e (goes_on {k = n} j _ m u r) = go (aloneOf Svg2 k) refl r
+of-started Svg2 text k e (goes_on {k = n} j _ m u r) = go (alone_of Svg2 k) refl r
   where
-    go : (alone : Bool) → aloneOf Svg2 k ≡ alone → Rest Svg2 text alone true n → svg-path Svg2 text 0 (length text)
+    go : (alone : Bool) → alone_of Svg2 k ≡ alone → Rest Svg2 text alone true n → svg-path Svg2 text 0 (length text)
     go true h (ended z) = inl (k, (white-found Svg2 text 0 k e).0, inl (subst (moveto Svg2 text k) (u ∙ z) m))
     go true h (goes_on _ f _ _ _) = absurd (clash refl f)
     go false h r =
@@ -215,7 +215,7 @@ of-started Svg2 text k e (goes_on {k = n} j _ m u r) = go (aloneOf Svg2 k) refl 
         inr (inl (subst (λ (q : ℕ). moveto-drawto-command-groups Svg2 text q (length text)) z (subst (moveto-drawto-command-groups Svg2 text k) g.2 g.1)))
 
 pub set_out :
-    (edition : Edition) (text : List ℕ) (k : ℕ) (alone : Bool) → k ≡ pastWhiteIn edition text 0 → alone ≡ aloneOf edition k
+    (edition : Edition) (text : List ℕ) (k : ℕ) (alone : Bool) → k ≡ past_white_in edition text 0 → alone ≡ alone_of edition k
     → (Matches edition text → Rest edition text alone false k) × (Rest edition text alone false k → Matches edition text)
 set_out edition text k alone e a =
     subst (λ (t : Bool). (Matches edition text → Rest edition text t false k) × (Rest edition text t false k → Matches edition text)) (sym a)
@@ -226,7 +226,7 @@ set_out edition text k alone e a =
 module _ (edition : Edition) (text : List ℕ) (alone : Bool) where
   -- after a command and a gap
   pub goes-forth :
-      (begun : Bool) (i j k : ℕ) → i < length text → Past (Command edition text begun) (Goes edition text) i j → k ≡ pastGapOf edition text j
+      (begun : Bool) (i j k : ℕ) → i < length text → Past (Command edition text begun) (Goes edition text) i j → k ≡ past_gap_of edition text j
       → Rest edition text alone begun i → Rest edition text alone true k
   goes-forth begun i j k h c e (ended z) = absurd (omega arith)
   goes-forth begun i j k h c e (goes_on {k = y} x _ m w t) =
@@ -235,7 +235,7 @@ module _ (edition : Edition) (text : List ℕ) (alone : Bool) where
       (λ g. absurd (no-goes edition text (gap-white edition text x y w) t g)) (c.1 x m)
 
   pub goes_back :
-      (begun : Bool) (i j k : ℕ) → (alone && begun) ≡ false → Past (Command edition text begun) (Goes edition text) i j → k ≡ pastGapOf edition text j
+      (begun : Bool) (i j k : ℕ) → (alone && begun) ≡ false → Past (Command edition text begun) (Goes edition text) i j → k ≡ past_gap_of edition text j
       → Rest edition text alone true k → Rest edition text alone begun i
   goes_back begun i j k f c e r = goes_on {begun = begun} j f c.0 (subst (gap edition text j) (sym e) (gap-found edition text j)) r
 
@@ -253,4 +253,4 @@ module _ (edition : Edition) (text : List ℕ) (alone : Bool) where
   pub at-end : (begun : Bool) (i : ℕ) → length text ≤ i → Rest edition text alone begun i → i ≡ length text
   at-end begun i h (ended z) = z
   at-end begun i h (goes_on x _ m w t) =
-      let g = stands-within commandLetters text i (command-letter edition text begun i x m) in absurd (omega arith)
+      let g = stands-within command_letters text i (command-letter edition text begun i x m) in absurd (omega arith)

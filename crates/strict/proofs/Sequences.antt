@@ -6,16 +6,16 @@ use mathlib.Core.List.{List}
 use mathlib.Core.Logic.{◌⊎◌, inl, inr, ⊎_elim}
 use native.Mathlib.Omega.{arith}
 use lib.ListN.{length}
-use Rattle.scan.specs.Bytes.{numberStarts}
+use Rattle.scan.specs.Bytes.{number_starts}
 use Rattle.scan.specs.Runs.{stands}
 use Rattle.scan.proofs.RunLaws.{stands-within}
 use Rattle.strict_grammar.specs.Spans.{Span, ◌·◌, opt, star, none, more, sequence, last, then}
 use Rattle.strict_grammar.specs.Grammar.{comma-wsp}
-use Rattle.strict_grammar.specs.Words.{Only, Lacks, Goes, pastSeparatorOf}
+use Rattle.strict_grammar.specs.Words.{Only, Lacks, Goes, past_separator_of}
 use Rattle.strict_grammar.specs.declared.Edition.{Edition}
 use Rattle.strict_grammar.proofs.SpanLaws.{snoc}
 use Rattle.strict_grammar.proofs.Separators.{separator-past, separator-forced, separator-le}
-use Rattle.strict_argument.specs.Reading.{Reads, ends, missing, nowhere, argumentOf}
+use Rattle.strict_argument.specs.Reading.{Reads, ends, missing, nowhere, argument_of}
 use Rattle.strict_argument.specs.declared.groups.Kind.{Kind}
 use Rattle.strict_argument.proofs.Starts.{argument-starts, argument-grows}
 use Rattle.strict.specs.Commands.{Item, Further}
@@ -35,13 +35,13 @@ module _ {P S : Span} where
 
 module _ (edition : Edition) (text : List ℕ) (kind : Kind) where
   -- the argument after the separator that was found
-  pub item : (i k r : ℕ) → k ≡ pastSeparatorOf edition text i → Reads (argumentOf edition text kind) k r → Reads (Item edition text kind) i r
+  pub item : (i k r : ℕ) → k ≡ past_separator_of edition text i → Reads (argument_of edition text kind) k r → Reads (Item edition text kind) i r
   item i k r s reads = go reads
     where
-      to-k : (n : ℕ) → Item edition text kind i n → argumentOf edition text kind k n
-      to-k n (y, c, d) = subst (λ (z : ℕ). argumentOf edition text kind z n) (separator-forced edition text i y c (argument-starts edition text kind y n d) ∙ sym s) d
+      to-k : (n : ℕ) → Item edition text kind i n → argument_of edition text kind k n
+      to-k n (y, c, d) = subst (λ (z : ℕ). argument_of edition text kind z n) (separator-forced edition text i y c (argument-starts edition text kind y n d) ∙ sym s) d
 
-      go : Reads (argumentOf edition text kind) k r → Reads (Item edition text kind) i r
+      go : Reads (argument_of edition text kind) k r → Reads (Item edition text kind) i r
       go (ends lt h) =
           ends lt ((k, subst (λ (z : ℕ). opt (comma-wsp edition text) i z) (sym s) (separator-past edition text i).0, h.0), λ n w. h.1 n (to-k n w))
       go (missing e h) = missing e (λ n w. h n (to-k n w))
@@ -53,7 +53,7 @@ module _ (edition : Edition) (text : List ℕ) (kind : Kind) where
   item-ahead i n (k, o, q) =
       let x = separator-le edition text i k o in
       let y = argument-grows edition text kind k n q in
-      let z = stands-within numberStarts text k (argument-starts edition text kind k n q) in
+      let z = stands-within number_starts text k (argument-starts edition text kind k n q) in
       (omega arith, omega arith)
 
   pub items-le : (i n : ℕ) → star (Item edition text kind) i n → i ≤ n

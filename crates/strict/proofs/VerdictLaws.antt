@@ -13,20 +13,20 @@ use Rattle.answers.proofs.Settled.{refusal-settled}
 use Rattle.strict_grammar.specs.Grammar.{Matches}
 use Rattle.strict_grammar.specs.declared.Edition.{Edition}
 use Rattle.strict_grammar.specs.declared.Edition.TheVariants.{Svg11, Svg2}
-use Rattle.strict.specs.Verdicts.{Judged, yes, no, tooLong, JudgedBy, known, unknown, number_of, answer_of, mostBytes}
+use Rattle.strict.specs.Verdicts.{Judged, yes, no, too_long, JudgedBy, known, unknown, number_of, answer_of, most_bytes}
 use Rattle.strict.specs.declared.texts.Verdict.{Verdict}
 use Rattle.strict.specs.declared.texts.Verdict.TheVariants.{Yes, No, Refused}
 
 judged-settled : (edition : Edition) (text : List ℕ) (a b : Answer) → Judged edition text a → Judged edition text b → a ≡ b
 judged-settled edition text a b (yes _ _ e) (yes _ _ f) = e ∙ sym f
 judged-settled edition text a b (yes _ m e) (no _ n f) = absurd (n m)
-judged-settled edition text a b (yes h _ e) (tooLong g f) = absurd (omega arith)
+judged-settled edition text a b (yes h _ e) (too_long g f) = absurd (omega arith)
 judged-settled edition text a b (no _ n e) (yes _ m f) = absurd (n m)
 judged-settled edition text a b (no _ _ e) (no _ _ f) = e ∙ sym f
-judged-settled edition text a b (no h _ e) (tooLong g f) = absurd (omega arith)
-judged-settled edition text a b (tooLong g e) (yes h _ f) = absurd (omega arith)
-judged-settled edition text a b (tooLong g e) (no h _ f) = absurd (omega arith)
-judged-settled edition text a b (tooLong _ e) (tooLong _ f) = e ∙ sym f
+judged-settled edition text a b (no h _ e) (too_long g f) = absurd (omega arith)
+judged-settled edition text a b (too_long g e) (yes h _ f) = absurd (omega arith)
+judged-settled edition text a b (too_long g e) (no h _ f) = absurd (omega arith)
+judged-settled edition text a b (too_long _ e) (too_long _ f) = e ∙ sym f
 
 -- the editions have numbers of their own
 number-tells : (a b : Edition) (n : ℕ) → n ≡ number_of a → n ≡ number_of b → a ≡ b
@@ -92,7 +92,7 @@ pub verdict-settled : (number : ℕ) (text : List ℕ) (r s : Verdict) → Judge
 verdict-settled number text r s p q = answer-tells r s (answer-settled number text (answer_of r) (answer_of s) p q)
 
 -- under a known edition the verdict on a text that is not too long is yes exactly where a derivation of the whole text exists
-module _ (edition : Edition) (text : List ℕ) (r : Verdict) (short : length text ≤ mostBytes) (judged : JudgedBy (number_of edition) text (answer_of r)) where
+module _ (edition : Edition) (text : List ℕ) (r : Verdict) (short : length text ≤ most_bytes) (judged : JudgedBy (number_of edition) text (answer_of r)) where
   pub yes-derives : r ≡ Yes → Matches edition text
   yes-derives e = go judged
     where
@@ -103,7 +103,7 @@ module _ (edition : Edition) (text : List ℕ) (r : Verdict) (short : length tex
           matched : Judged x text (answer_of r) → Matches x text
           matched (yes _ m _) = m
           matched (no _ _ f) = absurd (yes-apart (sym (ap answer_of e) ∙ f))
-          matched (tooLong h _) = absurd (omega arith)
+          matched (too_long h _) = absurd (omega arith)
 
   pub derives-yes : Matches edition text → r ≡ Yes
   derives-yes m = verdict-settled (number_of edition) text r Yes judged (known edition refl (yes short m refl))

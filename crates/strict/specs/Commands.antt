@@ -7,44 +7,44 @@ use Rattle.strict_grammar.specs.Grammar.{wsp, comma-wsp, moveto, drawto-command}
 use Rattle.strict_grammar.specs.Words.{Past, Lacks, Goes}
 use Rattle.strict_grammar.specs.declared.Edition.{Edition}
 use Rattle.strict_grammar.specs.declared.Edition.TheVariants.{Svg11, Svg2}
-use Rattle.strict_argument.specs.Reading.{nowhere, argumentOf}
+use Rattle.strict_argument.specs.Reading.{nowhere, argument_of}
 use Rattle.strict_argument.specs.declared.groups.Kind.{Kind}
 use Rattle.strict_argument.specs.declared.groups.Kind.TheVariants.{Coordinate, Pair, TwoPairs, ThreePairs, Arc}
 use Rattle.strict.specs.declared.commands.Letter.{Letter}
 use Rattle.strict.specs.declared.commands.Letter.TheVariants.{Moves, Closes, Takes, Other}
 
 -- M and Z in both cases
-abbrev pub moveLetters : List ℕ
-moveLetters = 77 ∷ 109 ∷ []
+abbrev pub move_letters : List ℕ
+move_letters = 77 ∷ 109 ∷ []
 
-abbrev pub closeLetters : List ℕ
-closeLetters = 90 ∷ 122 ∷ []
+abbrev pub close_letters : List ℕ
+close_letters = 90 ∷ 122 ∷ []
 
 -- the letters that take arguments of a kind: H V, L T, S Q, C and A in both cases
-abbrev pub lettersOf : Kind → List ℕ
-lettersOf Coordinate = 72 ∷ 104 ∷ 86 ∷ 118 ∷ []
-lettersOf Pair = 76 ∷ 108 ∷ 84 ∷ 116 ∷ []
-lettersOf TwoPairs = 83 ∷ 115 ∷ 81 ∷ 113 ∷ []
-lettersOf ThreePairs = 67 ∷ 99 ∷ []
-lettersOf Arc = 65 ∷ 97 ∷ []
+abbrev pub letters_of : Kind → List ℕ
+letters_of Coordinate = 72 ∷ 104 ∷ 86 ∷ 118 ∷ []
+letters_of Pair = 76 ∷ 108 ∷ 84 ∷ 116 ∷ []
+letters_of TwoPairs = 83 ∷ 115 ∷ 81 ∷ 113 ∷ []
+letters_of ThreePairs = 67 ∷ 99 ∷ []
+letters_of Arc = 65 ∷ 97 ∷ []
 
 -- all of them
-abbrev pub commandLetters : List ℕ
-commandLetters = moveLetters ++ closeLetters ++ lettersOf Coordinate ++ lettersOf Pair ++ lettersOf TwoPairs ++ lettersOf ThreePairs ++ lettersOf Arc
+abbrev pub command_letters : List ℕ
+command_letters = move_letters ++ close_letters ++ letters_of Coordinate ++ letters_of Pair ++ letters_of TwoPairs ++ letters_of ThreePairs ++ letters_of Arc
 
 -- what a byte begins
 abbrev pub LetterOf : ℕ → Letter → Type 0
-LetterOf byte Moves = among byte moveLetters ≡ true
-LetterOf byte Closes = among byte closeLetters ≡ true
-LetterOf byte (Takes kind) = among byte (lettersOf kind) ≡ true
-LetterOf byte Other = among byte commandLetters ≡ false
+LetterOf byte Moves = among byte move_letters ≡ true
+LetterOf byte Closes = among byte close_letters ≡ true
+LetterOf byte (Takes kind) = among byte (letters_of kind) ≡ true
+LetterOf byte Other = among byte command_letters ≡ false
 
 -- what the byte at a place begins
 abbrev pub LetterAt : List ℕ → ℕ → Letter → Type 0
-LetterAt text at Moves = stands text at moveLetters ≡ true
-LetterAt text at Closes = stands text at closeLetters ≡ true
-LetterAt text at (Takes kind) = stands text at (lettersOf kind) ≡ true
-LetterAt text at Other = stands text at commandLetters ≡ false
+LetterAt text at Moves = stands text at move_letters ≡ true
+LetterAt text at Closes = stands text at close_letters ≡ true
+LetterAt text at (Takes kind) = stands text at (letters_of kind) ≡ true
+LetterAt text at Other = stands text at command_letters ≡ false
 
 -- an answer is right for a production at a place: a word of it ends there, and where another one ends C holds; or `nowhere`, where it has none
 pub data Reaches (P : Span) (C : ℕ → Type 0) (i r : ℕ) : Type 0 where
@@ -53,11 +53,11 @@ pub data Reaches (P : Span) (C : ℕ → Type 0) (i r : ℕ) : Type 0 where
 
 -- white space, and a sequence of arguments of a kind
 abbrev pub Arguments : Edition → List ℕ → Kind → Span
-Arguments edition text kind = star (wsp edition text) · sequence (argumentOf edition text kind) (opt (comma-wsp edition text))
+Arguments edition text kind = star (wsp edition text) · sequence (argument_of edition text kind) (opt (comma-wsp edition text))
 
 -- a separator or none, and an argument of a kind
 abbrev pub Item : Edition → List ℕ → Kind → Span
-Item edition text kind = opt (comma-wsp edition text) · argumentOf edition text kind
+Item edition text kind = opt (comma-wsp edition text) · argument_of edition text kind
 
 -- past all further arguments: other items from the same place end where a sequence could go on
 pub record Further (edition : Edition) (text : List ℕ) (kind : Kind) (i r : ℕ) : Type 0 where
@@ -70,6 +70,6 @@ Command edition text true = moveto edition text ∥ drawto-command edition text
 Command edition text false = moveto edition text
 
 -- whether the first moveto is the whole path, by the white space before it: "wsp* moveto? | (moveto drawto_command*)?" of SVG 2
-abbrev pub aloneOf : Edition → ℕ → Bool
-aloneOf Svg11 white = false
-aloneOf Svg2 white = ltb 0 white
+abbrev pub alone_of : Edition → ℕ → Bool
+alone_of Svg11 white = false
+alone_of Svg2 white = ltb 0 white

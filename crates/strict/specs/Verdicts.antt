@@ -9,8 +9,8 @@ use Rattle.strict.specs.declared.texts.Verdict.{Verdict}
 use Rattle.strict.specs.declared.texts.Verdict.TheVariants.{Yes, No, Refused}
 
 -- "text above 65,536 bytes"
-abbrev pub mostBytes : ℕ
-mostBytes = 65536
+abbrev pub most_bytes : ℕ
+most_bytes = 65536
 
 -- "A yes or no": 1 and 0
 abbrev pub answer_of : Verdict → Answer
@@ -21,9 +21,9 @@ answer_of (Refused refusal) = refused refusal
 -- "A yes or no: the text matches the 1.1 grammar", or SVG 2's; "Strict reading: 1 only.", which carries "its length". A yes holds a derivation and a no its refutation,
 -- so that two allowed verdicts are equal without deciding the grammar.
 pub data Judged (edition : Edition) (text : List ℕ) : Answer → Type 0 where
-  yes : {answer : Answer} → length text ≤ mostBytes → Matches edition text → answer ≡ accepted (1 ∷ []) → Judged edition text answer
-  no : {answer : Answer} → length text ≤ mostBytes → (Matches edition text → ⊥) → answer ≡ accepted (0 ∷ []) → Judged edition text answer
-  tooLong : {answer : Answer} → mostBytes < length text → answer ≡ refused (TooLong (length text)) → Judged edition text answer
+  yes : {answer : Answer} → length text ≤ most_bytes → Matches edition text → answer ≡ accepted (1 ∷ []) → Judged edition text answer
+  no : {answer : Answer} → length text ≤ most_bytes → (Matches edition text → ⊥) → answer ≡ accepted (0 ∷ []) → Judged edition text answer
+  too_long : {answer : Answer} → most_bytes < length text → answer ≡ refused (TooLong (length text)) → Judged edition text answer
 
 -- "either edition, named by the caller": by a number
 abbrev pub number_of : Edition → ℕ

@@ -1,7 +1,7 @@
 // A whole text against the grammar of an edition.
 ghost use Rattle.std.specs.Prelude.{◌≡◌, true};
 ghost use Rattle.strict_grammar.specs.Grammar.{Matches};
-ghost use Rattle.strict.specs.Commands.{aloneOf};
+ghost use Rattle.strict.specs.Commands.{alone_of};
 ghost use Rattle.strict.specs.Verdicts.{Judged, JudgedBy, answer_of};
 
 use crate::commands::read_command;
@@ -19,7 +19,7 @@ pub enum Verdict {
 
 // Whether nothing may follow the first moveto: in SVG 2, where white space stands before it.
 fn stands_alone(white: usize, edition: Edition) -> bool
-    ensures { result ≡ aloneOf edition white }
+    ensures { result ≡ alone_of edition white }
 {
     match edition {
         Edition::Svg11 => false,

@@ -4,7 +4,7 @@ use mathlib.Core.Path.{◌≡◌, refl, sym, subst}
 use mathlib.Core.Bool.{true}
 use mathlib.Core.List.{List}
 use native.Mathlib.Omega.{arith}
-use Rattle.scan.specs.Bytes.{among, flags, numberStarts}
+use Rattle.scan.specs.Bytes.{among, flags, number_starts}
 use Rattle.scan.specs.Runs.{stands}
 use Rattle.strict_grammar.specs.Spans.{Span, Byte, ◌·◌, opt}
 use Rattle.strict_grammar.specs.Grammar.{nonnegative-number, number, flag, comma-wsp, coordinate-pair, smooth-curveto-argument, curveto-argument, elliptical-arc-argument}
@@ -13,7 +13,7 @@ use Rattle.strict_grammar.proofs.SpanLaws.{wider}
 use Rattle.strict_grammar.proofs.Numbers.{number-starts, number-grows, nonnegative-is}
 use Rattle.strict_grammar.proofs.Separators.{comma-grows, separator-le}
 use Rattle.strict_grammar.proofs.Theorems.{rotation-is}
-use Rattle.strict_argument.specs.Reading.{arc-from-radius, arc-from-rotation, arc-from-large-flag, arc-from-sweep-flag, argumentOf}
+use Rattle.strict_argument.specs.Reading.{arc-from-radius, arc-from-rotation, arc-from-large-flag, arc-from-sweep-flag, argument_of}
 use Rattle.strict_argument.specs.declared.groups.Kind.{Kind}
 use Rattle.strict_argument.specs.declared.groups.Kind.TheVariants.{Coordinate, Pair, TwoPairs, ThreePairs, Arc}
 use Rattle.strict_argument.proofs.Steps.{Starts}
@@ -27,7 +27,7 @@ module _ (edition : Edition) (text : List ℕ) where
 
   pub flag-starts : Starts text (flag edition text)
   unfolding among
-  flag-starts i j b = (wider {l = flags} {m = numberStarts} tt b).there
+  flag-starts i j b = (wider {l = flags} {m = number_starts} tt b).there
 
   radius-starts : Starts text (nonnegative-number edition text)
   radius-starts i j n = number-starts edition text i j (nonnegative-is edition text i j n)
@@ -55,7 +55,7 @@ module _ (edition : Edition) (text : List ℕ) where
   unfolding arc-from-radius
   second-radius-starts i j w = radius-starts i w.0 w.1
 
-  pub argument-starts : (kind : Kind) → Starts text (argumentOf edition text kind)
+  pub argument-starts : (kind : Kind) → Starts text (argument_of edition text kind)
   unfolding elliptical-arc-argument
   argument-starts Coordinate i j w = number-starts edition text i j w
   argument-starts Pair i j w = pair-starts i j w
@@ -97,7 +97,7 @@ module _ (edition : Edition) (text : List ℕ) where
   unfolding arc-from-radius
   second-radius-grows = step-grows (nonnegative-number edition text) (arc-from-rotation edition text) radius-grows rotation-grows
 
-  pub argument-grows : (kind : Kind) → Grows (argumentOf edition text kind)
+  pub argument-grows : (kind : Kind) → Grows (argument_of edition text kind)
   unfolding elliptical-arc-argument arc-from-radius arc-from-rotation arc-from-large-flag arc-from-sweep-flag
   argument-grows Coordinate = number-grows edition text
   argument-grows Pair = pair-grows

@@ -8,9 +8,9 @@ use native.Mathlib.Omega.{arith}
 use lib.Dec.{ltb}
 use borrow.Author.Tests.{ltb-true, ltb-false, lt-ltb, le-ltb}
 use lib.ListN.{length, get_or-eq_default}
-use Rattle.scan.specs.Bytes.{among, signs, flags, numberStarts}
-use Rattle.scan.specs.Runs.{stands, byteAtOf, pastDigitsOf, pastSignOf, pastPointOf}
-use Rattle.scan.specs.Numbers.{places_of, whole_of, point_of, fractionOf, mark_of, end_of, noDigit, noExponentDigit, scanNumberOf}
+use Rattle.scan.specs.Bytes.{among, signs, flags, number_starts}
+use Rattle.scan.specs.Runs.{stands, byte_at_of, past_digits_of, past_sign_of, past_point_of}
+use Rattle.scan.specs.Numbers.{places_of, whole_of, point_of, fraction_of, mark_of, end_of, no_digit, no_exponent_digit, scan_number_of}
 use Rattle.scan.specs.declared.numbers.Places.{Places}
 use Rattle.scan.specs.declared.numbers.Number.{Number}
 use Rattle.scan.specs.declared.numbers.Number.TheVariants.{Scanned, NoDigit, NoExponentDigit}
@@ -19,7 +19,7 @@ use Rattle.scan.proofs.ByteLaws.{clash, either_way}
 use Rattle.scan.proofs.RunLaws.{stands-inside, stands-past, stands-within}
 use Rattle.strict_grammar.specs.Spans.{Span, Byte, ◌·◌, opt}
 use Rattle.strict_grammar.specs.Grammar.{nonnegative-number, number, rotation, flag, comma-wsp}
-use Rattle.strict_grammar.specs.Words.{Only, Lacks, numberEnd, pastSeparatorOf}
+use Rattle.strict_grammar.specs.Words.{Only, Lacks, number_end, past_separator_of}
 use Rattle.strict_grammar.specs.declared.Edition.{Edition}
 use Rattle.strict_grammar.specs.declared.Edition.TheVariants.{Svg11, Svg2}
 use Rattle.strict_grammar.proofs.SpanLaws.{standing, not_byte}
@@ -30,7 +30,7 @@ use Rattle.strict_argument.specs.Reading.{Reads, ends, missing, nowhere}
 
 -- every word of P starts as a number does
 abbrev pub Starts : List ℕ → Span → Type 0
-Starts text P = (i j : ℕ) → P i j → stands text i numberStarts ≡ true
+Starts text P = (i j : ℕ) → P i j → stands text i number_starts ≡ true
 
 -- any two right answers are equal
 pub reads-settled : (P : Span) (i r s : ℕ) → Reads P i r → Reads P i s → r ≡ s
@@ -49,14 +49,14 @@ reads_same P Q i r to of (missing e p) = missing e (λ q w. p q (of q w))
 module _ (edition : Edition) (text : List ℕ) (room : length text < nowhere) (P Q : Span) (starts : Starts text Q) where
   -- nothing is read from past the text
   no_word : (k r : ℕ) → length text ≤ k → Only Q k r → ⊥
-  no_word k r past q = let h = stands-within numberStarts text k (starts k r q.0) in omega arith
+  no_word k r past q = let h = stands-within number_starts text k (starts k r q.0) in omega arith
 
   -- P comma-wsp? Q: the separator before Q is the one that was found
-  pub step : (i j k r : ℕ) → Reads P i j → k ≡ pastSeparatorOf edition text j → Reads Q k r → Reads (P · opt (comma-wsp edition text) · Q) i r
+  pub step : (i j k r : ℕ) → Reads P i j → k ≡ past_separator_of edition text j → Reads Q k r → Reads (P · opt (comma-wsp edition text) · Q) i r
   step i j k r (missing e p) s (missing f q) = missing f (λ n v. p v.0 v.1)
   step i j k r (missing e p) s (ends _ q) = absurd (no_word k r (past-text e s) q)
     where
-      past-text : j ≡ nowhere → k ≡ pastSeparatorOf edition text j → length text ≤ k
+      past-text : j ≡ nowhere → k ≡ past_separator_of edition text j → length text ≤ k
       past-text e s = let h = separator-end edition text j (omega arith) in omega arith
   step i j k r (ends _ p) s rest = go rest
     where
@@ -81,57 +81,57 @@ must-separate edition text Q i r w =
 -- ---- numbers, radii and flags
 
 module _ (text : List ℕ) (at : ℕ) where
-  some-digit : (whole_of text at < point_of text at) ⊎ (fractionOf text at < mark_of text at) → noDigit text at ≡ false
-  some-digit h = ⊎_elim (λ n. absurd (none h (digit-in-none text at n))) (λ n. n) (either_way (noDigit text at))
+  some-digit : (whole_of text at < point_of text at) ⊎ (fraction_of text at < mark_of text at) → no_digit text at ≡ false
+  some-digit h = ⊎_elim (λ n. absurd (none h (digit-in-none text at n))) (λ n. n) (either_way (no_digit text at))
     where
-      none : (whole_of text at < point_of text at) ⊎ (fractionOf text at < mark_of text at) → (whole_of text at ≡ point_of text at) × (fractionOf text at ≡ mark_of text at) → ⊥
+      none : (whole_of text at < point_of text at) ⊎ (fraction_of text at < mark_of text at) → (whole_of text at ≡ point_of text at) × (fraction_of text at ≡ mark_of text at) → ⊥
       none (inl l) e = omega (arith, e.0)
       none (inr l) e = omega (arith, e.1)
 
 module _ (text : List ℕ) (room : length text < nowhere) (at : ℕ) where
-  pub scanned-reads : (p : Places) → scanNumberOf text at ≡ Scanned p → Reads (number Svg11 text) at p.end
+  pub scanned-reads : (p : Places) → scan_number_of text at ≡ Scanned p → Reads (number Svg11 text) at p.end
   unfolding places_of
   scanned-reads p e =
       let f = scanned-flags text at p e in
-      let g : numberEnd Svg11 text at ≡ p.end = ends-whole text at f.1 ∙ sym (ap (λ (q : Places). q.end) (scanned-places text at p e)) in
+      let g : number_end Svg11 text at ≡ p.end = ends-whole text at f.1 ∙ sym (ap (λ (q : Places). q.end) (scanned-places text at p e)) in
       ends (omega (arith, (scanned-number text at p e).end-within)) (subst (λ (y : ℕ). Only (number Svg11 text) at y) g (number-only Svg11 text at f.0))
 
-  pub bare-reads : (m : ℕ) → scanNumberOf text at ≡ NoExponentDigit m → Reads (number Svg11 text) at m
+  pub bare-reads : (m : ℕ) → scan_number_of text at ≡ NoExponentDigit m → Reads (number Svg11 text) at m
   bare-reads m e =
       let f = bare-flags text at m e in
       ends (omega (arith, mark-before text at f.1, f.2)) (subst (λ (y : ℕ). Only (number Svg11 text) at y) (ends-bare text at f.1 ∙ sym f.2) (number-only Svg11 text at f.0))
 
-  pub none_reads : (i : ℕ) → scanNumberOf text at ≡ NoDigit i → Reads (number Svg11 text) at nowhere
+  pub none_reads : (i : ℕ) → scan_number_of text at ≡ NoDigit i → Reads (number Svg11 text) at nowhere
   none_reads i e = missing refl (number-lacks Svg11 text at (none-flags text at i e).0)
 
   -- the places of a number are within the text
   mark-within : (edition : Edition) (j : ℕ) → number edition text at j → mark_of text at ≤ length text
   mark-within edition j n =
-      let a = stands-within numberStarts text at (number-starts edition text at j n) in
+      let a = stands-within number_starts text at (number-starts edition text at j n) in
       omega (arith, end-within text at (omega arith), exponent-onward text at, end-onward text at)
 
   -- SVG 2: digits after a point, digits alone, neither
-  fraction-reads : fractionOf text at < mark_of text at → Reads (number Svg2 text) at (mark_of text at)
+  fraction-reads : fraction_of text at < mark_of text at → Reads (number Svg2 text) at (mark_of text at)
   fraction-reads h =
       let some = some-digit text at (inr h) in
-      let w = subst (λ (y : ℕ). Only (number Svg2 text) at y) (ends-fraction text at (lt-ltb (fractionOf text at) (mark_of text at) h)) (number-only Svg2 text at some) in
+      let w = subst (λ (y : ℕ). Only (number Svg2 text) at y) (ends-fraction text at (lt-ltb (fraction_of text at) (mark_of text at) h)) (number-only Svg2 text at some) in
       ends (omega (arith, mark-within Svg2 _ w.0)) w
 
-  whole-reads : mark_of text at ≤ fractionOf text at → whole_of text at < point_of text at → Reads (number Svg2 text) at (point_of text at)
+  whole-reads : mark_of text at ≤ fraction_of text at → whole_of text at < point_of text at → Reads (number Svg2 text) at (point_of text at)
   whole-reads h g =
       let some = some-digit text at (inl g) in
-      let w = subst (λ (y : ℕ). Only (number Svg2 text) at y) (ends-point text at (le-ltb (fractionOf text at) (mark_of text at) h)) (number-only Svg2 text at some) in
+      let w = subst (λ (y : ℕ). Only (number Svg2 text) at y) (ends-point text at (le-ltb (fraction_of text at) (mark_of text at) h)) (number-only Svg2 text at some) in
       ends (omega (arith, mark-within Svg2 _ w.0, fraction-onward text at, mark-onward text at)) w
 
-  neither-reads : mark_of text at ≤ fractionOf text at → point_of text at ≤ whole_of text at → Reads (number Svg2 text) at nowhere
+  neither-reads : mark_of text at ≤ fraction_of text at → point_of text at ≤ whole_of text at → Reads (number Svg2 text) at nowhere
   neither-reads h g =
       missing refl
-      (number-lacks Svg2 text at (⊎_elim (λ n. n) (λ n. absurd (omega (arith, digit-in-all text at n))) (either_way (noDigit text at))))
+      (number-lacks Svg2 text at (⊎_elim (λ n. n) (λ n. absurd (omega (arith, digit-in-all text at n))) (either_way (no_digit text at))))
 
   -- the places as the code finds them
   module _
-      {whole point fraction mark : ℕ} (w : whole ≡ pastSignOf text at) (p : point ≡ pastDigitsOf text whole) (f : fraction ≡ pastPointOf text point)
-      (m : mark ≡ pastDigitsOf text fraction)
+      {whole point fraction mark : ℕ} (w : whole ≡ past_sign_of text at) (p : point ≡ past_digits_of text whole) (f : fraction ≡ past_point_of text point)
+      (m : mark ≡ past_digits_of text fraction)
     where
       the-whole : whole ≡ whole_of text at
       unfolding whole_of
@@ -139,15 +139,15 @@ module _ (text : List ℕ) (room : length text < nowhere) (at : ℕ) where
 
       the-point : point ≡ point_of text at
       unfolding point_of
-      the-point = p ∙ ap (pastDigitsOf text) the-whole
+      the-point = p ∙ ap (past_digits_of text) the-whole
 
-      the-fraction : fraction ≡ fractionOf text at
-      unfolding fractionOf
-      the-fraction = f ∙ ap (pastPointOf text) the-point
+      the-fraction : fraction ≡ fraction_of text at
+      unfolding fraction_of
+      the-fraction = f ∙ ap (past_point_of text) the-point
 
       the-mark : mark ≡ mark_of text at
       unfolding mark_of
-      the-mark = m ∙ ap (pastDigitsOf text) the-fraction
+      the-mark = m ∙ ap (past_digits_of text) the-fraction
 
       pub fraction-found : fraction < mark → Reads (number Svg2 text) at mark
       fraction-found h = subst (Reads (number Svg2 text) at) (sym the-mark) (fraction-reads (omega (arith, the-fraction, the-mark)))
@@ -160,20 +160,20 @@ module _ (text : List ℕ) (room : length text < nowhere) (at : ℕ) where
       neither-found h g = neither-reads (omega (arith, the-fraction, the-mark)) (omega (arith, the-whole, the-point))
 
   -- past the text the byte is 0, which is no sign
-  sign-stands : stands text at signs ≡ among (byteAtOf text at) signs
+  sign-stands : stands text at signs ≡ among (byte_at_of text at) signs
   unfolding among
   sign-stands =
       ⊎_elim (λ h. stands-inside signs text at (ltb-true at (length text) h)) (λ h. past (ltb-false at (length text) h)) (either_way (ltb at (length text)))
     where
-      past : length text ≤ at → stands text at signs ≡ among (byteAtOf text at) signs
+      past : length text ≤ at → stands text at signs ≡ among (byte_at_of text at) signs
       past h = stands-past signs text at h ∙ sym (ap (λ (b : ℕ). among b signs) (get_or-eq_default text 0 h))
 
   -- no radius starts with a sign
-  pub radius-left : (edition : Edition) → among (byteAtOf text at) signs ≡ true → Reads (nonnegative-number edition text) at nowhere
+  pub radius-left : (edition : Edition) → among (byte_at_of text at) signs ≡ true → Reads (nonnegative-number edition text) at nowhere
   radius-left edition h = missing refl (λ q n. clash (sign-stands ∙ h) (nonnegative-no-sign edition text at q n))
 
   -- without one it is the number
-  pub radius-taken : (edition : Edition) (r : ℕ) → among (byteAtOf text at) signs ≡ false → Reads (number edition text) at r → Reads (nonnegative-number edition text) at r
+  pub radius-taken : (edition : Edition) (r : ℕ) → among (byte_at_of text at) signs ≡ false → Reads (number edition text) at r → Reads (nonnegative-number edition text) at r
   radius-taken edition r h w =
       reads_same (number edition text) (nonnegative-number edition text) at r (λ q n. nonnegative-of edition text at q (sign-stands ∙ h) n) (λ q n. nonnegative-is edition text at q n) w
 

@@ -34,9 +34,9 @@ module _ (edition : Edition) (text : List ℕ) where
   arc-from-radius = nonnegative-number edition text · opt (comma-wsp edition text) · arc-from-rotation
 
   -- the argument of each kind of sequence; that of a quadratic curve is that of a smooth one
-  abbrev pub argumentOf : Kind → Span
-  argumentOf Coordinate = coordinate edition text
-  argumentOf Pair = coordinate-pair edition text
-  argumentOf TwoPairs = smooth-curveto-argument edition text
-  argumentOf ThreePairs = curveto-argument edition text
-  argumentOf Arc = elliptical-arc-argument edition text
+  abbrev pub argument_of : Kind → Span
+  argument_of Coordinate = coordinate edition text
+  argument_of Pair = coordinate-pair edition text
+  argument_of TwoPairs = smooth-curveto-argument edition text
+  argument_of ThreePairs = curveto-argument edition text
+  argument_of Arc = elliptical-arc-argument edition text

@@ -1,6 +1,6 @@
 // Arguments of several words, each the first word, a separator or none, and the rest.
 ghost use Rattle.strict_grammar.specs.Grammar.{coordinate-pair, smooth-curveto-argument, curveto-argument, elliptical-arc-argument};
-ghost use Rattle.strict_argument.specs.Reading.{Reads, arc-from-radius, arc-from-rotation, arc-from-large-flag, arc-from-sweep-flag, argumentOf};
+ghost use Rattle.strict_argument.specs.Reading.{Reads, arc-from-radius, arc-from-rotation, arc-from-large-flag, arc-from-sweep-flag, argument_of};
 
 use crate::words::{past_separator, read_flag, read_number, read_radius, read_rotation};
 use strict_grammar::Edition;
@@ -77,7 +77,7 @@ fn arc(text: &[u8], at: usize, edition: Edition) -> usize
 
 // One argument of a kind.
 pub fn read_argument(text: &[u8], at: usize, kind: Kind, edition: Edition) -> usize
-    ensures { Reads (argumentOf edition text.now kind) at result }
+    ensures { Reads (argument_of edition text.now kind) at result }
 {
     match kind {
         Kind::Coordinate => read_number(text, at, edition),

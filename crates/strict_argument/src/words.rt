@@ -3,8 +3,8 @@
 ghost use Rattle.std.specs.Prelude.{◌≡◌};
 ghost use Rattle.scan.specs.Bytes.{among, flags};
 ghost use Rattle.strict_grammar.specs.Spans.{Byte};
-ghost use Rattle.strict_grammar.specs.Grammar.{whiteOf, number, nonnegative-number, rotation};
-ghost use Rattle.strict_grammar.specs.Words.{pastWhiteIn, pastSeparatorOf, pastGapOf};
+ghost use Rattle.strict_grammar.specs.Grammar.{white_of, number, nonnegative-number, rotation};
+ghost use Rattle.strict_grammar.specs.Words.{past_white_in, past_separator_of, past_gap_of};
 ghost use Rattle.strict_grammar.specs.declared.Edition.TheVariants.{Svg11, Svg2};
 ghost use Rattle.strict_argument.specs.Reading.{Reads};
 
@@ -20,13 +20,13 @@ pub const NOWHERE: usize = 0xffff_ffff_ffff_ffff;
 
 // White space of SVG 2, which a form feed is.
 fn is_space_2(byte: u8) -> bool
-    ensures { result ≡ among byte (whiteOf Svg2) }
+    ensures { result ≡ among byte (white_of Svg2) }
 {
     is_white(byte) | (byte == 12)
 }
 
 fn past_space_2(text: &[u8], at: usize) -> usize
-    ensures { result ≡ pastWhiteIn Svg2 text.now at }
+    ensures { result ≡ past_white_in Svg2 text.now at }
 {
     let mut i = at;
     while i < text.len() {
@@ -40,7 +40,7 @@ fn past_space_2(text: &[u8], at: usize) -> usize
 }
 
 pub fn past_space(text: &[u8], at: usize, edition: Edition) -> usize
-    ensures { result ≡ pastWhiteIn edition text.now at }
+    ensures { result ≡ past_white_in edition text.now at }
 {
     match edition {
         Edition::Svg11 => past_white(text, at),
@@ -50,7 +50,7 @@ pub fn past_space(text: &[u8], at: usize, edition: Edition) -> usize
 
 // Past what may stand between two commands: white space, and in SVG 2 nothing.
 pub fn past_gap(text: &[u8], at: usize, edition: Edition) -> usize
-    ensures { result ≡ pastGapOf edition text.now at }
+    ensures { result ≡ past_gap_of edition text.now at }
 {
     match edition {
         Edition::Svg11 => past_space(text, at, Edition::Svg11),
@@ -60,7 +60,7 @@ pub fn past_gap(text: &[u8], at: usize, edition: Edition) -> usize
 
 // Past white space, one comma if it stands there, and white space.
 pub fn past_separator(text: &[u8], at: usize, edition: Edition) -> usize
-    ensures { result ≡ pastSeparatorOf edition text.now at }
+    ensures { result ≡ past_separator_of edition text.now at }
 {
     past_space(
         text,

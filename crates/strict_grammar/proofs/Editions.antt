@@ -11,7 +11,7 @@ use Rattle.scan.specs.Bytes.{among, points}
 use Rattle.scan.specs.Runs.{stands}
 use Rattle.scan.proofs.ByteLaws.{clash}
 use Rattle.strict_grammar.specs.Spans.{Span, Byte, ◌·◌, ◌∥◌, opt, star, none, more, plus, longest, sequence, last, then, empty}
-use Rattle.strict_grammar.specs.Grammar.{whiteOf, wsp, digit, sign, digit-sequence, fractional-constant, floating-point-constant}
+use Rattle.strict_grammar.specs.Grammar.{white_of, wsp, digit, sign, digit-sequence, fractional-constant, floating-point-constant}
 use Rattle.strict_grammar.specs.Grammar.{nonnegative-number, number, moveto, drawto-command, drawto-commands, moveto-drawto-command-group}
 use Rattle.strict_grammar.specs.Grammar.{moveto-drawto-command-groups, svg-path, Matches}
 use Rattle.strict_grammar.specs.declared.Edition.TheVariants.{Svg11, Svg2}
@@ -116,33 +116,33 @@ module _ (text : List ℕ) where
 
 -- ---- a form feed alone
 
-abbrev formFeed : List ℕ
-formFeed = 12 ∷ []
+abbrev form_feed : List ℕ
+form_feed = 12 ∷ []
 
 -- "for one, a form feed is white space there"
-pub form-feed-matches-2 : Matches Svg2 formFeed
+pub form-feed-matches-2 : Matches Svg2 form_feed
 unfolding among
-form-feed-matches-2 = white-alone-matches Svg2 formFeed (λ k h. white k h)
+form-feed-matches-2 = white-alone-matches Svg2 form_feed (λ k h. white k h)
   where
-    white : (k : ℕ) → k < 1 → among (get_or formFeed k 0) (whiteOf Svg2) ≡ true
-    white k h = let z : 0 ≡ k = omega arith in subst (λ (y : ℕ). among (get_or formFeed y 0) (whiteOf Svg2) ≡ true) z refl
+    white : (k : ℕ) → k < 1 → among (get_or form_feed k 0) (white_of Svg2) ≡ true
+    white k h = let z : 0 ≡ k = omega arith in subst (λ (y : ℕ). among (get_or form_feed y 0) (white_of Svg2) ≡ true) z refl
 
-no-white : stands formFeed 0 (whiteOf Svg11) ≡ false
+no-white : stands form_feed 0 (white_of Svg11) ≡ false
 unfolding stands among
 no-white = refl
 
-no_move : (k m : ℕ) → 0 ≡ k → moveto Svg11 formFeed k m → ⊥
+no_move : (k m : ℕ) → 0 ≡ k → moveto Svg11 form_feed k m → ⊥
 unfolding moveto stands among
-no_move k m z v = clash (subst (λ (y : ℕ). stands formFeed y (77 ∷ 109 ∷ []) ≡ true) (sym z) v.1.there) refl
+no_move k m z v = clash (subst (λ (y : ℕ). stands form_feed y (77 ∷ 109 ∷ []) ≡ true) (sym z) v.1.there) refl
 
-no-groups : (k m : ℕ) → 0 ≡ k → moveto-drawto-command-groups Svg11 formFeed k m → ⊥
+no-groups : (k m : ℕ) → 0 ≡ k → moveto-drawto-command-groups Svg11 form_feed k m → ⊥
 unfolding moveto-drawto-command-groups moveto-drawto-command-group
 no-groups k m z (last g) = no_move k g.0 z g.1
 no-groups k m z (then g w gs) = no_move k g.0 z g.1
 
-pub form-feed-fails-11 : Matches Svg11 formFeed → ⊥
+pub form-feed-fails-11 : Matches Svg11 form_feed → ⊥
 unfolding Matches svg-path
 form-feed-fails-11 (k, w, (m, inl gs, u)) = no-groups k m (star-stops no-white w) gs
 form-feed-fails-11 (k, w, (m, inr z, u)) =
-    let e = star-stops no-white (subst (λ (y : ℕ). star (wsp Svg11 formFeed) y 1) (sym (star-stops no-white w ∙ z)) u) in
+    let e = star-stops no-white (subst (λ (y : ℕ). star (wsp Svg11 form_feed) y 1) (sym (star-stops no-white w ∙ z)) u) in
     omega (arith, e)

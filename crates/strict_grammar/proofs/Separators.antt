@@ -8,43 +8,43 @@ use mathlib.Core.Logic.{◌⊎◌, inl, inr, ⊎_elim}
 use native.Mathlib.Omega.{arith}
 use lib.Dec.{T}
 use lib.ListN.{length}
-use Rattle.scan.specs.Bytes.{among, commas, numberStarts}
-use Rattle.scan.specs.Runs.{stands, pastOne, pastAll, pastCommaOf}
+use Rattle.scan.specs.Bytes.{among, commas, number_starts}
+use Rattle.scan.specs.Runs.{stands, past_one, past_all, past_comma_of}
 use Rattle.scan.proofs.ByteLaws.{apartb, withinb, clash, either_way}
 use Rattle.scan.proofs.RunLaws.{one-step, one_end, all_end, all-again}
 use Rattle.strict_grammar.specs.Spans.{Span, Byte, ◌·◌, ◌∥◌, opt, star, none, more, plus, longest}
-use Rattle.strict_grammar.specs.Grammar.{whiteOf, wsp, comma, comma-wsp}
-use Rattle.strict_grammar.specs.Words.{Past, pastWhiteIn, pastSeparatorOf}
+use Rattle.strict_grammar.specs.Grammar.{white_of, wsp, comma, comma-wsp}
+use Rattle.strict_grammar.specs.Words.{Past, past_white_in, past_separator_of}
 use Rattle.strict_grammar.specs.declared.Edition.{Edition}
 use Rattle.strict_grammar.specs.declared.Edition.TheVariants.{Svg11, Svg2}
 use Rattle.strict_grammar.proofs.SpanLaws.{standing, not_byte, not-both, other, wider, joined, star-le, plus-lt, plus-star, star-or, run-same, run-found}
 
 -- the bytes that a separator is made of
-abbrev pub commaWhite : Edition → List ℕ
-commaWhite edition = 44 ∷ whiteOf edition
+abbrev pub comma_white : Edition → List ℕ
+comma_white edition = 44 ∷ white_of edition
 
 -- white space is made of none of the bytes that numbers start with, and a comma is none of it
-white-within : (edition : Edition) → T (withinb (whiteOf edition) (commaWhite edition))
+white-within : (edition : Edition) → T (withinb (white_of edition) (comma_white edition))
 unfolding among
 white-within Svg11 = tt
 white-within Svg2 = tt
 
-comma-within : (edition : Edition) → T (withinb commas (commaWhite edition))
+comma-within : (edition : Edition) → T (withinb commas (comma_white edition))
 unfolding among
 comma-within Svg11 = tt
 comma-within Svg2 = tt
 
-pub comma-apart : (edition : Edition) → T (apartb commas (whiteOf edition))
+pub comma-apart : (edition : Edition) → T (apartb commas (white_of edition))
 unfolding among
 comma-apart Svg11 = tt
 comma-apart Svg2 = tt
 
-pub number-apart : (edition : Edition) → T (apartb numberStarts (whiteOf edition))
+pub number-apart : (edition : Edition) → T (apartb number_starts (white_of edition))
 unfolding among
 number-apart Svg11 = tt
 number-apart Svg2 = tt
 
-separator-apart : (edition : Edition) → T (apartb (commaWhite edition) numberStarts)
+separator-apart : (edition : Edition) → T (apartb (comma_white edition) number_starts)
 unfolding among
 separator-apart Svg11 = tt
 separator-apart Svg2 = tt
@@ -52,21 +52,21 @@ separator-apart Svg2 = tt
 module _ (edition : Edition) (text : List ℕ) where
   -- a comma or white space stands at q
   abbrev pub Separates : ℕ → Type 0
-  Separates q = stands text q (commaWhite edition) ≡ true
+  Separates q = stands text q (comma_white edition) ≡ true
 
   white-separates : {q k : ℕ} → wsp edition text q k → Separates q
-  white-separates b = (wider {l = whiteOf edition} {m = commaWhite edition} (white-within edition) b).there
+  white-separates b = (wider {l = white_of edition} {m = comma_white edition} (white-within edition) b).there
 
   comma-separates : {q k : ℕ} → comma edition text q k → Separates q
-  comma-separates b = (wider {l = commas} {m = commaWhite edition} (comma-within edition) b).there
+  comma-separates b = (wider {l = commas} {m = comma_white edition} (comma-within edition) b).there
 
-  comma-not-white : {q k : ℕ} → comma edition text q k → stands text q (whiteOf edition) ≡ false
-  comma-not-white b = other {l = commas} (whiteOf edition) (comma-apart edition) b
+  comma-not-white : {q k : ℕ} → comma edition text q k → stands text q (white_of edition) ≡ false
+  comma-not-white b = other {l = commas} (white_of edition) (comma-apart edition) b
 
   -- white space ends where the run does, or before more of it
   white-past : {i j q : ℕ} → longest (star (wsp edition text)) i j → star (wsp edition text) i q → (q ≡ j) ⊎ Separates q
   white-past {i} {j} {q} r w =
-      ⊎_elim (λ h. inr (white-separates (standing (whiteOf edition) q h))) (λ h. inl (run-same r w h)) (either_way (stands text q (whiteOf edition)))
+      ⊎_elim (λ h. inr (white-separates (standing (white_of edition) q h))) (λ h. inl (run-same r w h)) (either_way (stands text q (white_of edition)))
 
   -- the white space from i ends at j
   module _ (i j : ℕ) (r : longest (star (wsp edition text)) i j) where
@@ -115,27 +115,27 @@ module _ (edition : Edition) (text : List ℕ) where
           go q (inl (inr (m, b, w))) = after-comma (none refl) b w
 
   -- the separator that `scan`'s places find
-  pub separator-past : (i : ℕ) → Past (opt (comma-wsp edition text)) Separates i (pastSeparatorOf edition text i)
-  unfolding pastSeparatorOf
-  separator-past i = ⊎_elim taken left (either_way (stands text (pastWhiteIn edition text i) commas))
+  pub separator-past : (i : ℕ) → Past (opt (comma-wsp edition text)) Separates i (past_separator_of edition text i)
+  unfolding past_separator_of
+  separator-past i = ⊎_elim taken left (either_way (stands text (past_white_in edition text i) commas))
     where
-      taken : stands text (pastWhiteIn edition text i) commas ≡ true → Past (opt (comma-wsp edition text)) Separates i (pastWhiteIn edition text (pastCommaOf text (pastWhiteIn edition text i)))
+      taken : stands text (past_white_in edition text i) commas ≡ true → Past (opt (comma-wsp edition text)) Separates i (past_white_in edition text (past_comma_of text (past_white_in edition text i)))
       taken h =
-          let e = (one-step commas text (pastWhiteIn edition text i)).0 h in
-          separator-taken i (pastWhiteIn edition text i) (run-found (whiteOf edition) text i) _ h
-          (subst (λ (y : ℕ). longest (star (wsp edition text)) y (pastWhiteIn edition text (pastCommaOf text (pastWhiteIn edition text i)))) e (run-found (whiteOf edition) text (pastCommaOf text (pastWhiteIn edition text i))))
+          let e = (one-step commas text (past_white_in edition text i)).0 h in
+          separator-taken i (past_white_in edition text i) (run-found (white_of edition) text i) _ h
+          (subst (λ (y : ℕ). longest (star (wsp edition text)) y (past_white_in edition text (past_comma_of text (past_white_in edition text i)))) e (run-found (white_of edition) text (past_comma_of text (past_white_in edition text i))))
 
-      left : stands text (pastWhiteIn edition text i) commas ≡ false → Past (opt (comma-wsp edition text)) Separates i (pastWhiteIn edition text (pastCommaOf text (pastWhiteIn edition text i)))
+      left : stands text (past_white_in edition text i) commas ≡ false → Past (opt (comma-wsp edition text)) Separates i (past_white_in edition text (past_comma_of text (past_white_in edition text i)))
       left h =
-          let e = ap (pastWhiteIn edition text) ((one-step commas text (pastWhiteIn edition text i)).1 h) ∙ all-again (whiteOf edition) text i in
-          subst (λ (y : ℕ). Past (opt (comma-wsp edition text)) Separates i y) (sym e) (separator-left i (pastWhiteIn edition text i) (run-found (whiteOf edition) text i) h)
+          let e = ap (past_white_in edition text) ((one-step commas text (past_white_in edition text i)).1 h) ∙ all-again (white_of edition) text i in
+          subst (λ (y : ℕ). Past (opt (comma-wsp edition text)) Separates i y) (sym e) (separator-left i (past_white_in edition text i) (run-found (white_of edition) text i) h)
 
   -- past the text there is none
-  pub separator-end : (i : ℕ) → length text ≤ i → pastSeparatorOf edition text i ≡ i
-  unfolding pastSeparatorOf
+  pub separator-end : (i : ℕ) → length text ≤ i → past_separator_of edition text i ≡ i
+  unfolding past_separator_of
   separator-end i past =
-      let w = all_end (whiteOf edition) text i past in
-      ap (pastWhiteIn edition text) (ap (pastCommaOf text) w ∙ sym (one_end commas text i past)) ∙ w
+      let w = all_end (white_of edition) text i past in
+      ap (past_white_in edition text) (ap (past_comma_of text) w ∙ sym (one_end commas text i past)) ∙ w
 
   -- a separator has a byte, and an optional one does not go back
   pub comma-grows : (i q : ℕ) → comma-wsp edition text i q → i < q
@@ -149,6 +149,6 @@ module _ (edition : Edition) (text : List ℕ) where
   separator-le i q (inr z) = omega arith
 
   -- before what starts as a number does, the separator is the one that was found
-  pub separator-forced : (i q : ℕ) → opt (comma-wsp edition text) i q → stands text q numberStarts ≡ true → q ≡ pastSeparatorOf edition text i
+  pub separator-forced : (i q : ℕ) → opt (comma-wsp edition text) i q → stands text q number_starts ≡ true → q ≡ past_separator_of edition text i
   separator-forced i q o h =
-      ⊎_elim (λ z. z) (λ g. absurd (not-both {l = commaWhite edition} {m = numberStarts} (separator-apart edition) (standing (commaWhite edition) q g) (standing numberStarts q h))) ((separator-past i).1 q o)
+      ⊎_elim (λ z. z) (λ g. absurd (not-both {l = comma_white edition} {m = number_starts} (separator-apart edition) (standing (comma_white edition) q g) (standing number_starts q h))) ((separator-past i).1 q o)

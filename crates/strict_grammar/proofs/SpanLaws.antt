@@ -9,7 +9,7 @@ use lib.Dec.{T, leb}
 use borrow.Author.Tests.{leb-true, leb-false}
 use lib.ListN.{length, get_or}
 use Rattle.scan.specs.Bytes.{among}
-use Rattle.scan.specs.Runs.{stands, pastAll}
+use Rattle.scan.specs.Runs.{stands, past_all}
 use Rattle.scan.proofs.ByteLaws.{apartb, apart, withinb, within, clash, either_way}
 use Rattle.scan.proofs.RunLaws.{stands-inside, stands-within, stands-among, all-onward, all-stands, all-stopped}
 use Rattle.strict_grammar.specs.Spans.{Span, Byte, ◌·◌, opt, star, none, more, plus, longest}
@@ -117,11 +117,11 @@ module _ (l text : List ℕ) where
       let e : i + (j - i) ≡ j = omega arith in
       subst (λ (x : ℕ). star (Byte text l) i x) e (run_up (j - i) i (λ k a b. each k a (omega arith)))
 
-  pub run-found : (i : ℕ) → longest (star (Byte text l)) i (pastAll l text i)
+  pub run-found : (i : ℕ) → longest (star (Byte text l)) i (past_all l text i)
   run-found i =
-      let w = run-between i (pastAll l text i) (all-onward l text i) (all-stands l text i) in
+      let w = run-between i (past_all l text i) (all-onward l text i) (all-stands l text i) in
       (w, λ k s. at_most k s w)
     where
-      at_most : (k : ℕ) → star (Byte text l) i k → star (Byte text l) i (pastAll l text i) → k ≤ pastAll l text i
+      at_most : (k : ℕ) → star (Byte text l) i k → star (Byte text l) i (past_all l text i) → k ≤ past_all l text i
       at_most k s w =
-          ⊎_elim (λ h. h) (λ h. let e = star-stops (all-stopped l text i) (star-rest w s h) in omega arith) (le-or k (pastAll l text i))
+          ⊎_elim (λ h. h) (λ h. let e = star-stops (all-stopped l text i) (star-rest w s h) in omega arith) (le-or k (past_all l text i))

@@ -8,12 +8,12 @@ use mathlib.Core.Logic.{◌⊎◌, inl, inr, ⊎_elim}
 use native.Mathlib.Omega.{arith}
 use lib.Dec.{T}
 use lib.ListN.{length, get_or}
-use Rattle.scan.specs.Bytes.{among, digits, signs, points, commas, whiteSpace, flags}
+use Rattle.scan.specs.Bytes.{among, digits, signs, points, commas, white_space, flags}
 use Rattle.scan.specs.Runs.{stands}
 use Rattle.scan.proofs.ByteLaws.{apartb, clash, alone-is}
 use Rattle.scan.proofs.RunLaws.{stands-inside}
 use Rattle.strict_grammar.specs.Spans.{Span, Byte, ◌·◌, ◌∥◌, opt, star, none, more, plus, longest, sequence, last, then, editions, never}
-use Rattle.strict_grammar.specs.Grammar.{whiteOf, wsp, digit, flag, letter, digit-sequence, exponent, fractional-constant, floating-point-constant}
+use Rattle.strict_grammar.specs.Grammar.{white_of, wsp, digit, flag, letter, digit-sequence, exponent, fractional-constant, floating-point-constant}
 use Rattle.strict_grammar.specs.Grammar.{nonnegative-number, number, comma-wsp, coordinate-pair, rotation, elliptical-arc-argument, moveto-argument-sequence}
 use Rattle.strict_grammar.specs.Grammar.{moveto, closepath, lineto, horizontal-lineto, vertical-lineto, curveto, smooth-curveto, quadratic-bezier-curveto}
 use Rattle.strict_grammar.specs.Grammar.{smooth-quadratic-bezier-curveto, elliptical-arc, drawto-command, gap, drawto-commands, moveto-drawto-command-group}
@@ -32,10 +32,10 @@ white-run Svg2 text w = inl (length text, w, inr refl)
 
 -- a text of white space alone matches
 pub white-alone-matches :
-    (edition : Edition) (text : List ℕ) → ((k : ℕ) → k < length text → among (get_or text k 0) (whiteOf edition) ≡ true) → Matches edition text
+    (edition : Edition) (text : List ℕ) → ((k : ℕ) → k < length text → among (get_or text k 0) (white_of edition) ≡ true) → Matches edition text
 white-alone-matches edition text white =
     white-run edition text
-    (run-between (whiteOf edition) text 0 (length text) (omega arith) (λ k a b. stands-inside (whiteOf edition) text k b ∙ white k b))
+    (run-between (white_of edition) text 0 (length text) (omega arith) (λ k a b. stands-inside (white_of edition) text k b ∙ white k b))
 
 -- the empty text matches
 pub empty-matches : (edition : Edition) → Matches edition []
@@ -43,7 +43,7 @@ empty-matches edition = white-alone-matches edition [] (λ k h. absurd (omega ar
 
 -- ---- a comma at the end
 
-white-apart : (edition : Edition) → T (apartb (whiteOf edition) commas)
+white-apart : (edition : Edition) → T (apartb (white_of edition) commas)
 unfolding among
 white-apart Svg11 = tt
 white-apart Svg2 = tt
@@ -99,7 +99,7 @@ module _ (edition : Edition) (text : List ℕ) where
   -- ---- numbers and arguments
 
   white-never : Never (wsp edition text)
-  white-never = byte-never (whiteOf edition) (white-apart edition)
+  white-never = byte-never (white_of edition) (white-apart edition)
 
   point-never : Never (Byte text points)
   unfolding among
@@ -176,7 +176,7 @@ module _ (edition : Edition) (text : List ℕ) where
   drawto-never i j (inr (inr (inr (inr (inr (inr (inr (inr w)))))))) c = lettered-never _ _ arc-never i j w c
 
   gap-keeps : (edition : Edition) → Keeps (gap edition text)
-  gap-keeps Svg11 i j w c = star-keeps (wsp Svg11 text) (byte-never (whiteOf Svg11) (white-apart Svg11)) i j w c
+  gap-keeps Svg11 i j w c = star-keeps (wsp Svg11 text) (byte-never (white_of Svg11) (white-apart Svg11)) i j w c
   gap-keeps Svg2 i j e c = subst AfterComma (sym e) c
 
   drawtos-never : Never (drawto-commands edition text)

@@ -3,15 +3,15 @@
 -- same productions, with _ for - in the names, but where a text of its own stands after the semicolon; there the definition parts by the edition,
 -- at one place for each difference. Definitions only.
 use Rattle.std.specs.Prelude.{ℕ, List, [], ◌∷◌, length}
-use Rattle.scan.specs.Bytes.{digits, signs, points, exponentMarks, commas, whiteSpace, flags}
+use Rattle.scan.specs.Bytes.{digits, signs, points, exponent_marks, commas, white_space, flags}
 use Rattle.strict_grammar.specs.Spans.{Span, Byte, ◌·◌, ◌∥◌, opt, star, plus, sequence, longest, empty, never, editions}
 use Rattle.strict_grammar.specs.declared.Edition.{Edition}
 use Rattle.strict_grammar.specs.declared.Edition.TheVariants.{Svg11, Svg2}
 
 -- the bytes of white space; in SVG 2 a form feed is one
-abbrev pub whiteOf : Edition → List ℕ
-whiteOf Svg11 = whiteSpace
-whiteOf Svg2 = 9 ∷ 32 ∷ 10 ∷ 12 ∷ 13 ∷ []
+abbrev pub white_of : Edition → List ℕ
+white_of Svg11 = white_space
+white_of Svg2 = 9 ∷ 32 ∷ 10 ∷ 12 ∷ 13 ∷ []
 
 module _ (edition : Edition) (text : List ℕ) where
   -- a letter in either case: ( "M" | "m" )
@@ -24,9 +24,9 @@ module _ (edition : Edition) (text : List ℕ) where
 
   -- ---- bytes
 
-  -- (#x20 | #x9 | #xD | #xA); SVG 2: #x9 | #x20 | #xA | #xC | #xD
+  -- (#x20 | #x9 | #x_d | #x_a); SVG 2: #x9 | #x20 | #x_a | #x_c | #x_d
   abbrev pub wsp : Span
-  wsp = Byte text (whiteOf edition)
+  wsp = Byte text (white_of edition)
 
   -- ","
   abbrev pub comma : Span
@@ -52,7 +52,7 @@ module _ (edition : Edition) (text : List ℕ) where
 
   -- ( "e" | "E" ) sign? digit-sequence; in SVG 2 it is defined and no production uses it
   unfoldable pub exponent : Span
-  exponent = Byte text exponentMarks · opt sign · digit-sequence
+  exponent = Byte text exponent_marks · opt sign · digit-sequence
 
   -- digit-sequence? "." digit-sequence | digit-sequence "."; SVG 2, within number: ([0-9])* "." ([0-9])+, so that a digit stands after the point
   unfoldable pub fractional-constant : Span

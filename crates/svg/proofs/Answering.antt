@@ -12,11 +12,11 @@ use Rattle.answers.specs.Report.{written}
 use Rattle.answers.specs.declared.refusals.Values.TheVariants.{Three}
 use Rattle.answers.specs.declared.refusals.Refusal.{Refusal}
 use Rattle.answers.specs.declared.refusals.Refusal.TheVariants.{TooLong, NoRoom}
-use Rattle.commands.specs.Stored.{lettersOf, numbersOf}
+use Rattle.commands.specs.Stored.{letters_of, numbers_of}
 use Rattle.commands.specs.declared.command.PathCommand.{PathCommand}
-use Rattle.svg.specs.Lists.{CommandList, commandList}
-use Rattle.svg.specs.Texts.{Outcome, commands, refusal, commandsOf, offsetsOf, measureOf, Room, Roomed, Filled, FilledAll, Held}
-use Rattle.svg.specs.Readings.{readPathOf, readInto, ReadPath, Gives}
+use Rattle.svg.specs.Lists.{CommandList, command_list}
+use Rattle.svg.specs.Texts.{Outcome, commands, refusal, commands_of, offsets_of, measure_of, Room, Roomed, Filled, FilledAll, Held}
+use Rattle.svg.specs.Readings.{read_path_of, read_into, ReadPath, Gives}
 use Rattle.svg.specs.declared.passes.Size.{Size}
 use Rattle.svg.specs.declared.passes.Size.TheVariants.{Counted, Refused as Unmeasured}
 use Rattle.svg.specs.declared.reading.Reading.TheVariants.{Read, Refused}
@@ -30,16 +30,16 @@ Unread reason outcome = outcome ≡ refusal reason
 record Listed (places count : ℕ) (outcome : Outcome) : Type 0 where
   list : List PathCommand
   is : outcome ≡ commands list
-  letters : length (lettersOf list) ≡ places
-  numbers : length (numbersOf list) ≡ count
+  letters : length (letters_of list) ≡ places
+  numbers : length (numbers_of list) ≡ count
 
-measured-refused : (reason : Refusal) (outcome : Outcome) → measureOf outcome ≡ Unmeasured reason → outcome ≡ refusal reason
-unfolding measureOf
+measured-refused : (reason : Refusal) (outcome : Outcome) → measure_of outcome ≡ Unmeasured reason → outcome ≡ refusal reason
+unfolding measure_of
 measured-refused reason (commands list) e = let z : ◌≡◌ {A = ℕ} 0 1 = cc in absurd (omega arith)
 measured-refused reason (refusal other) e = let f : other ≡ reason = cc in ap refusal f
 
-measured-list : (places count : ℕ) (outcome : Outcome) → measureOf outcome ≡ Counted places count → Listed places count outcome
-unfolding measureOf
+measured-list : (places count : ℕ) (outcome : Outcome) → measure_of outcome ≡ Counted places count → Listed places count outcome
+unfolding measure_of
 measured-list places count (commands list) e = record { list = list; is = refl; letters = cc; numbers = cc }
 measured-list places count (refusal other) e = let z : ◌≡◌ {A = ℕ} 0 1 = cc in absurd (omega arith)
 
@@ -47,44 +47,44 @@ measured-list places count (refusal other) e = let z : ◌≡◌ {A = ℕ} 0 1 =
 
 same-list : {a b : CommandList} → a.letters ≡ b.letters → a.numbers ≡ b.numbers → a.offsets ≡ b.offsets → a ≡ b
 same-list {a} {b} l n o =
-    ap (λ x. commandList x a.numbers a.offsets) l
-    ∙ ap (λ x. commandList b.letters x a.offsets) n
-    ∙ ap (λ x. commandList b.letters b.numbers x) o
+    ap (λ x. command_list x a.numbers a.offsets) l
+    ∙ ap (λ x. command_list b.letters x a.offsets) n
+    ∙ ap (λ x. command_list b.letters b.numbers x) o
 
 -- ---- the ways out
 
 module _ (text : List ℕ) (before : CommandList) where
-  refuses : (reason : Refusal) → readInto text before ≡ refusal reason → ReadPath text before (Refused reason) before
+  refuses : (reason : Refusal) → read_into text before ≡ refusal reason → ReadPath text before (Refused reason) before
   refuses reason e = record { answer = rw e; memory = rw e }
 
-  long : 65536 < length text → readInto text before ≡ refusal (TooLong (length text))
-  unfolding readPathOf
+  long : 65536 < length text → read_into text before ≡ refusal (TooLong (length text))
+  unfolding read_path_of
   long h = rw (lt-ltb 65536 (length text) h)
 
   pub too_long : 65536 < length text → ReadPath text before (Refused (TooLong (length text))) before
   too_long h = refuses (TooLong (length text)) (long h)
 
   module _ (short : length text ≤ 65536) where
-    refusing : (reason : Refusal) → commandsOf text ≡ refusal reason → readInto text before ≡ refusal reason
-    unfolding readPathOf
+    refusing : (reason : Refusal) → commands_of text ≡ refusal reason → read_into text before ≡ refusal reason
+    unfolding read_path_of
     refusing reason e = rw (le-ltb 65536 (length text) short, e)
 
-    pub unread : (reason : Refusal) → measureOf (commandsOf text) ≡ Unmeasured reason → ReadPath text before (Refused reason) before
-    unread reason m = refuses reason (refusing reason (measured-refused reason (commandsOf text) m))
+    pub unread : (reason : Refusal) → measure_of (commands_of text) ≡ Unmeasured reason → ReadPath text before (Refused reason) before
+    unread reason m = refuses reason (refusing reason (measured-refused reason (commands_of text) m))
 
-    module _ {places count : ℕ} (m : measureOf (commandsOf text) ≡ Counted places count) where
-      l : Listed places count (commandsOf text)
-      l = measured-list places count (commandsOf text) m
+    module _ {places count : ℕ} (m : measure_of (commands_of text) ≡ Counted places count) where
+      l : Listed places count (commands_of text)
+      l = measured-list places count (commands_of text) m
 
-      offsets_are : length (offsetsOf text) ≡ places
+      offsets_are : length (offsets_of text) ≡ places
       offsets_are = offsets-many text l.list l.is ∙ l.letters
 
-      few-letters : length before.letters < places → readInto text before ≡ refusal (NoRoom (Three places count places))
-      unfolding readPathOf
+      few-letters : length before.letters < places → read_into text before ≡ refusal (NoRoom (Three places count places))
+      unfolding read_path_of
       few-letters h = rw (le-ltb 65536 (length text) short, l.is, l.letters, l.numbers, offsets_are, lt-ltb (length before.letters) places h)
 
-      few-numbers : places ≤ length before.letters → length before.numbers < count → readInto text before ≡ refusal (NoRoom (Three places count places))
-      unfolding readPathOf
+      few-numbers : places ≤ length before.letters → length before.numbers < count → read_into text before ≡ refusal (NoRoom (Three places count places))
+      unfolding read_path_of
       few-numbers g h =
           rw (
             le-ltb 65536 (length text) short,
@@ -98,8 +98,8 @@ module _ (text : List ℕ) (before : CommandList) where
 
       few-offsets :
           places ≤ length before.letters → count ≤ length before.numbers → length before.offsets < places
-          → readInto text before ≡ refusal (NoRoom (Three places count places))
-      unfolding readPathOf
+          → read_into text before ≡ refusal (NoRoom (Three places count places))
+      unfolding read_path_of
       few-offsets f g h =
           rw (
             le-ltb 65536 (length text) short,
@@ -112,8 +112,8 @@ module _ (text : List ℕ) (before : CommandList) where
             lt-ltb (length before.offsets) places h,
           )
 
-      enough : places ≤ length before.letters → count ≤ length before.numbers → places ≤ length before.offsets → readInto text before ≡ commands l.list
-      unfolding readPathOf
+      enough : places ≤ length before.letters → count ≤ length before.numbers → places ≤ length before.offsets → read_into text before ≡ commands l.list
+      unfolding read_path_of
       enough f g h =
           rw (
             le-ltb 65536 (length text) short,
@@ -139,10 +139,10 @@ module _ (text : List ℕ) (before : CommandList) where
       no-offsets f g h = refuses (NoRoom (Three places count places)) (few-offsets f g h)
 
       module _ (f : places ≤ length before.letters) (g : count ≤ length before.numbers) (h : places ≤ length before.offsets) where
-        pub has_room : Roomed (offsetsOf text) (commandsOf text) before
+        pub has_room : Roomed (offsets_of text) (commands_of text) before
         has_room = (rw l.is (omega (arith, l.letters), omega (arith, l.numbers)), omega (arith, offsets_are))
 
-        pub read_whole : (after : CommandList) → FilledAll (offsetsOf text) (commandsOf text) before after → ReadPath text before (Read places count) after
+        pub read_whole : (after : CommandList) → FilledAll (offsets_of text) (commands_of text) before after → ReadPath text before (Read places count) after
         read_whole after filled =
             let e = enough f g h in
             let w = rw l.is at filled.0 in
@@ -151,8 +151,8 @@ module _ (text : List ℕ) (before : CommandList) where
 -- ---- a text whose commands three lists hold
 
 module _ (held : CommandList) where
-  held-measured : (offsets : List ℕ) (outcome : Outcome) → Held offsets outcome held → measureOf outcome ≡ Counted (length held.letters) (length held.numbers)
-  unfolding measureOf
+  held-measured : (offsets : List ℕ) (outcome : Outcome) → Held offsets outcome held → measure_of outcome ≡ Counted (length held.letters) (length held.numbers)
+  unfolding measure_of
   held-measured offsets (commands list) h = rw (h.0, h.1)
   held-measured offsets (refusal reason) h = absurd h
 
@@ -163,17 +163,17 @@ module _ (held : CommandList) where
   held-filled :
       (before : CommandList) (offsets : List ℕ) (outcome : Outcome) → Held offsets outcome held
       → FilledAll offsets outcome before
-      (commandList (written held.letters before.letters) (written held.numbers before.numbers) (written held.offsets before.offsets))
+      (command_list (written held.letters before.letters) (written held.numbers before.numbers) (written held.offsets before.offsets))
   held-filled before offsets (commands list) h =
       ((ap (λ l. written l before.letters) h.0, ap (λ l. written l before.numbers) h.1), ap (λ l. written l before.offsets) h.2)
   held-filled before offsets (refusal reason) h = absurd h
 
-  module _ (text : List ℕ) (short : length text ≤ 65536) (h : Held (offsetsOf text) (commandsOf text) held) where
-    sized : measureOf (commandsOf text) ≡ Counted (length held.letters) (length held.numbers)
-    sized = held-measured (offsetsOf text) (commandsOf text) h
+  module _ (text : List ℕ) (short : length text ≤ 65536) (h : Held (offsets_of text) (commands_of text) held) where
+    sized : measure_of (commands_of text) ≡ Counted (length held.letters) (length held.numbers)
+    sized = held-measured (offsets_of text) (commands_of text) h
 
     as_many : length held.offsets ≡ length held.letters
-    as_many = ap length (held-offsets (offsetsOf text) (commandsOf text) h) ∙ offsets_are text held short sized
+    as_many = ap length (held-offsets (offsets_of text) (commands_of text) h) ∙ offsets_are text held short sized
 
   module _ (before : CommandList) where
     abbrev NoneGiven : Type 0
@@ -201,5 +201,5 @@ module _ (held : CommandList) where
     give_all after f g i l n o =
         record {
           said = λ text short h.
-              read_whole text before short (sized text short h) f g (omega (arith, i, as_many text short h)) after (rw (l, n, o) (held-filled before (offsetsOf text) (commandsOf text) h));
+              read_whole text before short (sized text short h) f g (omega (arith, i, as_many text short h)) after (rw (l, n, o) (held-filled before (offsets_of text) (commands_of text) h));
         }

@@ -9,11 +9,11 @@ use lib.Seq.{sets, take-append_seam, drop-append-add, drop-drop}
 use Rattle.answers.specs.Report.{written}
 use Rattle.answers.specs.declared.refusals.Refusal.{Refusal}
 use Rattle.answers.proofs.Writing.{written-more, length-written}
-use Rattle.commands.specs.Stored.{letterOf, argumentsOf, lettersOf, numbersOf, Store}
+use Rattle.commands.specs.Stored.{letter_of, arguments_of, letters_of, numbers_of, Store}
 use Rattle.commands.specs.declared.command.PathCommand.{PathCommand}
-use Rattle.svg_step.specs.Steps.{fresh_of, readStepOf}
-use Rattle.svg.specs.Lists.{CommandList, commandList, noList}
-use Rattle.svg.specs.Texts.{Outcome, commands, refusal, readFrom, commandsOf, offsetsFrom, offsetsOf, measureOf, Room, Roomed, Filled, FilledAll, onto, Known, Counting, Holding, Begun, Held, SaysStored, Stores}
+use Rattle.svg_step.specs.Steps.{fresh_of, read_step_of}
+use Rattle.svg.specs.Lists.{CommandList, command_list, no_list}
+use Rattle.svg.specs.Texts.{Outcome, commands, refusal, read_from, commands_of, offsets_from, offsets_of, measure_of, Room, Roomed, Filled, FilledAll, onto, Known, Counting, Holding, Begun, Held, SaysStored, Stores}
 use Rattle.svg_step.specs.declared.steps.Reader.{Reader}
 use Rattle.svg_step.specs.declared.steps.Step.TheVariants.{Command, Done, Refused}
 use Rattle.svg.specs.declared.passes.Size.{Size}
@@ -46,7 +46,7 @@ module _ {A : Type 0} where
 -- ---- between two commands
 
 pub holding-none : (text : List ℕ) (before : CommandList) → Holding text before before fresh_of 0 0
-unfolding lettersOf numbersOf known-none
+unfolding letters_of numbers_of known-none
 holding-none text before =
     record {
       done = [];
@@ -55,17 +55,17 @@ holding-none text before =
       count = refl;
       letter-le = omega arith;
       at-le = omega arith;
-      lettersNow = refl;
-      numbersNow = refl;
-      offsetsNow = refl;
-      lettersIn = omega arith;
-      numbersIn = omega arith;
-      offsetsIn = omega arith;
+      letters_now = refl;
+      numbers_now = refl;
+      offsets_now = refl;
+      letters_in = omega arith;
+      numbers_in = omega arith;
+      offsets_in = omega arith;
     }
 
 -- at the start nothing is held
-pub begun-none : (text : List ℕ) → Begun text noList fresh_of
-unfolding lettersOf numbersOf known-none
+pub begun-none : (text : List ℕ) → Begun text no_list fresh_of
+unfolding letters_of numbers_of known-none
 begun-none text = record { done = []; known = known-none text; letters = refl; numbers = refl; offsets = refl; letter-le = omega arith; at-le = omega arith }
 
 module _ {text : List ℕ} {before after : CommandList} {reader : Reader} {letter_at at : ℕ} (k : Holding text before after reader letter_at at) where
@@ -73,56 +73,56 @@ module _ {text : List ℕ} {before after : CommandList} {reader : Reader} {lette
   counting = record { done = k.done; known = k.known; letters = k.places; numbers = k.count; letter-le = k.letter-le; at-le = k.at-le }
 
   pub held-letters : length after.letters ≡ length before.letters
-  held-letters = ap length k.lettersNow ∙ length-written (lettersOf k.done) before.letters (omega (arith, k.lettersIn, k.places))
+  held-letters = ap length k.letters_now ∙ length-written (letters_of k.done) before.letters (omega (arith, k.letters_in, k.places))
 
   pub held-numbers : length after.numbers ≡ length before.numbers
-  held-numbers = ap length k.numbersNow ∙ length-written (numbersOf k.done) before.numbers (omega (arith, k.numbersIn, k.count))
+  held-numbers = ap length k.numbers_now ∙ length-written (numbers_of k.done) before.numbers (omega (arith, k.numbers_in, k.count))
 
   pub held-offsets : length after.offsets ≡ length before.offsets
-  held-offsets = ap length k.offsetsNow ∙ length-written k.known.marks before.offsets (omega (arith, k.offsetsIn, k.places, k.known.many))
+  held-offsets = ap length k.offsets_now ∙ length-written k.known.marks before.offsets (omega (arith, k.offsets_in, k.places, k.known.many))
 
   pub held-within : (letter_at ≤ length after.letters) × (at ≤ length after.numbers) × (letter_at ≤ length after.offsets)
-  held-within = (omega (arith, held-letters, k.lettersIn), omega (arith, held-numbers, k.numbersIn), omega (arith, held-offsets, k.offsetsIn))
+  held-within = (omega (arith, held-letters, k.letters_in), omega (arith, held-numbers, k.numbers_in), omega (arith, held-offsets, k.offsets_in))
 
-  pub held_whole : readStepOf text reader ≡ Done → Stores text before after (Whole letter_at at)
+  pub held_whole : read_step_of text reader ≡ Done → Stores text before after (Whole letter_at at)
   held_whole e =
-      let all : commandsOf text ≡ commands k.done = known-all text reader k.done k.known e in
-      let offsets : offsetsOf text ≡ k.known.marks = known-offsets text reader k.done k.known e in
+      let all : commands_of text ≡ commands k.done = known-all text reader k.done k.known e in
+      let offsets : offsets_of text ≡ k.known.marks = known-offsets text reader k.done k.known e in
       record {
         said = (
           counted text reader letter_at at counting e,
-          rw (all, offsets) ((omega (arith, k.lettersIn, k.places), omega (arith, k.numbersIn, k.count)), omega (arith, k.offsetsIn, k.places, k.known.many)),
-          rw (all, offsets) ((k.lettersNow, k.numbersNow), k.offsetsNow),
+          rw (all, offsets) ((omega (arith, k.letters_in, k.places), omega (arith, k.numbers_in, k.count)), omega (arith, k.offsets_in, k.places, k.known.many)),
+          rw (all, offsets) ((k.letters_now, k.numbers_now), k.offsets_now),
         );
       }
 
-  pub held-refused : (reason : Refusal) → readStepOf text reader ≡ Refused reason → Stores text before after (Unstored reason)
+  pub held-refused : (reason : Refusal) → read_step_of text reader ≡ Refused reason → Stores text before after (Unstored reason)
   held-refused reason e = record { said = uncounted text reader letter_at at counting reason e }
 
-  module _ (command : PathCommand) (next : Reader) (e : readStepOf text reader ≡ Command command next) where
+  module _ (command : PathCommand) (next : Reader) (e : read_step_of text reader ≡ Command command next) where
     more : Known text next (k.done ++ (command ∷ []))
     more = known_more text reader k.done k.known command next e
 
-    one-letter : length (lettersOf (k.done ++ (command ∷ []))) ≡ length (lettersOf k.done) + 1
-    one-letter = ap length (letters-more k.done command) ∙ length-append (lettersOf k.done) (letterOf command ∷ [])
+    one-letter : length (letters_of (k.done ++ (command ∷ []))) ≡ length (letters_of k.done) + 1
+    one-letter = ap length (letters-more k.done command) ∙ length-append (letters_of k.done) (letter_of command ∷ [])
 
-    its-numbers : length (numbersOf (k.done ++ (command ∷ []))) ≡ length (numbersOf k.done) + length (argumentsOf command)
-    its-numbers = ap length (numbers_more k.done command) ∙ length-append (numbersOf k.done) (argumentsOf command)
+    its-numbers : length (numbers_of (k.done ++ (command ∷ []))) ≡ length (numbers_of k.done) + length (arguments_of command)
+    its-numbers = ap length (numbers_more k.done command) ∙ length-append (numbers_of k.done) (arguments_of command)
 
     -- the offset of its letter
     pub held-offset : next.offset < length text
     held-offset = known-offset text reader k.done k.known command next e
 
     -- the counts are small
-    pub held_small : (letter_at < length text) × (at ≤ 7 * letter_at) × (length (argumentsOf command) ≤ 7)
+    pub held_small : (letter_at < length text) × (at ≤ 7 * letter_at) × (length (arguments_of command) ≤ 7)
     held_small = counting-within text reader letter_at at counting command next e
 
     -- room for the text is room for the command
     roomed :
-        Roomed (offsetsOf text) (commandsOf text) before
-        → (letter_at + 1 ≤ length after.letters) × (at + length (argumentsOf command) ≤ length after.numbers) × (letter_at + 1 ≤ length after.offsets)
+        Roomed (offsets_of text) (commands_of text) before
+        → (letter_at + 1 ≤ length after.letters) × (at + length (arguments_of command) ≤ length after.numbers) × (letter_at + 1 ≤ length after.offsets)
     roomed room =
-        let r = room_of (length before.letters) (length before.numbers) (k.done ++ (command ∷ [])) (commandsOf text) (readFrom more.steps text next) room.0 more.whole in (
+        let r = room_of (length before.letters) (length before.numbers) (k.done ++ (command ∷ [])) (commands_of text) (read_from more.steps text next) room.0 more.whole in (
           omega (arith, r.0, one-letter, k.places, held-letters),
           omega (arith, r.1, its-numbers, k.count, held-numbers),
           omega (arith, room.1, known_many text next (k.done ++ (command ∷ [])) more, more.many, one-letter, k.places, held-offsets),
@@ -131,23 +131,23 @@ module _ {text : List ℕ} {before after : CommandList} {reader : Reader} {lette
     pub full-of-letters : length after.letters ≤ letter_at → Stores text before after (Full reader letter_at at)
     full-of-letters h = record { said = (k, λ room. omega (arith, (roomed room).0)) }
 
-    pub full-of-numbers : (width : ℕ) → width ≡ length (argumentsOf command) → length after.numbers < at + width → Stores text before after (Full reader letter_at at)
+    pub full-of-numbers : (width : ℕ) → width ≡ length (arguments_of command) → length after.numbers < at + width → Stores text before after (Full reader letter_at at)
     full-of-numbers width w h = record { said = (k, λ room. omega (arith, (roomed room).1, w)) }
 
     pub full-of-offsets : length after.offsets ≤ letter_at → Stores text before after (Full reader letter_at at)
     full-of-offsets h = record { said = (k, λ room. omega (arith, (roomed room).2)) }
 
     pub holding-more :
-        {letters' : List ℕ} {numbers' : List Float} (width : ℕ) → width ≡ length (argumentsOf command)
+        {letters' : List ℕ} {numbers' : List Float} (width : ℕ) → width ≡ length (arguments_of command)
         → letter_at < length after.letters
         → at + width ≤ length after.numbers
         → letter_at < length after.offsets
         → Store letter_at at command after.letters after.numbers letters' numbers'
-        → Holding text before (commandList letters' numbers' (set after.offsets letter_at next.offset)) next (letter_at + 1) (at + width)
+        → Holding text before (command_list letters' numbers' (set after.offsets letter_at next.offset)) next (letter_at + 1) (at + width)
     unfolding more known_more
     holding-more width w inside enough free s =
-        let l : lettersOf (k.done ++ (command ∷ [])) ≡ lettersOf k.done ++ (letterOf command ∷ []) = letters-more k.done command in
-        let n : numbersOf (k.done ++ (command ∷ [])) ≡ numbersOf k.done ++ argumentsOf command = numbers_more k.done command in
+        let l : letters_of (k.done ++ (command ∷ [])) ≡ letters_of k.done ++ (letter_of command ∷ []) = letters-more k.done command in
+        let n : numbers_of (k.done ++ (command ∷ [])) ≡ numbers_of k.done ++ arguments_of command = numbers_more k.done command in
         record {
           done = k.done ++ (command ∷ []);
           known = more;
@@ -155,34 +155,34 @@ module _ {text : List ℕ} {before after : CommandList} {reader : Reader} {lette
           count = omega (arith, its-numbers, k.count, w);
           letter-le = omega (arith, step-ahead text reader next command e, k.letter-le);
           at-le = omega (arith, few-arguments command, w, k.at-le);
-          lettersNow =
+          letters_now =
               rw l
               (s.letter
-              ∙ ap (λ x. set x letter_at (letterOf command)) k.lettersNow
-              ∙ ap (λ i. set (written (lettersOf k.done) before.letters) i (letterOf command)) k.places
-              ∙ written-more (lettersOf k.done) (letterOf command ∷ []) before.letters (omega (arith, inside, held-letters, k.places)));
-          numbersNow =
+              ∙ ap (λ x. set x letter_at (letter_of command)) k.letters_now
+              ∙ ap (λ i. set (written (letters_of k.done) before.letters) i (letter_of command)) k.places
+              ∙ written-more (letters_of k.done) (letter_of command ∷ []) before.letters (omega (arith, inside, held-letters, k.places)));
+          numbers_now =
               rw n
               (s.arguments
-              ∙ ap (λ x. sets x at (argumentsOf command)) k.numbersNow
-              ∙ ap (λ i. sets (written (numbersOf k.done) before.numbers) i (argumentsOf command)) k.count
-              ∙ written-more (numbersOf k.done) (argumentsOf command) before.numbers (omega (arith, enough, held-numbers, k.count, w)));
-          offsetsNow =
-              ap (λ x. set x letter_at next.offset) k.offsetsNow
+              ∙ ap (λ x. sets x at (arguments_of command)) k.numbers_now
+              ∙ ap (λ i. sets (written (numbers_of k.done) before.numbers) i (arguments_of command)) k.count
+              ∙ written-more (numbers_of k.done) (arguments_of command) before.numbers (omega (arith, enough, held-numbers, k.count, w)));
+          offsets_now =
+              ap (λ x. set x letter_at next.offset) k.offsets_now
               ∙ ap (λ i. set (written k.known.marks before.offsets) i next.offset) (k.places ∙ sym k.known.many)
               ∙ written-more k.known.marks (next.offset ∷ []) before.offsets (omega (arith, free, held-offsets, k.places, k.known.many));
-          lettersIn = omega (arith, inside, held-letters);
-          numbersIn = omega (arith, enough, held-numbers);
-          offsetsIn = omega (arith, free, held-offsets);
+          letters_in = omega (arith, inside, held-letters);
+          numbers_in = omega (arith, enough, held-numbers);
+          offsets_in = omega (arith, free, held-offsets);
         }
 
   -- what is held, as three lists
-  begun : Begun text (commandList (take letter_at after.letters) (take at after.numbers) (take letter_at after.offsets)) reader
+  begun : Begun text (command_list (take letter_at after.letters) (take at after.numbers) (take letter_at after.offsets)) reader
   begun =
-      let l : take letter_at after.letters ≡ lettersOf k.done = ap (take letter_at) k.lettersNow ∙ take-written (lettersOf k.done) before.letters letter_at k.places in
-      let n : take at after.numbers ≡ numbersOf k.done = ap (take at) k.numbersNow ∙ take-written (numbersOf k.done) before.numbers at k.count in
+      let l : take letter_at after.letters ≡ letters_of k.done = ap (take letter_at) k.letters_now ∙ take-written (letters_of k.done) before.letters letter_at k.places in
+      let n : take at after.numbers ≡ numbers_of k.done = ap (take at) k.numbers_now ∙ take-written (numbers_of k.done) before.numbers at k.count in
       let o : take letter_at after.offsets ≡ k.known.marks =
-      ap (take letter_at) k.offsetsNow ∙ take-written k.known.marks before.offsets letter_at (k.places ∙ sym k.known.many) in
+      ap (take letter_at) k.offsets_now ∙ take-written k.known.marks before.offsets letter_at (k.places ∙ sym k.known.many) in
       record {
         done = k.done;
         known = k.known;
@@ -198,29 +198,29 @@ module _ {text : List ℕ} {before after : CommandList} {reader : Reader} {lette
 module _ (text : List ℕ) (before after : CommandList) (places count : ℕ) where
   -- all that is stored, as three lists
   held_of :
-      (outcome : Outcome) → commandsOf text ≡ outcome → Counted places count ≡ measureOf outcome → FilledAll (offsetsOf text) outcome before after
-      → Held (offsetsOf text) outcome (commandList (take places after.letters) (take count after.numbers) (take places after.offsets))
-  unfolding measureOf
+      (outcome : Outcome) → commands_of text ≡ outcome → Counted places count ≡ measure_of outcome → FilledAll (offsets_of text) outcome before after
+      → Held (offsets_of text) outcome (command_list (take places after.letters) (take count after.numbers) (take places after.offsets))
+  unfolding measure_of
   held_of (commands list) e m f =
-      let l : places ≡ length (lettersOf list) = cc in
-      let n : count ≡ length (numbersOf list) = cc in (
-        ap (take places) f.0.0 ∙ take-written (lettersOf list) before.letters places l,
-        ap (take count) f.0.1 ∙ take-written (numbersOf list) before.numbers count n,
-        ap (take places) f.1 ∙ take-written (offsetsOf text) before.offsets places (l ∙ sym (offsets-many text list e)),
+      let l : places ≡ length (letters_of list) = cc in
+      let n : count ≡ length (numbers_of list) = cc in (
+        ap (take places) f.0.0 ∙ take-written (letters_of list) before.letters places l,
+        ap (take count) f.0.1 ∙ take-written (numbers_of list) before.numbers count n,
+        ap (take places) f.1 ∙ take-written (offsets_of text) before.offsets places (l ∙ sym (offsets-many text list e)),
       )
   held_of (refusal reason) e m f = absurd f.0
 
   within_of :
-      (outcome : Outcome) → commandsOf text ≡ outcome → Counted places count ≡ measureOf outcome → Roomed (offsetsOf text) outcome before
-      → FilledAll (offsetsOf text) outcome before after
+      (outcome : Outcome) → commands_of text ≡ outcome → Counted places count ≡ measure_of outcome → Roomed (offsets_of text) outcome before
+      → FilledAll (offsets_of text) outcome before after
       → (places ≤ length after.letters) × (count ≤ length after.numbers) × (places ≤ length after.offsets)
-  unfolding measureOf
+  unfolding measure_of
   within_of (commands list) e m room f =
-      let p : places ≡ length (lettersOf list) = cc in
-      let q : count ≡ length (numbersOf list) = cc in (
-        omega (arith, p, room.0.0, ap length f.0.0 ∙ length-written (lettersOf list) before.letters room.0.0),
-        omega (arith, q, room.0.1, ap length f.0.1 ∙ length-written (numbersOf list) before.numbers room.0.1),
-        omega (arith, p, offsets-many text list e, room.1, ap length f.1 ∙ length-written (offsetsOf text) before.offsets room.1),
+      let p : places ≡ length (letters_of list) = cc in
+      let q : count ≡ length (numbers_of list) = cc in (
+        omega (arith, p, room.0.0, ap length f.0.0 ∙ length-written (letters_of list) before.letters room.0.0),
+        omega (arith, q, room.0.1, ap length f.0.1 ∙ length-written (numbers_of list) before.numbers room.0.1),
+        omega (arith, p, offsets-many text list e, room.1, ap length f.1 ∙ length-written (offsets_of text) before.offsets room.1),
       )
   within_of (refusal reason) e m room f = absurd room.0
 
@@ -228,15 +228,15 @@ module _ {text : List ℕ} {before after : CommandList} {r : Stored} (s : Stores
   as-told : {q : Stored} → r ≡ q → Stores text before after q
   as-told e = subst (λ (x : Stored). Stores text before after x) e s
 
-  pub told-refused : {reason : Refusal} → r ≡ Unstored reason → measureOf (commandsOf text) ≡ Unmeasured reason
+  pub told-refused : {reason : Refusal} → r ≡ Unstored reason → measure_of (commands_of text) ≡ Unmeasured reason
   told-refused e = sym (as-told e).said
 
   module _ {places count : ℕ} (e : r ≡ Whole places count) where
     pub whole-within : (places ≤ length after.letters) × (count ≤ length after.numbers) × (places ≤ length after.offsets)
-    whole-within = let told = (as-told e).said in within_of text before after places count (commandsOf text) refl told.0 told.1 told.2
+    whole-within = let told = (as-told e).said in within_of text before after places count (commands_of text) refl told.0 told.1 told.2
 
-    pub whole-held : Held (offsetsOf text) (commandsOf text) (commandList (take places after.letters) (take count after.numbers) (take places after.offsets))
-    whole-held = let told = (as-told e).said in held_of text before after places count (commandsOf text) refl told.0 told.2
+    pub whole-held : Held (offsets_of text) (commands_of text) (command_list (take places after.letters) (take count after.numbers) (take places after.offsets))
+    whole-held = let told = (as-told e).said in held_of text before after places count (commands_of text) refl told.0 told.2
 
   module _ {reader : Reader} {places count : ℕ} (e : r ≡ Full reader places count) where
     full-holding : Holding text before after reader places count
@@ -245,35 +245,35 @@ module _ {text : List ℕ} {before after : CommandList} {r : Stored} (s : Stores
     pub full-within : (places ≤ length after.letters) × (count ≤ length after.numbers) × (places ≤ length after.offsets)
     full-within = held-within full-holding
 
-    pub full-begun : Begun text (commandList (take places after.letters) (take count after.numbers) (take places after.offsets)) reader
+    pub full-begun : Begun text (command_list (take places after.letters) (take count after.numbers) (take places after.offsets)) reader
     full-begun = begun full-holding
 
 -- ---- from buffers to others
 
-unmeasured : (outcome : Outcome) (l n : ℕ) (reason : Refusal) → Room outcome l n → Unmeasured reason ≡ measureOf outcome → ⊥
-unfolding measureOf
+unmeasured : (outcome : Outcome) (l n : ℕ) (reason : Refusal) → Room outcome l n → Unmeasured reason ≡ measure_of outcome → ⊥
+unfolding measure_of
 unmeasured (commands list) l n reason room m = let z : ◌≡◌ {A = ℕ} 0 1 = cc in omega arith
 unmeasured (refusal other) l n reason room m = room
 
 stored-filled :
-    (text : List ℕ) (before after : CommandList) (r : Stored) → Stores text before after r → Roomed (offsetsOf text) (commandsOf text) before
-    → FilledAll (offsetsOf text) (commandsOf text) before after
+    (text : List ℕ) (before after : CommandList) (r : Stored) → Stores text before after r → Roomed (offsets_of text) (commands_of text) before
+    → FilledAll (offsets_of text) (commands_of text) before after
 stored-filled text before after (Whole places count) s room = s.said.2
 stored-filled text before after (Unstored reason) s room =
-    absurd (unmeasured (commandsOf text) (length before.letters) (length before.numbers) reason room.0 s.said)
+    absurd (unmeasured (commands_of text) (length before.letters) (length before.numbers) reason room.0 s.said)
 stored-filled text before after (Full reader places count) s room = absurd (s.said.1 room)
 
 -- a list that is written over its own beginning
 filled-over :
     (letters letters₁ letters' : List ℕ) (numbers numbers₁ numbers' : List Float) (done : List PathCommand) (outcome rest : Outcome) → outcome ≡ onto done rest
-    → letters₁ ≡ written (lettersOf done) letters
-    → numbers₁ ≡ written (numbersOf done) numbers
+    → letters₁ ≡ written (letters_of done) letters
+    → numbers₁ ≡ written (numbers_of done) numbers
     → Filled outcome letters₁ numbers₁ letters' numbers'
     → Filled outcome letters numbers letters' numbers'
 filled-over letters letters₁ letters' numbers numbers₁ numbers' done (commands list) rest e l n f =
-    let r = room_of (length (lettersOf list)) (length (numbersOf list)) done (commands list) rest (omega arith, omega arith) e in (
-      f.0 ∙ ap (written (lettersOf list)) l ∙ written_over (lettersOf done) (lettersOf list) letters r.0,
-      f.1 ∙ ap (written (numbersOf list)) n ∙ written_over (numbersOf done) (numbersOf list) numbers r.1,
+    let r = room_of (length (letters_of list)) (length (numbers_of list)) done (commands list) rest (omega arith, omega arith) e in (
+      f.0 ∙ ap (written (letters_of list)) l ∙ written_over (letters_of done) (letters_of list) letters r.0,
+      f.1 ∙ ap (written (numbers_of list)) n ∙ written_over (numbers_of done) (numbers_of list) numbers r.1,
     )
 filled-over letters letters₁ letters' numbers numbers₁ numbers' done (refusal reason) rest e l n f = absurd f
 
@@ -285,11 +285,11 @@ module _ {text : List ℕ} {held : CommandList} {reader : Reader} (k : Begun tex
   many : length held.offsets ≡ length held.letters
   many = ap length k.offsets ∙ k.known.many ∙ sym (ap length k.letters)
 
-  module _ (before : CommandList) (room : Roomed (offsetsOf text) (commandsOf text) before) where
+  module _ (before : CommandList) (room : Roomed (offsets_of text) (commands_of text) before) where
     pub begun-room :
         (length held.letters ≤ length before.letters) × (length held.numbers ≤ length before.numbers) × (length held.offsets ≤ length before.offsets)
     begun-room =
-        let r = room_of (length before.letters) (length before.numbers) k.done (commandsOf text) (readFrom k.known.steps text reader) room.0 k.known.whole in (
+        let r = room_of (length before.letters) (length before.numbers) k.done (commands_of text) (read_from k.known.steps text reader) room.0 k.known.whole in (
           omega (arith, r.0, ap length k.letters),
           omega (arith, r.1, ap length k.numbers),
           omega (arith, room.1, known_many text reader k.done k.known, ap length k.offsets),
@@ -324,21 +324,21 @@ module _ {text : List ℕ} {held : CommandList} {reader : Reader} (k : Begun tex
               count = ap length k.numbers;
               letter-le = k.letter-le;
               at-le = k.at-le;
-              lettersNow = again held.letters copied.letters before.letters (lettersOf k.done) l k.letters;
-              numbersNow = again held.numbers copied.numbers before.numbers (numbersOf k.done) n k.numbers;
-              offsetsNow = again held.offsets copied.offsets before.offsets k.known.marks o k.offsets;
-              lettersIn = omega (arith, begun-room, same-letters);
-              numbersIn = omega (arith, begun-room, same_numbers);
-              offsetsIn = omega (arith, begun-room, same-offsets, many);
+              letters_now = again held.letters copied.letters before.letters (letters_of k.done) l k.letters;
+              numbers_now = again held.numbers copied.numbers before.numbers (numbers_of k.done) n k.numbers;
+              offsets_now = again held.offsets copied.offsets before.offsets k.known.marks o k.offsets;
+              letters_in = omega (arith, begun-room, same-letters);
+              numbers_in = omega (arith, begun-room, same_numbers);
+              offsets_in = omega (arith, begun-room, same-offsets, many);
             }
 
         -- what is stored past the beginning makes the whole
-        pub begun-filled : (after : CommandList) (r : Stored) → Stores text copied after r → FilledAll (offsetsOf text) (commandsOf text) before after
+        pub begun-filled : (after : CommandList) (r : Stored) → Stores text copied after r → FilledAll (offsets_of text) (commands_of text) before after
         begun-filled after r s =
             let f = stored-filled text copied after r s (rw (same-letters, same_numbers, same-offsets) room) in (
-              filled-over before.letters copied.letters after.letters before.numbers copied.numbers after.numbers k.done (commandsOf text)
-                  (readFrom k.known.steps text reader) k.known.whole (l ∙ ap (λ x. written x before.letters) k.letters) (n ∙ ap (λ x. written x before.numbers) k.numbers) f.0,
+              filled-over before.letters copied.letters after.letters before.numbers copied.numbers after.numbers k.done (commands_of text)
+                  (read_from k.known.steps text reader) k.known.whole (l ∙ ap (λ x. written x before.letters) k.letters) (n ∙ ap (λ x. written x before.numbers) k.numbers) f.0,
               f.1
-                  ∙ ap (written (offsetsOf text)) o
-                  ∙ written_over held.offsets (offsetsOf text) before.offsets (omega (arith, known_many text reader k.done k.known, ap length k.offsets)),
+                  ∙ ap (written (offsets_of text)) o
+                  ∙ written_over held.offsets (offsets_of text) before.offsets (omega (arith, known_many text reader k.done k.known, ap length k.offsets)),
             )

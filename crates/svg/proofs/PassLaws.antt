@@ -5,11 +5,11 @@ use mathlib.Core.List.{List, [], ◌∷◌, ◌++◌, append_assoc, append-nil}
 use native.Mathlib.Omega.{arith}
 use lib.ListN.{length, length-append}
 use Rattle.answers.specs.declared.refusals.Refusal.{Refusal}
-use Rattle.commands.specs.Stored.{letterOf, argumentsOf, lettersOf, numbersOf}
+use Rattle.commands.specs.Stored.{letter_of, arguments_of, letters_of, numbers_of}
 use Rattle.commands.specs.declared.command.PathCommand.{PathCommand}
 use Rattle.commands.specs.declared.command.PathCommand.TheVariants.{MoveTo, LineTo, QuadTo, CubicTo, ArcTo, ClosePath}
-use Rattle.svg_step.specs.Steps.{fresh_of, readStepOf}
-use Rattle.svg.specs.Texts.{Outcome, commands, refusal, prepend, readFrom, commandsOf, offsetsFrom, offsetsOf, measureOf, Room}
+use Rattle.svg_step.specs.Steps.{fresh_of, read_step_of}
+use Rattle.svg.specs.Texts.{Outcome, commands, refusal, prepend, read_from, commands_of, offsets_from, offsets_of, measure_of, Room}
 pub use Rattle.svg.specs.Texts.{onto, Known, Counting}
 use Rattle.svg_step.specs.declared.steps.Reader.{Reader}
 use Rattle.svg_step.specs.declared.steps.Step.TheVariants.{Command, Done, Refused}
@@ -21,26 +21,26 @@ use Rattle.svg.proofs.Texts.{from-done, offsets-done, from-refused, from-command
 
 -- ---- lists of commands
 
-pub letters-append : (a b : List PathCommand) → lettersOf (a ++ b) ≡ lettersOf a ++ lettersOf b
-unfolding lettersOf
+pub letters-append : (a b : List PathCommand) → letters_of (a ++ b) ≡ letters_of a ++ letters_of b
+unfolding letters_of
 letters-append [] b = refl
-letters-append (x ∷ a) b = ap (λ l. letterOf x ∷ l) (letters-append a b)
+letters-append (x ∷ a) b = ap (λ l. letter_of x ∷ l) (letters-append a b)
 
-pub numbers-append : (a b : List PathCommand) → numbersOf (a ++ b) ≡ numbersOf a ++ numbersOf b
-unfolding numbersOf
+pub numbers-append : (a b : List PathCommand) → numbers_of (a ++ b) ≡ numbers_of a ++ numbers_of b
+unfolding numbers_of
 numbers-append [] b = refl
-numbers-append (x ∷ a) b = ap (λ l. argumentsOf x ++ l) (numbers-append a b) ∙ sym (append_assoc (argumentsOf x) (numbersOf a) (numbersOf b))
+numbers-append (x ∷ a) b = ap (λ l. arguments_of x ++ l) (numbers-append a b) ∙ sym (append_assoc (arguments_of x) (numbers_of a) (numbers_of b))
 
 module _ (done : List PathCommand) (command : PathCommand) where
-  pub letters-more : lettersOf (done ++ (command ∷ [])) ≡ lettersOf done ++ (letterOf command ∷ [])
-  unfolding lettersOf
+  pub letters-more : letters_of (done ++ (command ∷ [])) ≡ letters_of done ++ (letter_of command ∷ [])
+  unfolding letters_of
   letters-more = letters-append done (command ∷ [])
 
-  pub numbers_more : numbersOf (done ++ (command ∷ [])) ≡ numbersOf done ++ argumentsOf command
-  unfolding numbersOf
-  numbers_more = numbers-append done (command ∷ []) ∙ ap (λ l. numbersOf done ++ l) (append-nil (argumentsOf command))
+  pub numbers_more : numbers_of (done ++ (command ∷ [])) ≡ numbers_of done ++ arguments_of command
+  unfolding numbers_of
+  numbers_more = numbers-append done (command ∷ []) ∙ ap (λ l. numbers_of done ++ l) (append-nil (arguments_of command))
 
-pub few-arguments : (command : PathCommand) → length (argumentsOf command) ≤ 7
+pub few-arguments : (command : PathCommand) → length (arguments_of command) ≤ 7
 few-arguments (MoveTo end) = omega arith
 few-arguments (LineTo end) = omega arith
 few-arguments (QuadTo control end) = omega arith
@@ -59,12 +59,12 @@ onto-nothing (commands rest) = refl
 onto-nothing (refusal reason) = refl
 
 unfoldable pub known-none : (text : List ℕ) → Known text fresh_of []
-unfolding commandsOf offsetsOf lettersOf
+unfolding commands_of offsets_of letters_of
 known-none text =
     record {
       steps = suc (length text);
       enough = omega arith;
-      whole = onto-nothing (readFrom (suc (length text)) text fresh_of);
+      whole = onto-nothing (read_from (suc (length text)) text fresh_of);
       marks = [];
       offsets = refl;
       many = refl;
@@ -72,20 +72,20 @@ known-none text =
     }
 
 module _ (text : List ℕ) (reader : Reader) (done : List PathCommand) (k : Known text reader done) where
-  pub known-all : readStepOf text reader ≡ Done → commandsOf text ≡ commands done
+  pub known-all : read_step_of text reader ≡ Done → commands_of text ≡ commands done
   known-all e = k.whole ∙ ap (onto done) (from-done text reader k.steps e) ∙ ap commands (append-nil done)
 
-  pub known-offsets : readStepOf text reader ≡ Done → offsetsOf text ≡ k.marks
+  pub known-offsets : read_step_of text reader ≡ Done → offsets_of text ≡ k.marks
   known-offsets e = k.offsets ∙ ap (λ l. k.marks ++ l) (offsets-done text reader k.steps e) ∙ append-nil k.marks
 
   -- those known are among the text's
-  pub known_many : length k.marks ≤ length (offsetsOf text)
-  known_many = omega (arith, ap length k.offsets ∙ length-append k.marks (offsetsFrom k.steps text reader))
+  pub known_many : length k.marks ≤ length (offsets_of text)
+  known_many = omega (arith, ap length k.offsets ∙ length-append k.marks (offsets_from k.steps text reader))
 
-  pub known-refused : (reason : Refusal) → readStepOf text reader ≡ Refused reason → commandsOf text ≡ refusal reason
+  pub known-refused : (reason : Refusal) → read_step_of text reader ≡ Refused reason → commands_of text ≡ refusal reason
   known-refused reason e = k.whole ∙ ap (onto done) (from-refused text reader k.steps reason k.enough e)
 
-  module _ (command : PathCommand) (next : Reader) (e : readStepOf text reader ≡ Command command next) where
+  module _ (command : PathCommand) (next : Reader) (e : read_step_of text reader ≡ Command command next) where
     unfoldable pub known_more : Known text next (done ++ (command ∷ []))
     known_more =
         let m = from-command text reader k.steps command next k.enough e in
@@ -93,13 +93,13 @@ module _ (text : List ℕ) (reader : Reader) (done : List PathCommand) (k : Know
         record {
           steps = m.0;
           enough = m.1;
-          whole = k.whole ∙ ap (onto done) m.2 ∙ onto-prepend done command (readFrom m.0 text next);
+          whole = k.whole ∙ ap (onto done) m.2 ∙ onto-prepend done command (read_from m.0 text next);
           marks = k.marks ++ (next.offset ∷ []);
-          offsets = k.offsets ∙ ap (λ l. k.marks ++ l) m.3 ∙ sym (append_assoc k.marks (next.offset ∷ []) (offsetsFrom m.0 text next));
+          offsets = k.offsets ∙ ap (λ l. k.marks ++ l) m.3 ∙ sym (append_assoc k.marks (next.offset ∷ []) (offsets_from m.0 text next));
           many =
               length-append k.marks (next.offset ∷ [])
               ∙ ap (λ n. n + 1) k.many
-              ∙ sym (ap length (letters-more done command) ∙ length-append (lettersOf done) (letterOf command ∷ []));
+              ∙ sym (ap length (letters-more done command) ∙ length-append (letters_of done) (letter_of command ∷ []));
           kept = omega (arith, o.2);
         }
 
@@ -110,28 +110,28 @@ module _ (text : List ℕ) (reader : Reader) (done : List PathCommand) (k : Know
 -- ---- the first pass
 
 pub counting-none : (text : List ℕ) → Counting text fresh_of 0 0
-unfolding lettersOf numbersOf
+unfolding letters_of numbers_of
 counting-none text = record { done = []; known = known-none text; letters = refl; numbers = refl; letter-le = omega arith; at-le = omega arith }
 
 module _ (text : List ℕ) (reader : Reader) (letter_at at : ℕ) (k : Counting text reader letter_at at) where
-  pub counted : readStepOf text reader ≡ Done → Counted letter_at at ≡ measureOf (commandsOf text)
-  unfolding measureOf
+  pub counted : read_step_of text reader ≡ Done → Counted letter_at at ≡ measure_of (commands_of text)
+  unfolding measure_of
   counted e =
       rw (known-all text reader k.done k.known e)
-      (ap (λ n. Counted n at) k.letters ∙ ap (Counted (length (lettersOf k.done))) k.numbers)
+      (ap (λ n. Counted n at) k.letters ∙ ap (Counted (length (letters_of k.done))) k.numbers)
 
-  pub uncounted : (reason : Refusal) → readStepOf text reader ≡ Refused reason → Unmeasured reason ≡ measureOf (commandsOf text)
-  unfolding measureOf
+  pub uncounted : (reason : Refusal) → read_step_of text reader ≡ Refused reason → Unmeasured reason ≡ measure_of (commands_of text)
+  unfolding measure_of
   uncounted reason e = rw (known-refused text reader k.done k.known reason e)
 
-  module _ (command : PathCommand) (next : Reader) (e : readStepOf text reader ≡ Command command next) where
-    pub counting-within : (letter_at < length text) × (at ≤ 7 * letter_at) × (length (argumentsOf command) ≤ 7)
+  module _ (command : PathCommand) (next : Reader) (e : read_step_of text reader ≡ Command command next) where
+    pub counting-within : (letter_at < length text) × (at ≤ 7 * letter_at) × (length (arguments_of command) ≤ 7)
     counting-within = (omega (arith, step-ahead text reader next command e, k.letter-le), k.at-le, few-arguments command)
 
-    pub counting_more : (width : ℕ) → width ≡ length (argumentsOf command) → Counting text next (letter_at + 1) (at + width)
+    pub counting_more : (width : ℕ) → width ≡ length (arguments_of command) → Counting text next (letter_at + 1) (at + width)
     counting_more width w =
-        let l : length (lettersOf (k.done ++ (command ∷ []))) ≡ length (lettersOf k.done) + 1 = ap length (letters-more k.done command) ∙ length-append (lettersOf k.done) (letterOf command ∷ []) in
-        let n : length (numbersOf (k.done ++ (command ∷ []))) ≡ length (numbersOf k.done) + length (argumentsOf command) = ap length (numbers_more k.done command) ∙ length-append (numbersOf k.done) (argumentsOf command) in
+        let l : length (letters_of (k.done ++ (command ∷ []))) ≡ length (letters_of k.done) + 1 = ap length (letters-more k.done command) ∙ length-append (letters_of k.done) (letter_of command ∷ []) in
+        let n : length (numbers_of (k.done ++ (command ∷ []))) ≡ length (numbers_of k.done) + length (arguments_of command) = ap length (numbers_more k.done command) ∙ length-append (numbers_of k.done) (arguments_of command) in
         record {
           done = k.done ++ (command ∷ []);
           known = known_more text reader k.done k.known command next e;
@@ -144,11 +144,11 @@ module _ (text : List ℕ) (reader : Reader) (letter_at at : ℕ) (k : Counting 
 -- ---- room
 
 -- the commands known have room, and those to come
-pub room_of : (l n : ℕ) (done : List PathCommand) (whole rest : Outcome) → Room whole l n → whole ≡ onto done rest → (length (lettersOf done) ≤ l) × (length (numbersOf done) ≤ n)
+pub room_of : (l n : ℕ) (done : List PathCommand) (whole rest : Outcome) → Room whole l n → whole ≡ onto done rest → (length (letters_of done) ≤ l) × (length (numbers_of done) ≤ n)
 room_of l n done (refusal reason) rest room e = absurd room
 room_of l n done (commands list) (refusal reason) room e = let z : ◌≡◌ {A = ℕ} 0 1 = cc in absurd (omega arith)
 room_of l n done (commands list) (commands rest) room e =
     let f : list ≡ done ++ rest = cc in (
-      omega (arith, room.0, ap (λ x. length (lettersOf x)) f ∙ ap length (letters-append done rest) ∙ length-append (lettersOf done) (lettersOf rest)),
-      omega (arith, room.1, ap (λ x. length (numbersOf x)) f ∙ ap length (numbers-append done rest) ∙ length-append (numbersOf done) (numbersOf rest)),
+      omega (arith, room.0, ap (λ x. length (letters_of x)) f ∙ ap length (letters-append done rest) ∙ length-append (letters_of done) (letters_of rest)),
+      omega (arith, room.1, ap (λ x. length (numbers_of x)) f ∙ ap length (numbers-append done rest) ∙ length-append (numbers_of done) (numbers_of rest)),
     )

@@ -6,16 +6,16 @@ use mathlib.Core.List.{List}
 use native.Mathlib.Omega.{arith}
 use lib.ListN.{length}
 use Rattle.answers.specs.declared.refusals.Refusal.{Refusal}
-use Rattle.commands.specs.Stored.{argumentsOf}
+use Rattle.commands.specs.Stored.{arguments_of}
 use Rattle.commands.specs.declared.command.PathCommand.{PathCommand}
-use Rattle.svg_step.specs.Steps.{readStepOf, passStepOf}
+use Rattle.svg_step.specs.Steps.{read_step_of, pass_step_of}
 use Rattle.svg_step.specs.declared.steps.Reader.{Reader}
 use Rattle.svg_step.specs.declared.steps.Step.{Step}
 use Rattle.svg_step.specs.declared.steps.Step.TheVariants.{Command, Done, Refused}
 use Rattle.svg_step.specs.declared.steps.Pass.TheVariants.{Command as PassCommand, Done as PassDone, Refused as PassRefused}
 use Rattle.svg_step.proofs.Ahead.{step-ahead}
-use Rattle.svg_step.proofs.Passed.{passOf, step-passed}
-use Rattle.svg.specs.Texts.{commandsOf, measureOf}
+use Rattle.svg_step.proofs.Passed.{pass_of, step-passed}
+use Rattle.svg.specs.Texts.{commands_of, measure_of}
 use Rattle.svg.specs.declared.passes.Size.TheVariants.{Counted, Refused as Unmeasured}
 use Rattle.svg.proofs.PassLaws.{Counting, counted, uncounted, counting-within, counting_more}
 
@@ -33,39 +33,39 @@ passing-from {text} {reader} counting = record { reader = reader; from_is = refl
 record Stepped (text : List ℕ) (reader : Reader) (width next letter : ℕ) : Type 0 where
   command : PathCommand
   state : Reader
-  is : readStepOf text reader ≡ Command command state
-  width_is : width ≡ length (argumentsOf command)
+  is : read_step_of text reader ≡ Command command state
+  width_is : width ≡ length (arguments_of command)
   next-is : state.at ≡ next
   letter-is : state.letter ≡ letter
 
 module _ {text : List ℕ} {from remembered : ℕ} {placed : Bool} {letter_at at : ℕ} (k : Passing text from remembered placed letter_at at) where
-  agrees : passOf (readStepOf text k.reader) ≡ passStepOf text from remembered placed
+  agrees : pass_of (read_step_of text k.reader) ≡ pass_step_of text from remembered placed
   agrees = rw (← k.from_is, ← k.letter-is, ← k.placed-is) (step-passed text k.reader)
 
-  done : (step : Step) → passOf step ≡ PassDone → step ≡ Done
+  done : (step : Step) → pass_of step ≡ PassDone → step ≡ Done
   done (Command command next) e = let z : ◌≡◌ {A = ℕ} 0 1 = cc in absurd (omega arith)
   done Done e = refl
   done (Refused reason) e = let z : ◌≡◌ {A = ℕ} 0 1 = cc in absurd (omega arith)
 
-  refused : (step : Step) (reason : Refusal) → passOf step ≡ PassRefused reason → step ≡ Refused reason
+  refused : (step : Step) (reason : Refusal) → pass_of step ≡ PassRefused reason → step ≡ Refused reason
   refused (Command command next) reason e = let z : ◌≡◌ {A = ℕ} 0 1 = cc in absurd (omega arith)
   refused Done reason e = let z : ◌≡◌ {A = ℕ} 0 1 = cc in absurd (omega arith)
   refused (Refused other) reason e = let f : other ≡ reason = cc in ap Refused f
 
-  commanded : (width next letter : ℕ) (step : Step) → readStepOf text k.reader ≡ step → passOf step ≡ PassCommand width next letter → Stepped text k.reader width next letter
+  commanded : (width next letter : ℕ) (step : Step) → read_step_of text k.reader ≡ step → pass_of step ≡ PassCommand width next letter → Stepped text k.reader width next letter
   commanded width next letter (Command command state) e f = record { command = command; state = state; is = e; width_is = cc; next-is = cc; letter-is = cc }
   commanded width next letter Done e f = let z : ◌≡◌ {A = ℕ} 0 1 = cc in absurd (omega arith)
   commanded width next letter (Refused reason) e f = let z : ◌≡◌ {A = ℕ} 0 1 = cc in absurd (omega arith)
 
-  pub passed-done : passStepOf text from remembered placed ≡ PassDone → Counted letter_at at ≡ measureOf (commandsOf text)
-  passed-done e = counted text k.reader letter_at at k.counting (done (readStepOf text k.reader) (agrees ∙ e))
+  pub passed-done : pass_step_of text from remembered placed ≡ PassDone → Counted letter_at at ≡ measure_of (commands_of text)
+  passed-done e = counted text k.reader letter_at at k.counting (done (read_step_of text k.reader) (agrees ∙ e))
 
-  pub passed-refused : (reason : Refusal) → passStepOf text from remembered placed ≡ PassRefused reason → Unmeasured reason ≡ measureOf (commandsOf text)
-  passed-refused reason e = uncounted text k.reader letter_at at k.counting reason (refused (readStepOf text k.reader) reason (agrees ∙ e))
+  pub passed-refused : (reason : Refusal) → pass_step_of text from remembered placed ≡ PassRefused reason → Unmeasured reason ≡ measure_of (commands_of text)
+  passed-refused reason e = uncounted text k.reader letter_at at k.counting reason (refused (read_step_of text k.reader) reason (agrees ∙ e))
 
-  module _ {width next letter : ℕ} (e : passStepOf text from remembered placed ≡ PassCommand width next letter) where
+  module _ {width next letter : ℕ} (e : pass_step_of text from remembered placed ≡ PassCommand width next letter) where
     s : Stepped text k.reader width next letter
-    s = commanded width next letter (readStepOf text k.reader) refl (agrees ∙ e)
+    s = commanded width next letter (read_step_of text k.reader) refl (agrees ∙ e)
 
     -- the counts are small, and the place goes on
     pub passing-within : (letter_at < length text) × (at ≤ 7 * letter_at) × (width ≤ 7) × (from < next) × (from < length text)

@@ -9,15 +9,15 @@ use borrow.Author.Tests.{eqb-true}
 use lib.Dec.{eqb, ltb}
 use lib.ListN.{length, get_or}
 use Rattle.answers.specs.declared.refusals.Refusal.{Refusal}
-use Rattle.scan.specs.Bytes.{among, numberStarts}
-use Rattle.scan.specs.Runs.{pastSeparatorsOf}
-use Rattle.math.specs.Math.{addOf, subOf}
+use Rattle.scan.specs.Bytes.{among, number_starts}
+use Rattle.scan.specs.Runs.{past_separators_of}
+use Rattle.math.specs.Math.{add_of, sub_of}
 use Rattle.math.specs.declared.points.Point.{Point}
 use Rattle.commands.specs.declared.command.PathCommand.{PathCommand}
 use Rattle.commands.specs.declared.command.PathCommand.TheVariants.{MoveTo, LineTo, QuadTo, CubicTo, ArcTo, ClosePath}
-use Rattle.svg_group.specs.Letters.{isLetterOf, meaningOf}
-use Rattle.svg_group.specs.Numbers.{readNumberOf, readFlagsOf, readPairOf}
-use Rattle.svg_group.specs.Groups.{readMoveOf, readLineOf, readHorizontalOf, readVerticalOf, readCubicOf, readSmoothCubicOf, readQuadOf, readSmoothQuadOf, readArcOf, readGroupOf}
+use Rattle.svg_group.specs.Letters.{is_letter_of, meaning_of}
+use Rattle.svg_group.specs.Numbers.{read_number_of, read_flags_of, read_pair_of}
+use Rattle.svg_group.specs.Groups.{read_move_of, read_line_of, read_horizontal_of, read_vertical_of, read_cubic_of, read_smooth_cubic_of, read_quad_of, read_smooth_quad_of, read_arc_of, read_group_of}
 use Rattle.svg_group.specs.declared.letters.Kind.{Kind}
 use Rattle.svg_group.specs.declared.letters.Kind.TheVariants.{Move, Line, Horizontal, Vertical, Cubic, SmoothCubic, Quad, SmoothQuad, Arc}
 use Rattle.svg_group.specs.declared.letters.Letter.{Letter}
@@ -25,15 +25,15 @@ use Rattle.svg_group.specs.declared.letters.Letter.TheVariants.{Draws, Closes, U
 use Rattle.svg_group.specs.declared.groups.Group.{Group}
 use Rattle.svg_group.specs.declared.groups.Group.TheVariants.{Taken, Refused as GroupRefused}
 use Rattle.svg_group.proofs.Ahead.{number-elim, flags-elim, pair-elim}
-use Rattle.svg_step.specs.Steps.{origin, fresh_of, isRelativeOf, needsPointOf, repeatedOf, mirroredOf, drawsCubic, drawsQuad, ofKind, takesUpOf, firstControlOf}
-use Rattle.svg_step.specs.Steps.{after_of, dueGroupOf, begun, dueLetterOf, again, dueAgainOf, dueAtOf, nextDueOf, offset_of, taken, stepped, readStepOf}
+use Rattle.svg_step.specs.Steps.{origin, fresh_of, is_relative_of, needs_point_of, repeated_of, mirrored_of, draws_cubic, draws_quad, of_kind, takes_up_of, first_control_of}
+use Rattle.svg_step.specs.Steps.{after_of, due_group_of, begun, due_letter_of, again, due_again_of, due_at_of, next_due_of, offset_of, taken, stepped, read_step_of}
 use Rattle.svg_step.specs.declared.steps.Reader.{Reader}
 use Rattle.svg_step.specs.declared.steps.Due.{Due}
 use Rattle.svg_step.specs.declared.steps.Due.TheVariants.{Done as NothingDue, Refused as NotDue, Close, Group as GroupDue}
 use Rattle.svg_step.specs.declared.steps.Step.{Step}
 use Rattle.svg_step.specs.declared.steps.Step.TheVariants.{Command, Done, Refused}
-use Rattle.svg.specs.Texts.{Outcome, commands, refusal, prepend, follow, readFrom, commandsOf}
-use Rattle.svg.specs.Smooth.{Entry, madeBy, entered, entriesFrom, entriesOf, commandsIn, end_of, start_of, reflected, cubicFirst, quadFirst, CubicFrom, QuadFrom, isCubic, isQuad, Follows, Smooth}
+use Rattle.svg.specs.Texts.{Outcome, commands, refusal, prepend, follow, read_from, commands_of}
+use Rattle.svg.specs.Smooth.{Entry, made_by, entered, entries_beginning, entries_of, commands_in, end_of, start_of, reflected, cubic_first, quad_first, CubicFrom, QuadFrom, is_cubic, is_quad, Follows, Smooth}
 
 -- ---- letters
 
@@ -46,32 +46,32 @@ one_of x a b h = either (eqb x a) refl (eqb x b) refl h
     either false e true f h = inr (eqb-true x b f)
     either false e false f h = let z : ◌≡◌ {A = ℕ} 0 1 = cc in absurd (omega arith)
 
-s-means : (letter : ℕ) → among letter (83 ∷ 115 ∷ []) ≡ true → meaningOf letter ≡ Draws SmoothCubic
-unfolding meaningOf among
+s-means : (letter : ℕ) → among letter (83 ∷ 115 ∷ []) ≡ true → meaning_of letter ≡ Draws SmoothCubic
+unfolding meaning_of among
 s-means letter h = ⊎_elim (λ e. rw e) (λ e. rw e) (one_of letter 83 115 h)
 
-t-means : (letter : ℕ) → among letter (84 ∷ 116 ∷ []) ≡ true → meaningOf letter ≡ Draws SmoothQuad
-unfolding meaningOf among
+t-means : (letter : ℕ) → among letter (84 ∷ 116 ∷ []) ≡ true → meaning_of letter ≡ Draws SmoothQuad
+unfolding meaning_of among
 t-means letter h = ⊎_elim (λ e. rw e) (λ e. rw e) (one_of letter 84 116 h)
 
 -- what a letter's meaning says of the kind of its groups
 record Same (kind : Kind) (meaning : Letter) : Type 0 where
-  cubic : ofKind drawsCubic meaning ≡ drawsCubic kind
-  quad : ofKind drawsQuad meaning ≡ drawsQuad kind
-  smoothCubic : meaning ≡ Draws SmoothCubic → kind ≡ SmoothCubic
-  smoothQuad : meaning ≡ Draws SmoothQuad → kind ≡ SmoothQuad
+  cubic : of_kind draws_cubic meaning ≡ draws_cubic kind
+  quad : of_kind draws_quad meaning ≡ draws_quad kind
+  smooth_cubic : meaning ≡ Draws SmoothCubic → kind ≡ SmoothCubic
+  smooth_quad : meaning ≡ Draws SmoothQuad → kind ≡ SmoothQuad
 
 same-own : (kind : Kind) (meaning : Letter) → meaning ≡ Draws kind → Same kind meaning
-same-own kind meaning e = record { cubic = rw e; quad = rw e; smoothCubic = λ s. cc; smoothQuad = λ s. cc }
+same-own kind meaning e = record { cubic = rw e; quad = rw e; smooth_cubic = λ s. cc; smooth_quad = λ s. cc }
 
-same-further : (kind : Kind) (meaning : Letter) → meaning ≡ Draws kind → Same (repeatedOf kind) meaning
-unfolding repeatedOf
+same-further : (kind : Kind) (meaning : Letter) → meaning ≡ Draws kind → Same (repeated_of kind) meaning
+unfolding repeated_of
 same-further Move meaning e =
     record {
       cubic = rw e;
       quad = rw e;
-      smoothCubic = λ s. let z : ◌≡◌ {A = ℕ} 0 1 = cc in absurd (omega arith);
-      smoothQuad = λ s. let z : ◌≡◌ {A = ℕ} 0 1 = cc in absurd (omega arith);
+      smooth_cubic = λ s. let z : ◌≡◌ {A = ℕ} 0 1 = cc in absurd (omega arith);
+      smooth_quad = λ s. let z : ◌≡◌ {A = ℕ} 0 1 = cc in absurd (omega arith);
     }
 same-further Line meaning e = same-own Line meaning e
 same-further Horizontal meaning e = same-own Horizontal meaning e
@@ -91,48 +91,48 @@ cond-elim P false x y f g = g refl
 Born : ℕ → Due → Type 0
 Born letter NothingDue = Unit
 Born letter (NotDue reason) = Unit
-Born letter (Close next) = meaningOf letter ≡ Closes
-Born letter (GroupDue kind own first) = (own ≡ letter) × Same kind (meaningOf letter)
+Born letter (Close next) = meaning_of letter ≡ Closes
+Born letter (GroupDue kind own first) = (own ≡ letter) × Same kind (meaning_of letter)
 
 either-born : (b : Bool) (byte last : ℕ) (x y : Due) → (b ≡ true → Born byte x) → (b ≡ false → Born last y) → Born (cond b byte last) (cond b x y)
 either-born true byte last x y f g = f refl
 either-born false byte last x y f g = g refl
 
 module _ (text : List ℕ) where
-  group-born : (at : ℕ) (kind : Kind) (letter : ℕ) → Same kind (meaningOf letter) → Born letter (dueGroupOf text at kind letter)
-  unfolding dueGroupOf Born
+  group-born : (at : ℕ) (kind : Kind) (letter : ℕ) → Same kind (meaning_of letter) → Born letter (due_group_of text at kind letter)
+  unfolding due_group_of Born
   group-born at kind letter s =
-      cond-elim (Born letter) (among (get_or text (pastSeparatorsOf text at) 0) numberStarts) _ _ (λ e. (refl, s)) (λ e. tt)
+      cond-elim (Born letter) (among (get_or text (past_separators_of text at) 0) number_starts) _ _ (λ e. (refl, s)) (λ e. tt)
 
-  begun-born : (at letter : ℕ) (placed : Bool) (meaning : Letter) → meaningOf letter ≡ meaning → Born letter (begun text at letter placed meaning)
+  begun-born : (at letter : ℕ) (placed : Bool) (meaning : Letter) → meaning_of letter ≡ meaning → Born letter (begun text at letter placed meaning)
   unfolding Born
   begun-born at letter placed (Draws kind) e =
-      let t = group-born (at + 1) kind letter (same-own kind (meaningOf letter) e) in
-      cond-elim (Born letter) (needsPointOf kind) _ _ (λ n. cond-elim (Born letter) placed _ _ (λ p. t) (λ p. tt)) (λ n. t)
+      let t = group-born (at + 1) kind letter (same-own kind (meaning_of letter) e) in
+      cond-elim (Born letter) (needs_point_of kind) _ _ (λ n. cond-elim (Born letter) placed _ _ (λ p. t) (λ p. tt)) (λ n. t)
   begun-born at letter placed Closes e = e
   begun-born at letter placed Unknown e = tt
 
-  again-born : (at letter : ℕ) (meaning : Letter) → meaningOf letter ≡ meaning → Born letter (again text at letter meaning)
+  again-born : (at letter : ℕ) (meaning : Letter) → meaning_of letter ≡ meaning → Born letter (again text at letter meaning)
   unfolding Born
-  again-born at letter (Draws kind) e = group-born at (repeatedOf kind) letter (same-further kind (meaningOf letter) e)
+  again-born at letter (Draws kind) e = group-born at (repeated_of kind) letter (same-further kind (meaning_of letter) e)
   again-born at letter Closes e = tt
   again-born at letter Unknown e = tt
 
   -- the remembered letter is that of the last command, unless it is forgotten
-  last-born : (at letter last : ℕ) → (letter ≡ last) ⊎ (meaningOf letter ≡ Unknown) → Born last (dueAgainOf text at letter)
-  unfolding dueAgainOf Born
-  last-born at letter last (inl e) = subst (λ (l : ℕ). Born l (dueAgainOf text at letter)) e (again-born at letter (meaningOf letter) refl)
+  last-born : (at letter last : ℕ) → (letter ≡ last) ⊎ (meaning_of letter ≡ Unknown) → Born last (due_again_of text at letter)
+  unfolding due_again_of Born
+  last-born at letter last (inl e) = subst (λ (l : ℕ). Born l (due_again_of text at letter)) e (again-born at letter (meaning_of letter) refl)
   last-born at letter last (inr e) = rw e tt
 
-  due-born : (from letter last : ℕ) (placed : Bool) → (letter ≡ last) ⊎ (meaningOf letter ≡ Unknown) → Born (madeBy text from last) (nextDueOf text from letter placed)
-  unfolding nextDueOf dueAtOf Born dueLetterOf
+  due-born : (from letter last : ℕ) (placed : Bool) → (letter ≡ last) ⊎ (meaning_of letter ≡ Unknown) → Born (made_by text from last) (next_due_of text from letter placed)
+  unfolding next_due_of due_at_of Born due_letter_of
   due-born from letter last placed h =
-      let at = pastSeparatorsOf text from in
+      let at = past_separators_of text from in
       let byte = get_or text at 0 in
-      cond-elim (Born (madeBy text from last)) (ltb at (length text)) _ NothingDue
+      cond-elim (Born (made_by text from last)) (ltb at (length text)) _ NothingDue
       (λ e.
-      either-born (isLetterOf byte) byte last (dueLetterOf text at byte placed) (dueAgainOf text at letter)
-      (λ f. begun-born at byte placed (meaningOf byte) refl) (λ f. last-born at letter last h))
+      either-born (is_letter_of byte) byte last (due_letter_of text at byte placed) (due_again_of text at letter)
+      (λ f. begun-born at byte placed (meaning_of byte) refl) (λ f. last-born at letter last h))
       (λ e. tt)
 
 -- ---- what a group makes
@@ -149,50 +149,50 @@ SmoothFrom SmoothQuad first command = QuadFrom first command
 SmoothFrom Arc first command = Unit
 
 Made : Kind → Point → Group → Type 0
-Made kind first (Taken command next) = (drawsCubic kind ≡ isCubic command) × (drawsQuad kind ≡ isQuad command) × SmoothFrom kind first command
+Made kind first (Taken command next) = (draws_cubic kind ≡ is_cubic command) × (draws_quad kind ≡ is_quad command) × SmoothFrom kind first command
 Made kind first (GroupRefused reason) = Unit
 
 module _ (text : List ℕ) (at : ℕ) (relative : Bool) (current first : Point) where
-  group-made : (kind : Kind) → Made kind first (readGroupOf text at kind relative current first)
-  unfolding readGroupOf readMoveOf readLineOf readHorizontalOf readVerticalOf readCubicOf readSmoothCubicOf readQuadOf readSmoothQuadOf readArcOf Made SmoothFrom
-  group-made Move = pair-elim (Made Move first) GroupRefused (readPairOf text at relative current) _ (λ x. tt) (λ v n q. (refl, refl, tt))
-  group-made Line = pair-elim (Made Line first) GroupRefused (readPairOf text at relative current) _ (λ x. tt) (λ v n q. (refl, refl, tt))
-  group-made Horizontal = number-elim (Made Horizontal first) GroupRefused (readNumberOf text at) _ (λ x. tt) (λ v n q. (refl, refl, tt))
-  group-made Vertical = number-elim (Made Vertical first) GroupRefused (readNumberOf text at) _ (λ x. tt) (λ v n q. (refl, refl, tt))
+  group-made : (kind : Kind) → Made kind first (read_group_of text at kind relative current first)
+  unfolding read_group_of read_move_of read_line_of read_horizontal_of read_vertical_of read_cubic_of read_smooth_cubic_of read_quad_of read_smooth_quad_of read_arc_of Made SmoothFrom
+  group-made Move = pair-elim (Made Move first) GroupRefused (read_pair_of text at relative current) _ (λ x. tt) (λ v n q. (refl, refl, tt))
+  group-made Line = pair-elim (Made Line first) GroupRefused (read_pair_of text at relative current) _ (λ x. tt) (λ v n q. (refl, refl, tt))
+  group-made Horizontal = number-elim (Made Horizontal first) GroupRefused (read_number_of text at) _ (λ x. tt) (λ v n q. (refl, refl, tt))
+  group-made Vertical = number-elim (Made Vertical first) GroupRefused (read_number_of text at) _ (λ x. tt) (λ v n q. (refl, refl, tt))
   group-made Cubic =
-      pair-elim (Made Cubic first) GroupRefused (readPairOf text at relative current) _ (λ x. tt) (λ v n q.
-      pair-elim (Made Cubic first) GroupRefused (readPairOf text n relative current) _ (λ x. tt) (λ w m r.
-      pair-elim (Made Cubic first) GroupRefused (readPairOf text m relative current) _ (λ x. tt) (λ u k s. (refl, refl, tt))))
+      pair-elim (Made Cubic first) GroupRefused (read_pair_of text at relative current) _ (λ x. tt) (λ v n q.
+      pair-elim (Made Cubic first) GroupRefused (read_pair_of text n relative current) _ (λ x. tt) (λ w m r.
+      pair-elim (Made Cubic first) GroupRefused (read_pair_of text m relative current) _ (λ x. tt) (λ u k s. (refl, refl, tt))))
   group-made SmoothCubic =
-      pair-elim (Made SmoothCubic first) GroupRefused (readPairOf text at relative current) _ (λ x. tt) (λ v n q.
-      pair-elim (Made SmoothCubic first) GroupRefused (readPairOf text n relative current) _ (λ x. tt) (λ w m r. (refl, refl, (v, w, refl))))
+      pair-elim (Made SmoothCubic first) GroupRefused (read_pair_of text at relative current) _ (λ x. tt) (λ v n q.
+      pair-elim (Made SmoothCubic first) GroupRefused (read_pair_of text n relative current) _ (λ x. tt) (λ w m r. (refl, refl, (v, w, refl))))
   group-made Quad =
-      pair-elim (Made Quad first) GroupRefused (readPairOf text at relative current) _ (λ x. tt) (λ v n q.
-      pair-elim (Made Quad first) GroupRefused (readPairOf text n relative current) _ (λ x. tt) (λ w m r. (refl, refl, tt)))
-  group-made SmoothQuad = pair-elim (Made SmoothQuad first) GroupRefused (readPairOf text at relative current) _ (λ x. tt) (λ v n q. (refl, refl, (v, refl)))
+      pair-elim (Made Quad first) GroupRefused (read_pair_of text at relative current) _ (λ x. tt) (λ v n q.
+      pair-elim (Made Quad first) GroupRefused (read_pair_of text n relative current) _ (λ x. tt) (λ w m r. (refl, refl, tt)))
+  group-made SmoothQuad = pair-elim (Made SmoothQuad first) GroupRefused (read_pair_of text at relative current) _ (λ x. tt) (λ v n q. (refl, refl, (v, refl)))
   group-made Arc =
-      pair-elim (Made Arc first) GroupRefused (readPairOf text at false current) _ (λ x. tt) (λ radii a q.
-      number-elim (Made Arc first) GroupRefused (readNumberOf text a) _ (λ x. tt) (λ rotation b r.
-      flags-elim (Made Arc first) GroupRefused (readFlagsOf text b) _ (λ x. tt) (λ large sweep d s.
-      pair-elim (Made Arc first) GroupRefused (readPairOf text d relative current) _ (λ x. tt) (λ end e t. (refl, refl, tt)))))
+      pair-elim (Made Arc first) GroupRefused (read_pair_of text at false current) _ (λ x. tt) (λ radii a q.
+      number-elim (Made Arc first) GroupRefused (read_number_of text a) _ (λ x. tt) (λ rotation b r.
+      flags-elim (Made Arc first) GroupRefused (read_flags_of text b) _ (λ x. tt) (λ large sweep d s.
+      pair-elim (Made Arc first) GroupRefused (read_pair_of text d relative current) _ (λ x. tt) (λ end e t. (refl, refl, tt)))))
 
 -- ---- the state past a command
 
-controlOf : Point → PathCommand → Point
-controlOf start (MoveTo end) = end
-controlOf start (LineTo end) = end
-controlOf start (QuadTo control end) = control
-controlOf start (CubicTo control1 control2 end) = control2
-controlOf start (ArcTo radii rotation large sweep end) = end
-controlOf start ClosePath = start
+control_of : Point → PathCommand → Point
+control_of start (MoveTo end) = end
+control_of start (LineTo end) = end
+control_of start (QuadTo control end) = control
+control_of start (CubicTo control1 control2 end) = control2
+control_of start (ArcTo radii rotation large sweep end) = end
+control_of start ClosePath = start
 
 -- what the state tells of the command before it, which a letter made
 record Past (reader : Reader) (last : ℕ) (previous : PathCommand) : Type 0 where
   current-is : reader.current ≡ end_of reader.start previous
-  control-is : reader.control ≡ controlOf reader.start previous
-  cubic-is : ofKind drawsCubic (meaningOf reader.letter) ≡ isCubic previous
-  quad_is : ofKind drawsQuad (meaningOf reader.letter) ≡ isQuad previous
-  letter-is : (reader.letter ≡ last) ⊎ (meaningOf reader.letter ≡ Unknown)
+  control-is : reader.control ≡ control_of reader.start previous
+  cubic-is : of_kind draws_cubic (meaning_of reader.letter) ≡ is_cubic previous
+  quad_is : of_kind draws_quad (meaning_of reader.letter) ≡ is_quad previous
+  letter-is : (reader.letter ≡ last) ⊎ (meaning_of reader.letter ≡ Unknown)
 
 module _ (next letter offset : ℕ) (start : Point) where
   after-start : (command : PathCommand) → (after_of command next letter offset start).start ≡ start_of start command
@@ -205,9 +205,9 @@ module _ (next letter offset : ℕ) (start : Point) where
   after-start ClosePath = refl
 
   past_after :
-      (command : PathCommand) → ofKind drawsCubic (meaningOf letter) ≡ isCubic command → ofKind drawsQuad (meaningOf letter) ≡ isQuad command
+      (command : PathCommand) → of_kind draws_cubic (meaning_of letter) ≡ is_cubic command → of_kind draws_quad (meaning_of letter) ≡ is_quad command
       → Past (after_of command next letter offset start) letter command
-  unfolding after_of controlOf meaningOf among
+  unfolding after_of control_of meaning_of among
   past_after (MoveTo end) c q = record { current-is = refl; control-is = refl; cubic-is = c; quad_is = q; letter-is = inl refl }
   past_after (LineTo end) c q = record { current-is = refl; control-is = refl; cubic-is = c; quad_is = q; letter-is = inl refl }
   past_after (QuadTo control end) c q = record { current-is = refl; control-is = refl; cubic-is = c; quad_is = q; letter-is = inl refl }
@@ -217,13 +217,13 @@ module _ (next letter offset : ℕ) (start : Point) where
 
 -- before the first command the state is as past a Z
 past-none : Past fresh_of 0 ClosePath
-unfolding controlOf meaningOf among
+unfolding control_of meaning_of among
 past-none = record { current-is = refl; control-is = refl; cubic-is = refl; quad_is = refl; letter-is = inl refl }
 
 -- ---- the first control
 
-cubic-first : (start : Point) (previous : PathCommand) → cond (isCubic previous) (mirroredOf (end_of start previous) (controlOf start previous)) (end_of start previous) ≡ cubicFirst start previous
-unfolding mirroredOf addOf subOf controlOf
+cubic-first : (start : Point) (previous : PathCommand) → cond (is_cubic previous) (mirrored_of (end_of start previous) (control_of start previous)) (end_of start previous) ≡ cubic_first start previous
+unfolding mirrored_of add_of sub_of control_of
 cubic-first start (MoveTo end) = refl
 cubic-first start (LineTo end) = refl
 cubic-first start (QuadTo control end) = refl
@@ -231,8 +231,8 @@ cubic-first start (CubicTo control1 control2 end) = refl
 cubic-first start (ArcTo radii rotation large sweep end) = refl
 cubic-first start ClosePath = refl
 
-quad-first : (start : Point) (previous : PathCommand) → cond (isQuad previous) (mirroredOf (end_of start previous) (controlOf start previous)) (end_of start previous) ≡ quadFirst start previous
-unfolding mirroredOf addOf subOf controlOf
+quad-first : (start : Point) (previous : PathCommand) → cond (is_quad previous) (mirrored_of (end_of start previous) (control_of start previous)) (end_of start previous) ≡ quad_first start previous
+unfolding mirrored_of add_of sub_of control_of
 quad-first start (MoveTo end) = refl
 quad-first start (LineTo end) = refl
 quad-first start (QuadTo control end) = refl
@@ -241,12 +241,12 @@ quad-first start (ArcTo radii rotation large sweep end) = refl
 quad-first start ClosePath = refl
 
 module _ (reader : Reader) (last : ℕ) (previous : PathCommand) (k : Past reader last previous) where
-  first-cubic : firstControlOf SmoothCubic reader.letter reader.current reader.control ≡ cubicFirst reader.start previous
-  unfolding firstControlOf takesUpOf
+  first-cubic : first_control_of SmoothCubic reader.letter reader.current reader.control ≡ cubic_first reader.start previous
+  unfolding first_control_of takes_up_of
   first-cubic = rw (k.cubic-is, k.current-is, k.control-is) (cubic-first reader.start previous)
 
-  first-quad : firstControlOf SmoothQuad reader.letter reader.current reader.control ≡ quadFirst reader.start previous
-  unfolding firstControlOf takesUpOf
+  first-quad : first_control_of SmoothQuad reader.letter reader.current reader.control ≡ quad_first reader.start previous
+  unfolding first_control_of takes_up_of
   first-quad = rw (k.quad_is, k.current-is, k.control-is) (quad-first reader.start previous)
 
 -- ---- the step
@@ -259,16 +259,16 @@ Good reader previous letter (Refused reason) = Unit
 
 module _ (text : List ℕ) (reader : Reader) (offset last : ℕ) (previous : PathCommand) (k : Past reader last previous) where
   taken-good :
-      (kind : Kind) (letter own : ℕ) → own ≡ letter → Same kind (meaningOf letter) → (group : Group)
-      → Made kind (firstControlOf kind reader.letter reader.current reader.control) group
+      (kind : Kind) (letter own : ℕ) → own ≡ letter → Same kind (meaning_of letter) → (group : Group)
+      → Made kind (first_control_of kind reader.letter reader.current reader.control) group
       → Good reader previous letter (taken own offset reader.start group)
   unfolding Good Made SmoothFrom
   taken-good kind letter own o s (Taken command next) m =
-      let cubic : ofKind drawsCubic (meaningOf letter) ≡ isCubic command = s.cubic ∙ m.0 in
-      let quad : ofKind drawsQuad (meaningOf letter) ≡ isQuad command = s.quad ∙ m.1 in (
+      let cubic : of_kind draws_cubic (meaning_of letter) ≡ is_cubic command = s.cubic ∙ m.0 in
+      let quad : of_kind draws_quad (meaning_of letter) ≡ is_quad command = s.quad ∙ m.1 in (
         record {
-          smoothCubic = λ h. from-cubic kind (s.smoothCubic (s-means letter h)) m.2;
-          smoothQuad = λ h. from-quad kind (s.smoothQuad (t-means letter h)) m.2;
+          smooth_cubic = λ h. from-cubic kind (s.smooth_cubic (s-means letter h)) m.2;
+          smooth_quad = λ h. from-quad kind (s.smooth_quad (t-means letter h)) m.2;
           cubic = cubic;
           quad = quad;
         },
@@ -276,25 +276,25 @@ module _ (text : List ℕ) (reader : Reader) (offset last : ℕ) (previous : Pat
         after-start next own offset reader.start command,
       )
     where
-      from-cubic : (kind : Kind) → kind ≡ SmoothCubic → SmoothFrom kind (firstControlOf kind reader.letter reader.current reader.control) command → CubicFrom (cubicFirst reader.start previous) command
+      from-cubic : (kind : Kind) → kind ≡ SmoothCubic → SmoothFrom kind (first_control_of kind reader.letter reader.current reader.control) command → CubicFrom (cubic_first reader.start previous) command
       from-cubic kind e m =
-          let f : CubicFrom (firstControlOf SmoothCubic reader.letter reader.current reader.control) command =
-          subst (λ (x : Kind). SmoothFrom x (firstControlOf x reader.letter reader.current reader.control) command) e m in
+          let f : CubicFrom (first_control_of SmoothCubic reader.letter reader.current reader.control) command =
+          subst (λ (x : Kind). SmoothFrom x (first_control_of x reader.letter reader.current reader.control) command) e m in
           subst (λ (p : Point). CubicFrom p command) (first-cubic reader last previous k) f
 
-      from-quad : (kind : Kind) → kind ≡ SmoothQuad → SmoothFrom kind (firstControlOf kind reader.letter reader.current reader.control) command → QuadFrom (quadFirst reader.start previous) command
+      from-quad : (kind : Kind) → kind ≡ SmoothQuad → SmoothFrom kind (first_control_of kind reader.letter reader.current reader.control) command → QuadFrom (quad_first reader.start previous) command
       from-quad kind e m =
-          let f : QuadFrom (firstControlOf SmoothQuad reader.letter reader.current reader.control) command =
-          subst (λ (x : Kind). SmoothFrom x (firstControlOf x reader.letter reader.current reader.control) command) e m in
+          let f : QuadFrom (first_control_of SmoothQuad reader.letter reader.current reader.control) command =
+          subst (λ (x : Kind). SmoothFrom x (first_control_of x reader.letter reader.current reader.control) command) e m in
           subst (λ (p : Point). QuadFrom p command) (first-quad reader last previous k) f
   taken-good kind letter own o s (GroupRefused reason) m = tt
 
-  closed-good : (next letter : ℕ) → meaningOf letter ≡ Closes → Good reader previous letter (Command ClosePath (after_of ClosePath next reader.letter offset reader.start))
-  unfolding Good after_of controlOf meaningOf among
+  closed-good : (next letter : ℕ) → meaning_of letter ≡ Closes → Good reader previous letter (Command ClosePath (after_of ClosePath next reader.letter offset reader.start))
+  unfolding Good after_of control_of meaning_of among
   closed-good next letter e = (
     record {
-      smoothCubic = λ h. let s = s-means letter h in let z : ◌≡◌ {A = ℕ} 0 1 = cc in absurd (omega arith);
-      smoothQuad = λ h. let s = t-means letter h in let z : ◌≡◌ {A = ℕ} 0 1 = cc in absurd (omega arith);
+      smooth_cubic = λ h. let s = s-means letter h in let z : ◌≡◌ {A = ℕ} 0 1 = cc in absurd (omega arith);
+      smooth_quad = λ h. let s = t-means letter h in let z : ◌≡◌ {A = ℕ} 0 1 = cc in absurd (omega arith);
       cubic = rw e;
       quad = rw e;
     },
@@ -311,56 +311,56 @@ module _ (text : List ℕ) (reader : Reader) (offset last : ℕ) (previous : Pat
   stepped-good letter (NotDue reason) b = tt
   stepped-good letter (Close next) b = closed-good next letter b
   stepped-good letter (GroupDue kind own first) b =
-      let relative = isRelativeOf own reader.placed in
-      let control = firstControlOf kind reader.letter reader.current reader.control in
-      taken-good kind letter own b.0 b.1 (readGroupOf text first kind relative reader.current control) (group-made text first relative reader.current control kind)
+      let relative = is_relative_of own reader.placed in
+      let control = first_control_of kind reader.letter reader.current reader.control in
+      taken-good kind letter own b.0 b.1 (read_group_of text first kind relative reader.current control) (group-made text first relative reader.current control kind)
 
 module _ (text : List ℕ) (reader : Reader) (last : ℕ) (previous : PathCommand) (k : Past reader last previous) where
-  step-good : Good reader previous (madeBy text reader.at last) (readStepOf text reader)
-  unfolding readStepOf
+  step-good : Good reader previous (made_by text reader.at last) (read_step_of text reader)
+  unfolding read_step_of
   step-good =
-      stepped-good text reader (offset_of text reader) last previous k (madeBy text reader.at last) (nextDueOf text reader.at reader.letter reader.placed)
+      stepped-good text reader (offset_of text reader) last previous k (made_by text reader.at last) (next_due_of text reader.at reader.letter reader.placed)
       (due-born text reader.at reader.letter last reader.placed k.letter-is)
 
 -- ---- the text
 
 module _ (text : List ℕ) where
-  smooth-from : (steps : ℕ) (reader : Reader) (last : ℕ) (previous : PathCommand) → Past reader last previous → Smooth reader.start previous (entriesFrom steps text last reader)
-  unfolding entriesFrom Good
+  smooth-from : (steps : ℕ) (reader : Reader) (last : ℕ) (previous : PathCommand) → Past reader last previous → Smooth reader.start previous (entries_beginning steps text last reader)
+  unfolding entries_beginning Good
   smooth-from zero reader last previous k = tt
-  smooth-from (suc steps) reader last previous k = by-step (smooth-from steps) (madeBy text reader.at last) (readStepOf text reader) (step-good text reader last previous k)
+  smooth-from (suc steps) reader last previous k = by-step (smooth-from steps) (made_by text reader.at last) (read_step_of text reader) (step-good text reader last previous k)
     where
       by-step :
-          ((next : Reader) (letter : ℕ) (command : PathCommand) → Past next letter command → Smooth next.start command (entriesFrom steps text letter next))
-          → (letter : ℕ) (step : Step) → Good reader previous letter step → Smooth reader.start previous (entered (entriesFrom steps text) letter step)
+          ((next : Reader) (letter : ℕ) (command : PathCommand) → Past next letter command → Smooth next.start command (entries_beginning steps text letter next))
+          → (letter : ℕ) (step : Step) → Good reader previous letter step → Smooth reader.start previous (entered (entries_beginning steps text) letter step)
       by-step rest letter (Command command next) g =
-          (g.0, subst (λ (p : Point). Smooth p command (entriesFrom steps text letter next)) g.2 (rest next letter command g.1))
+          (g.0, subst (λ (p : Point). Smooth p command (entries_beginning steps text letter next)) g.2 (rest next letter command g.1))
       by-step rest letter Done g = tt
       by-step rest letter (Refused reason) g = tt
 
   -- the entries are the text's commands
   entered-after :
       (rest : Outcome) (entries : List Entry) (letter : ℕ) (command : PathCommand) (list : List PathCommand)
-      → ((more : List PathCommand) → rest ≡ commands more → commandsIn entries ≡ more)
+      → ((more : List PathCommand) → rest ≡ commands more → commands_in entries ≡ more)
       → prepend command rest ≡ commands list
-      → commandsIn (record { letter = letter; command = command } ∷ entries) ≡ list
+      → commands_in (record { letter = letter; command = command } ∷ entries) ≡ list
   entered-after (commands more) entries letter command list f e = ap (λ (l : List PathCommand). command ∷ l) (f more refl) ∙ (let g : command ∷ more ≡ list = cc in g)
   entered-after (refusal reason) entries letter command list f e = let z : ◌≡◌ {A = ℕ} 0 1 = cc in absurd (omega arith)
 
-  entries_from : (steps last : ℕ) (reader : Reader) (list : List PathCommand) → readFrom steps text reader ≡ commands list → commandsIn (entriesFrom steps text last reader) ≡ list
-  unfolding readFrom entriesFrom
+  entries_from : (steps last : ℕ) (reader : Reader) (list : List PathCommand) → read_from steps text reader ≡ commands list → commands_in (entries_beginning steps text last reader) ≡ list
+  unfolding read_from entries_beginning
   entries_from zero last reader list e = let f : [] ≡ list = cc in f
-  entries_from (suc steps) last reader list e = by-step (entries_from steps) (madeBy text reader.at last) (readStepOf text reader) e
+  entries_from (suc steps) last reader list e = by-step (entries_from steps) (made_by text reader.at last) (read_step_of text reader) e
     where
       by-step :
-          ((letter : ℕ) (next : Reader) (more : List PathCommand) → readFrom steps text next ≡ commands more → commandsIn (entriesFrom steps text letter next) ≡ more)
-          → (letter : ℕ) (step : Step) → follow (readFrom steps text) step ≡ commands list → commandsIn (entered (entriesFrom steps text) letter step) ≡ list
-      by-step rest letter (Command command next) e = entered-after (readFrom steps text next) (entriesFrom steps text letter next) letter command list (rest letter next) e
+          ((letter : ℕ) (next : Reader) (more : List PathCommand) → read_from steps text next ≡ commands more → commands_in (entries_beginning steps text letter next) ≡ more)
+          → (letter : ℕ) (step : Step) → follow (read_from steps text) step ≡ commands list → commands_in (entered (entries_beginning steps text) letter step) ≡ list
+      by-step rest letter (Command command next) e = entered-after (read_from steps text next) (entries_beginning steps text letter next) letter command list (rest letter next) e
       by-step rest letter Done e = let f : [] ≡ list = cc in f
       by-step rest letter (Refused reason) e = let z : ◌≡◌ {A = ℕ} 0 1 = cc in absurd (omega arith)
 
   -- of any text that reads: its commands, each with its letter, follow one another as SVG 1.1 has it. Before the first there is the origin, as past
   -- a Z; an S or T that comes first is refused
-  pub smooth-read : (list : List PathCommand) → commandsOf text ≡ commands list → (commandsIn (entriesOf text) ≡ list) × Smooth origin ClosePath (entriesOf text)
-  unfolding commandsOf entriesOf
+  pub smooth-read : (list : List PathCommand) → commands_of text ≡ commands list → (commands_in (entries_of text) ≡ list) × Smooth origin ClosePath (entries_of text)
+  unfolding commands_of entries_of
   smooth-read list e = (entries_from (suc (length text)) 0 fresh_of list e, smooth-from (suc (length text)) fresh_of 0 ClosePath past-none)

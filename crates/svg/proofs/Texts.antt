@@ -7,8 +7,8 @@ use native.Mathlib.Omega.{arith}
 use lib.ListN.{length}
 use Rattle.answers.specs.declared.refusals.Refusal.{Refusal}
 use Rattle.commands.specs.declared.command.PathCommand.{PathCommand}
-use Rattle.svg_step.specs.Steps.{fresh_of, readStepOf}
-use Rattle.svg.specs.Texts.{Outcome, commands, refusal, prepend, follow, readFrom, commandsOf, offsetsFrom}
+use Rattle.svg_step.specs.Steps.{fresh_of, read_step_of}
+use Rattle.svg.specs.Texts.{Outcome, commands, refusal, prepend, follow, read_from, commands_of, offsets_from}
 use Rattle.svg_step.specs.declared.steps.Reader.{Reader}
 use Rattle.svg_step.specs.declared.steps.Step.{Step}
 use Rattle.svg_step.specs.declared.steps.Step.TheVariants.{Command, Done, Refused}
@@ -16,60 +16,60 @@ use Rattle.svg_step.proofs.Ahead.{step-ahead, step-within}
 
 module _ (text : List ℕ) (reader : Reader) where
   -- the text ends
-  pub from-done : (steps : ℕ) → readStepOf text reader ≡ Done → readFrom steps text reader ≡ commands []
-  unfolding readFrom
+  pub from-done : (steps : ℕ) → read_step_of text reader ≡ Done → read_from steps text reader ≡ commands []
+  unfolding read_from
   from-done zero e = refl
   from-done (suc steps) e = rw e
 
-  pub offsets-done : (steps : ℕ) → readStepOf text reader ≡ Done → offsetsFrom steps text reader ≡ []
-  unfolding offsetsFrom
+  pub offsets-done : (steps : ℕ) → read_step_of text reader ≡ Done → offsets_from steps text reader ≡ []
+  unfolding offsets_from
   offsets-done zero e = refl
   offsets-done (suc steps) e = rw e
 
   -- enough steps are left to see a refusal
-  pub from-refused : (steps : ℕ) (reason : Refusal) → length text < steps + reader.at → readStepOf text reader ≡ Refused reason → readFrom steps text reader ≡ refusal reason
-  unfolding readFrom
+  pub from-refused : (steps : ℕ) (reason : Refusal) → length text < steps + reader.at → read_step_of text reader ≡ Refused reason → read_from steps text reader ≡ refusal reason
+  unfolding read_from
   from-refused zero reason h e = absurd (omega (arith, step-within text reader reason e))
   from-refused (suc steps) reason h e = rw e
 
   -- and to see what follows a command, and enough are left after it
   pub from-command :
-      (steps : ℕ) (command : PathCommand) (next : Reader) → length text < steps + reader.at → readStepOf text reader ≡ Command command next
+      (steps : ℕ) (command : PathCommand) (next : Reader) → length text < steps + reader.at → read_step_of text reader ≡ Command command next
       → (left : ℕ)
       × (length text < left + next.at)
-      × (readFrom steps text reader ≡ prepend command (readFrom left text next))
-      × (offsetsFrom steps text reader ≡ next.offset ∷ offsetsFrom left text next)
-  unfolding readFrom offsetsFrom
+      × (read_from steps text reader ≡ prepend command (read_from left text next))
+      × (offsets_from steps text reader ≡ next.offset ∷ offsets_from left text next)
+  unfolding read_from offsets_from
   from-command zero command next h e = let g = step-ahead text reader next command e in absurd (omega arith)
   from-command (suc steps) command next h e = let g = step-ahead text reader next command e in (steps, omega arith, rw e, rw e)
 
 -- ---- the steps are enough
 
-same_after : (text : List ℕ) (reader : Reader) (m n : ℕ) (step : Step) → readStepOf text reader ≡ step
-    → ((command : PathCommand) (next : Reader) → readStepOf text reader ≡ Command command next → readFrom m text next ≡ readFrom n text next)
-    → follow (readFrom m text) step ≡ follow (readFrom n text) step
+same_after : (text : List ℕ) (reader : Reader) (m n : ℕ) (step : Step) → read_step_of text reader ≡ step
+    → ((command : PathCommand) (next : Reader) → read_step_of text reader ≡ Command command next → read_from m text next ≡ read_from n text next)
+    → follow (read_from m text) step ≡ follow (read_from n text) step
 same_after text reader m n (Command command next) e f = ap (prepend command) (f command next e)
 same_after text reader m n Done e f = refl
 same_after text reader m n (Refused reason) e f = refl
 
 -- any two numbers of steps that reach past the text give the same
-pub steps-enough : (text : List ℕ) (m n : ℕ) (reader : Reader) → length text < m + reader.at → length text < n + reader.at → readFrom m text reader ≡ readFrom n text reader
-unfolding readFrom
+pub steps-enough : (text : List ℕ) (m n : ℕ) (reader : Reader) → length text < m + reader.at → length text < n + reader.at → read_from m text reader ≡ read_from n text reader
+unfolding read_from
 steps-enough text zero zero reader h k = refl
-steps-enough text zero (suc n) reader h k = sym (ended (readStepOf text reader) refl)
+steps-enough text zero (suc n) reader h k = sym (ended (read_step_of text reader) refl)
   where
-    ended : (step : Step) → readStepOf text reader ≡ step → follow (readFrom n text) step ≡ commands []
+    ended : (step : Step) → read_step_of text reader ≡ step → follow (read_from n text) step ≡ commands []
     ended (Command command next) e = absurd (omega (arith, step-ahead text reader next command e))
     ended Done e = refl
     ended (Refused reason) e = absurd (omega (arith, step-within text reader reason e))
-steps-enough text (suc m) zero reader h k = ended (readStepOf text reader) refl
+steps-enough text (suc m) zero reader h k = ended (read_step_of text reader) refl
   where
-    ended : (step : Step) → readStepOf text reader ≡ step → follow (readFrom m text) step ≡ commands []
+    ended : (step : Step) → read_step_of text reader ≡ step → follow (read_from m text) step ≡ commands []
     ended (Command command next) e = absurd (omega (arith, step-ahead text reader next command e))
     ended Done e = refl
     ended (Refused reason) e = absurd (omega (arith, step-within text reader reason e))
 steps-enough text (suc m) (suc n) reader h k =
-    same_after text reader m n (readStepOf text reader) refl
+    same_after text reader m n (read_step_of text reader) refl
     (λ command next e. steps-enough text m n next (omega (arith, step-ahead text reader next command e)) (omega (arith, step-ahead text reader next command e)))
 
 -- ---- a text has no more commands than bytes
@@ -77,7 +77,7 @@ steps-enough text (suc m) (suc n) reader h k =
 module _ (text : List ℕ) where
   few-after :
       (reader : Reader) (command : PathCommand) (next : Reader) (outcome : Outcome) (list : List PathCommand)
-      → readStepOf text reader ≡ Command command next
+      → read_step_of text reader ≡ Command command next
       → ((rest : List PathCommand) → outcome ≡ commands rest → (rest ≡ []) ⊎ (length rest + next.at ≤ length text))
       → prepend command outcome ≡ commands list
       → (list ≡ []) ⊎ (length list + reader.at ≤ length text)
@@ -92,21 +92,21 @@ module _ (text : List ℕ) where
           let l : command ∷ rest ≡ list = cc in
           omega (arith, ap length l, step-ahead text reader next command e)
 
-  few-from : (steps : ℕ) (reader : Reader) (list : List PathCommand) → readFrom steps text reader ≡ commands list → (list ≡ []) ⊎ (length list + reader.at ≤ length text)
-  unfolding readFrom
+  few-from : (steps : ℕ) (reader : Reader) (list : List PathCommand) → read_from steps text reader ≡ commands list → (list ≡ []) ⊎ (length list + reader.at ≤ length text)
+  unfolding read_from
   few-from zero reader list q = inl (let e : list ≡ [] = cc in e)
-  few-from (suc steps) reader list q = by-step (few-from steps) (readStepOf text reader) refl q
+  few-from (suc steps) reader list q = by-step (few-from steps) (read_step_of text reader) refl q
     where
       by-step :
-          ((next : Reader) (rest : List PathCommand) → readFrom steps text next ≡ commands rest → (rest ≡ []) ⊎ (length rest + next.at ≤ length text))
-          → (step : Step) → readStepOf text reader ≡ step → follow (readFrom steps text) step ≡ commands list
+          ((next : Reader) (rest : List PathCommand) → read_from steps text next ≡ commands rest → (rest ≡ []) ⊎ (length rest + next.at ≤ length text))
+          → (step : Step) → read_step_of text reader ≡ step → follow (read_from steps text) step ≡ commands list
           → (list ≡ []) ⊎ (length list + reader.at ≤ length text)
-      by-step few (Command command next) e q = few-after reader command next (readFrom steps text next) list e (few next) q
+      by-step few (Command command next) e q = few-after reader command next (read_from steps text next) list e (few next) q
       by-step few Done e q = inl (let n : list ≡ [] = cc in n)
       by-step few (Refused reason) e q = let z : ◌≡◌ {A = ℕ} 0 1 = cc in absurd (omega arith)
 
-  pub commands-few : (list : List PathCommand) → commandsOf text ≡ commands list → length list ≤ length text
-  unfolding commandsOf
+  pub commands-few : (list : List PathCommand) → commands_of text ≡ commands list → length list ≤ length text
+  unfolding commands_of
   commands-few list q = within (few-from (suc (length text)) fresh_of list q)
     where
       within : (list ≡ []) ⊎ (length list + 0 ≤ length text) → length list ≤ length text

@@ -10,12 +10,12 @@ pub record CommandList : Type 0 where
   pub numbers : List Float
   pub offsets : List ℕ
 
-abbrev pub commandList : List ℕ → List Float → List ℕ → CommandList
-commandList letters numbers offsets = record { letters = letters; numbers = numbers; offsets = offsets }
+abbrev pub command_list : List ℕ → List Float → List ℕ → CommandList
+command_list letters numbers offsets = record { letters = letters; numbers = numbers; offsets = offsets }
 
 -- lent slices: what a `requires` reads of them
 abbrev pub lent : Bor (List ℕ) → Bor (List Float) → Bor (List ℕ) → CommandList
-lent letters numbers offsets = commandList letters.now numbers.now offsets.now
+lent letters numbers offsets = command_list letters.now numbers.now offsets.now
 
 -- and what an `ensures` does: what they hold as a function is entered, and as it returns
 abbrev Lent : Type 0 → Type 0
@@ -28,13 +28,13 @@ abbrev pub after : Lent ℕ → Lent Float → Lent ℕ → CommandList
 after letters numbers offsets = lent letters.exit numbers.exit offsets.exit
 
 -- nothing in any of them
-abbrev pub noList : CommandList
-noList = commandList [] [] []
+abbrev pub no_list : CommandList
+no_list = command_list [] [] []
 
 -- "the count needed of each output, in the call's order"
-abbrev pub countsOf : CommandList → List ℕ
-countsOf list = length list.letters ∷ length list.numbers ∷ length list.offsets ∷ []
+abbrev pub counts_of : CommandList → List ℕ
+counts_of list = length list.letters ∷ length list.numbers ∷ length list.offsets ∷ []
 
 -- "An accepted call writes the counted places from each output's start and no others."
-abbrev pub writtenOver : CommandList → CommandList → CommandList
-writtenOver list stood = commandList (written list.letters stood.letters) (written list.numbers stood.numbers) (written list.offsets stood.offsets)
+abbrev pub written_over : CommandList → CommandList → CommandList
+written_over list stood = command_list (written list.letters stood.letters) (written list.numbers stood.numbers) (written list.offsets stood.offsets)

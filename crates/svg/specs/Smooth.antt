@@ -5,12 +5,12 @@ use Rattle.std.specs.Float.{binary32}
 use Rattle.std.specs.Float.Ieee.{add, sub}
 use Rattle.answers.specs.declared.refusals.Refusal.{Refusal}
 use Rattle.scan.specs.Bytes.{among}
-use Rattle.scan.specs.Runs.{pastSeparatorsOf}
+use Rattle.scan.specs.Runs.{past_separators_of}
 use Rattle.math.specs.declared.points.Point.{Point}
 use Rattle.commands.specs.declared.command.PathCommand.{PathCommand}
 use Rattle.commands.specs.declared.command.PathCommand.TheVariants.{MoveTo, LineTo, QuadTo, CubicTo, ArcTo, ClosePath}
-use Rattle.svg_group.specs.Letters.{isLetterOf, meaningOf}
-use Rattle.svg_step.specs.Steps.{drawsCubic, drawsQuad, ofKind, fresh_of, readStepOf}
+use Rattle.svg_group.specs.Letters.{is_letter_of, meaning_of}
+use Rattle.svg_step.specs.Steps.{draws_cubic, draws_quad, of_kind, fresh_of, read_step_of}
 use Rattle.svg_step.specs.declared.steps.Reader.{Reader}
 use Rattle.svg_step.specs.declared.steps.Step.{Step}
 use Rattle.svg_step.specs.declared.steps.Step.TheVariants.{Command, Done, Refused}
@@ -23,26 +23,26 @@ pub record Entry : Type 0 where
 
 -- "After separators a letter becomes the remembered command; any other byte repeats it": what makes the command from a place on, past one that the
 -- letter `last` made
-abbrev pub madeBy : List ℕ → ℕ → ℕ → ℕ
-madeBy text from last =
-    let at = pastSeparatorsOf text from in
-    cond (isLetterOf (get_or text at 0)) (get_or text at 0) last
+abbrev pub made_by : List ℕ → ℕ → ℕ → ℕ
+made_by text from last =
+    let at = past_separators_of text from in
+    cond (is_letter_of (get_or text at 0)) (get_or text at 0) last
 
 abbrev pub entered : (ℕ → Reader → List Entry) → ℕ → Step → List Entry
 entered rest letter (Command command next) = record { letter = letter; command = command } ∷ rest letter next
 entered rest letter Done = []
 entered rest letter (Refused reason) = []
 
-unfoldable pub entriesFrom : ℕ → List ℕ → ℕ → Reader → List Entry
-entriesFrom zero text last reader = []
-entriesFrom (suc steps) text last reader = entered (entriesFrom steps text) (madeBy text reader.at last) (readStepOf text reader)
+unfoldable pub entries_beginning : ℕ → List ℕ → ℕ → Reader → List Entry
+entries_beginning zero text last reader = []
+entries_beginning (suc steps) text last reader = entered (entries_beginning steps text) (made_by text reader.at last) (read_step_of text reader)
 
-unfoldable pub entriesOf : List ℕ → List Entry
-entriesOf text = entriesFrom (suc (length text)) text 0 fresh_of
+unfoldable pub entries_of : List ℕ → List Entry
+entries_of text = entries_beginning (suc (length text)) text 0 fresh_of
 
-abbrev pub commandsIn : List Entry → List PathCommand
-commandsIn [] = []
-commandsIn (entry ∷ rest) = entry.command ∷ commandsIn rest
+abbrev pub commands_in : List Entry → List PathCommand
+commands_in [] = []
+commands_in (entry ∷ rest) = entry.command ∷ commands_in rest
 
 -- ---- what SVG 1.1 asks of them
 
@@ -73,22 +73,22 @@ reflected point control =
 
 -- 8.3.6: "the reflection of the second control point on the previous command relative to the current point. (If there is no previous command or if
 -- the previous command was not an C, c, S or s, assume the first control point is coincident with the current point.)"
-abbrev pub cubicFirst : Point → PathCommand → Point
-cubicFirst start (CubicTo control1 control2 end) = reflected end control2
-cubicFirst start (MoveTo end) = end
-cubicFirst start (LineTo end) = end
-cubicFirst start (QuadTo control end) = end
-cubicFirst start (ArcTo radii rotation large sweep end) = end
-cubicFirst start ClosePath = start
+abbrev pub cubic_first : Point → PathCommand → Point
+cubic_first start (CubicTo control1 control2 end) = reflected end control2
+cubic_first start (MoveTo end) = end
+cubic_first start (LineTo end) = end
+cubic_first start (QuadTo control end) = end
+cubic_first start (ArcTo radii rotation large sweep end) = end
+cubic_first start ClosePath = start
 
 -- 8.3.7, the same of "a Q, q, T or t"
-abbrev pub quadFirst : Point → PathCommand → Point
-quadFirst start (QuadTo control end) = reflected end control
-quadFirst start (MoveTo end) = end
-quadFirst start (LineTo end) = end
-quadFirst start (CubicTo control1 control2 end) = end
-quadFirst start (ArcTo radii rotation large sweep end) = end
-quadFirst start ClosePath = start
+abbrev pub quad_first : Point → PathCommand → Point
+quad_first start (QuadTo control end) = reflected end control
+quad_first start (MoveTo end) = end
+quad_first start (LineTo end) = end
+quad_first start (CubicTo control1 control2 end) = end
+quad_first start (ArcTo radii rotation large sweep end) = end
+quad_first start ClosePath = start
 
 abbrev pub CubicFrom : Point → PathCommand → Type 0
 CubicFrom first command = (control2 : Point) × (end : Point) × (command ≡ CubicTo first control2 end)
@@ -96,31 +96,31 @@ CubicFrom first command = (control2 : Point) × (end : Point) × (command ≡ Cu
 abbrev pub QuadFrom : Point → PathCommand → Type 0
 QuadFrom first command = (end : Point) × (command ≡ QuadTo first end)
 
-abbrev pub isCubic : PathCommand → Bool
-isCubic (MoveTo end) = false
-isCubic (LineTo end) = false
-isCubic (QuadTo control end) = false
-isCubic (CubicTo control1 control2 end) = true
-isCubic (ArcTo radii rotation large sweep end) = false
-isCubic ClosePath = false
+abbrev pub is_cubic : PathCommand → Bool
+is_cubic (MoveTo end) = false
+is_cubic (LineTo end) = false
+is_cubic (QuadTo control end) = false
+is_cubic (CubicTo control1 control2 end) = true
+is_cubic (ArcTo radii rotation large sweep end) = false
+is_cubic ClosePath = false
 
-abbrev pub isQuad : PathCommand → Bool
-isQuad (MoveTo end) = false
-isQuad (LineTo end) = false
-isQuad (QuadTo control end) = true
-isQuad (CubicTo control1 control2 end) = false
-isQuad (ArcTo radii rotation large sweep end) = false
-isQuad ClosePath = false
+abbrev pub is_quad : PathCommand → Bool
+is_quad (MoveTo end) = false
+is_quad (LineTo end) = false
+is_quad (QuadTo control end) = true
+is_quad (CubicTo control1 control2 end) = false
+is_quad (ArcTo radii rotation large sweep end) = false
+is_quad ClosePath = false
 
 -- one command past another, in a subpath that starts at a point
 pub record Follows (start : Point) (previous : PathCommand) (letter : ℕ) (command : PathCommand) : Type 0 where
   -- S and s
-  pub smoothCubic : among letter (83 ∷ 115 ∷ []) ≡ true → CubicFrom (cubicFirst start previous) command
+  pub smooth_cubic : among letter (83 ∷ 115 ∷ []) ≡ true → CubicFrom (cubic_first start previous) command
   -- T and t
-  pub smoothQuad : among letter (84 ∷ 116 ∷ []) ≡ true → QuadFrom (quadFirst start previous) command
+  pub smooth_quad : among letter (84 ∷ 116 ∷ []) ≡ true → QuadFrom (quad_first start previous) command
   -- only C and S make cubics, and only Q and T quads: so a cubic before it is SVG's "C, c, S or s"
-  pub cubic : ofKind drawsCubic (meaningOf letter) ≡ isCubic command
-  pub quad : ofKind drawsQuad (meaningOf letter) ≡ isQuad command
+  pub cubic : of_kind draws_cubic (meaning_of letter) ≡ is_cubic command
+  pub quad : of_kind draws_quad (meaning_of letter) ≡ is_quad command
 
 -- each of a list past the one before it
 abbrev pub Smooth : Point → PathCommand → List Entry → Type 0

@@ -2,10 +2,10 @@
 use Rattle.std.specs.Prelude.{ℕ, zero, suc, ◌+◌, ◌*◌, ◌≤◌, ◌<◌, ◌≡◌, List, [], ◌∷◌, ◌++◌, Float, length}
 use Rattle.answers.specs.Report.{written}
 use Rattle.answers.specs.declared.refusals.Refusal.{Refusal}
-use Rattle.commands.specs.Stored.{lettersOf, numbersOf}
+use Rattle.commands.specs.Stored.{letters_of, numbers_of}
 use Rattle.commands.specs.declared.command.PathCommand.{PathCommand}
-use Rattle.svg.specs.Lists.{CommandList, commandList}
-use Rattle.svg_step.specs.Steps.{fresh_of, readStepOf}
+use Rattle.svg.specs.Lists.{CommandList, command_list}
+use Rattle.svg_step.specs.Steps.{fresh_of, read_step_of}
 use Rattle.svg_step.specs.declared.steps.Reader.{Reader}
 use Rattle.svg_step.specs.declared.steps.Step.{Step}
 use Rattle.svg_step.specs.declared.steps.Step.TheVariants.{Command, Done, Refused}
@@ -30,13 +30,13 @@ follow rest Done = commands []
 follow rest (Refused reason) = refusal reason
 
 -- at most so many steps from a state on
-unfoldable pub readFrom : ℕ → List ℕ → Reader → Outcome
-readFrom zero text reader = commands []
-readFrom (suc steps) text reader = follow (readFrom steps text) (readStepOf text reader)
+unfoldable pub read_from : ℕ → List ℕ → Reader → Outcome
+read_from zero text reader = commands []
+read_from (suc steps) text reader = follow (read_from steps text) (read_step_of text reader)
 
 -- each step passes a byte, so that one more than the text has bytes is enough
-unfoldable pub commandsOf : List ℕ → Outcome
-commandsOf text = readFrom (suc (length text)) text fresh_of
+unfoldable pub commands_of : List ℕ → Outcome
+commands_of text = read_from (suc (length text)) text fresh_of
 
 -- ---- the offsets of a text (document 02, L5), counted in its bytes from 0
 
@@ -47,32 +47,32 @@ marked rest Done = []
 marked rest (Refused reason) = []
 
 -- those of at most so many steps from a state on, as the commands are read
-unfoldable pub offsetsFrom : ℕ → List ℕ → Reader → List ℕ
-offsetsFrom zero text reader = []
-offsetsFrom (suc steps) text reader = marked (offsetsFrom steps text) (readStepOf text reader)
+unfoldable pub offsets_from : ℕ → List ℕ → Reader → List ℕ
+offsets_from zero text reader = []
+offsets_from (suc steps) text reader = marked (offsets_from steps text) (read_step_of text reader)
 
-unfoldable pub offsetsOf : List ℕ → List ℕ
-offsetsOf text = offsetsFrom (suc (length text)) text fresh_of
+unfoldable pub offsets_of : List ℕ → List ℕ
+offsets_of text = offsets_from (suc (length text)) text fresh_of
 
 -- ---- the stored list
 
 -- a text's commands as they are stored
 abbrev pub list_of : List ℕ → List PathCommand → CommandList
-list_of text list = commandList (lettersOf list) (numbersOf list) (offsetsOf text)
+list_of text list = command_list (letters_of list) (numbers_of list) (offsets_of text)
 
 -- the counts of the list; there are as many offsets as letters
-unfoldable pub measureOf : Outcome → Size
-measureOf (commands list) = Counted (length (lettersOf list)) (length (numbersOf list))
-measureOf (refusal reason) = Unmeasured reason
+unfoldable pub measure_of : Outcome → Size
+measure_of (commands list) = Counted (length (letters_of list)) (length (numbers_of list))
+measure_of (refusal reason) = Unmeasured reason
 
 -- the text reads, and its list has room in two buffers
 abbrev pub Room : Outcome → ℕ → ℕ → Type 0
-Room (commands list) letters numbers = (length (lettersOf list) ≤ letters) × (length (numbersOf list) ≤ numbers)
+Room (commands list) letters numbers = (length (letters_of list) ≤ letters) × (length (numbers_of list) ≤ numbers)
 Room (refusal reason) letters numbers = ⊥
 
 -- the text reads, and its list is stored from the start of each
 abbrev pub Filled : Outcome → List ℕ → List Float → List ℕ → List Float → Type 0
-Filled (commands list) letters numbers letters' numbers' = (letters' ≡ written (lettersOf list) letters) × (numbers' ≡ written (numbersOf list) numbers)
+Filled (commands list) letters numbers letters' numbers' = (letters' ≡ written (letters_of list) letters) × (numbers' ≡ written (numbers_of list) numbers)
 Filled (refusal reason) letters numbers letters' numbers' = ⊥
 
 -- the same in three, where the text has so many offsets
@@ -93,18 +93,18 @@ onto done (refusal reason) = refusal reason
 pub record Known (text : List ℕ) (reader : Reader) (done : List PathCommand) : Type 0 where
   pub steps : ℕ
   pub enough : length text < steps + reader.at
-  pub whole : commandsOf text ≡ onto done (readFrom steps text reader)
+  pub whole : commands_of text ≡ onto done (read_from steps text reader)
   pub marks : List ℕ
-  pub offsets : offsetsOf text ≡ marks ++ offsetsFrom steps text reader
-  pub many : length marks ≡ length (lettersOf done)
+  pub offsets : offsets_of text ≡ marks ++ offsets_from steps text reader
+  pub many : length marks ≡ length (letters_of done)
   pub kept : reader.offset ≤ reader.at
 
 -- they are counted
 pub record Counting (text : List ℕ) (reader : Reader) (letter_at at : ℕ) : Type 0 where
   pub done : List PathCommand
   pub known : Known text reader done
-  pub letters : letter_at ≡ length (lettersOf done)
-  pub numbers : at ≡ length (numbersOf done)
+  pub letters : letter_at ≡ length (letters_of done)
+  pub numbers : at ≡ length (numbers_of done)
   pub letter-le : letter_at ≤ reader.at
   pub at-le : at ≤ 7 * letter_at
 
@@ -112,38 +112,38 @@ pub record Counting (text : List ℕ) (reader : Reader) (letter_at at : ℕ) : T
 pub record Holding (text : List ℕ) (before after : CommandList) (reader : Reader) (letter_at at : ℕ) : Type 0 where
   pub done : List PathCommand
   pub known : Known text reader done
-  pub places : letter_at ≡ length (lettersOf done)
-  pub count : at ≡ length (numbersOf done)
+  pub places : letter_at ≡ length (letters_of done)
+  pub count : at ≡ length (numbers_of done)
   pub letter-le : letter_at ≤ reader.at
   pub at-le : at ≤ 7 * letter_at
-  pub lettersNow : after.letters ≡ written (lettersOf done) before.letters
-  pub numbersNow : after.numbers ≡ written (numbersOf done) before.numbers
-  pub offsetsNow : after.offsets ≡ written known.marks before.offsets
-  pub lettersIn : letter_at ≤ length before.letters
-  pub numbersIn : at ≤ length before.numbers
-  pub offsetsIn : letter_at ≤ length before.offsets
+  pub letters_now : after.letters ≡ written (letters_of done) before.letters
+  pub numbers_now : after.numbers ≡ written (numbers_of done) before.numbers
+  pub offsets_now : after.offsets ≡ written known.marks before.offsets
+  pub letters_in : letter_at ≤ length before.letters
+  pub numbers_in : at ≤ length before.numbers
+  pub offsets_in : letter_at ≤ length before.offsets
 
 -- they are what three lists hold
 pub record Begun (text : List ℕ) (held : CommandList) (reader : Reader) : Type 0 where
   pub done : List PathCommand
   pub known : Known text reader done
-  pub letters : held.letters ≡ lettersOf done
-  pub numbers : held.numbers ≡ numbersOf done
+  pub letters : held.letters ≡ letters_of done
+  pub numbers : held.numbers ≡ numbers_of done
   pub offsets : held.offsets ≡ known.marks
   pub letter-le : length held.letters ≤ reader.at
   pub at-le : length held.numbers ≤ 7 * length held.letters
 
 -- all commands of a text are what three lists hold
 abbrev pub Held : List ℕ → Outcome → CommandList → Type 0
-Held offsets (commands list) held = (held.letters ≡ lettersOf list) × (held.numbers ≡ numbersOf list) × (held.offsets ≡ offsets)
+Held offsets (commands list) held = (held.letters ≡ letters_of list) × (held.numbers ≡ numbers_of list) × (held.offsets ≡ offsets)
 Held offsets (refusal reason) held = ⊥
 
 -- how far a text is stored: as a whole, or up to a command that has no room
 abbrev pub SaysStored : Stored → List ℕ → CommandList → CommandList → Type 0
 SaysStored (Whole places count) text before after =
-    (Counted places count ≡ measureOf (commandsOf text)) × Roomed (offsetsOf text) (commandsOf text) before × FilledAll (offsetsOf text) (commandsOf text) before after
-SaysStored (Unstored reason) text before after = Unmeasured reason ≡ measureOf (commandsOf text)
-SaysStored (Full reader places count) text before after = Holding text before after reader places count × (Roomed (offsetsOf text) (commandsOf text) before → ⊥)
+    (Counted places count ≡ measure_of (commands_of text)) × Roomed (offsets_of text) (commands_of text) before × FilledAll (offsets_of text) (commands_of text) before after
+SaysStored (Unstored reason) text before after = Unmeasured reason ≡ measure_of (commands_of text)
+SaysStored (Full reader places count) text before after = Holding text before after reader places count × (Roomed (offsets_of text) (commands_of text) before → ⊥)
 
 pub record Stores (text : List ℕ) (before after : CommandList) (r : Stored) : Type 0 where
   pub said : SaysStored r text before after

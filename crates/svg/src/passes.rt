@@ -2,7 +2,7 @@
 ghost use Rattle.std.specs.Prelude.{◌≡◌, ◌≤◌, length};
 ghost use Rattle.answers.specs.Report.{written};
 ghost use Rattle.svg.specs.Lists.{lent, before, after};
-ghost use Rattle.svg.specs.Texts.{commandsOf, measureOf, Counting, Holding, Stores};
+ghost use Rattle.svg.specs.Texts.{commands_of, measure_of, Counting, Holding, Stores};
 
 use answers::Refusal;
 use commands::inner::store;
@@ -20,7 +20,7 @@ pub enum Size {
 // converted.
 pub(crate) fn measure_on(text: &[u8], reader: Reader, letters: usize, numbers: usize) -> Size
     requires { (length text.now ≤ 65536) × Counting text.now reader letters numbers }
-    ensures { result ≡ measureOf (commandsOf text.now) }
+    ensures { result ≡ measure_of (commands_of text.now) }
 {
     let mut from: usize = reader.at;
     let mut remembered: u8 = reader.letter;

@@ -7,9 +7,9 @@ use native.Mathlib.Nat.{le_refl}
 use lib.Dec.{ltb, eqb}
 use borrow.Author.Tests.{le-ltb}
 use lib.ListN.{get_or}
-use Rattle.scan.specs.Bytes.{among, digits, exponentMarks}
-use Rattle.scan.specs.Runs.{pastDigitsOf, pastSignOf, pastPointOf}
-use Rattle.scan.specs.Numbers.{scanNumberOf}
+use Rattle.scan.specs.Bytes.{among, digits, exponent_marks}
+use Rattle.scan.specs.Runs.{past_digits_of, past_sign_of, past_point_of}
+use Rattle.scan.specs.Numbers.{scan_number_of}
 use Rattle.scan.proofs.RunLaws.{all-again}
 use Rattle.scan.proofs.NumberLaws.{number-found}
 use Rattle.decimal.proofs.Found.{mark-none}
@@ -18,13 +18,13 @@ use Rattle.svg_group.specs.declared.passing.Passed.TheVariants.{To}
 
 pub plain-number :
     (text : List ℕ) (at whole point fraction mark : ℕ)
-    → whole ≡ pastSignOf text at
-    → point ≡ pastDigitsOf text whole
-    → fraction ≡ pastPointOf text point
-    → mark ≡ pastDigitsOf text fraction
+    → whole ≡ past_sign_of text at
+    → point ≡ past_digits_of text whole
+    → fraction ≡ past_point_of text point
+    → mark ≡ past_digits_of text fraction
     → (eqb whole point && eqb fraction mark) ≡ false
-    → among (get_or text mark 0) exponentMarks ≡ false
-    → To mark ≡ ended (scanNumberOf text at)
+    → among (get_or text mark 0) exponent_marks ≡ false
+    → To mark ≡ ended (scan_number_of text at)
 plain-number text at whole point fraction mark w p f m some none =
-    let end : mark ≡ pastDigitsOf text mark = m ∙ sym (all-again digits text fraction) ∙ ap (pastDigitsOf text) (sym m) in
+    let end : mark ≡ past_digits_of text mark = m ∙ sym (all-again digits text fraction) ∙ ap (past_digits_of text) (sym m) in
     ap ended (number-found text at whole point fraction mark w p f m mark mark (mark-none text mark none) end some (rw (le-ltb mark mark (le_refl mark))))

@@ -7,12 +7,12 @@ use Rattle.svg_group.specs.declared.letters.Letter.{Letter}
 use Rattle.svg_group.specs.declared.letters.Letter.TheVariants.{Draws, Closes, Unknown}
 
 -- A to Z and a to z
-unfoldable pub isLetterOf : ℕ → Bool
-isLetterOf byte = (leb 65 byte && leb byte 90) || (leb 97 byte && leb byte 122)
+unfoldable pub is_letter_of : ℕ → Bool
+is_letter_of byte = (leb 65 byte && leb byte 90) || (leb 97 byte && leb byte 122)
 
 -- MLHVCSQTAZ in either case; a letter other than these has no meaning here
-unfoldable pub meaningOf : ℕ → Letter
-meaningOf letter =
+unfoldable pub meaning_of : ℕ → Letter
+meaning_of letter =
     cond (among letter (77 ∷ 109 ∷ [])) (Draws Move)
     (cond (among letter (76 ∷ 108 ∷ [])) (Draws Line)
     (cond (among letter (72 ∷ 104 ∷ [])) (Draws Horizontal)

@@ -1,6 +1,6 @@
 // One group of each kind, read into a command.
 ghost use Rattle.std.specs.Prelude.{◌≡◌};
-ghost use Rattle.svg_group.specs.Groups.{readMoveOf, readLineOf, readHorizontalOf, readVerticalOf, readCubicOf, readSmoothCubicOf, readQuadOf, readSmoothQuadOf, readArcOf, readGroupOf};
+ghost use Rattle.svg_group.specs.Groups.{read_move_of, read_line_of, read_horizontal_of, read_vertical_of, read_cubic_of, read_smooth_cubic_of, read_quad_of, read_smooth_quad_of, read_arc_of, read_group_of};
 
 use crate::letters::Kind;
 use crate::numbers::{Coordinates, Flags, read_flags, read_number, read_pair};
@@ -17,7 +17,7 @@ pub enum Group {
 }
 
 fn read_move(text: &[u8], at: usize, relative: bool, current: Point) -> Group
-    ensures { result ≡ readMoveOf text.now at relative current }
+    ensures { result ≡ read_move_of text.now at relative current }
 {
     match read_pair(text, at, relative, current) {
         Coordinates::Refused(refusal) => Group::Refused(refusal),
@@ -32,7 +32,7 @@ fn read_move(text: &[u8], at: usize, relative: bool, current: Point) -> Group
 }
 
 fn read_line(text: &[u8], at: usize, relative: bool, current: Point) -> Group
-    ensures { result ≡ readLineOf text.now at relative current }
+    ensures { result ≡ read_line_of text.now at relative current }
 {
     match read_pair(text, at, relative, current) {
         Coordinates::Refused(refusal) => Group::Refused(refusal),
@@ -47,7 +47,7 @@ fn read_line(text: &[u8], at: usize, relative: bool, current: Point) -> Group
 }
 
 fn read_horizontal(text: &[u8], at: usize, relative: bool, current: Point) -> Group
-    ensures { result ≡ readHorizontalOf text.now at relative current }
+    ensures { result ≡ read_horizontal_of text.now at relative current }
 {
     match read_number(text, at) {
         Read::Refused(refusal) => Group::Refused(refusal),
@@ -73,7 +73,7 @@ fn read_horizontal(text: &[u8], at: usize, relative: bool, current: Point) -> Gr
 }
 
 fn read_vertical(text: &[u8], at: usize, relative: bool, current: Point) -> Group
-    ensures { result ≡ readVerticalOf text.now at relative current }
+    ensures { result ≡ read_vertical_of text.now at relative current }
 {
     match read_number(text, at) {
         Read::Refused(refusal) => Group::Refused(refusal),
@@ -99,7 +99,7 @@ fn read_vertical(text: &[u8], at: usize, relative: bool, current: Point) -> Grou
 }
 
 fn read_cubic(text: &[u8], at: usize, relative: bool, current: Point) -> Group
-    ensures { result ≡ readCubicOf text.now at relative current }
+    ensures { result ≡ read_cubic_of text.now at relative current }
 {
     match read_pair(text, at, relative, current) {
         Coordinates::Refused(refusal) => Group::Refused(refusal),
@@ -137,7 +137,7 @@ fn read_cubic(text: &[u8], at: usize, relative: bool, current: Point) -> Group
 }
 
 fn read_quad(text: &[u8], at: usize, relative: bool, current: Point) -> Group
-    ensures { result ≡ readQuadOf text.now at relative current }
+    ensures { result ≡ read_quad_of text.now at relative current }
 {
     match read_pair(text, at, relative, current) {
         Coordinates::Refused(refusal) => Group::Refused(refusal),
@@ -161,7 +161,7 @@ fn read_quad(text: &[u8], at: usize, relative: bool, current: Point) -> Group
 
 // The second control and the end; the first control is given.
 fn read_smooth_cubic(text: &[u8], at: usize, relative: bool, current: Point, first: Point) -> Group
-    ensures { result ≡ readSmoothCubicOf text.now at relative current first }
+    ensures { result ≡ read_smooth_cubic_of text.now at relative current first }
 {
     match read_pair(text, at, relative, current) {
         Coordinates::Refused(refusal) => Group::Refused(refusal),
@@ -189,7 +189,7 @@ fn read_smooth_cubic(text: &[u8], at: usize, relative: bool, current: Point, fir
 
 // The end alone.
 fn read_smooth_quad(text: &[u8], at: usize, relative: bool, current: Point, first: Point) -> Group
-    ensures { result ≡ readSmoothQuadOf text.now at relative current first }
+    ensures { result ≡ read_smooth_quad_of text.now at relative current first }
 {
     match read_pair(text, at, relative, current) {
         Coordinates::Refused(refusal) => Group::Refused(refusal),
@@ -208,7 +208,7 @@ fn read_smooth_quad(text: &[u8], at: usize, relative: bool, current: Point, firs
 
 // The radii are no point of the plane, and are never added to one.
 fn read_arc(text: &[u8], at: usize, relative: bool, current: Point) -> Group
-    ensures { result ≡ readArcOf text.now at relative current }
+    ensures { result ≡ read_arc_of text.now at relative current }
 {
     match read_pair(text, at, false, current) {
         Coordinates::Refused(refusal) => Group::Refused(refusal),
@@ -261,7 +261,7 @@ pub fn read_group(
     current: Point,
     first: Point,
 ) -> Group
-    ensures { result ≡ readGroupOf text.now at kind relative current first }
+    ensures { result ≡ read_group_of text.now at kind relative current first }
 {
     match kind {
         Kind::Move => read_move(text, at, relative, current),

@@ -1,6 +1,6 @@
 // The letters of commands and what each asks for.
 ghost use Rattle.std.specs.Prelude.{◌≡◌};
-ghost use Rattle.svg_group.specs.Letters.{isLetterOf, meaningOf, width_of};
+ghost use Rattle.svg_group.specs.Letters.{is_letter_of, meaning_of, width_of};
 
 // What the groups of a letter are.
 #[derive(Drop)]
@@ -24,13 +24,13 @@ pub enum Letter {
 }
 
 pub fn is_letter(byte: u8) -> bool
-    ensures { result ≡ isLetterOf byte }
+    ensures { result ≡ is_letter_of byte }
 {
     ((65 <= byte) & (byte <= 90)) | ((97 <= byte) & (byte <= 122))
 }
 
 pub fn meaning(letter: u8) -> Letter
-    ensures { result ≡ meaningOf letter }
+    ensures { result ≡ meaning_of letter }
 {
     match letter {
         b'M' | b'm' => Letter::Draws(Kind::Move),

@@ -1,7 +1,7 @@
 // Numbers, flags and pairs where one is due. Each passes the separators before it.
 ghost use Rattle.std.specs.Prelude.{◌≡◌, ◌<◌, length};
 ghost use Rattle.decimal.specs.Bits.{Quick};
-ghost use Rattle.svg_group.specs.Numbers.{readNumberOf, readFlagOf, readFlagsOf, movedOf, readPairOf, pair_of};
+ghost use Rattle.svg_group.specs.Numbers.{read_number_of, read_flag_of, read_flags_of, moved_of, read_pair_of, pair_of};
 
 use answers::Refusal;
 use decimal::Read;
@@ -37,7 +37,7 @@ pub enum Coordinates {
 // A number past separators by the quick way: the place past it, with its value in out, or 0 where that does not tell.
 fn quick_number(text: &[u8], at: usize, out: &mut [f32; 1]) -> usize
     requires { length out.old ≡ 1 }
-    ensures { 0 < result → Quick (readNumberOf text.now at) result out.new }
+    ensures { 0 < result → Quick (read_number_of text.now at) result out.new }
 {
     let start = scan::past_separators(text, at);
     if text.len() <= start {
@@ -48,7 +48,7 @@ fn quick_number(text: &[u8], at: usize, out: &mut [f32; 1]) -> usize
 
 // Any number past separators.
 fn any_number(text: &[u8], at: usize) -> Read
-    ensures { result ≡ readNumberOf text.now at }
+    ensures { result ≡ read_number_of text.now at }
 {
     let start = scan::past_separators(text, at);
     if text.len() <= start {
@@ -62,7 +62,7 @@ fn any_number(text: &[u8], at: usize) -> Read
 }
 
 pub fn read_number(text: &[u8], at: usize) -> Read
-    ensures { result ≡ readNumberOf text.now at }
+    ensures { result ≡ read_number_of text.now at }
 {
     let mut value = [0.0f32; 1];
     let next = quick_number(text, at, &mut value);
@@ -73,7 +73,7 @@ pub fn read_number(text: &[u8], at: usize) -> Read
 }
 
 fn read_flag(text: &[u8], at: usize) -> Flag
-    ensures { result ≡ readFlagOf text.now at }
+    ensures { result ≡ read_flag_of text.now at }
 {
     let start = scan::past_separators(text, at);
     if text.len() <= start {
@@ -96,7 +96,7 @@ fn read_flag(text: &[u8], at: usize) -> Flag
 }
 
 pub fn read_flags(text: &[u8], at: usize) -> Flags
-    ensures { result ≡ readFlagsOf text.now at }
+    ensures { result ≡ read_flags_of text.now at }
 {
     match read_flag(text, at) {
         Flag::Refused(refusal) => Flags::Refused(refusal),
@@ -116,7 +116,7 @@ pub fn read_flags(text: &[u8], at: usize) -> Flags
 
 // A point as it is written, or added to the current one.
 fn moved(relative: bool, current: Point, point: Point) -> Point
-    ensures { result ≡ movedOf relative current point }
+    ensures { result ≡ moved_of relative current point }
 {
     if relative {
         return math::add(current, point);
@@ -125,7 +125,7 @@ fn moved(relative: bool, current: Point, point: Point) -> Point
 }
 
 pub fn read_pair(text: &[u8], at: usize, relative: bool, current: Point) -> Coordinates
-    ensures { pair_of result ≡ readPairOf text.now at relative current }
+    ensures { pair_of result ≡ read_pair_of text.now at relative current }
 {
     match read_number(text, at) {
         Read::Refused(refusal) => Coordinates::Refused(refusal),

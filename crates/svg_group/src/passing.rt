@@ -1,7 +1,7 @@
 // One group of each kind, passed without its values: what does not fit into the reader's own buffers is counted before it is read.
 ghost use Rattle.std.specs.Prelude.{◌≡◌};
-ghost use Rattle.scan.specs.Numbers.{scanNumberOf};
-ghost use Rattle.svg_group.specs.Passing.{ended, passNumberOf, passPairOf, passCubicOf, passQuadOf, passArcOf, passGroupOf};
+ghost use Rattle.scan.specs.Numbers.{scan_number_of};
+ghost use Rattle.svg_group.specs.Passing.{ended, pass_number_of, pass_pair_of, pass_cubic_of, pass_quad_of, pass_arc_of, pass_group_of};
 
 use crate::letters::Kind;
 use crate::numbers::{Flags, read_flags};
@@ -17,7 +17,7 @@ pub enum Passed {
 
 // The number that starts at a place.
 fn pass_scanned(text: &[u8], start: usize) -> Passed
-    ensures { result ≡ ended (scanNumberOf text.now start) }
+    ensures { result ≡ ended (scan_number_of text.now start) }
 {
     match scan::scan_number(text, start) {
         Number::Scanned(places) => Passed::To(places.end),
@@ -28,7 +28,7 @@ fn pass_scanned(text: &[u8], start: usize) -> Passed
 
 // Most numbers have a digit and no exponent: they end past their digits.
 fn pass_number(text: &[u8], at: usize) -> Passed
-    ensures { result ≡ passNumberOf text.now at }
+    ensures { result ≡ pass_number_of text.now at }
 {
     let start = scan::past_separators(text, at);
     if text.len() <= start {
@@ -48,7 +48,7 @@ fn pass_number(text: &[u8], at: usize) -> Passed
 }
 
 fn pass_pair(text: &[u8], at: usize) -> Passed
-    ensures { result ≡ passPairOf text.now at }
+    ensures { result ≡ pass_pair_of text.now at }
 {
     match pass_number(text, at) {
         Passed::Refused(refusal) => Passed::Refused(refusal),
@@ -57,7 +57,7 @@ fn pass_pair(text: &[u8], at: usize) -> Passed
 }
 
 fn pass_quad(text: &[u8], at: usize) -> Passed
-    ensures { result ≡ passQuadOf text.now at }
+    ensures { result ≡ pass_quad_of text.now at }
 {
     match pass_pair(text, at) {
         Passed::Refused(refusal) => Passed::Refused(refusal),
@@ -66,7 +66,7 @@ fn pass_quad(text: &[u8], at: usize) -> Passed
 }
 
 fn pass_cubic(text: &[u8], at: usize) -> Passed
-    ensures { result ≡ passCubicOf text.now at }
+    ensures { result ≡ pass_cubic_of text.now at }
 {
     match pass_quad(text, at) {
         Passed::Refused(refusal) => Passed::Refused(refusal),
@@ -75,7 +75,7 @@ fn pass_cubic(text: &[u8], at: usize) -> Passed
 }
 
 fn pass_arc(text: &[u8], at: usize) -> Passed
-    ensures { result ≡ passArcOf text.now at }
+    ensures { result ≡ pass_arc_of text.now at }
 {
     match pass_pair(text, at) {
         Passed::Refused(refusal) => Passed::Refused(refusal),
@@ -94,7 +94,7 @@ fn pass_arc(text: &[u8], at: usize) -> Passed
 }
 
 pub fn pass_group(text: &[u8], at: usize, kind: Kind) -> Passed
-    ensures { result ≡ passGroupOf text.now at kind }
+    ensures { result ≡ pass_group_of text.now at kind }
 {
     match kind {
         Kind::Move => pass_pair(text, at),

@@ -3,23 +3,23 @@
 use Rattle.std.specs.Prelude.{ℕ, ◌+◌, ◌≤◌, ◌≡◌, Bool, true, false, ◌&&◌, cond, List, [], ◌∷◌, leb, Float, length, get_or}
 use Rattle.std.specs.Float.{binary32}
 use Rattle.std.specs.Float.Ieee.{add}
-use Rattle.scan.specs.Runs.{pastSeparatorsOf}
+use Rattle.scan.specs.Runs.{past_separators_of}
 use Rattle.decimal_nearest.specs.Nearest.{ValueAt}
 use Rattle.math.specs.declared.points.Point.{Point}
 use Rattle.commands.specs.declared.command.PathCommand.{PathCommand}
 use Rattle.commands.specs.declared.command.PathCommand.TheVariants.{MoveTo, LineTo, QuadTo, CubicTo, ArcTo, ClosePath}
-use Rattle.svg_group.specs.Letters.{isLetterOf, meaningOf}
+use Rattle.svg_group.specs.Letters.{is_letter_of, meaning_of}
 use Rattle.svg_group.specs.declared.letters.Kind.{Kind}
 use Rattle.svg_group.specs.declared.letters.Kind.TheVariants.{Move, Line, Horizontal, Vertical, Cubic, SmoothCubic, Quad, SmoothQuad, Arc}
 use Rattle.svg_group.specs.declared.letters.Letter.{Letter}
 use Rattle.svg_group.specs.declared.letters.Letter.TheVariants.{Draws, Closes, Unknown}
-use Rattle.svg.specs.Smooth.{Entry, madeBy, end_of, start_of}
+use Rattle.svg.specs.Smooth.{Entry, made_by, end_of, start_of}
 
 -- ---- numbers, pairs and flags from a place on, and where they end
 
 -- past separators stands a number, of which this is the nearest value
 abbrev pub NumberFrom : List ℕ → ℕ → Float → ℕ → Type 0
-NumberFrom text from x next = ValueAt text (pastSeparatorsOf text from) x next
+NumberFrom text from x next = ValueAt text (past_separators_of text from) x next
 
 -- "Lower case adds to the current point": one coordinate of it
 abbrev pub shifted : Bool → Float → Float → Float
@@ -36,8 +36,8 @@ pub record PairFrom (text : List ℕ) (from : ℕ) (relative : Bool) (current po
 
 -- past separators stands a 0 or a 1, one byte
 pub record FlagFrom (text : List ℕ) (from : ℕ) (set : Bool) (next : ℕ) : Type 0 where
-  pub stands : get_or text (pastSeparatorsOf text from) 0 ≡ cond set 49 48
-  pub ends : next ≡ pastSeparatorsOf text from + 1
+  pub stands : get_or text (past_separators_of text from) 0 ≡ cond set 49 48
+  pub ends : next ≡ past_separators_of text from + 1
 
 -- ---- one group of numbers makes a command
 
@@ -86,19 +86,19 @@ Drawn text from own relative current Arc command next = ArcFrom text from relati
 -- Of a command whose first byte past separators stands at `at`: the numbers of its group start past its letter, or at once where the letter is repeated. "with none it is absolute"; a Z has no
 -- numbers and is not repeated.
 abbrev pub ByMeaning : List ℕ → ℕ → Bool → ℕ → Bool → Point → PathCommand → ℕ → Letter → Type 0
-ByMeaning text at own letter placed current command next (Draws kind) = Drawn text (pastSeparatorsOf text (cond own (at + 1) at)) own (leb 97 letter && placed) current kind command next
+ByMeaning text at own letter placed current command next (Draws kind) = Drawn text (past_separators_of text (cond own (at + 1) at)) own (leb 97 letter && placed) current kind command next
 ByMeaning text at own letter placed current command next Closes = (own ≡ true) × (command ≡ ClosePath) × (next ≡ at + 1)
 ByMeaning text at own letter placed current command next Unknown = ⊥
 
 -- a command from a place on, past one that the letter `last` made, with or without a current point
 pub record Makes (text : List ℕ) (from last : ℕ) (placed : Bool) (current : Point) (letter : ℕ) (command : PathCommand) (next : ℕ) : Type 0 where
-  pub letter-is : letter ≡ madeBy text from last
-  pub made : let at = pastSeparatorsOf text from in ByMeaning text at (isLetterOf (get_or text at 0)) letter placed current command next (meaningOf letter)
+  pub letter-is : letter ≡ made_by text from last
+  pub made : let at = past_separators_of text from in ByMeaning text at (is_letter_of (get_or text at 0)) letter placed current command next (meaning_of letter)
 
 -- ---- the text: each command from where the one before it ends, in the subpath that it goes on, up to the text's end
 
 abbrev pub Reads : List ℕ → ℕ → ℕ → Bool → Point → Point → List Entry → Type 0
-Reads text from last placed current start [] = length text ≤ pastSeparatorsOf text from
+Reads text from last placed current start [] = length text ≤ past_separators_of text from
 Reads text from last placed current start (entry ∷ rest) =
     (next : ℕ) × Makes text from last placed current entry.letter entry.command next
     × Reads text next entry.letter true (end_of start entry.command) (start_of start entry.command) rest

@@ -8,21 +8,21 @@ use borrow.Author.Tests.{ltb-true}
 use lib.Dec.{ltb}
 use lib.ListN.{length, get_or}
 use Rattle.answers.specs.declared.refusals.Refusal.{Refusal}
-use Rattle.scan.specs.Bytes.{among, separators, numberStarts}
-use Rattle.scan.specs.Runs.{pastSeparatorsOf}
+use Rattle.scan.specs.Bytes.{among, separators, number_starts}
+use Rattle.scan.specs.Runs.{past_separators_of}
 use Rattle.scan.proofs.RunLaws.{all-onward}
 use Rattle.math.specs.declared.points.Point.{Point}
 use Rattle.commands.specs.declared.command.PathCommand.{PathCommand}
 use Rattle.commands.specs.declared.command.PathCommand.TheVariants.{MoveTo, LineTo, QuadTo, CubicTo, ArcTo, ClosePath}
-use Rattle.svg_group.specs.Letters.{isLetterOf, meaningOf}
-use Rattle.svg_group.specs.Groups.{readGroupOf}
+use Rattle.svg_group.specs.Letters.{is_letter_of, meaning_of}
+use Rattle.svg_group.specs.Groups.{read_group_of}
 use Rattle.svg_group.specs.declared.letters.Kind.{Kind}
 use Rattle.svg_group.specs.declared.letters.Letter.{Letter}
 use Rattle.svg_group.specs.declared.letters.Letter.TheVariants.{Draws, Closes, Unknown}
 use Rattle.svg_group.specs.declared.groups.Group.{Group}
 use Rattle.svg_group.specs.declared.groups.Group.TheVariants.{Taken, Refused as GroupRefused}
 use Rattle.svg_group.proofs.Ahead.{group-ahead}
-use Rattle.svg_step.specs.Steps.{isRelativeOf, firstControlOf, needsPointOf, repeatedOf, after_of, dueGroupOf, begun, dueLetterOf, again, dueAgainOf, dueAtOf, nextDueOf, offset_of, taken, stepped, readStepOf}
+use Rattle.svg_step.specs.Steps.{is_relative_of, first_control_of, needs_point_of, repeated_of, after_of, due_group_of, begun, due_letter_of, again, due_again_of, due_at_of, next_due_of, offset_of, taken, stepped, read_step_of}
 use Rattle.svg_step.specs.declared.steps.Reader.{Reader}
 use Rattle.svg_step.specs.declared.steps.Due.{Due}
 use Rattle.svg_step.specs.declared.steps.Due.TheVariants.{Done as NothingDue, Refused as NotDue, Close, Group as GroupDue}
@@ -70,22 +70,22 @@ onward-le p q (Close next) h k = omega arith
 onward-le p q (GroupDue kind letter first) h k = omega arith
 
 module _ (text : List ℕ) where
-  group-onward : (at : ℕ) (kind : Kind) (letter : ℕ) → Onward at (dueGroupOf text at kind letter)
-  unfolding dueGroupOf Onward
+  group-onward : (at : ℕ) (kind : Kind) (letter : ℕ) → Onward at (due_group_of text at kind letter)
+  unfolding due_group_of Onward
   group-onward at kind letter =
-      cond-elim (Onward at) (among (get_or text (pastSeparatorsOf text at) 0) numberStarts) _ _ (λ e. all-onward separators text at) (λ e. tt)
+      cond-elim (Onward at) (among (get_or text (past_separators_of text at) 0) number_starts) _ _ (λ e. all-onward separators text at) (λ e. tt)
 
   begun-onward : (at letter : ℕ) (placed : Bool) (meaning : Letter) → Onward at (begun text at letter placed meaning)
   unfolding Onward
   begun-onward at letter placed (Draws kind) =
-      let t = onward-le at (at + 1) (dueGroupOf text (at + 1) kind letter) (omega arith) (group-onward (at + 1) kind letter) in
-      cond-elim (Onward at) (needsPointOf kind) _ _ (λ e. cond-elim (Onward at) placed _ _ (λ f. t) (λ f. tt)) (λ e. t)
+      let t = onward-le at (at + 1) (due_group_of text (at + 1) kind letter) (omega arith) (group-onward (at + 1) kind letter) in
+      cond-elim (Onward at) (needs_point_of kind) _ _ (λ e. cond-elim (Onward at) placed _ _ (λ f. t) (λ f. tt)) (λ e. t)
   begun-onward at letter placed Closes = omega arith
   begun-onward at letter placed Unknown = tt
 
   again-onward : (at letter : ℕ) (meaning : Letter) → Onward at (again text at letter meaning)
   unfolding Onward
-  again-onward at letter (Draws kind) = group-onward at (repeatedOf kind) letter
+  again-onward at letter (Draws kind) = group-onward at (repeated_of kind) letter
   again-onward at letter Closes = tt
   again-onward at letter Unknown = tt
 
@@ -103,16 +103,16 @@ within text at (NotDue reason) w h = w
 within text at (Close next) w h = (h, w)
 within text at (GroupDue kind letter first) w h = (h, w)
 
-due-within : (text : List ℕ) (at letter : ℕ) (placed : Bool) → Within text at (dueAtOf text at letter placed)
-unfolding dueAtOf Within dueLetterOf dueAgainOf
+due-within : (text : List ℕ) (at letter : ℕ) (placed : Bool) → Within text at (due_at_of text at letter placed)
+unfolding due_at_of Within due_letter_of due_again_of
 due-within text at letter placed =
     let byte = get_or text at 0 in
     cond-elim (Within text at) (ltb at (length text)) _ NothingDue
     (λ e.
     let w : at < length text = omega (arith, ltb-true at (length text) e) in
-    cond-elim (Within text at) (isLetterOf byte) _ _
-    (λ f. within text at (dueLetterOf text at byte placed) w (begun-onward text at byte placed (meaningOf byte)))
-    (λ f. within text at (dueAgainOf text at letter) w (again-onward text at letter (meaningOf letter))))
+    cond-elim (Within text at) (is_letter_of byte) _ _
+    (λ f. within text at (due_letter_of text at byte placed) w (begun-onward text at byte placed (meaning_of byte)))
+    (λ f. within text at (due_again_of text at letter) w (again-onward text at letter (meaning_of letter))))
     (λ e. tt)
 
 -- ---- the step
@@ -126,7 +126,7 @@ Goes text at (Refused reason) = at < length text
 module _ (text : List ℕ) (reader : Reader) (offset at : ℕ) where
   taken-goes :
       (kind : Kind) (letter first : ℕ) (relative : Bool) (current control : Point) → at ≤ first → at < length text
-      → (group : Group) → readGroupOf text first kind relative current control ≡ group → Goes text at (taken letter offset reader.start group)
+      → (group : Group) → read_group_of text first kind relative current control ≡ group → Goes text at (taken letter offset reader.start group)
   unfolding Goes
   taken-goes kind letter first relative current control h w (Taken command next) e = (
     omega (arith, group-ahead text first relative current control kind command next e, after-at command next letter offset reader.start),
@@ -142,27 +142,27 @@ module _ (text : List ℕ) (reader : Reader) (offset at : ℕ) where
   stepped-goes (Close next) h =
       (omega (arith, h.0, after-at ClosePath next reader.letter offset reader.start), h.1, after-placed ClosePath next reader.letter offset reader.start)
   stepped-goes (GroupDue kind letter first) h =
-      let control = firstControlOf kind reader.letter reader.current reader.control in
-      taken-goes kind letter first (isRelativeOf letter reader.placed) reader.current control h.0 h.1
-      (readGroupOf text first kind (isRelativeOf letter reader.placed) reader.current control) refl
+      let control = first_control_of kind reader.letter reader.current reader.control in
+      taken-goes kind letter first (is_relative_of letter reader.placed) reader.current control h.0 h.1
+      (read_group_of text first kind (is_relative_of letter reader.placed) reader.current control) refl
 
 module _ (text : List ℕ) (reader : Reader) where
   at : ℕ
-  at = pastSeparatorsOf text reader.at
+  at = past_separators_of text reader.at
 
   onward : reader.at ≤ at
   unfolding at
   onward = all-onward separators text reader.at
 
-  step-goes : Goes text at (readStepOf text reader)
-  unfolding at readStepOf nextDueOf
+  step-goes : Goes text at (read_step_of text reader)
+  unfolding at read_step_of next_due_of
   step-goes =
-      let at = pastSeparatorsOf text reader.at in
-      stepped-goes text reader (offset_of text reader) at (dueAtOf text at reader.letter reader.placed) (due-within text at reader.letter reader.placed)
+      let at = past_separators_of text reader.at in
+      stepped-goes text reader (offset_of text reader) at (due_at_of text at reader.letter reader.placed) (due-within text at reader.letter reader.placed)
 
-  module _ (next : Reader) (command : PathCommand) (e : readStepOf text reader ≡ Command command next) where
+  module _ (next : Reader) (command : PathCommand) (e : read_step_of text reader ≡ Command command next) where
     -- the command starts past the separators
-    pub step_past : (reader.at ≤ pastSeparatorsOf text reader.at) × (pastSeparatorsOf text reader.at < next.at) × (pastSeparatorsOf text reader.at < length text)
+    pub step_past : (reader.at ≤ past_separators_of text reader.at) × (past_separators_of text reader.at < next.at) × (past_separators_of text reader.at < length text)
     unfolding at Goes
     step_past = let g = subst (Goes text at) e step-goes in (onward, g.0, g.1)
 
@@ -170,6 +170,6 @@ module _ (text : List ℕ) (reader : Reader) where
     unfolding Goes
     step-ahead = let g = subst (Goes text at) e step-goes in (omega (arith, onward, g.0), omega (arith, onward, g.1), g.2)
 
-  pub step-within : (reason : Refusal) → readStepOf text reader ≡ Refused reason → reader.at < length text
+  pub step-within : (reason : Refusal) → read_step_of text reader ≡ Refused reason → reader.at < length text
   unfolding Goes
   step-within reason e = let g = subst (Goes text at) e step-goes in omega (arith, onward)

@@ -5,15 +5,15 @@ use mathlib.Core.Bool.{Bool, true, false, cond}
 use mathlib.Core.List.{List}
 use native.Mathlib.Omega.{arith}
 use lib.ListN.{length, get_or}
-use Rattle.scan.specs.Runs.{pastSeparatorsOf}
+use Rattle.scan.specs.Runs.{past_separators_of}
 use Rattle.math.specs.declared.points.Point.{Point}
 use Rattle.commands.specs.declared.command.PathCommand.{PathCommand}
 use Rattle.commands.specs.declared.command.PathCommand.TheVariants.{MoveTo, LineTo, QuadTo, CubicTo, ArcTo, ClosePath}
-use Rattle.svg_group.specs.Letters.{isLetterOf}
-use Rattle.svg_group.specs.Groups.{readGroupOf}
+use Rattle.svg_group.specs.Letters.{is_letter_of}
+use Rattle.svg_group.specs.Groups.{read_group_of}
 use Rattle.svg_group.specs.declared.groups.Group.{Group}
 use Rattle.svg_group.specs.declared.groups.Group.TheVariants.{Taken, Refused as GroupRefused}
-use Rattle.svg_step.specs.Steps.{isRelativeOf, firstControlOf, after_of, nextDueOf, offsetAt, offset_of, taken, stepped, readStepOf}
+use Rattle.svg_step.specs.Steps.{is_relative_of, first_control_of, after_of, next_due_of, offset_at, offset_of, taken, stepped, read_step_of}
 use Rattle.svg_step.specs.declared.steps.Reader.{Reader}
 use Rattle.svg_step.specs.declared.steps.Due.{Due}
 use Rattle.svg_step.specs.declared.steps.Due.TheVariants.{Done as NothingDue, Refused as NotDue, Close, Group as GroupDue}
@@ -47,29 +47,29 @@ module _ (text : List ℕ) (reader : Reader) where
   stepped-leaves offset (NotDue reason) = tt
   stepped-leaves offset (Close next) = after-offset ClosePath next reader.letter offset reader.start
   stepped-leaves offset (GroupDue kind letter first) =
-      let relative = isRelativeOf letter reader.placed in
-      let control = firstControlOf kind reader.letter reader.current reader.control in
-      taken-leaves letter offset reader.start (readGroupOf text first kind relative reader.current control)
+      let relative = is_relative_of letter reader.placed in
+      let control = first_control_of kind reader.letter reader.current reader.control in
+      taken-leaves letter offset reader.start (read_group_of text first kind relative reader.current control)
 
-  step-leaves : Leaves (offset_of text reader) (readStepOf text reader)
-  unfolding readStepOf
-  step-leaves = stepped-leaves (offset_of text reader) (nextDueOf text reader.at reader.letter reader.placed)
+  step-leaves : Leaves (offset_of text reader) (read_step_of text reader)
+  unfolding read_step_of
+  step-leaves = stepped-leaves (offset_of text reader) (next_due_of text reader.at reader.letter reader.placed)
 
   either : (b : Bool) (at last low high : ℕ) → (low ≤ at) × (at < high) → (low ≤ last) × (last < high) → (low ≤ cond b at last) × (cond b at last < high)
   either true at last low high f g = f
   either false at last low high f g = g
 
-  module _ (next : Reader) (command : PathCommand) (e : readStepOf text reader ≡ Command command next) where
+  module _ (next : Reader) (command : PathCommand) (e : read_step_of text reader ≡ Command command next) where
     pub step-offset : next.offset ≡ offset_of text reader
     unfolding Leaves
     step-offset = subst (Leaves (offset_of text reader)) e step-leaves
 
     module _ (kept : reader.offset ≤ reader.at) where
-      lies : (high : ℕ) → pastSeparatorsOf text reader.at < high → reader.at < high → (reader.offset ≤ offset_of text reader) × (offset_of text reader < high)
-      unfolding offsetAt
+      lies : (high : ℕ) → past_separators_of text reader.at < high → reader.at < high → (reader.offset ≤ offset_of text reader) × (offset_of text reader < high)
+      unfolding offset_at
       lies high h k =
           let p = step_past text reader next command e in
-          either (isLetterOf (get_or text (pastSeparatorsOf text reader.at) 0)) (pastSeparatorsOf text reader.at) reader.offset reader.offset high
+          either (is_letter_of (get_or text (past_separators_of text reader.at) 0)) (past_separators_of text reader.at) reader.offset reader.offset high
           (omega (arith, p.0), h) (omega arith, omega arith)
 
       -- the letter stands within the text and before the state's place, and not before the last letter

@@ -6,19 +6,19 @@ use mathlib.Core.List.{List}
 use native.Mathlib.Omega.{arith}
 use lib.ListN.{length}
 use Rattle.math.specs.declared.points.Point.{Point}
-use Rattle.commands.specs.Stored.{argumentsOf}
+use Rattle.commands.specs.Stored.{arguments_of}
 use Rattle.commands.specs.declared.command.PathCommand.{PathCommand}
 use Rattle.commands.specs.declared.command.PathCommand.TheVariants.{MoveTo, LineTo, QuadTo, CubicTo, ArcTo, ClosePath}
 use Rattle.svg_group.specs.Letters.{width_of}
-use Rattle.svg_group.specs.Groups.{readGroupOf}
-use Rattle.svg_group.specs.Passing.{passGroupOf}
+use Rattle.svg_group.specs.Groups.{read_group_of}
+use Rattle.svg_group.specs.Passing.{pass_group_of}
 use Rattle.svg_group.specs.declared.letters.Kind.{Kind}
 use Rattle.svg_group.specs.declared.letters.Kind.TheVariants.{Move, Line, Horizontal, Vertical, Cubic, SmoothCubic, Quad, SmoothQuad, Arc}
 use Rattle.svg_group.specs.declared.groups.Group.{Group}
 use Rattle.svg_group.specs.declared.groups.Group.TheVariants.{Taken, Refused as GroupRefused}
-use Rattle.svg_group.proofs.Places.{groupPlace, group-place}
+use Rattle.svg_group.proofs.Places.{group_place, group-place}
 use Rattle.svg_group.proofs.Widths.{group-width}
-use Rattle.svg_step.specs.Steps.{isRelativeOf, firstControlOf, after_of, nextDueOf, offset_of, taken, stepped, readStepOf, passedTo, passed, passStepOf}
+use Rattle.svg_step.specs.Steps.{is_relative_of, first_control_of, after_of, next_due_of, offset_of, taken, stepped, read_step_of, passed_to, passed, pass_step_of}
 use Rattle.svg_step.specs.declared.steps.Reader.{Reader}
 use Rattle.svg_step.specs.declared.steps.Due.{Due}
 use Rattle.svg_step.specs.declared.steps.Due.TheVariants.{Done as NothingDue, Refused as NotDue, Close, Group as GroupDue}
@@ -29,13 +29,13 @@ use Rattle.svg_step.specs.declared.steps.Pass.TheVariants.{Command as PassComman
 use Rattle.svg_step.proofs.Ahead.{after-at}
 
 -- what of a step needs no values
-abbrev pub passOf : Step → Pass
-passOf (Command command next) = PassCommand (length (argumentsOf command)) next.at next.letter
-passOf Done = PassDone
-passOf (Refused reason) = PassRefused reason
+abbrev pub pass_of : Step → Pass
+pass_of (Command command next) = PassCommand (length (arguments_of command)) next.at next.letter
+pass_of Done = PassDone
+pass_of (Refused reason) = PassRefused reason
 
 -- a command with numbers keeps the letter
-after-letter : (command : PathCommand) (next letter offset : ℕ) (start : Point) → 0 < length (argumentsOf command) → (after_of command next letter offset start).letter ≡ letter
+after-letter : (command : PathCommand) (next letter offset : ℕ) (start : Point) → 0 < length (arguments_of command) → (after_of command next letter offset start).letter ≡ letter
 unfolding after_of
 after-letter (MoveTo end) next letter offset start w = refl
 after-letter (LineTo end) next letter offset start w = refl
@@ -57,8 +57,8 @@ some-width Arc = omega arith
 
 module _ (text : List ℕ) (reader : Reader) (offset : ℕ) where
   taken-passed :
-      (kind : Kind) (letter first : ℕ) (relative : Bool) (current control : Point) (group : Group) → readGroupOf text first kind relative current control ≡ group
-      → passOf (taken letter offset reader.start group) ≡ passedTo letter kind (groupPlace group)
+      (kind : Kind) (letter first : ℕ) (relative : Bool) (current control : Point) (group : Group) → read_group_of text first kind relative current control ≡ group
+      → pass_of (taken letter offset reader.start group) ≡ passed_to letter kind (group_place group)
   taken-passed kind letter first relative current control (Taken command next) e =
       let w = group-width text first relative current control kind command next e in
       let a = after-at command next letter offset reader.start in
@@ -66,19 +66,19 @@ module _ (text : List ℕ) (reader : Reader) (offset : ℕ) where
       cc
   taken-passed kind letter first relative current control (GroupRefused reason) e = refl
 
-  stepped-passed : (due : Due) → passOf (stepped text reader offset due) ≡ passed text due
+  stepped-passed : (due : Due) → pass_of (stepped text reader offset due) ≡ passed text due
   unfolding after_of
   stepped-passed NothingDue = refl
   stepped-passed (NotDue reason) = refl
   stepped-passed (Close next) = refl
   stepped-passed (GroupDue kind letter first) =
-      let relative = isRelativeOf letter reader.placed in
-      let control = firstControlOf kind reader.letter reader.current reader.control in
-      taken-passed kind letter first relative reader.current control (readGroupOf text first kind relative reader.current control) refl
-      ∙ ap (passedTo letter kind) (group-place text relative reader.current control first kind)
+      let relative = is_relative_of letter reader.placed in
+      let control = first_control_of kind reader.letter reader.current reader.control in
+      taken-passed kind letter first relative reader.current control (read_group_of text first kind relative reader.current control) refl
+      ∙ ap (passed_to letter kind) (group-place text relative reader.current control first kind)
 
 -- a step without values agrees with the step
 module _ (text : List ℕ) (reader : Reader) where
-  pub step-passed : passOf (readStepOf text reader) ≡ passStepOf text reader.at reader.letter reader.placed
-  unfolding readStepOf passStepOf
-  step-passed = stepped-passed text reader (offset_of text reader) (nextDueOf text reader.at reader.letter reader.placed)
+  pub step-passed : pass_of (read_step_of text reader) ≡ pass_step_of text reader.at reader.letter reader.placed
+  unfolding read_step_of pass_step_of
+  step-passed = stepped-passed text reader (offset_of text reader) (next_due_of text reader.at reader.letter reader.placed)

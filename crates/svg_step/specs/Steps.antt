@@ -4,19 +4,19 @@ use Rattle.std.specs.Prelude.{ℕ, ◌+◌, Bool, true, false, ◌&&◌, cond, L
 use Rattle.std.specs.Float.{binary32}
 use Rattle.std.specs.Float.Ieee.{of_bits}
 use Rattle.answers.specs.declared.refusals.Refusal.TheVariants.{ExpectedNumber, UnsupportedCommand, MissingMoveTo}
-use Rattle.scan.specs.Bytes.{among, numberStarts}
-use Rattle.scan.specs.Runs.{pastSeparatorsOf}
-use Rattle.math.specs.Math.{addOf, subOf}
+use Rattle.scan.specs.Bytes.{among, number_starts}
+use Rattle.scan.specs.Runs.{past_separators_of}
+use Rattle.math.specs.Math.{add_of, sub_of}
 use Rattle.math.specs.declared.points.Point.{Point}
 use Rattle.commands.specs.declared.command.PathCommand.{PathCommand}
 use Rattle.commands.specs.declared.command.PathCommand.TheVariants.{MoveTo, LineTo, QuadTo, CubicTo, ArcTo, ClosePath}
-use Rattle.svg_group.specs.Letters.{isLetterOf, meaningOf, width_of}
-use Rattle.svg_group.specs.Groups.{readGroupOf}
+use Rattle.svg_group.specs.Letters.{is_letter_of, meaning_of, width_of}
+use Rattle.svg_group.specs.Groups.{read_group_of}
 use Rattle.svg_group.specs.declared.letters.Kind.{Kind}
 use Rattle.svg_group.specs.declared.letters.Kind.TheVariants.{Move, Line, Horizontal, Vertical, Cubic, SmoothCubic, Quad, SmoothQuad, Arc}
 use Rattle.svg_group.specs.declared.letters.Letter.{Letter}
 use Rattle.svg_group.specs.declared.letters.Letter.TheVariants.{Draws, Closes, Unknown}
-use Rattle.svg_group.specs.Passing.{passGroupOf}
+use Rattle.svg_group.specs.Passing.{pass_group_of}
 use Rattle.svg_group.specs.declared.groups.Group.{Group}
 use Rattle.svg_group.specs.declared.groups.Group.TheVariants.{Taken, Refused as GroupRefused}
 use Rattle.svg_group.specs.declared.passing.Passed.{Passed}
@@ -37,82 +37,82 @@ abbrev pub fresh_of : Reader
 fresh_of = record { at = 0; current = origin; start = origin; placed = false; control = origin; letter = 0; offset = 0 }
 
 -- "Lower case adds to the current point, with none it is absolute."
-unfoldable pub isRelativeOf : ℕ → Bool → Bool
-isRelativeOf letter placed = leb 97 letter && placed
+unfoldable pub is_relative_of : ℕ → Bool → Bool
+is_relative_of letter placed = leb 97 letter && placed
 
 -- LHVCSQTA "need a current point"
-unfoldable pub needsPointOf : Kind → Bool
-needsPointOf Move = false
-needsPointOf Line = true
-needsPointOf Horizontal = true
-needsPointOf Vertical = true
-needsPointOf Cubic = true
-needsPointOf SmoothCubic = true
-needsPointOf Quad = true
-needsPointOf SmoothQuad = true
-needsPointOf Arc = true
+unfoldable pub needs_point_of : Kind → Bool
+needs_point_of Move = false
+needs_point_of Line = true
+needs_point_of Horizontal = true
+needs_point_of Vertical = true
+needs_point_of Cubic = true
+needs_point_of SmoothCubic = true
+needs_point_of Quad = true
+needs_point_of SmoothQuad = true
+needs_point_of Arc = true
 
 -- "M: first pair MoveTo, more pairs LineTo."
-unfoldable pub repeatedOf : Kind → Kind
-repeatedOf Move = Line
-repeatedOf Line = Line
-repeatedOf Horizontal = Horizontal
-repeatedOf Vertical = Vertical
-repeatedOf Cubic = Cubic
-repeatedOf SmoothCubic = SmoothCubic
-repeatedOf Quad = Quad
-repeatedOf SmoothQuad = SmoothQuad
-repeatedOf Arc = Arc
+unfoldable pub repeated_of : Kind → Kind
+repeated_of Move = Line
+repeated_of Line = Line
+repeated_of Horizontal = Horizontal
+repeated_of Vertical = Vertical
+repeated_of Cubic = Cubic
+repeated_of SmoothCubic = SmoothCubic
+repeated_of Quad = Quad
+repeated_of SmoothQuad = SmoothQuad
+repeated_of Arc = Arc
 
 -- ---- the first control of S and T (document 02, L1)
 
 -- p + (p - c) by coordinate: "the current point plus the rounded difference of current point and control"
-unfoldable pub mirroredOf : Point → Point → Point
-mirroredOf current control = addOf current (subOf current control)
+unfoldable pub mirrored_of : Point → Point → Point
+mirrored_of current control = add_of current (sub_of current control)
 
 -- the kinds that draw a cubic, and those that draw a quad
-abbrev pub drawsCubic : Kind → Bool
-drawsCubic Move = false
-drawsCubic Line = false
-drawsCubic Horizontal = false
-drawsCubic Vertical = false
-drawsCubic Cubic = true
-drawsCubic SmoothCubic = true
-drawsCubic Quad = false
-drawsCubic SmoothQuad = false
-drawsCubic Arc = false
+abbrev pub draws_cubic : Kind → Bool
+draws_cubic Move = false
+draws_cubic Line = false
+draws_cubic Horizontal = false
+draws_cubic Vertical = false
+draws_cubic Cubic = true
+draws_cubic SmoothCubic = true
+draws_cubic Quad = false
+draws_cubic SmoothQuad = false
+draws_cubic Arc = false
 
-abbrev pub drawsQuad : Kind → Bool
-drawsQuad Move = false
-drawsQuad Line = false
-drawsQuad Horizontal = false
-drawsQuad Vertical = false
-drawsQuad Cubic = false
-drawsQuad SmoothCubic = false
-drawsQuad Quad = true
-drawsQuad SmoothQuad = true
-drawsQuad Arc = false
+abbrev pub draws_quad : Kind → Bool
+draws_quad Move = false
+draws_quad Line = false
+draws_quad Horizontal = false
+draws_quad Vertical = false
+draws_quad Cubic = false
+draws_quad SmoothCubic = false
+draws_quad Quad = true
+draws_quad SmoothQuad = true
+draws_quad Arc = false
 
-abbrev pub ofKind : (Kind → Bool) → Letter → Bool
-ofKind draws (Draws kind) = draws kind
-ofKind draws Closes = false
-ofKind draws Unknown = false
+abbrev pub of_kind : (Kind → Bool) → Letter → Bool
+of_kind draws (Draws kind) = draws kind
+of_kind draws Closes = false
+of_kind draws Unknown = false
 
 -- "when the previous command was C or S (for S), Q or T (for T)": whether a kind takes up the control of a command of a letter
-unfoldable pub takesUpOf : Kind → Letter → Bool
-takesUpOf Move last = false
-takesUpOf Line last = false
-takesUpOf Horizontal last = false
-takesUpOf Vertical last = false
-takesUpOf Cubic last = false
-takesUpOf SmoothCubic last = ofKind drawsCubic last
-takesUpOf Quad last = false
-takesUpOf SmoothQuad last = ofKind drawsQuad last
-takesUpOf Arc last = false
+unfoldable pub takes_up_of : Kind → Letter → Bool
+takes_up_of Move last = false
+takes_up_of Line last = false
+takes_up_of Horizontal last = false
+takes_up_of Vertical last = false
+takes_up_of Cubic last = false
+takes_up_of SmoothCubic last = of_kind draws_cubic last
+takes_up_of Quad last = false
+takes_up_of SmoothQuad last = of_kind draws_quad last
+takes_up_of Arc last = false
 
 -- "the last control mirrored through the current point .. and the current point itself otherwise"
-unfoldable pub firstControlOf : Kind → ℕ → Point → Point → Point
-firstControlOf kind last current control = cond (takesUpOf kind (meaningOf last)) (mirroredOf current control) current
+unfoldable pub first_control_of : Kind → ℕ → Point → Point → Point
+first_control_of kind last current control = cond (takes_up_of kind (meaning_of last)) (mirrored_of current control) current
 
 -- ---- the state after a command
 
@@ -134,53 +134,53 @@ after_of ClosePath next letter offset start = drawn start start start next 0 off
 -- ---- what is due at a place
 
 -- "a number must start (digit, + - .) after separators, else 3 at the place before those separators"
-unfoldable pub dueGroupOf : List ℕ → ℕ → Kind → ℕ → Due
-dueGroupOf text at kind letter =
-    let first = pastSeparatorsOf text at in
-    cond (among (get_or text first 0) numberStarts) (GroupDue kind letter first) (NotDue (ExpectedNumber at))
+unfoldable pub due_group_of : List ℕ → ℕ → Kind → ℕ → Due
+due_group_of text at kind letter =
+    let first = past_separators_of text at in
+    cond (among (get_or text first 0) number_starts) (GroupDue kind letter first) (NotDue (ExpectedNumber at))
 
 -- LHVCSQTA "need a current point, else 7 just after the letter. Then, and for M at once, a number must start"; 6 is a letter other than MLHVCSQTAZ
 -- in either case
 abbrev pub begun : List ℕ → ℕ → ℕ → Bool → Letter → Due
 begun text at letter placed (Draws kind) =
-    cond (needsPointOf kind)
-    (cond placed (dueGroupOf text (at + 1) kind letter) (NotDue (MissingMoveTo (at + 1))))
-    (dueGroupOf text (at + 1) kind letter)
+    cond (needs_point_of kind)
+    (cond placed (due_group_of text (at + 1) kind letter) (NotDue (MissingMoveTo (at + 1))))
+    (due_group_of text (at + 1) kind letter)
 begun text at letter placed Closes = Close (at + 1)
 begun text at letter placed Unknown = NotDue (UnsupportedCommand letter at)
 
-unfoldable pub dueLetterOf : List ℕ → ℕ → ℕ → Bool → Due
-dueLetterOf text at letter placed = begun text at letter placed (meaningOf letter)
+unfoldable pub due_letter_of : List ℕ → ℕ → ℕ → Bool → Due
+due_letter_of text at letter placed = begun text at letter placed (meaning_of letter)
 
 -- "any other byte repeats it; with none, 7 at that byte"; "A command takes groups while a number starts": so a number repeats it too
 abbrev pub again : List ℕ → ℕ → ℕ → Letter → Due
-again text at letter (Draws kind) = dueGroupOf text at (repeatedOf kind) letter
+again text at letter (Draws kind) = due_group_of text at (repeated_of kind) letter
 again text at letter Closes = NotDue (MissingMoveTo at)
 again text at letter Unknown = NotDue (MissingMoveTo at)
 
-unfoldable pub dueAgainOf : List ℕ → ℕ → ℕ → Due
-dueAgainOf text at letter = again text at letter (meaningOf letter)
+unfoldable pub due_again_of : List ℕ → ℕ → ℕ → Due
+due_again_of text at letter = again text at letter (meaning_of letter)
 
 -- "a letter becomes the remembered command; any other byte repeats it": at the place past separators
-unfoldable pub dueAtOf : List ℕ → ℕ → ℕ → Bool → Due
-dueAtOf text at letter placed =
+unfoldable pub due_at_of : List ℕ → ℕ → ℕ → Bool → Due
+due_at_of text at letter placed =
     cond (ltb at (length text))
-    (cond (isLetterOf (get_or text at 0)) (dueLetterOf text at (get_or text at 0) placed) (dueAgainOf text at letter))
+    (cond (is_letter_of (get_or text at 0)) (due_letter_of text at (get_or text at 0) placed) (due_again_of text at letter))
     NothingDue
 
 -- "After separators"
-unfoldable pub nextDueOf : List ℕ → ℕ → ℕ → Bool → Due
-nextDueOf text from letter placed = dueAtOf text (pastSeparatorsOf text from) letter placed
+unfoldable pub next_due_of : List ℕ → ℕ → ℕ → Bool → Due
+next_due_of text from letter placed = due_at_of text (past_separators_of text from) letter placed
 
 -- ---- the letter that makes a command (document 02, L5)
 
 -- "the offset of its command letter": at the place past separators stands a letter, or the one that is remembered stays; `last` is its offset
-unfoldable pub offsetAt : List ℕ → ℕ → ℕ → ℕ
-offsetAt text at last = cond (isLetterOf (get_or text at 0)) at last
+unfoldable pub offset_at : List ℕ → ℕ → ℕ → ℕ
+offset_at text at last = cond (is_letter_of (get_or text at 0)) at last
 
 -- "Implied LineTos carry the letter that started them.", and so does every repeated group
 abbrev pub offset_of : List ℕ → Reader → ℕ
-offset_of text reader = offsetAt text (pastSeparatorsOf text reader.at) reader.offset
+offset_of text reader = offset_at text (past_separators_of text reader.at) reader.offset
 
 -- ---- the step
 
@@ -195,22 +195,22 @@ stepped text reader offset (NotDue refusal) = Refused refusal
 stepped text reader offset (Close next) = Command ClosePath (after_of ClosePath next reader.letter offset reader.start)
 stepped text reader offset (GroupDue kind letter first) =
     taken letter offset reader.start
-    (readGroupOf text first kind (isRelativeOf letter reader.placed) reader.current (firstControlOf kind reader.letter reader.current reader.control))
+    (read_group_of text first kind (is_relative_of letter reader.placed) reader.current (first_control_of kind reader.letter reader.current reader.control))
 
-unfoldable pub readStepOf : List ℕ → Reader → Step
-readStepOf text reader = stepped text reader (offset_of text reader) (nextDueOf text reader.at reader.letter reader.placed)
+unfoldable pub read_step_of : List ℕ → Reader → Step
+read_step_of text reader = stepped text reader (offset_of text reader) (next_due_of text reader.at reader.letter reader.placed)
 
 -- ---- the step without values. That it agrees with the step is a law, and no promise of an entry rests on it.
 
-abbrev pub passedTo : ℕ → Kind → Passed → Pass
-passedTo letter kind (To next) = PassCommand (width_of kind) next letter
-passedTo letter kind (NotPassed refusal) = PassRefused refusal
+abbrev pub passed_to : ℕ → Kind → Passed → Pass
+passed_to letter kind (To next) = PassCommand (width_of kind) next letter
+passed_to letter kind (NotPassed refusal) = PassRefused refusal
 
 abbrev pub passed : List ℕ → Due → Pass
 passed text NothingDue = PassDone
 passed text (NotDue refusal) = PassRefused refusal
 passed text (Close next) = PassCommand 0 next 0
-passed text (GroupDue kind letter first) = passedTo letter kind (passGroupOf text first kind)
+passed text (GroupDue kind letter first) = passed_to letter kind (pass_group_of text first kind)
 
-unfoldable pub passStepOf : List ℕ → ℕ → ℕ → Bool → Pass
-passStepOf text from letter placed = passed text (nextDueOf text from letter placed)
+unfoldable pub pass_step_of : List ℕ → ℕ → ℕ → Bool → Pass
+pass_step_of text from letter placed = passed text (next_due_of text from letter placed)

@@ -1,8 +1,8 @@
 // The reader's state and its step: from a place in the text to the next command.
 ghost use Rattle.std.specs.Prelude.{◌<◌, ◌≡◌, length};
-ghost use Rattle.svg_group.specs.Letters.{meaningOf};
-ghost use Rattle.svg_step.specs.Steps.{fresh_of, isRelativeOf, needsPointOf, repeatedOf, mirroredOf, takesUpOf, firstControlOf, drawn, after_of};
-ghost use Rattle.svg_step.specs.Steps.{dueGroupOf, dueLetterOf, dueAgainOf, dueAtOf, nextDueOf, offsetAt, readStepOf, passStepOf};
+ghost use Rattle.svg_group.specs.Letters.{meaning_of};
+ghost use Rattle.svg_step.specs.Steps.{fresh_of, is_relative_of, needs_point_of, repeated_of, mirrored_of, takes_up_of, first_control_of, drawn, after_of};
+ghost use Rattle.svg_step.specs.Steps.{due_group_of, due_letter_of, due_again_of, due_at_of, next_due_of, offset_at, read_step_of, pass_step_of};
 
 use answers::Refusal;
 use commands::PathCommand;
@@ -50,13 +50,13 @@ pub fn fresh() -> Reader
 
 // Whether a letter adds to the current point: in lower case, where there is one.
 fn is_relative(letter: u8, placed: bool) -> bool
-    ensures { result ≡ isRelativeOf letter placed }
+    ensures { result ≡ is_relative_of letter placed }
 {
     (97 <= letter) & placed
 }
 
 fn needs_point(kind: Kind) -> bool
-    ensures { result ≡ needsPointOf kind }
+    ensures { result ≡ needs_point_of kind }
 {
     match kind {
         Kind::Move => false,
@@ -73,7 +73,7 @@ fn needs_point(kind: Kind) -> bool
 
 // What a further group of a kind is.
 fn repeated(kind: Kind) -> Kind
-    ensures { result ≡ repeatedOf kind }
+    ensures { result ≡ repeated_of kind }
 {
     match kind {
         Kind::Move => Kind::Line,
@@ -90,14 +90,14 @@ fn repeated(kind: Kind) -> Kind
 
 // A control on the other side of the current point. The difference is rounded, then the sum.
 fn mirrored(current: Point, control: Point) -> Point
-    ensures { result ≡ mirroredOf current control }
+    ensures { result ≡ mirrored_of current control }
 {
     math::add(current, math::sub(current, control))
 }
 
 // Whether a curve of a kind takes up the control of the last command, by that command's letter.
 fn takes_up(kind: Kind, last: u8) -> bool
-    ensures { result ≡ takesUpOf kind (meaningOf last) }
+    ensures { result ≡ takes_up_of kind (meaning_of last) }
 {
     match kind {
         Kind::Move => false,
@@ -115,7 +115,7 @@ fn takes_up(kind: Kind, last: u8) -> bool
 // The first control of a smooth curve, by the last command's letter and control. What is not
 // mirrored is the current point's own bits.
 fn first_control(kind: Kind, last: u8, current: Point, control: Point) -> Point
-    ensures { result ≡ firstControlOf kind last current control }
+    ensures { result ≡ first_control_of kind last current control }
 {
     if takes_up(kind, last) {
         return mirrored(current, control);
@@ -188,7 +188,7 @@ pub enum Due {
 
 // A group of a kind from `at` on, where a number must start.
 fn due_group(text: &[u8], at: usize, kind: Kind, letter: u8) -> Due
-    ensures { result ≡ dueGroupOf text.now at kind letter }
+    ensures { result ≡ due_group_of text.now at kind letter }
 {
     let first = scan::past_separators(text, at);
     if scan::starts_number(scan::byte_at(text, first)) {
@@ -204,7 +204,7 @@ fn due_group(text: &[u8], at: usize, kind: Kind, letter: u8) -> Due
 // The command whose letter stands at `at`; `placed` says that there is a current point.
 fn due_letter(text: &[u8], at: usize, letter: u8, placed: bool) -> Due
     requires { at < length text.now }
-    ensures { result ≡ dueLetterOf text.now at letter placed }
+    ensures { result ≡ due_letter_of text.now at letter placed }
 {
     match svg_group::meaning(letter) {
         Letter::Unknown => Due::Refused(Refusal::UnsupportedCommand(letter, at)),
@@ -223,7 +223,7 @@ fn due_letter(text: &[u8], at: usize, letter: u8, placed: bool) -> Due
 
 // The remembered command once more, at a byte that is no letter.
 fn due_again(text: &[u8], at: usize, letter: u8) -> Due
-    ensures { result ≡ dueAgainOf text.now at letter }
+    ensures { result ≡ due_again_of text.now at letter }
 {
     match svg_group::meaning(letter) {
         Letter::Unknown => Due::Refused(Refusal::MissingMoveTo(at)),
@@ -234,7 +234,7 @@ fn due_again(text: &[u8], at: usize, letter: u8) -> Due
 
 // What is due at a place past separators, with the remembered letter.
 fn due_at(text: &[u8], at: usize, letter: u8, placed: bool) -> Due
-    ensures { result ≡ dueAtOf text.now at letter placed }
+    ensures { result ≡ due_at_of text.now at letter placed }
 {
     if text.len() <= at {
         return Due::Done;
@@ -248,7 +248,7 @@ fn due_at(text: &[u8], at: usize, letter: u8, placed: bool) -> Due
 
 // What is due from a place on, with the remembered letter.
 pub fn next_due(text: &[u8], from: usize, letter: u8, placed: bool) -> Due
-    ensures { result ≡ nextDueOf text.now from letter placed }
+    ensures { result ≡ next_due_of text.now from letter placed }
 {
     due_at(text, scan::past_separators(text, from), letter, placed)
 }
@@ -256,7 +256,7 @@ pub fn next_due(text: &[u8], from: usize, letter: u8, placed: bool) -> Due
 // The offset of the letter that makes what is due at a place past separators: the place itself, or
 // that of the last letter where no letter stands there.
 fn letter_offset(text: &[u8], at: usize, last: usize) -> usize
-    ensures { result ≡ offsetAt text.now at last }
+    ensures { result ≡ offset_at text.now at last }
 {
     if svg_group::is_letter(scan::byte_at(text, at)) {
         return at;
@@ -266,7 +266,7 @@ fn letter_offset(text: &[u8], at: usize, last: usize) -> usize
 
 // The next command of a text.
 pub fn read_step(text: &[u8], reader: Reader) -> Step
-    ensures { result ≡ readStepOf text.now reader }
+    ensures { result ≡ read_step_of text.now reader }
 {
     let start = reader.start;
     let at = scan::past_separators(text, reader.at);
@@ -312,7 +312,7 @@ pub enum Pass {
 
 // The next command of a text, passed without its values.
 pub fn pass_step(text: &[u8], from: usize, letter: u8, placed: bool) -> Pass
-    ensures { result ≡ passStepOf text.now from letter placed }
+    ensures { result ≡ pass_step_of text.now from letter placed }
 {
     match next_due(text, from, letter, placed) {
         Due::Done => Pass::Done,

@@ -13,16 +13,16 @@ use lib.Dec.{T, ltb, ltb→lt, nltb→le}
 use lib.Ieee.{Float, nan, lt, le}
 use lib.Ieee.Fits.{and_l, and_r, and_i}
 use lib.Ieee.Scale.{finite}
-use Rattle.floats.specs.Floats.{zeroF}
+use Rattle.floats.specs.Floats.{zero_f}
 use Rattle.floats.proofs.Tests.{decide, clashing, passed, failed}
 use Rattle.floats.proofs.Order.{le_lt_trans, le-le-trans}
-use Rattle.table.specs.Lookup.{at, firstNotBelow, quartersBelow}
-use Rattle.table.specs.Sound.{allFinite, climbs, lengthsAreSound}
+use Rattle.table.specs.Lookup.{at, first_not_below, quarters_below}
+use Rattle.table.specs.Sound.{all_finite, climbs, lengths_are_sound}
 use Rattle.table.proofs.Lengths.{entries-le, path-sound}
 use Rattle.table.proofs.Search.{IsFirst, first-is, first-unique, first-upto, nan-not-below, Bracket}
 
 -- ---- lengths before one that is below the target, and after one that is not
-module _ (xs : List Float) (t : Float) (sound : T (lengthsAreSound xs)) (mid : ℕ) where
+module _ (xs : List Float) (t : Float) (sound : T (lengths_are_sound xs)) (mid : ℕ) where
   pub low : mid < length xs → T (lt (at xs mid) t) → (k : ℕ) → k ≤ mid → T (lt (at xs k) t)
   low inside h k l = le_lt_trans (at xs k) (at xs mid) t (entries-le (path-sound xs sound) (suc k) (suc mid) (under l) inside) h
     where
@@ -49,7 +49,7 @@ at_most_one false n e = omega arith
 abbrev pub Quarter : List Float → Float → ℕ → ℕ → ℕ → ℕ → Type 0
 Quarter xs t base size part n = Bracket xs t (base + n * part) (base + n * part + (size - 3 * part))
 
-module _ {xs : List Float} {t : Float} {base size : ℕ} (part : ℕ) (sound : T (lengthsAreSound xs)) (b : Bracket xs t base (base + size)) (some : 0 < part) (room : 4 * part ≤ size) where
+module _ {xs : List Float} {t : Float} {base size : ℕ} (part : ℕ) (sound : T (lengths_are_sound xs)) (b : Bracket xs t base (base + size)) (some : 0 < part) (room : 4 * part ≤ size) where
   inside : (n : ℕ) → n ≤ 3 → base + n * part < length xs
   inside n h = let u : base + size ≤ length xs = b.upto in let m = native.Mathlib.Nat.mul-le-mul_right part h in omega arith
 
@@ -87,16 +87,16 @@ module _ {xs : List Float} {t : Float} {base size : ℕ} (part : ℕ) (sound : T
   by_tests p false true e f g = let u : base + size ≤ length xs = b.upto in falls (base + 2 * part) (base + 3 * part) (omega arith) (omega arith) (passed g) (failed f)
 
   -- how many of the three are below
-  pub quartered : (n : ℕ) → n ≡ quartersBelow xs t base part → Quarter xs t base size part n
-  unfolding quartersBelow
+  pub quartered : (n : ℕ) → n ≡ quarters_below xs t base part → Quarter xs t base size part n
+  unfolding quarters_below
   quartered n e = rw e (by_tests (lt (at xs (base + part)) t) (lt (at xs (base + 2 * part)) t) (lt (at xs (base + 3 * part)) t) refl refl refl)
 
 -- ---- a part of sound lengths is sound
-finite-take : (n : ℕ) (xs : List Float) → T (allFinite xs) → T (allFinite (take n xs))
-unfolding allFinite
+finite-take : (n : ℕ) (xs : List Float) → T (all_finite xs) → T (all_finite (take n xs))
+unfolding all_finite
 finite-take zero xs h = tt
 finite-take (suc n) [] h = tt
-finite-take (suc n) (x ∷ xs) h = and_i (finite x) (allFinite (take n xs)) (and_l (finite x) (allFinite xs) h) (finite-take n xs (and_r (finite x) (allFinite xs) h))
+finite-take (suc n) (x ∷ xs) h = and_i (finite x) (all_finite (take n xs)) (and_l (finite x) (all_finite xs) h) (finite-take n xs (and_r (finite x) (all_finite xs) h))
 
 climbs-take : (n : ℕ) (from : Float) (xs : List Float) → T (climbs from xs) → T (climbs from (take n xs))
 unfolding climbs
@@ -104,11 +104,11 @@ climbs-take zero from xs h = tt
 climbs-take (suc n) from [] h = tt
 climbs-take (suc n) from (x ∷ xs) h = and_i (le from x) (climbs x (take n xs)) (and_l (le from x) (climbs x xs) h) (climbs-take n x xs (and_r (le from x) (climbs x xs) h))
 
-finite-drop : (n : ℕ) (xs : List Float) → T (allFinite xs) → T (allFinite (drop n xs))
-unfolding allFinite
+finite-drop : (n : ℕ) (xs : List Float) → T (all_finite xs) → T (all_finite (drop n xs))
+unfolding all_finite
 finite-drop zero xs h = h
 finite-drop (suc n) [] h = tt
-finite-drop (suc n) (x ∷ xs) h = finite-drop n xs (and_r (finite x) (allFinite xs) h)
+finite-drop (suc n) (x ∷ xs) h = finite-drop n xs (and_r (finite x) (all_finite xs) h)
 
 -- from a lower start
 climbs-under : (from to : Float) (xs : List Float) → T (le from to) → T (climbs to xs) → T (climbs from xs)
@@ -122,22 +122,22 @@ climbs-drop zero from xs h = h
 climbs-drop (suc n) from [] h = tt
 climbs-drop (suc n) from (x ∷ xs) h = climbs-drop n from xs (climbs-under from x xs (and_l (le from x) (climbs x xs) h) (and_r (le from x) (climbs x xs) h))
 
-pub part_sound : (n m : ℕ) (xs : List Float) → T (lengthsAreSound xs) → T (lengthsAreSound (take m (drop n xs)))
-unfolding lengthsAreSound
+pub part_sound : (n m : ℕ) (xs : List Float) → T (lengths_are_sound xs) → T (lengths_are_sound (take m (drop n xs)))
+unfolding lengths_are_sound
 part_sound n m xs h =
-    and_i (allFinite (take m (drop n xs))) (climbs zeroF (take m (drop n xs)))
-    (finite-take m (drop n xs) (finite-drop n xs (and_l (allFinite xs) (climbs zeroF xs) h)))
-    (climbs-take m zeroF (drop n xs) (climbs-drop n zeroF xs (and_r (allFinite xs) (climbs zeroF xs) h)))
+    and_i (all_finite (take m (drop n xs))) (climbs zero_f (take m (drop n xs)))
+    (finite-take m (drop n xs) (finite-drop n xs (and_l (all_finite xs) (climbs zero_f xs) h)))
+    (climbs-take m zero_f (drop n xs) (climbs-drop n zero_f xs (and_r (all_finite xs) (climbs zero_f xs) h)))
 
 -- ---- the first in the bracket is the first of all
-pub bracket-counted : {xs : List Float} {t : Float} (base end size : ℕ) → Bracket xs t base end → end - base ≡ size → base + firstNotBelow t (take size (drop base xs)) ≡ firstNotBelow t xs
+pub bracket-counted : {xs : List Float} {t : Float} (base end size : ℕ) → Bracket xs t base end → end - base ≡ size → base + first_not_below t (take size (drop base xs)) ≡ first_not_below t xs
 bracket-counted {xs} {t} base end size b e = first-unique (record { below = before; found = found }) (first-is xs t)
   where
     few : List Float
     few = take size (drop base xs)
 
     r : ℕ
-    r = firstNotBelow t few
+    r = first_not_below t few
 
     sized : length few ≡ size
     sized = let u = b.upto in let o = b.order in simp (length-take, length-drop) (omega arith)

@@ -3,17 +3,17 @@ use mathlib.Core.Path.{◌≡◌, refl}
 use mathlib.Core.List.{List, [], ◌∷◌}
 use lib.Ieee.{Float, of_bits, eq, le}
 use native.Mathlib.Omega.{arith}
-use Rattle.floats.specs.Floats.{zeroF, epsilonF, clamp01Of}
-use Rattle.table.specs.Lookup.{rawOf}
-use Rattle.table.specs.Sound.{SoundTable, tableIsSound, startsAtZero, lengthsAreSound, allFinite, climbs}
+use Rattle.floats.specs.Floats.{zero_f, epsilon_f, clamp01_of}
+use Rattle.table.specs.Lookup.{raw_of}
+use Rattle.table.specs.Sound.{SoundTable, table_is_sound, starts_at_zero, lengths_are_sound, all_finite, climbs}
 
 abbrev pub single : List Float
-single = zeroF ∷ []
+single = zero_f ∷ []
 
-pub single-sound : SoundTable single zeroF
-unfolding tableIsSound startsAtZero lengthsAreSound allFinite climbs zeroF of_bits eq le
+pub single-sound : SoundTable single zero_f
+unfolding table_is_sound starts_at_zero lengths_are_sound all_finite climbs zero_f of_bits eq le
 single-sound = record { sound = tt; counted = omega arith }
 
-pub single-raw : (progress : Float) → rawOf single zeroF progress ≡ clamp01Of progress
-unfolding rawOf zeroF epsilonF of_bits le
+pub single-raw : (progress : Float) → raw_of single zero_f progress ≡ clamp01_of progress
+unfolding raw_of zero_f epsilon_f of_bits le
 single-raw progress = refl

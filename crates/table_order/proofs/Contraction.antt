@@ -9,7 +9,7 @@ use native.Mathlib.Omega.{arith}
 use lib.Dec.{T}
 use lib.Ieee.{Float, binary32, div, neg, le}
 use lib.Ieee.Positive.{num, den}
-use Rattle.floats.specs.Floats.{zeroF, oneF, clampOf, clamp01Of}
+use Rattle.floats.specs.Floats.{zero_f, one_f, clamp_of, clamp01_of}
 use Rattle.floats.specs.Kinds.{real, nonneg}
 use Rattle.floats.proofs.Order.{le-self, le-real-l}
 use Rattle.floats.proofs.Fractions.{nonneg-real}
@@ -19,29 +19,29 @@ use Rattle.floats.proofs.Held.{Held, held-above, rounds-under, rounds-real}
 use Rattle.floats.proofs.Constants.{zero-le-one}
 use Rattle.floats.proofs.Clamping.{clamp-at-least, clamp-at-most, clamp01-nonneg, clamp01-at-most, at_most_one}
 use Rattle.table.specs.Lookup.{target_of}
-use Rattle.table_order.proofs.Fused.{fusedOf, fused-swap, over, scale, fused-sorted, fused-rise, div-low}
+use Rattle.table_order.proofs.Fused.{fused_of, fused-swap, over, scale, fused-sorted, fused-rise, div-low}
 use Rattle.table_order.proofs.Steady.{Between, SharesOf}
 use Rattle.table_order.proofs.Division.{span_of, span-nonneg, span-above}
 use Rattle.table_order.proofs.Variants.{clamped-rise}
 
 -- of a progress, from the entry a to b
-abbrev pub contractedShare : Float → Float → Float → Float → Float
-contractedShare total a b p = div binary32 (fusedOf total (clamp01Of p) (neg a)) (span_of a b)
+abbrev pub contracted_share : Float → Float → Float → Float → Float
+contracted_share total a b p = div binary32 (fused_of total (clamp01_of p) (neg a)) (span_of a b)
 
-abbrev pub contractedClamped : Float → Float → Float → Float → Float
-contractedClamped total a b p = clampOf (contractedShare total a b p) zeroF oneF
+abbrev pub contracted_clamped : Float → Float → Float → Float → Float
+contracted_clamped total a b p = clamp_of (contracted_share total a b p) zero_f one_f
 
 module _ (total : Float) (H : Held binary32 total) where
   -- ---- the difference, before it is divided
   abbrev away : Float → Float → Float
-  away a p = fusedOf (clamp01Of p) total (neg a)
+  away a p = fused_of (clamp01_of p) total (neg a)
 
   -- where it is a rounded fraction, it is at most the total
-  away-nonneg : (a p : Float) → Rounds binary32 (away a p) (over (clamp01Of p) total a) (scale (clamp01Of p) total a) → T (nonneg (away a p))
+  away-nonneg : (a p : Float) → Rounds binary32 (away a p) (over (clamp01_of p) total a) (scale (clamp01_of p) total a) → T (nonneg (away a p))
   away-nonneg a p r = rounds-under binary32 (away a p) total (over t total a) (scale t total a) r H.nn (held-above binary32 total (away a p) (over t total a) (scale t total a) H r under)
     where
       t : Float
-      t = clamp01Of p
+      t = clamp01_of p
 
       product : ℕ
       product = num t * num total * den a
@@ -62,35 +62,35 @@ module _ (total : Float) (H : Held binary32 total) where
     abbrev span : Float
     span = span_of a b
 
-    swapped : (P : Float → Type 0) → P (div binary32 (away a p) span) → P (contractedShare total a b p)
-    swapped P = subst (λ (z : Float). P (div binary32 z span)) (sym (fused-swap total (clamp01Of p) (neg a) H.nn (clamp01-nonneg p)))
+    swapped : (P : Float → Type 0) → P (div binary32 (away a p) span) → P (contracted_share total a b p)
+    swapped P = subst (λ (z : Float). P (div binary32 z span)) (sym (fused-swap total (clamp01_of p) (neg a) H.nn (clamp01-nonneg p)))
 
-    number : T (real (contractedShare total a b p))
+    number : T (real (contracted_share total a b p))
     number =
         swapped (λ (z : Float). T (real z))
-        (elim (fused-sorted (clamp01Of p) total a (clamp01-nonneg p) H.nn B.start) [
-          | inl low ↦ le-real-l (div binary32 (away a p) span) zeroF (div-low (away a p) span low (span-nonneg a b (target_of total p) B) (span-above a b (target_of total p) B))
+        (elim (fused-sorted (clamp01_of p) total a (clamp01-nonneg p) H.nn B.start) [
+          | inl low ↦ le-real-l (div binary32 (away a p) span) zero_f (div-low (away a p) span low (span-nonneg a b (target_of total p) B) (span-above a b (target_of total p) B))
           | inr r ↦
               rounds-real binary32 (div binary32 (away a p) span) (num (away a p) * den span) (num span * den (away a p))
               (div-rounds binary32 (away a p) span (away-nonneg a p r) (span-nonneg a b (target_of total p) B) (span-above a b (target_of total p) B))
         ])
 
-  rises : (a b p q : Float) → Between a b (target_of total p) → Between a b (target_of total q) → T (le (clamp01Of p) (clamp01Of q)) → T (le (contractedClamped total a b p) (contractedClamped total a b q))
+  rises : (a b p q : Float) → Between a b (target_of total p) → Between a b (target_of total q) → T (le (clamp01_of p) (clamp01_of q)) → T (le (contracted_clamped total a b p) (contracted_clamped total a b q))
   rises a b p q B C h =
       let N = span-nonneg a b (target_of total p) B in
       let O = span-above a b (target_of total p) B in
-      clamped-rise (contractedShare total a b p) (contractedShare total a b q) (number a b q C)
-      (swapped a b p B (λ (z : Float). T (le z zeroF) ⊎ T (le z (contractedShare total a b q)))
-      (swapped a b q C (λ (w : Float). T (le (div binary32 (away a p) (span_of a b)) zeroF) ⊎ T (le (div binary32 (away a p) (span_of a b)) w))
-      (elim (fused-rise (clamp01Of p) (clamp01Of q) total a (clamp01-nonneg p) (clamp01-nonneg q) H.nn B.start h) [
+      clamped-rise (contracted_share total a b p) (contracted_share total a b q) (number a b q C)
+      (swapped a b p B (λ (z : Float). T (le z zero_f) ⊎ T (le z (contracted_share total a b q)))
+      (swapped a b q C (λ (w : Float). T (le (div binary32 (away a p) (span_of a b)) zero_f) ⊎ T (le (div binary32 (away a p) (span_of a b)) w))
+      (elim (fused-rise (clamp01_of p) (clamp01_of q) total a (clamp01-nonneg p) (clamp01-nonneg q) H.nn B.start h) [
         | inl low ↦ inl (div-low (away a p) (span_of a b) low N O)
         | inr r ↦ inr (div_mono binary32 (away a p) (away a q) (span_of a b) (span_of a b) (away-nonneg a p r.first) (away-nonneg a q r.second) N N O O r.order (le-self (span_of a b) (nonneg-real (span_of a b) N)))
       ])))
 
   -- Clamped, it lies between 0 and 1 and grows with the progress: `way-along-order` and `spot-along-order` take it.
-  pub contracted-shares : SharesOf (target_of total) clamp01Of (contractedClamped total)
+  pub contracted-shares : SharesOf (target_of total) clamp01_of (contracted_clamped total)
   contracted-shares = record {
-    low = λ a b p B. clamp-at-least zeroF oneF zero-le-one (contractedShare total a b p) (number a b p B);
-    high = λ a b p B. clamp-at-most zeroF oneF zero-le-one (contractedShare total a b p) (number a b p B);
+    low = λ a b p B. clamp-at-least zero_f one_f zero-le-one (contracted_share total a b p) (number a b p B);
+    high = λ a b p B. clamp-at-most zero_f one_f zero-le-one (contracted_share total a b p) (number a b p B);
     grows = rises;
   }

@@ -10,7 +10,7 @@ use lib.Dec.{T, ltb, ltb→lt, nltb→le}
 use lib.IntN.{pos}
 use lib.Ieee.{Float, binary32, add, sub, div, lt, le, of_int}
 use lib.Ieee.Positive.{num, den, den_pos}
-use Rattle.floats.specs.Floats.{zeroF, oneF, epsilonF, max_of}
+use Rattle.floats.specs.Floats.{zero_f, one_f, epsilon_f, max_of}
 use Rattle.floats.specs.Kinds.{real, nonneg}
 use Rattle.floats.proofs.Tests.{decide, clashing}
 use Rattle.floats.proofs.Order.{lt-le-trans, le-le-trans, le-self, lt→le}
@@ -24,35 +24,35 @@ use Rattle.floats.proofs.Between.{nonneg-between}
 use Rattle.floats.proofs.Constants.{zero_held, zero-num, one-held, one-num, epsilon-held, zero-le-one, zero-lt-epsilon}
 use Rattle.floats.proofs.Clamping.{clamp-at-least, clamp-at-most, clamp-mono, at_most_one}
 use Rattle.floats.proofs.Extremes.{max-right, max-nonneg}
-use Rattle.table.specs.Lookup.{at, last_of, firstNotBelow, share_of, mark_of}
+use Rattle.table.specs.Lookup.{at, last_of, first_not_below, share_of, mark_of}
 use Rattle.table.specs.Sound.{countable}
 use Rattle.table.proofs.Search.{first-is}
 use Rattle.table.proofs.Enclosure.{enclosed}
 use Rattle.table_order.specs.Stated.{F32Table}
-use Rattle.table_order.proofs.Steady.{Between, Picks, SharesOf, Shares, Part, Joins, inPart, none-is-part, all-is-part, sound-of, part-inside, is-part}
+use Rattle.table_order.proofs.Steady.{Between, Picks, SharesOf, Shares, Part, Joins, in_part, none-is-part, all-is-part, sound-of, part-inside, is-part}
 
 -- ---- the entry: a larger target is found no earlier
-pub first-mono : (xs : List Float) (t u : Float) → T (le t u) → firstNotBelow t xs ≤ firstNotBelow u xs
+pub first-mono : (xs : List Float) (t u : Float) → T (le t u) → first_not_below t xs ≤ first_not_below u xs
 first-mono xs t u h =
-    let i = firstNotBelow t xs in
-    let j = firstNotBelow u xs in
+    let i = first_not_below t xs in
+    let j = first_not_below u xs in
     elim (decide (ltb j i)) [
       | inl l ↦ absurd (clashing (lt (at xs j) u) (lt-le-trans (at xs j) t u ((first-is xs t).below j (ltb→lt j i l)) h) (first-is xs u).found)
       | inr k ↦ nltb→le j i k
     ]
 
-pub first-picks : {xs : List Float} {total : Float} → F32Table xs total → Picks xs total (λ t. firstNotBelow t xs)
+pub first-picks : {xs : List Float} {total : Float} → F32Table xs total → Picks xs total (λ t. first_not_below t xs)
 first-picks {xs} f = record {
   from = λ t a b. (enclosed (sound-of f) t a b).from;
   upto = λ t a b. (enclosed (sound-of f) t a b).upto;
-  lower = λ t a b. lt→le (at xs (firstNotBelow t xs - 1)) t (enclosed (sound-of f) t a b).lower;
+  lower = λ t a b. lt→le (at xs (first_not_below t xs - 1)) t (enclosed (sound-of f) t a b).lower;
   upper = λ t a b. (enclosed (sound-of f) t a b).upper;
   grows = first-mono xs;
 }
 
 -- ---- the share: the span is above 0, so that the quotient is a number
 abbrev pub span_of : Float → Float → Float
-span_of a b = max_of (sub binary32 b a) epsilonF
+span_of a b = max_of (sub binary32 b a) epsilon_f
 
 pub difference-nonneg : (a b : Float) → T (nonneg a) → Held binary32 b → T (le a b) → T (nonneg (sub binary32 b a))
 difference-nonneg a b A B ab =
@@ -63,25 +63,25 @@ module _ (a b t : Float) (B : Between a b t) where
   way-nonneg = difference-nonneg a t B.start B.target B.from
 
   pub span-nonneg : T (nonneg (span_of a b))
-  span-nonneg = max-nonneg (sub binary32 b a) epsilonF (difference-nonneg a b B.start B.end (le-le-trans a t b B.from B.upto)) epsilon-held.nn
+  span-nonneg = max-nonneg (sub binary32 b a) epsilon_f (difference-nonneg a b B.start B.end (le-le-trans a t b B.from B.upto)) epsilon-held.nn
 
   pub span-above : 0 < num (span_of a b)
   span-above =
-      lt→pos zeroF (span_of a b) zero_held.nn span-nonneg
-      (lt-le-trans zeroF epsilonF (span_of a b) zero-lt-epsilon (max-right (sub binary32 b a) epsilonF (nonneg-real epsilonF epsilon-held.nn)))
+      lt→pos zero_f (span_of a b) zero_held.nn span-nonneg
+      (lt-le-trans zero_f epsilon_f (span_of a b) zero-lt-epsilon (max-right (sub binary32 b a) epsilon_f (nonneg-real epsilon_f epsilon-held.nn)))
 
   quotient-real : T (real (div binary32 (sub binary32 t a) (span_of a b)))
   quotient-real =
       rounds-real binary32 (div binary32 (sub binary32 t a) (span_of a b)) (num (sub binary32 t a) * den (span_of a b)) (num (span_of a b) * den (sub binary32 t a))
       (div-rounds binary32 (sub binary32 t a) (span_of a b) way-nonneg span-nonneg span-above)
 
-  share-at-least : T (le zeroF (share_of a b t))
+  share-at-least : T (le zero_f (share_of a b t))
   unfolding share_of
-  share-at-least = clamp-at-least zeroF oneF zero-le-one (div binary32 (sub binary32 t a) (span_of a b)) quotient-real
+  share-at-least = clamp-at-least zero_f one_f zero-le-one (div binary32 (sub binary32 t a) (span_of a b)) quotient-real
 
-  share-at-most : T (le (share_of a b t) oneF)
+  share-at-most : T (le (share_of a b t) one_f)
   unfolding share_of
-  share-at-most = clamp-at-most zeroF oneF zero-le-one (div binary32 (sub binary32 t a) (span_of a b)) quotient-real
+  share-at-most = clamp-at-most zero_f one_f zero-le-one (div binary32 (sub binary32 t a) (span_of a b)) quotient-real
 
 -- the way up to the target grows with it
 pub way-mono : (a b t u : Float) → Between a b t → Between a b u → T (le t u) → T (le (sub binary32 t a) (sub binary32 u a))
@@ -93,7 +93,7 @@ share-mono a b t u B C h =
     let span = span_of a b in
     let N = span-nonneg a b t B in
     let O = span-above a b t B in
-    clamp-mono zeroF oneF zero-le-one (div binary32 (sub binary32 t a) span) (div binary32 (sub binary32 u a) span)
+    clamp-mono zero_f one_f zero-le-one (div binary32 (sub binary32 t a) span) (div binary32 (sub binary32 u a) span)
     (div_mono binary32 (sub binary32 t a) (sub binary32 u a) span span (way-nonneg a b t B) (way-nonneg a b u C) N N O O (way-mono a b t u B C h) (le-self span (nonneg-real span N)))
 
 pub division-shares : Shares share_of
@@ -107,7 +107,7 @@ abbrev pub quotient_of : ℕ → ℕ → Float → Float
 quotient_of n k x = div binary32 (add binary32 (whole k) x) (whole n)
 
 pub part-nonneg : (x : Float) → Part x → T (nonneg x)
-part-nonneg x P = nonneg-between zeroF x oneF zero_held.nn one-held.nn P.low P.high
+part-nonneg x P = nonneg-between zero_f x one_f zero_held.nn one-held.nn P.low P.high
 
 module _ (n : ℕ) (some : 1 ≤ n) (counted : n ≤ countable) where
   pub whole-nonneg : (k : ℕ) → k ≤ n → T (nonneg (whole k))
@@ -150,13 +150,13 @@ module _ (n : ℕ) (some : 1 ≤ n) (counted : n ≤ countable) where
     unfolding mark_of
     quotient-upto = divided-mono sum (whole (suc k)) sum_nonneg next-nonneg sum-upto
 
-    quotient-at-least : T (le zeroF (quotient_of n k x))
+    quotient-at-least : T (le zero_f (quotient_of n k x))
     quotient-at-least =
-        zero-under binary32 zeroF (div binary32 sum (whole n)) (num sum * den (whole n)) (num (whole n) * den sum) zero_held zero-num (div-rounds binary32 sum (whole n) sum_nonneg (whole-nonneg n (le_refl n)) count-above)
+        zero-under binary32 zero_f (div binary32 sum (whole n)) (num sum * den (whole n)) (num (whole n) * den sum) zero_held zero-num (div-rounds binary32 sum (whole n) sum_nonneg (whole-nonneg n (le_refl n)) count-above)
 
-    quotient-at-most : T (le (quotient_of n k x) oneF)
+    quotient-at-most : T (le (quotient_of n k x) one_f)
     quotient-at-most =
-        div-under binary32 sum (whole n) oneF sum_nonneg (whole-nonneg n (le_refl n)) count-above (le-le-trans sum (whole (suc k)) (whole n) sum-upto (whole-mono binary32 (suc k) n inside)) one-held one-num
+        div-under binary32 sum (whole n) one_f sum_nonneg (whole-nonneg n (le_refl n)) count-above (le-le-trans sum (whole (suc k)) (whole n) sum-upto (whole-mono binary32 (suc k) n inside)) one-held one-num
 
   quotient-grows : (k : ℕ) (x y : Float) → k < n → Part x → Part y → T (le x y) → T (le (quotient_of n k x) (quotient_of n k y))
   quotient-grows k x y inside P Q h =
@@ -165,18 +165,18 @@ module _ (n : ℕ) (some : 1 ≤ n) (counted : n ≤ countable) where
       (add-mono binary32 (whole k) (whole k) x y W W (part-nonneg x P) (part-nonneg y Q) (le-self (whole k) (nonneg-real (whole k) W)) h)
 
   -- the place of an entry stands between the end of one part and the start of the next
-  quotient-meets : (k : ℕ) → suc k < n → T (le (quotient_of n k oneF) (quotient_of n (suc k) zeroF))
+  quotient-meets : (k : ℕ) → suc k < n → T (le (quotient_of n k one_f) (quotient_of n (suc k) zero_f))
   quotient-meets k inside =
-      le-le-trans (quotient_of n k oneF) (mark_of n (suc k)) (quotient_of n (suc k) zeroF) (quotient-upto k oneF (omega arith) all-is-part) (quotient-from (suc k) zeroF inside none-is-part)
+      le-le-trans (quotient_of n k one_f) (mark_of n (suc k)) (quotient_of n (suc k) zero_f) (quotient-upto k one_f (omega arith) all-is-part) (quotient-from (suc k) zero_f inside none-is-part)
 
   pub division-joins : Joins n (quotient_of n)
   division-joins = record { low = quotient-at-least; high = quotient-at-most; grows = quotient-grows; meets = quotient-meets }
 
 -- ---- with any share that is one, the parameter lies between the places of the two entries that enclose the target
 module _ {xs : List Float} {total : Float} (f : F32Table xs total) (some : 1 ≤ last_of xs) {target count : Float → Float} {share : Float → Float → Float → Float} (S : SharesOf target count share) where
-  module _ (s : Float) (H : Held binary32 (target s)) (above : T (lt zeroF (target s))) (below : T (lt (target s) total)) where
+  module _ (s : Float) (H : Held binary32 (target s)) (above : T (lt zero_f (target s))) (below : T (lt (target s) total)) where
     abbrev entry : ℕ
-    entry = firstNotBelow (target s) xs
+    entry = first_not_below (target s) xs
 
     abbrev own : Float
     own = share (at xs (entry - 1)) (at xs entry) s
@@ -187,10 +187,10 @@ module _ {xs : List Float} {total : Float} (f : F32Table xs total) (some : 1 ≤
     is-own : Part own
     is-own = is-part f (first-picks f) S s H above below
 
-    pub placed-from : T (le (mark_of (last_of xs) (entry - 1)) (inPart share (quotient_of (last_of xs)) xs s entry))
+    pub placed-from : T (le (mark_of (last_of xs) (entry - 1)) (in_part share (quotient_of (last_of xs)) xs s entry))
     placed-from = quotient-from (last_of xs) some f.table.counted (entry - 1) own inside is-own
 
-    pub placed-upto : T (le (inPart share (quotient_of (last_of xs)) xs s entry) (mark_of (last_of xs) entry))
+    pub placed-upto : T (le (in_part share (quotient_of (last_of xs)) xs s entry) (mark_of (last_of xs) entry))
     placed-upto =
         subst (λ (k : ℕ). T (le (quotient_of (last_of xs) (entry - 1) own) (mark_of (last_of xs) k))) (one_more entry ((first-picks f).from (target s) above below))
         (quotient-upto (last_of xs) some f.table.counted (entry - 1) own inside is-own)

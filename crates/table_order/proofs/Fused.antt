@@ -12,7 +12,7 @@ use lib.Ieee.Fits.{down_pos, round_is}
 use lib.Ieee.Exact.{HasValue, odd_sign}
 use lib.Ieee.Order.{drop, kept}
 use lib.Ieee.Positive.{num, den, den_pos}
-use Rattle.floats.specs.Floats.{zeroF}
+use Rattle.floats.specs.Floats.{zero_f}
 use Rattle.floats.specs.Kinds.{real, nonneg}
 use Rattle.floats.proofs.Tests.{decide}
 use Rattle.floats.proofs.Order.{le-le-trans, le-self, le-real-l}
@@ -24,14 +24,14 @@ use Rattle.floats.proofs.Held.{held-above, rounds-real}
 use Rattle.floats.proofs.Constants.{zero_held, zero-num}
 
 -- The product and the sum are exact, and the sum is rounded. Only a finite product is asked for here.
-unfoldable pub fusedOf : Float → Float → Float → Float
-fusedOf nan y z = nan
-fusedOf (inf s) y z = nan
-fusedOf (fin s m e) nan z = nan
-fusedOf (fin s m e) (inf t) z = nan
-fusedOf (fin s m e) (fin t n d) nan = nan
-fusedOf (fin s m e) (fin t n d) (inf u) = inf u
-fusedOf (fin s m e) (fin t n d) (fin u o g) = sum binary32 (unlike s t) (m * up e * (n * up d) * down g) u (o * up g * (down e * down d)) (down e * down d * down g)
+unfoldable pub fused_of : Float → Float → Float → Float
+fused_of nan y z = nan
+fused_of (inf s) y z = nan
+fused_of (fin s m e) nan z = nan
+fused_of (fin s m e) (inf t) z = nan
+fused_of (fin s m e) (fin t n d) nan = nan
+fused_of (fin s m e) (fin t n d) (inf u) = inf u
+fused_of (fin s m e) (fin t n d) (fin u o g) = sum binary32 (unlike s t) (m * up e * (n * up d) * down g) u (o * up g * (down e * down d)) (down e * down d * down g)
 
 -- ---- a sum of two signed fractions over one denominator, rounded
 no_sign : {A : Type 0} → false ≡ true → A
@@ -94,16 +94,16 @@ round-downward a c = subst (λ (x : Float). T (downward x)) (sym (round_is binar
         go true = value-downward (odd (1 + prec binary32) true q k (low binary32)) (q * 2 ^ k) (2 ^ low binary32) (odd_sign (1 + prec binary32) true q k (low binary32))
         go false = tt
 
-downward-low : (x : Float) → T (downward x) → T (le x zeroF)
-unfolding zeroF of_bits le lt eq
+downward-low : (x : Float) → T (downward x) → T (le x zero_f)
+unfolding zero_f of_bits le lt eq
 downward-low nan h = absurd h
 downward-low (inf true) h = tt
 downward-low (inf false) h = absurd h
 downward-low (fin true m e) h = signed→le true (m * up e * down (pos 0)) false (0 * up (pos 0) * down e) tt
 downward-low (fin false m e) h = absurd h
 
-none-low : (z : Float) (a c : ℕ) → a ≡ 0 → Rounds binary32 z a c → T (le z zeroF)
-none-low z a c e r = held-above binary32 zeroF z a c zero_held r (le_trans (le_of_eq (ap (λ (n : ℕ). n * den zeroF) e ∙ zero-mul (den zeroF))) zero-le)
+none-low : (z : Float) (a c : ℕ) → a ≡ 0 → Rounds binary32 z a c → T (le z zero_f)
+none-low z a c e r = held-above binary32 zero_f z a c zero_held r (le_trans (le_of_eq (ap (λ (n : ℕ). n * den zero_f) e ∙ zero-mul (den zero_f))) zero-le)
 
 not-above : (n u : ℕ) → n ≡ 0 → 0 < n * u → ⊥
 not-above n u e o = no (n * u) o (ap (λ (k : ℕ). k * u) e ∙ zero-mul u)
@@ -112,8 +112,8 @@ not-above n u e o = no (n * u) o (ap (λ (k : ℕ). k * u) e ∙ zero-mul u)
     no k h e = omega arith
 
 -- what is at most 0, divided by what is above 0, is at most 0
-pub div-low : (x y : Float) → T (le x zeroF) → T (nonneg y) → 0 < num y → T (le (div binary32 x y) zeroF)
-unfolding div zeroF of_bits le lt eq
+pub div-low : (x y : Float) → T (le x zero_f) → T (nonneg y) → 0 < num y → T (le (div binary32 x y) zero_f)
+unfolding div zero_f of_bits le lt eq
 div-low nan y h q o = absurd h
 div-low (inf false) y h q o = absurd h
 div-low (inf true) nan h q o = absurd q
@@ -125,18 +125,18 @@ div-low (fin true m e) (inf t) h q o = absurd q
 div-low (fin true m e) (fin true n d) h q o = absurd (not-above n (up d) (eqb→eq n 0 q) o)
 div-low (fin true m e) (fin false n d) h q o = go (eqb n 0) (eqb→eq n 0)
   where
-    go : (b : Bool) → (T b → n ≡ 0) → T (le (cond b (cond (eqb m 0) nan (inf true)) (round binary32 true (m * up e * down d) (n * up d * down e))) zeroF)
+    go : (b : Bool) → (T b → n ≡ 0) → T (le (cond b (cond (eqb m 0) nan (inf true)) (round binary32 true (m * up e * down d) (n * up d * down e))) zero_f)
     go true k = absurd (not-above n (up d) (k tt) o)
     go false k = downward-low (round binary32 true (m * up e * down d) (n * up d * down e)) (round-downward (m * up e * down d) (n * up d * down e))
 div-low (fin false m e) y h q o =
     let x = fin false m e in
-    le-le-trans (div binary32 x y) (div binary32 zeroF y) zeroF (div_mono binary32 x zeroF y y tt zero_held.nn q q o o h (le-self y (nonneg-real y q)))
-    (none-low (div binary32 zeroF y) (num zeroF * den y) (num y * den zeroF) (ap (λ (n : ℕ). n * den y) zero-num ∙ zero-mul (den y)) (div-rounds binary32 zeroF y zero_held.nn q o))
+    le-le-trans (div binary32 x y) (div binary32 zero_f y) zero_f (div_mono binary32 x zero_f y y tt zero_held.nn q q o o h (le-self y (nonneg-real y q)))
+    (none-low (div binary32 zero_f y) (num zero_f * den y) (num y * den zero_f) (ap (λ (n : ℕ). n * den y) zero-num ∙ zero-mul (den y)) (div-rounds binary32 zero_f y zero_held.nn q o))
 
 -- the second is taken away: rounded where it is no larger, at most 0 where it is no smaller
 pub record Taken (z : Float) (a b c : ℕ) : Type 0 where
   pub rounds : b ≤ a → Rounds binary32 z (a - b) c
-  pub low : a ≤ b → T (le z zeroF)
+  pub low : a ≤ b → T (le z zero_f)
 
 sum-taken : (s t : Bool) (a b c : ℕ) → 0 < c → (s ≡ true → a ≡ 0) → (t ≡ false → b ≡ 0) → Taken (sum binary32 s a t b c) a b c
 unfolding sum
@@ -152,7 +152,7 @@ sum-taken false true a b c C p q = record { rounds = λ h. more (ltb a b) (ltb�
     more true k h = absurd (clash a b (k tt) h)
     more false k h = record { sign = false; same = refl; only_zero = no_sign; above = C }
 
-    less : (u : Bool) → (T (not u) → b ≤ a) → a ≤ b → T (le (cond u (round binary32 true (b - a) c) (round binary32 false (a - b) c)) zeroF)
+    less : (u : Bool) → (T (not u) → b ≤ a) → a ≤ b → T (le (cond u (round binary32 true (b - a) c) (round binary32 false (a - b) c)) zero_f)
     less true k h = downward-low (round binary32 true (b - a) c) (round-downward (b - a) c)
     less false k h = none-low (round binary32 false (a - b) c) (a - b) c (gone a b h) (record { sign = false; same = refl; only_zero = no_sign; above = C })
 sum-taken true true a b c C p q = record {
@@ -199,8 +199,8 @@ signed-zero : (s : Bool) (m : ℕ) (e : ℤ) → T (nonneg (fin s m e)) → s �
 signed-zero true m e h q = h
 signed-zero false m e h q = no_sign q
 
-pub fused-rounds : (x y z : Float) → T (nonneg x) → T (nonneg y) → T (nonneg z) → Rounds binary32 (fusedOf x y z) (num x * num y * den z + num z * (den x * den y)) (den x * den y * den z)
-unfolding fusedOf
+pub fused-rounds : (x y z : Float) → T (nonneg x) → T (nonneg y) → T (nonneg z) → Rounds binary32 (fused_of x y z) (num x * num y * den z + num z * (den x * den y)) (den x * den y * den z)
+unfolding fused_of
 fused-rounds nan y z p q r = absurd p
 fused-rounds (inf s) y z p q r = absurd p
 fused-rounds (fin s m e) nan z p q r = absurd q
@@ -211,8 +211,8 @@ fused-rounds (fin s m e) (fin t n d) (fin u o g) p q r =
     sum-rounds (unlike s t) u (m * up e * (n * up d) * down g) (o * up g * (down e * down d)) (down e * down d * down g) (mul-pos (mul-pos (down_pos e) (down_pos d)) (down_pos g))
     (product-sign s t m n (up e) (up d) (down g) (signed-zero s m e p) (signed-zero t n d q)) (λ h. zero-size o (up g) (down e * down d) (signed-zero u o g r h))
 
-pub fused-taken : (x y z : Float) → T (nonneg x) → T (nonneg y) → T (nonneg z) → Taken (fusedOf x y (neg z)) (num x * num y * den z) (num z * (den x * den y)) (den x * den y * den z)
-unfolding fusedOf neg
+pub fused-taken : (x y z : Float) → T (nonneg x) → T (nonneg y) → T (nonneg z) → Taken (fused_of x y (neg z)) (num x * num y * den z) (num z * (den x * den y)) (den x * den y * den z)
+unfolding fused_of neg
 fused-taken nan y z p q r = absurd p
 fused-taken (inf s) y z p q r = absurd p
 fused-taken (fin s m e) nan z p q r = absurd q
@@ -232,17 +232,17 @@ products : (x w y : Float) → T (nonneg x) → T (nonneg w) → T (nonneg y) �
 products x w y p q r h =
     le_trans (le_of_eq (mul-mul-mul_comm (num x) (num y) (den w) (den y))) (le_trans (mul-le-mul_right (num y * den y) (le→cross x w p q h)) (le_of_eq (mul-mul-mul_comm (num w) (den x) (num y) (den y))))
 
-pub fused-mono : (x w y z v : Float) → T (nonneg x) → T (nonneg w) → T (nonneg y) → T (nonneg z) → T (nonneg v) → T (le x w) → T (le z v) → T (le (fusedOf x y z) (fusedOf w y v))
+pub fused-mono : (x w y z v : Float) → T (nonneg x) → T (nonneg w) → T (nonneg y) → T (nonneg z) → T (nonneg v) → T (le x w) → T (le z v) → T (le (fused_of x y z) (fused_of w y v))
 fused-mono x w y z v p q r m n h k =
-    rounds-mono binary32 (fusedOf x y z) (fusedOf w y v) (num x * num y * den z + num z * (den x * den y)) (den x * den y * den z) (num w * num y * den v + num v * (den w * den y)) (den w * den y * den v)
+    rounds-mono binary32 (fused_of x y z) (fused_of w y v) (num x * num y * den z + num z * (den x * den y)) (den x * den y * den z) (num w * num y * den v + num v * (den w * den y)) (den w * den y * den v)
     (fused-rounds x y z p r m) (fused-rounds w y v q r n)
     (cross-add (num x * num y) (den x * den y) (num w * num y) (den w * den y) (num z) (den z) (num v) (den v) (products x w y p q r h) (le→cross z v m n k))
 
 -- ---- x * y - c: at most 0, or a rounded fraction; and it keeps the order of x
 
 -- the factors may be exchanged
-pub fused-swap : (x y z : Float) → T (nonneg x) → T (nonneg y) → fusedOf x y z ≡ fusedOf y x z
-unfolding fusedOf
+pub fused-swap : (x y z : Float) → T (nonneg x) → T (nonneg y) → fused_of x y z ≡ fused_of y x z
+unfolding fused_of
 fused-swap nan y z p q = absurd p
 fused-swap (inf s) y z p q = absurd p
 fused-swap (fin s m e) nan z p q = absurd q
@@ -264,7 +264,7 @@ over x y c = num x * num y * den c - num c * (den x * den y)
 abbrev pub scale : Float → Float → Float → ℕ
 scale x y c = den x * den y * den c
 
-pub fused-sorted : (x y c : Float) → T (nonneg x) → T (nonneg y) → T (nonneg c) → T (le (fusedOf x y (neg c)) zeroF) ⊎ Rounds binary32 (fusedOf x y (neg c)) (over x y c) (scale x y c)
+pub fused-sorted : (x y c : Float) → T (nonneg x) → T (nonneg y) → T (nonneg c) → T (le (fused_of x y (neg c)) zero_f) ⊎ Rounds binary32 (fused_of x y (neg c)) (over x y c) (scale x y c)
 fused-sorted x y c p q r =
     let a = num x * num y * den c in
     let b = num c * (den x * den y) in
@@ -273,17 +273,17 @@ fused-sorted x y c p q r =
       | inr k ↦ inr ((fused-taken x y c p q r).rounds (le_of_lt (nleb→lt a b k)))
     ]
 
-pub fused-real : (x y c : Float) → T (nonneg x) → T (nonneg y) → T (nonneg c) → T (real (fusedOf x y (neg c)))
+pub fused-real : (x y c : Float) → T (nonneg x) → T (nonneg y) → T (nonneg c) → T (real (fused_of x y (neg c)))
 fused-real x y c p q r = elim (fused-sorted x y c p q r) [
-  | inl k ↦ le-real-l (fusedOf x y (neg c)) zeroF k
-  | inr k ↦ rounds-real binary32 (fusedOf x y (neg c)) (over x y c) (scale x y c) k
+  | inl k ↦ le-real-l (fused_of x y (neg c)) zero_f k
+  | inr k ↦ rounds-real binary32 (fused_of x y (neg c)) (over x y c) (scale x y c) k
 ]
 
 -- two that are rounded fractions, in order
 pub record Risen (t u y c : Float) : Type 0 where
-  pub first : Rounds binary32 (fusedOf t y (neg c)) (over t y c) (scale t y c)
-  pub second : Rounds binary32 (fusedOf u y (neg c)) (over u y c) (scale u y c)
-  pub order : T (le (fusedOf t y (neg c)) (fusedOf u y (neg c)))
+  pub first : Rounds binary32 (fused_of t y (neg c)) (over t y c) (scale t y c)
+  pub second : Rounds binary32 (fused_of u y (neg c)) (over u y c) (scale u y c)
+  pub order : T (le (fused_of t y (neg c)) (fused_of u y (neg c)))
 
 module _ (t u y c : Float) (p : T (nonneg t)) (q : T (nonneg u)) (r : T (nonneg y)) (s : T (nonneg c)) (h : T (le t u)) where
   abbrev A : Float → ℕ
@@ -317,11 +317,11 @@ module _ (t u y c : Float) (p : T (nonneg t)) (q : T (nonneg u)) (r : T (nonneg 
       less : (w x y z : ℕ) → w ≤ y → x ≡ z → w - x ≤ y - z
       less w x y z h e = omega arith
 
-  pub fused-rise : T (le (fusedOf t y (neg c)) zeroF) ⊎ Risen t u y c
+  pub fused-rise : T (le (fused_of t y (neg c)) zero_f) ⊎ Risen t u y c
   fused-rise = elim (decide (leb (A t) (B t))) [
     | inl k ↦ inl ((fused-taken t y c p r s).low (leb→le (A t) (B t) k))
     | inr k ↦
         let first = (fused-taken t y c p r s).rounds (le_of_lt (nleb→lt (A t) (B t) k)) in
         let second = (fused-taken u y c q r s).rounds (past (le_of_lt (nleb→lt (A t) (B t) k))) in
-        inr (record { first = first; second = second; order = rounds-mono binary32 (fusedOf t y (neg c)) (fusedOf u y (neg c)) (A t - B t) (C t) (A u - B u) (C u) first second differences })
+        inr (record { first = first; second = second; order = rounds-mono binary32 (fused_of t y (neg c)) (fused_of u y (neg c)) (A t - B t) (C t) (A u - B u) (C u) first second differences })
   ]

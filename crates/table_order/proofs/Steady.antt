@@ -10,7 +10,7 @@ use mathlib.Core.Bool.{Bool, true, false, not, cond}
 use mathlib.Core.List.{List}
 use lib.Dec.{T, ltb, ltb→lt, nltb→le}
 use lib.Ieee.{Float, binary32, lt, le}
-use Rattle.floats.specs.Floats.{zeroF, oneF}
+use Rattle.floats.specs.Floats.{zero_f, one_f}
 use Rattle.floats.specs.Kinds.{nonneg}
 use Rattle.floats.proofs.Tests.{decide, clashing}
 use Rattle.floats.proofs.Order.{le-le-trans, le-self, not-le→lt}
@@ -25,10 +25,10 @@ use Rattle.table_order.specs.Stated.{F32Table}
 
 -- the entry picked for a target above 0 and below the total: it and the one before stand to both sides, and a larger target picks no earlier one
 pub record Picks (xs : List Float) (total : Float) (pick : Float → ℕ) : Type 0 where
-  pub from : (t : Float) → T (lt zeroF t) → T (lt t total) → 1 ≤ pick t
-  pub upto : (t : Float) → T (lt zeroF t) → T (lt t total) → pick t ≤ last_of xs
-  pub lower : (t : Float) → T (lt zeroF t) → T (lt t total) → T (le (at xs (pick t - 1)) t)
-  pub upper : (t : Float) → T (lt zeroF t) → T (lt t total) → T (le t (at xs (pick t)))
+  pub from : (t : Float) → T (lt zero_f t) → T (lt t total) → 1 ≤ pick t
+  pub upto : (t : Float) → T (lt zero_f t) → T (lt t total) → pick t ≤ last_of xs
+  pub lower : (t : Float) → T (lt zero_f t) → T (lt t total) → T (le (at xs (pick t - 1)) t)
+  pub upper : (t : Float) → T (lt zero_f t) → T (lt t total) → T (le t (at xs (pick t)))
   pub grows : (t u : Float) → T (le t u) → pick t ≤ pick u
 
 -- what a share may count on: entries a and b in order, and a target between them
@@ -42,8 +42,8 @@ pub record Between (a b t : Float) : Type 0 where
 -- What a share reads, s, may be the target itself or say more: `target s` is the target of s, and `count s` what s counts for. The shares of a target read the target; the one that
 -- compilers make (Contraction.antt) reads the progress, whose target is total * progress rounded.
 pub record SharesOf (target count : Float → Float) (share : Float → Float → Float → Float) : Type 0 where
-  pub low : (a b s : Float) → Between a b (target s) → T (le zeroF (share a b s))
-  pub high : (a b s : Float) → Between a b (target s) → T (le (share a b s) oneF)
+  pub low : (a b s : Float) → Between a b (target s) → T (le zero_f (share a b s))
+  pub high : (a b s : Float) → Between a b (target s) → T (le (share a b s) one_f)
   pub grows : (a b s r : Float) → Between a b (target s) → Between a b (target r) → T (le (count s) (count r)) → T (le (share a b s) (share a b r))
 
 abbrev pub Shares : (Float → Float → Float → Float) → Type 0
@@ -51,44 +51,44 @@ Shares share = SharesOf (λ t. t) (λ t. t) share
 
 -- a share
 pub record Part (x : Float) : Type 0 where
-  pub low : T (le zeroF x)
-  pub high : T (le x oneF)
+  pub low : T (le zero_f x)
+  pub high : T (le x one_f)
 
 -- the parameter of a share after the entry k, in a table whose last entry is n
 pub record Joins (n : ℕ) (join : ℕ → Float → Float) : Type 0 where
-  pub low : (k : ℕ) (x : Float) → k < n → Part x → T (le zeroF (join k x))
-  pub high : (k : ℕ) (x : Float) → k < n → Part x → T (le (join k x) oneF)
+  pub low : (k : ℕ) (x : Float) → k < n → Part x → T (le zero_f (join k x))
+  pub high : (k : ℕ) (x : Float) → k < n → Part x → T (le (join k x) one_f)
   pub grows : (k : ℕ) (x y : Float) → k < n → Part x → Part y → T (le x y) → T (le (join k x) (join k y))
-  pub meets : (k : ℕ) → suc k < n → T (le (join k oneF) (join (suc k) zeroF))
+  pub meets : (k : ℕ) → suc k < n → T (le (join k one_f) (join (suc k) zero_f))
 
 -- ---- the parameter of what is read, in the part that ends at the entry i
-abbrev pub inPart : (Float → Float → Float → Float) → (ℕ → Float → Float) → List Float → Float → ℕ → Float
-inPart share join xs s i = join (i - 1) (share (at xs (i - 1)) (at xs i) s)
+abbrev pub in_part : (Float → Float → Float → Float) → (ℕ → Float → Float) → List Float → Float → ℕ → Float
+in_part share join xs s i = join (i - 1) (share (at xs (i - 1)) (at xs i) s)
 
 -- the whole way: a target at or below 0 gives 0, one at or above the total 1
-abbrev pub byWayOf : (Float → Float) → (Float → ℕ) → (Float → Float → Float → Float) → (ℕ → Float → Float) → List Float → Float → Float → Float
-byWayOf target pick share join xs total s = cond (le (target s) zeroF) zeroF (cond (le total (target s)) oneF (inPart share join xs s (pick (target s))))
+abbrev pub by_way_of : (Float → Float) → (Float → ℕ) → (Float → Float → Float → Float) → (ℕ → Float → Float) → List Float → Float → Float → Float
+by_way_of target pick share join xs total s = cond (le (target s) zero_f) zero_f (cond (le total (target s)) one_f (in_part share join xs s (pick (target s))))
 
-abbrev pub byWay : (Float → ℕ) → (Float → Float → Float → Float) → (ℕ → Float → Float) → List Float → Float → Float → Float
-byWay pick share join xs total t = byWayOf (λ t. t) pick share join xs total t
+abbrev pub by_way : (Float → ℕ) → (Float → Float → Float → Float) → (ℕ → Float → Float) → List Float → Float → Float → Float
+by_way pick share join xs total t = by_way_of (λ t. t) pick share join xs total t
 
 -- ---- the parts of a table, one after the other
-pub none-is-part : Part zeroF
-none-is-part = record { low = le-self zeroF (nonneg-real zeroF zero_held.nn); high = zero-le-one }
+pub none-is-part : Part zero_f
+none-is-part = record { low = le-self zero_f (nonneg-real zero_f zero_held.nn); high = zero-le-one }
 
-pub all-is-part : Part oneF
-all-is-part = record { low = zero-le-one; high = le-self oneF (nonneg-real oneF one-held.nn) }
+pub all-is-part : Part one_f
+all-is-part = record { low = zero-le-one; high = le-self one_f (nonneg-real one_f one-held.nn) }
 
 -- the end of an earlier part is at most the start of a later one
-pub joins-meet : {n : ℕ} {join : ℕ → Float → Float} → Joins n join → (k d : ℕ) → suc (k + d) < n → T (le (join k oneF) (join (suc (k + d)) zeroF))
-joins-meet {n} {join} J k zero h = subst (λ (i : ℕ). T (le (join k oneF) (join (suc i) zeroF))) (sym (add-zero k)) (J.meets k (rw (add-zero k) at h))
+pub joins-meet : {n : ℕ} {join : ℕ → Float → Float} → Joins n join → (k d : ℕ) → suc (k + d) < n → T (le (join k one_f) (join (suc (k + d)) zero_f))
+joins-meet {n} {join} J k zero h = subst (λ (i : ℕ). T (le (join k one_f) (join (suc i) zero_f))) (sym (add-zero k)) (J.meets k (rw (add-zero k) at h))
 joins-meet {n} {join} J k (suc d) h =
     let m = suc (k + d) in
     let e : suc (k + suc d) ≡ suc m = ap suc (add-suc k d) in
     let l : suc m < n = subst (λ (i : ℕ). i < n) e h in
-    subst (λ (i : ℕ). T (le (join k oneF) (join i zeroF))) (sym e)
-    (le-le-trans (join k oneF) (join m zeroF) (join (suc m) zeroF) (joins-meet J k d (less m n l))
-    (le-le-trans (join m zeroF) (join m oneF) (join (suc m) zeroF) (J.grows m zeroF oneF (less m n l) none-is-part all-is-part zero-le-one) (J.meets m l)))
+    subst (λ (i : ℕ). T (le (join k one_f) (join i zero_f))) (sym e)
+    (le-le-trans (join k one_f) (join m zero_f) (join (suc m) zero_f) (joins-meet J k d (less m n l))
+    (le-le-trans (join m zero_f) (join m one_f) (join (suc m) zero_f) (J.grows m zero_f one_f (less m n l) none-is-part all-is-part zero-le-one) (J.meets m l)))
   where
     less : (m n : ℕ) → suc m < n → m < n
     less m n l = omega arith
@@ -106,8 +106,8 @@ module _ {xs : List Float} {total : Float} (f : F32Table xs total) where
 
 -- ---- the whole table
 module _ {xs : List Float} {total : Float} (f : F32Table xs total) {pick : Float → ℕ} (P : Picks xs total pick) {target count : Float → Float} {share : Float → Float → Float → Float} (S : SharesOf target count share) where
-  above : (t : Float) → Held binary32 t → T (not (le t zeroF)) → T (lt zeroF t)
-  above t H h = not-le→lt t zeroF (nonneg-real t H.nn) (nonneg-real zeroF zero_held.nn) h
+  above : (t : Float) → Held binary32 t → T (not (le t zero_f)) → T (lt zero_f t)
+  above t H h = not-le→lt t zero_f (nonneg-real t H.nn) (nonneg-real zero_f zero_held.nn) h
 
   below : (t : Float) → Held binary32 t → T (not (le total t)) → T (lt t total)
   below t H h = not-le→lt total t (nonneg-real total (total-held f).nn) (nonneg-real t H.nn) h
@@ -115,10 +115,10 @@ module _ {xs : List Float} {total : Float} (f : F32Table xs total) {pick : Float
   abbrev entry : Float → ℕ
   entry s = pick (target s)
 
-  abbrev ownShare : Float → Float
-  ownShare s = share (at xs (entry s - 1)) (at xs (entry s)) s
+  abbrev own_share : Float → Float
+  own_share s = share (at xs (entry s - 1)) (at xs (entry s)) s
 
-  module _ (s : Float) (H : Held binary32 (target s)) (a : T (lt zeroF (target s))) (b : T (lt (target s) total)) where
+  module _ (s : Float) (H : Held binary32 (target s)) (a : T (lt zero_f (target s))) (b : T (lt (target s) total)) where
     pub picked : Between (at xs (entry s - 1)) (at xs (entry s)) (target s)
     picked = record {
       start = (entry-held f (entry s - 1) (under (entry s) (last_of xs) (P.upto (target s) a b))).nn;
@@ -131,7 +131,7 @@ module _ {xs : List Float} {total : Float} (f : F32Table xs total) {pick : Float
         under : (i n : ℕ) → i ≤ n → i - 1 ≤ n
         under i n h = omega arith
 
-    pub is-part : Part (ownShare s)
+    pub is-part : Part (own_share s)
     is-part = record { low = S.low (at xs (entry s - 1)) (at xs (entry s)) s picked; high = S.high (at xs (entry s - 1)) (at xs (entry s)) s picked }
 
     pub part-inside : entry s - 1 < last_of xs
@@ -142,10 +142,10 @@ module _ {xs : List Float} {total : Float} (f : F32Table xs total) {pick : Float
 
   module _ {join : ℕ → Float → Float} (J : Joins (last_of xs) join) where
     abbrev own : Float → Float
-    own s = inPart share join xs s (entry s)
+    own s = in_part share join xs s (entry s)
 
     -- two targets inside: in one part by the share, in two by the ends and starts of the parts between
-    own-grows : (s r : Float) → Held binary32 (target s) → Held binary32 (target r) → T (lt zeroF (target s)) → T (lt (target s) total) → T (lt zeroF (target r)) → T (lt (target r) total)
+    own-grows : (s r : Float) → Held binary32 (target s) → Held binary32 (target r) → T (lt zero_f (target s)) → T (lt (target s) total) → T (lt zero_f (target r)) → T (lt (target r) total)
         → T (le (target s) (target r)) → T (le (count s) (count r)) → T (le (own s) (own r))
     own-grows s r H K a b c d h g =
         let i = entry s in
@@ -166,46 +166,46 @@ module _ {xs : List Float} {total : Float} (f : F32Table xs total) {pick : Float
             let k = entry s - 1 in
             let m = entry r - 1 in
             let e : suc (k + (m - entry s)) ≡ m = gap (entry s) (entry r) from l in
-            le-le-trans (own s) (join k oneF) (own r) (J.grows k (ownShare s) oneF p (is-part s H a b) all-is-part (is-part s H a b).high)
-            (le-le-trans (join k oneF) (join m zeroF) (own r) (subst (λ (i : ℕ). T (le (join k oneF) (join i zeroF))) e (joins-meet J k (m - entry s) (subst (λ (i : ℕ). i < last_of xs) (sym e) q)))
-            (J.grows m zeroF (ownShare r) q none-is-part (is-part r K c d) (is-part r K c d).low))
+            le-le-trans (own s) (join k one_f) (own r) (J.grows k (own_share s) one_f p (is-part s H a b) all-is-part (is-part s H a b).high)
+            (le-le-trans (join k one_f) (join m zero_f) (own r) (subst (λ (i : ℕ). T (le (join k one_f) (join i zero_f))) e (joins-meet J k (m - entry s) (subst (λ (i : ℕ). i < last_of xs) (sym e) q)))
+            (J.grows m zero_f (own_share r) q none-is-part (is-part r K c d) (is-part r K c d).low))
 
         together : entry s ≡ entry r → T (le (own s) (own r))
         together e =
             let i = entry s in
             let B : Between (at xs (i - 1)) (at xs i) (target r) = subst (λ (k : ℕ). Between (at xs (k - 1)) (at xs k) (target r)) (sym e) (picked r K c d) in
             let y = share (at xs (i - 1)) (at xs i) r in
-            subst (λ (k : ℕ). T (le (own s) (inPart share join xs r k))) e
-            (J.grows (i - 1) (ownShare s) y (part-inside s H a b) (is-part s H a b) (record { low = S.low (at xs (i - 1)) (at xs i) r B; high = S.high (at xs (i - 1)) (at xs i) r B })
+            subst (λ (k : ℕ). T (le (own s) (in_part share join xs r k))) e
+            (J.grows (i - 1) (own_share s) y (part-inside s H a b) (is-part s H a b) (record { low = S.low (at xs (i - 1)) (at xs i) r B; high = S.high (at xs (i - 1)) (at xs i) r B })
             (S.grows (at xs (i - 1)) (at xs i) s r (picked s H a b) B g))
 
-    pub way-at-least : (s : Float) → Held binary32 (target s) → T (le zeroF (byWayOf target pick share join xs total s))
-    way-at-least s H = go (le (target s) zeroF) (le total (target s)) (λ n. n) (λ n. n)
+    pub way-at-least : (s : Float) → Held binary32 (target s) → T (le zero_f (by_way_of target pick share join xs total s))
+    way-at-least s H = go (le (target s) zero_f) (le total (target s)) (λ n. n) (λ n. n)
       where
-        go : (a b : Bool) → (T (not a) → T (not (le (target s) zeroF))) → (T (not b) → T (not (le total (target s)))) → T (le zeroF (cond a zeroF (cond b oneF (own s))))
-        go true b past short = le-self zeroF (nonneg-real zeroF zero_held.nn)
+        go : (a b : Bool) → (T (not a) → T (not (le (target s) zero_f))) → (T (not b) → T (not (le total (target s)))) → T (le zero_f (cond a zero_f (cond b one_f (own s))))
+        go true b past short = le-self zero_f (nonneg-real zero_f zero_held.nn)
         go false true past short = zero-le-one
         go false false past short =
             let inside = above (target s) H (past tt) in
             let short = below (target s) H (short tt) in
-            J.low (entry s - 1) (ownShare s) (part-inside s H inside short) (is-part s H inside short)
+            J.low (entry s - 1) (own_share s) (part-inside s H inside short) (is-part s H inside short)
 
-    pub way-at-most : (s : Float) → Held binary32 (target s) → T (le (byWayOf target pick share join xs total s) oneF)
-    way-at-most s H = go (le (target s) zeroF) (le total (target s)) (λ n. n) (λ n. n)
+    pub way-at-most : (s : Float) → Held binary32 (target s) → T (le (by_way_of target pick share join xs total s) one_f)
+    way-at-most s H = go (le (target s) zero_f) (le total (target s)) (λ n. n) (λ n. n)
       where
-        go : (a b : Bool) → (T (not a) → T (not (le (target s) zeroF))) → (T (not b) → T (not (le total (target s)))) → T (le (cond a zeroF (cond b oneF (own s))) oneF)
+        go : (a b : Bool) → (T (not a) → T (not (le (target s) zero_f))) → (T (not b) → T (not (le total (target s)))) → T (le (cond a zero_f (cond b one_f (own s))) one_f)
         go true b past short = zero-le-one
-        go false true past short = le-self oneF (nonneg-real oneF one-held.nn)
+        go false true past short = le-self one_f (nonneg-real one_f one-held.nn)
         go false false past short =
             let inside = above (target s) H (past tt) in
             let short = below (target s) H (short tt) in
-            J.high (entry s - 1) (ownShare s) (part-inside s H inside short) (is-part s H inside short)
+            J.high (entry s - 1) (own_share s) (part-inside s H inside short) (is-part s H inside short)
 
     -- No way with the three properties steps back.
     pub never_back : (s r : Float) → Held binary32 (target s) → Held binary32 (target r) → T (le (target s) (target r)) → T (le (count s) (count r))
-        → T (le (byWayOf target pick share join xs total s) (byWayOf target pick share join xs total r))
+        → T (le (by_way_of target pick share join xs total s) (by_way_of target pick share join xs total r))
     never_back s r H K h g =
-        go (le t zeroF) (le total t) (le u zeroF) (le total u) (λ n. n) (λ n. n) (λ n. n) (λ n. n) (λ n. n) (λ n. n) (way-at-least r K) (way-at-most s H)
+        go (le t zero_f) (le total t) (le u zero_f) (le total u) (λ n. n) (λ n. n) (λ n. n) (λ n. n) (λ n. n) (λ n. n) (way-at-least r K) (way-at-most s H)
       where
         t : Float
         t = target s
@@ -213,11 +213,11 @@ module _ {xs : List Float} {total : Float} (f : F32Table xs total) {pick : Float
         u : Float
         u = target r
 
-        go : (a b c d : Bool) → (T (not a) → T (not (le t zeroF))) → (T b → T (le total t)) → (T (not b) → T (not (le total t))) → (T c → T (le u zeroF)) → (T (not c) → T (not (le u zeroF)))
-            → (T (not d) → T (not (le total u))) → T (le zeroF (cond c zeroF (cond d oneF (own r)))) → T (le (cond a zeroF (cond b oneF (own s))) oneF)
-            → T (le (cond a zeroF (cond b oneF (own s))) (cond c zeroF (cond d oneF (own r))))
+        go : (a b c d : Bool) → (T (not a) → T (not (le t zero_f))) → (T b → T (le total t)) → (T (not b) → T (not (le total t))) → (T c → T (le u zero_f)) → (T (not c) → T (not (le u zero_f)))
+            → (T (not d) → T (not (le total u))) → T (le zero_f (cond c zero_f (cond d one_f (own r)))) → T (le (cond a zero_f (cond b one_f (own s))) one_f)
+            → T (le (cond a zero_f (cond b one_f (own s))) (cond c zero_f (cond d one_f (own r))))
         go true b c d t-past t-ended t-short u-none u-past u-short low high = low
-        go false b true d t-past t-ended t-short u-none u-past u-short low high = absurd (clashing (le t zeroF) (le-le-trans t u zeroF h (u-none tt)) (t-past tt))
+        go false b true d t-past t-ended t-short u-none u-past u-short low high = absurd (clashing (le t zero_f) (le-le-trans t u zero_f h (u-none tt)) (t-past tt))
         go false b false true t-past t-ended t-short u-none u-past u-short low high = high
         go false true false false t-past t-ended t-short u-none u-past u-short low high = absurd (clashing (le total u) (le-le-trans total t u (t-ended tt) h) (u-short tt))
         go false false false false t-past t-ended t-short u-none u-past u-short low high =

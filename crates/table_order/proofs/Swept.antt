@@ -1,4 +1,4 @@
--- Demand 3 of one table, whole: `steady` proves `Steady` of specs/Swept.antt for the lookup of the code, `rawOf`, in every sound table of f32 values, whatever the number of its entries. And the two
+-- Demand 3 of one table, whole: `steady` proves `Steady` of specs/Swept.antt for the lookup of the code, `raw_of`, in every sound table of f32 values, whatever the number of its entries. And the two
 -- entries around a target are settled by the table: `chosen-once`. Assumes nothing.
 use mathlib.Core.Path.{◌≡◌, refl, ◌∙◌}
 use Prim.Native.Nat.{ℕ, ◌-◌, ◌≤◌, ◌<◌}
@@ -8,12 +8,12 @@ use mathlib.Core.List.{List}
 use lib.Dec.{T, ltb, ltb→lt, nltb→le}
 use lib.Ieee.{Float, lt, le}
 use lib.Ieee.Bits.{cond_no}
-use Rattle.floats.specs.Floats.{zeroF, oneF, epsilonF, clamp01Of}
+use Rattle.floats.specs.Floats.{zero_f, one_f, epsilon_f, clamp01_of}
 use Rattle.floats.proofs.Tests.{decide, clashing, cond_yes}
 use Rattle.floats.proofs.Order.{le_lt_trans, lt-le-trans, lt→le, lt→not-le, le→not-lt}
 use Rattle.floats.proofs.Constants.{zero-lt-epsilon}
 use Rattle.floats.proofs.Clamping.{clamp01-at-least, clamp01-at-most, clamp01-same}
-use Rattle.table.specs.Lookup.{at, last_of, firstNotBelow, target_of, rawAt, rawOf}
+use Rattle.table.specs.Lookup.{at, last_of, first_not_below, target_of, raw_at, raw_of}
 use Rattle.table.proofs.Lengths.{Sound, entries-le}
 use Rattle.table_order.specs.Stated.{F32Table}
 use Rattle.table_order.specs.Swept.{Inside, Enclose, Chosen, Swept, Steady}
@@ -47,42 +47,42 @@ module _ {n : ℕ} {xs : List Float} {total : Float} (sound : Sound n xs total) 
 -- ---- the lookup
 
 -- a progress is clamped once; a second time does nothing
-pub clamped-again : (p : Float) → clamp01Of (clamp01Of p) ≡ clamp01Of p
-clamped-again p = clamp01-same (clamp01Of p) (clamp01-at-least p) (clamp01-at-most p)
+pub clamped-again : (p : Float) → clamp01_of (clamp01_of p) ≡ clamp01_of p
+clamped-again p = clamp01-same (clamp01_of p) (clamp01-at-least p) (clamp01-at-most p)
 
-raw-counts : (xs : List Float) (total p : Float) → rawOf xs total p ≡ rawOf xs total (clamp01Of p)
-unfolding rawOf target_of
+raw-counts : (xs : List Float) (total p : Float) → raw_of xs total p ≡ raw_of xs total (clamp01_of p)
+unfolding raw_of target_of
 raw-counts xs total p = rw (clamped-again p) refl
 
 module _ {xs : List Float} {total : Float} (f : F32Table xs total) where
-  module _ (p : Float) (long : T (lt epsilonF total)) where
+  module _ (p : Float) (long : T (lt epsilon_f total)) where
     abbrev target : Float
     target = target_of total p
 
-    long-raw : rawOf xs total p ≡ rawAt xs total target
-    unfolding rawOf
-    long-raw = cond_no (le total epsilonF) _ _ (lt→not-le total epsilonF long)
+    long-raw : raw_of xs total p ≡ raw_at xs total target
+    unfolding raw_of
+    long-raw = cond_no (le total epsilon_f) _ _ (lt→not-le total epsilon_f long)
 
-    pub raw-swept : Swept (last_of xs) xs total target (rawOf xs total p)
-    unfolding rawAt
+    pub raw-swept : Swept (last_of xs) xs total target (raw_of xs total p)
+    unfolding raw_at
     raw-swept =
         record {
-          starts = λ low. long-raw ∙ cond_yes (le target zeroF) _ _ low;
-          ends = λ high. long-raw ∙ cond_no (le target zeroF) _ _ (lt→not-le target zeroF (lt-le-trans zeroF total target above_zero high)) ∙ cond_yes (le total target) _ _ high;
+          starts = λ low. long-raw ∙ cond_yes (le target zero_f) _ _ low;
+          ends = λ high. long-raw ∙ cond_no (le target zero_f) _ _ (lt→not-le target zero_f (lt-le-trans zero_f total target above_zero high)) ∙ cond_yes (le total target) _ _ high;
           chosen = λ inside.
               let own = raw-placed f p long inside.above inside.below in
               record {
-                entry = firstNotBelow target xs;
+                entry = first_not_below target xs;
                 first = own.enclosing.from;
                 last = own.enclosing.upto;
-                enclose = record { lower = own.enclosing.lower; upper = le→not-lt target (at xs (firstNotBelow target xs)) own.enclosing.upper };
+                enclose = record { lower = own.enclosing.lower; upper = le→not-lt target (at xs (first_not_below target xs)) own.enclosing.upper };
                 from = own.from;
                 upto = own.upto;
               };
         }
       where
-        above_zero : T (lt zeroF total)
-        above_zero = le_lt_trans zeroF epsilonF total (lt→le zeroF epsilonF zero-lt-epsilon) long
+        above_zero : T (lt zero_f total)
+        above_zero = le_lt_trans zero_f epsilon_f total (lt→le zero_f epsilon_f zero-lt-epsilon) long
 
-  pub steady : Steady (last_of xs) xs total (rawOf xs total)
+  pub steady : Steady (last_of xs) xs total (raw_of xs total)
   steady = record { counts = raw-counts xs total; order = raw-order f; starts = raw-starts f; ends = raw-ends f; swept = raw-swept }

@@ -11,16 +11,16 @@ use lib.Dec.{ltb}
 use lib.ListN.{length, get_or, take, drop, get_or-eq_default}
 use Rattle.answers.specs.declared.refusals.Refusal.TheVariants.{Range}
 use Rattle.scan.specs.Bytes.{among, digits}
-use Rattle.scan.specs.Runs.{pastAll, pastDigitsOf}
+use Rattle.scan.specs.Runs.{past_all, past_digits_of}
 use Rattle.scan.proofs.ByteLaws.{either_way}
 use Rattle.scan.proofs.RunLaws.{all-onward, all-within, all_end, all-passed}
-use Rattle.decimal_digits.specs.Digits.{digitsIn, val}
-use Rattle.decimal_digits.specs.Exponent.{capped, exponentOf}
+use Rattle.decimal_digits.specs.Digits.{digits_in, val}
+use Rattle.decimal_digits.specs.Exponent.{capped, exponent_of}
 use Rattle.decimal_digits.specs.declared.gathering.Power.{Power}
 use Rattle.decimal_digits.proofs.Capping.{capped_small}
 use Rattle.decimal_digits.proofs.Places.{run_in}
 use Rattle.decimal_digits.proofs.Values.{val-lt}
-use Rattle.text_reader.specs.Plans.{judged, firstLineOf}
+use Rattle.text_reader.specs.Plans.{judged, first_line_of}
 use Rattle.text_reader.specs.declared.line.FirstLine.{FirstLine}
 use Rattle.text_reader.specs.declared.line.FirstLine.TheVariants.{Stations, Refused}
 
@@ -50,61 +50,61 @@ feed-inside text i e =
 
 module _ (text : List ℕ) (at : ℕ) where
   -- a number of at most 9 digits is small
-  module _ (some : at < pastDigitsOf text at) (few : pastDigitsOf text at - at ≤ 9) where
+  module _ (some : at < past_digits_of text at) (few : past_digits_of text at - at ≤ 9) where
     inside : at < length text
     inside =
         ⊎_elim (λ h. ltb-true at (length text) h)
         (λ h. let e = all_end digits text at (ltb-false at (length text) h) in absurd (omega arith))
         (either_way (ltb at (length text)))
 
-    many : length (digitsIn text at (pastDigitsOf text at)) ≡ pastDigitsOf text at - at
-    many = run_in text at (pastDigitsOf text at) (omega arith) (all-within digits text at (let i = inside in omega arith)) (all-passed digits text at)
+    many : length (digits_in text at (past_digits_of text at)) ≡ past_digits_of text at - at
+    many = run_in text at (past_digits_of text at) (omega arith) (all-within digits text at (let i = inside in omega arith)) (all-passed digits text at)
 
-    small : val (digitsIn text at (pastDigitsOf text at)) < 10 ^ 9
+    small : val (digits_in text at (past_digits_of text at)) < 10 ^ 9
     small =
-        let v : val (digitsIn text at (pastDigitsOf text at)) < 10 ^ length (digitsIn text at (pastDigitsOf text at)) = val-lt (take (pastDigitsOf text at - at) (drop at text)) in
-        let m : length (digitsIn text at (pastDigitsOf text at)) ≤ 9 = omega (arith, many) in
-        let p : 10 ^ length (digitsIn text at (pastDigitsOf text at)) ≤ 10 ^ 9 = pow-le-pow_right {n = 10} (omega arith) m in
+        let v : val (digits_in text at (past_digits_of text at)) < 10 ^ length (digits_in text at (past_digits_of text at)) = val-lt (take (past_digits_of text at - at) (drop at text)) in
+        let m : length (digits_in text at (past_digits_of text at)) ≤ 9 = omega (arith, many) in
+        let p : 10 ^ length (digits_in text at (past_digits_of text at)) ≤ 10 ^ 9 = pow-le-pow_right {n = 10} (omega arith) m in
         omega arith
 
-    pub small_count : capped (val (digitsIn text at (pastDigitsOf text at))) ≡ val (digitsIn text at (pastDigitsOf text at))
-    small_count = capped_small (val (digitsIn text at (pastDigitsOf text at))) (let s = small in omega arith)
+    pub small_count : capped (val (digits_in text at (past_digits_of text at))) ≡ val (digits_in text at (past_digits_of text at))
+    small_count = capped_small (val (digits_in text at (past_digits_of text at))) (let s = small in omega arith)
 
-  module _ (run : Power) (e : run ≡ exponentOf text at) where
-    ends : run.at ≡ pastDigitsOf text at
-    unfolding exponentOf
+  module _ (run : Power) (e : run ≡ exponent_of text at) where
+    ends : run.at ≡ past_digits_of text at
+    unfolding exponent_of
     ends = ap (λ (p : Power). p.at) e
 
-    sizes : run.size ≡ capped (val (digitsIn text at (pastDigitsOf text at)))
-    unfolding exponentOf
+    sizes : run.size ≡ capped (val (digits_in text at (past_digits_of text at)))
+    unfolding exponent_of
     sizes = ap (λ (p : Power). p.size) e
 
-    pub line-none : run.at ≤ at → Refused (Range 0) ≡ firstLineOf text at
-    unfolding firstLineOf
+    pub line-none : run.at ≤ at → Refused (Range 0) ≡ first_line_of text at
+    unfolding first_line_of
     line-none h =
-        let z : pastDigitsOf text at - at ≡ 0 = omega (arith, ends) in
+        let z : past_digits_of text at - at ≡ 0 = omega (arith, ends) in
         rw z
 
     module _ (some : at < run.at) where
-      pub line-long : 9 < run.at - at → Refused (Range 0) ≡ firstLineOf text at
-      unfolding firstLineOf
+      pub line-long : 9 < run.at - at → Refused (Range 0) ≡ first_line_of text at
+      unfolding first_line_of
       line-long h =
           let n = ends in
-          rw (lt-leb (pastDigitsOf text at - at) 9 (omega arith), le-leb 1 (pastDigitsOf text at - at) (omega arith))
+          rw (lt-leb (past_digits_of text at - at) 9 (omega arith), le-leb 1 (past_digits_of text at - at) (omega arith))
 
       module _ (few : run.at - at ≤ 9) where
-        pub line_other : (get_or text run.at 0 ≡ 10 → ⊥) → Refused (Range 0) ≡ firstLineOf text at
-        unfolding firstLineOf
+        pub line_other : (get_or text run.at 0 ≡ 10 → ⊥) → Refused (Range 0) ≡ first_line_of text at
+        unfolding first_line_of
         line_other h =
             let n = ends in
-            let g : get_or text (pastDigitsOf text at) 0 ≡ 10 → ⊥ = λ t. h (ap (λ i. get_or text i 0) n ∙ t) in
-            rw (le-leb (pastDigitsOf text at - at) 9 (omega arith), le-leb 1 (pastDigitsOf text at - at) (omega arith), ne_eqb (get_or text (pastDigitsOf text at) 0) 10 g)
+            let g : get_or text (past_digits_of text at) 0 ≡ 10 → ⊥ = λ t. h (ap (λ i. get_or text i 0) n ∙ t) in
+            rw (le-leb (past_digits_of text at - at) 9 (omega arith), le-leb 1 (past_digits_of text at - at) (omega arith), ne_eqb (get_or text (past_digits_of text at) 0) 10 g)
 
-        pub line-judged : (r : FirstLine) → get_or text run.at 0 ≡ 10 → r ≡ judged run.size (run.at + 1) → r ≡ firstLineOf text at
-        unfolding firstLineOf
+        pub line-judged : (r : FirstLine) → get_or text run.at 0 ≡ 10 → r ≡ judged run.size (run.at + 1) → r ≡ first_line_of text at
+        unfolding first_line_of
         line-judged r h j =
             let n = ends in
-            let s : run.size ≡ val (digitsIn text at (pastDigitsOf text at)) = sizes ∙ small_count (omega arith) (omega arith) in
-            let g : get_or text (pastDigitsOf text at) 0 ≡ 10 = ap (λ i. get_or text i 0) (sym n) ∙ h in
-            rw (le-leb (pastDigitsOf text at - at) 9 (omega arith), le-leb 1 (pastDigitsOf text at - at) (omega arith), eq-eqb (get_or text (pastDigitsOf text at) 0) 10 g)
-            (j ∙ ap (λ k. judged k (run.at + 1)) s ∙ ap (λ k. judged (val (digitsIn text at (pastDigitsOf text at))) (k + 1)) n)
+            let s : run.size ≡ val (digits_in text at (past_digits_of text at)) = sizes ∙ small_count (omega arith) (omega arith) in
+            let g : get_or text (past_digits_of text at) 0 ≡ 10 = ap (λ i. get_or text i 0) (sym n) ∙ h in
+            rw (le-leb (past_digits_of text at - at) 9 (omega arith), le-leb 1 (past_digits_of text at - at) (omega arith), eq-eqb (get_or text (past_digits_of text at) 0) 10 g)
+            (j ∙ ap (λ k. judged k (run.at + 1)) s ∙ ap (λ k. judged (val (digits_in text at (past_digits_of text at))) (k + 1)) n)

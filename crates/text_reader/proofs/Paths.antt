@@ -5,7 +5,7 @@ use mathlib.Core.List.{List, []}
 use native.Mathlib.Omega.{arith}
 use lib.ListN.{length, take, drop, length-drop}
 use lib.Seq.{take_all, drop-length}
-use Rattle.svg_step.specs.Steps.{readStepOf}
+use Rattle.svg_step.specs.Steps.{read_step_of}
 use Rattle.svg_step.specs.declared.steps.Reader.{Reader}
 use Rattle.svg_step.specs.declared.steps.Step.{Step}
 use Rattle.text_reader.specs.Plans.{step_of}
@@ -15,14 +15,14 @@ gone : (at : ℕ) (text : List ℕ) → length text ≤ at → drop at text ≡ 
 gone at text h = sym (take_all 0 (drop at text) (omega (arith, length-drop at text)))
 
 module _ (text : List ℕ) (at : ℕ) (state : Reader) (r : Step) where
-  pub step-inside : r ≡ readStepOf (take (length text - at) (drop at text)) state → r ≡ step_of text at state
+  pub step-inside : r ≡ read_step_of (take (length text - at) (drop at text)) state → r ≡ step_of text at state
   unfolding step_of
-  step-inside e = e ∙ ap (λ t. readStepOf t state) (take_all (length text - at) (drop at text) (omega (arith, length-drop at text)))
+  step-inside e = e ∙ ap (λ t. read_step_of t state) (take_all (length text - at) (drop at text) (omega (arith, length-drop at text)))
 
-  pub step_past : length text < at → r ≡ readStepOf (take (length text - length text) (drop (length text) text)) state → r ≡ step_of text at state
+  pub step_past : length text < at → r ≡ read_step_of (take (length text - length text) (drop (length text) text)) state → r ≡ step_of text at state
   unfolding step_of
   step_past h e =
       let z : length text - length text ≡ 0 = omega arith in
       e
-      ∙ ap (λ k. readStepOf (take k (drop (length text) text)) state) z
-      ∙ ap (λ t. readStepOf t state) (sym (gone at text (omega arith)))
+      ∙ ap (λ k. read_step_of (take k (drop (length text) text)) state) z
+      ∙ ap (λ t. read_step_of t state) (sym (gone at text (omega arith)))

@@ -1,9 +1,9 @@
 -- The two parts of a plan (document 01, "The station tool"): its first line, and the text of its path. Places count bytes from 0. Definitions only.
 use Rattle.std.specs.Prelude.{ℕ, ◌+◌, ◌-◌, ◌&&◌, cond, List, ltb, leb, eqb, get_or, drop}
 use Rattle.answers.specs.declared.refusals.Refusal.TheVariants.{Range}
-use Rattle.scan.specs.Runs.{pastDigitsOf}
-use Rattle.decimal_digits.specs.Digits.{digitsIn, val}
-use Rattle.svg_step.specs.Steps.{readStepOf}
+use Rattle.scan.specs.Runs.{past_digits_of}
+use Rattle.decimal_digits.specs.Digits.{digits_in, val}
+use Rattle.svg_step.specs.Steps.{read_step_of}
 use Rattle.svg_step.specs.declared.steps.Reader.{Reader}
 use Rattle.svg_step.specs.declared.steps.Step.{Step}
 use Rattle.text_reader.specs.declared.line.FirstLine.{FirstLine}
@@ -14,11 +14,11 @@ unfoldable pub judged : ℕ → ℕ → FirstLine
 judged count next = cond (leb 2 count && leb count 1000) (Stations count next) (Refused (Range count))
 
 -- "the number of stations in 1 to 9 digits, LF"; "of another form it is 13 with 0"
-unfoldable pub firstLineOf : List ℕ → ℕ → FirstLine
-firstLineOf text at =
-    let end = pastDigitsOf text at in
+unfoldable pub first_line_of : List ℕ → ℕ → FirstLine
+first_line_of text at =
+    let end = past_digits_of text at in
     cond (leb 1 (end - at) && leb (end - at) 9 && eqb (get_or text end 0) 10)
-    (judged (val (digitsIn text at end)) (end + 1))
+    (judged (val (digits_in text at end)) (end + 1))
     (Refused (Range 0))
 
 -- where reading goes on: past a line that is read, and at its start where it is refused
@@ -28,4 +28,4 @@ past_of (Refused reason) at = at
 
 -- a step of the path whose text starts at a place: its places and offsets count from there
 unfoldable pub step_of : List ℕ → ℕ → Reader → Step
-step_of text at state = readStepOf (drop at text) state
+step_of text at state = read_step_of (drop at text) state

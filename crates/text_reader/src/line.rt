@@ -1,6 +1,6 @@
 // The first line of a plan: how many stations it asks for.
 ghost use Rattle.std.specs.Prelude.{◌≡◌};
-ghost use Rattle.text_reader.specs.Plans.{firstLineOf, judged, past_of};
+ghost use Rattle.text_reader.specs.Plans.{first_line_of, judged, past_of};
 
 use answers::Refusal;
 
@@ -27,7 +27,7 @@ fn judge(count: usize, next: usize) -> FirstLine
 
 // The line that starts at `at`: 1 to 9 digits and a LF.
 pub fn line_at(text: &[u8], at: usize) -> FirstLine
-    ensures { result ≡ firstLineOf text.now at }
+    ensures { result ≡ first_line_of text.now at }
 {
     let run = decimal_digits::inner::exponent(text, at);
     let end = run.at;

@@ -1,6 +1,6 @@
 // The text reader: a lent text and a place in it.
 ghost use Rattle.std.specs.Prelude.{◌≡◌};
-ghost use Rattle.text_reader.specs.Plans.{firstLineOf};
+ghost use Rattle.text_reader.specs.Plans.{first_line_of};
 
 use crate::line::{FirstLine, line_at};
 
@@ -20,7 +20,7 @@ pub fn reader_at<'a>(text: &'a [u8], at: usize) -> TextReader<'a>
 impl<'a> TextReader<'a> {
     // The first line, which starts at the reader's place.
     pub fn line(self) -> FirstLine
-        ensures { result ≡ firstLineOf self.entry.text.now self.entry.at }
+        ensures { result ≡ first_line_of self.entry.text.now self.entry.at }
     {
         line_at(self.text, self.at)
     }

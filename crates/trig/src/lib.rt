@@ -5,8 +5,8 @@ mod near;
 mod sides;
 
 ghost use Rattle.std.specs.Prelude.{◌≡◌};
-ghost use Rattle.trig_rule.specs.Rule.{inReach};
-ghost use Rattle.trig_rule.specs.Steps.{sineOf, cosineOf};
+ghost use Rattle.trig_rule.specs.Rule.{in_the_reach};
+ghost use Rattle.trig_rule.specs.Steps.{sine_of, cosine_of};
 
 use crate::near::{cosine_near, sine_near};
 use crate::sides::{fixed, reduce, sine_sides};
@@ -19,14 +19,14 @@ pub struct SinCos {
 
 // Whether x is at most 64 in size. A NaN is not.
 pub fn in_reach(x: f32) -> bool
-    ensures { result ≡ inReach x }
+    ensures { result ≡ in_the_reach x }
 {
     -64.0 <= x && x <= 64.0
 }
 
 // The sine of an angle of at most 64 in size, and NaN for any other.
 pub fn sin(x: f32) -> f32
-    ensures { result ≡ sineOf x }
+    ensures { result ≡ sine_of x }
 {
     if !in_reach(x) {
         return 0.0 / 0.0;
@@ -43,7 +43,7 @@ pub fn sin(x: f32) -> f32
 
 // The cosine of an angle of at most 64 in size, and NaN for any other.
 pub fn cos(x: f32) -> f32
-    ensures { result ≡ cosineOf x }
+    ensures { result ≡ cosine_of x }
 {
     if !in_reach(x) {
         return 0.0 / 0.0;
@@ -58,7 +58,7 @@ pub fn cos(x: f32) -> f32
 
 // Both at once, with one reduction.
 pub fn sin_cos(x: f32) -> SinCos
-    ensures { (result.sin ≡ sineOf x) × (result.cos ≡ cosineOf x) }
+    ensures { (result.sin ≡ sine_of x) × (result.cos ≡ cosine_of x) }
 {
     if !in_reach(x) {
         return SinCos {

@@ -2,9 +2,9 @@
 // to one of 24.
 ghost use Rattle.std.specs.Prelude.{◌≡◌, ◌+◌, ◌*◌, ◌/◌, ◌%◌, ◌^◌, ◌<◌, ◌≤◌, ◌≢◌, from_bits};
 ghost use Rattle.std.specs.Float.{binary32};
-ghost use Rattle.floats.specs.Patterns.{narrowStep, narrowHalf};
-ghost use Rattle.trig_rule.specs.Steps.{half, gap_of, overOf, packOf, cosineAt};
-ghost use Rattle.trig_single.specs.Single.{Ranged, Stands, signedSingle, sineFrom};
+ghost use Rattle.floats.specs.Patterns.{narrow_step, narrow_half};
+ghost use Rattle.trig_rule.specs.Steps.{half, gap_of, over_of, pack_of, cosine_at};
+ghost use Rattle.trig_single.specs.Single.{Ranged, Stands, signed_single, sine_from};
 
 use crate::sides::{Sides, cosine_sides, sine_at};
 
@@ -12,7 +12,7 @@ use crate::sides::{Sides, cosine_sides, sine_at};
 // about there.
 fn single(b: u64) -> f32
     requires { Ranged b }
-    ensures { result ≡ from_bits binary32 (signedSingle b) }
+    ensures { result ≡ from_bits binary32 (signed_single b) }
 {
     f64::from_bits((b + 0x1000_0000) / 0x2000_0000 * 0x2000_0000) as f32
 }
@@ -20,7 +20,7 @@ fn single(b: u64) -> f32
 // (a - t) / 2^28 as an f32. In the bits of 1.5·2^24 the last digit is 2^-28.
 pub fn near(a: u64, t: u64) -> f32
     requires { (a < 2 ^ 32) × (t < 2 ^ 32) }
-    ensures { result ≡ from_bits binary32 (overOf a t * 2 ^ 31 + packOf (gap_of a t) 58) }
+    ensures { result ≡ from_bits binary32 (over_of a t * 2 ^ 31 + pack_of (gap_of a t) 58) }
 {
     let d = f64::from_bits(0x4178_0000_0000_0000 + a - t) - 25165824.0;
     single(f64::to_bits(d))
@@ -29,7 +29,7 @@ pub fn near(a: u64, t: u64) -> f32
 // The cosine at r.
 pub(crate) fn cosine_near(r: u64) -> f32
     requires { r ≤ half }
-    ensures { result ≡ from_bits binary32 (cosineAt r) }
+    ensures { result ≡ from_bits binary32 (cosine_at r) }
 {
     let sides = cosine_sides(r);
     near(sides.plus, sides.minus)
@@ -40,7 +40,7 @@ pub(crate) fn cosine_near(r: u64) -> f32
 // the last 22 are cut off.
 fn product(turned: u32, r: u64, sides: Sides) -> u64
     requires { (2 ^ 36 ≤ r) × (r ≤ half) × (sides.plus < 2 ^ 32) × (sides.minus < 2 ^ 32) }
-    ensures { (result % narrowStep ≢ narrowHalf) → Stands result (sineFrom turned r sides.plus sides.minus) }
+    ensures { (result % narrow_step ≢ narrow_half) → Stands result (sine_from turned r sides.plus sides.minus) }
 {
     let b = f64::to_bits((r / 32) as f64);
     let head = f64::from_bits(b - b % 0x40_0000);
@@ -55,7 +55,7 @@ fn product(turned: u32, r: u64, sides: Sides) -> u64
 // decide.
 pub(crate) fn sine_near(turned: u32, r: u64, sides: Sides) -> f32
     requires { (turned ≤ 2) × (r ≤ half) × (sides.plus < 2 ^ 32) × (sides.minus < 2 ^ 32) }
-    ensures { result ≡ from_bits binary32 (sineFrom turned r sides.plus sides.minus) }
+    ensures { result ≡ from_bits binary32 (sine_from turned r sides.plus sides.minus) }
 {
     if 0x10_0000_0000 <= r {
         let w = product(turned, r, sides);

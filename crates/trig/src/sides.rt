@@ -1,8 +1,8 @@
 // The steps of sine and cosine on whole numbers. Angles are counted in 2^-56, and each function
 // asks that its own is small enough.
 ghost use Rattle.std.specs.Prelude.{◌≡◌, ◌+◌, ◌-◌, ◌*◌, ◌/◌, ◌%◌, ◌^◌, ◌<◌, ◌≤◌};
-ghost use Rattle.trig_rule.specs.Steps.{half, fixed_of, rest_of, flipOf, squareOf, fourthOf, risen, sinePlus, sineMinus, cosinePlus, cosineMinus, gap_of, overOf, dropOf, packOf};
-ghost use Rattle.trig_single.specs.Single.{sineFrom};
+ghost use Rattle.trig_rule.specs.Steps.{half, fixed_of, rest_of, flip_of, square_of, fourth_of, risen, sine_plus, sine_minus, cosine_plus, cosine_minus, gap_of, over_of, drop_of, pack_of};
+ghost use Rattle.trig_single.specs.Single.{sine_from};
 
 // The size of a float, from its bits without the sign.
 pub fn fixed(a: u32) -> u64
@@ -22,7 +22,7 @@ pub struct Rest {
 // How far x is from the nearest multiple of a turn, and whether it is below it.
 pub fn reduce(x: u64) -> Rest
     requires { x ≤ 2 ^ 63 }
-    ensures { (result.size ≡ rest_of x) × (result.flip ≡ flipOf x) × (result.size ≤ half) × (result.flip ≤ 1) }
+    ensures { (result.size ≡ rest_of x) × (result.flip ≡ flip_of x) × (result.size ≤ half) × (result.flip ≤ 1) }
 {
     let k = (x + 0x3243_F6A8_885A_308) / 0x6487_ED51_10B4_611 * 0x6487_ED51_10B4_611;
     if k <= x {
@@ -49,7 +49,7 @@ pub fn rise(a: u64, v: u64, h: u64) -> u64
 // r^2 / 16 in units of 2^-32.
 pub fn square(r: u64) -> u64
     requires { r ≤ half }
-    ensures { (result ≡ squareOf r) × (result < 2 ^ 32) }
+    ensures { (result ≡ square_of r) × (result < 2 ^ 32) }
 {
     let p = r >> 26;
     (p * p) >> 32
@@ -58,7 +58,7 @@ pub fn square(r: u64) -> u64
 // r^4 / 256 in units of 2^-32.
 pub fn fourth(r: u64) -> u64
     requires { r ≤ half }
-    ensures { (result ≡ fourthOf r) × (result < 2 ^ 32) }
+    ensures { (result ≡ fourth_of r) × (result < 2 ^ 32) }
 {
     let z = square(r);
     (z * z) >> 32
@@ -82,7 +82,7 @@ pub fn rungs(a: u64, b: u64, c: u64, d: u64, v: u64) -> u64
 // sin r / r in units of 2^-30. The numbers are 16^k·2^30 / (2k+1)!.
 pub fn sine_sides(r: u64) -> Sides
     requires { r ≤ half }
-    ensures { (result.plus ≡ sinePlus r) × (result.minus ≡ sineMinus r) × (result.plus < 2 ^ 32) × (result.minus < 2 ^ 32) }
+    ensures { (result.plus ≡ sine_plus r) × (result.minus ≡ sine_minus r) × (result.plus < 2 ^ 32) × (result.minus < 2 ^ 32) }
 {
     let v = fourth(r);
     let p = rise(
@@ -101,7 +101,7 @@ pub fn sine_sides(r: u64) -> Sides
 // cos r in units of 2^-28. The numbers are 16^k·2^28 / (2k)!.
 pub fn cosine_sides(r: u64) -> Sides
     requires { r ≤ half }
-    ensures { (result.plus ≡ cosinePlus r) × (result.minus ≡ cosineMinus r) × (result.plus < 2 ^ 32) × (result.minus < 2 ^ 32) }
+    ensures { (result.plus ≡ cosine_plus r) × (result.minus ≡ cosine_minus r) × (result.plus < 2 ^ 32) × (result.minus < 2 ^ 32) }
 {
     let v = fourth(r);
     let p = rise(
@@ -126,14 +126,14 @@ pub fn gap(a: u64, t: u64) -> u64
 
 // Whether a - t is negative.
 pub fn over(a: u64, t: u64) -> u32
-    ensures { (result ≡ overOf a t) × (result ≤ 1) }
+    ensures { (result ≡ over_of a t) × (result ≤ 1) }
 {
     if t <= a { 0 } else { 1 }
 }
 
 // How many low digits of r are dropped, to keep 31.
 pub fn dropped(r: u64) -> u32
-    ensures { (result ≡ dropOf r) × (result ≤ 33) × (r / 2 ^ result < 2 ^ 31) }
+    ensures { (result ≡ drop_of r) × (result ≤ 33) × (r / 2 ^ result < 2 ^ 31) }
 {
     let z = u64::leading_zeros(r);
     if z < 33 { 33 - z } else { 0 }
@@ -142,7 +142,7 @@ pub fn dropped(r: u64) -> u32
 // The bits of the float nearest to w·2^(s - 86).
 pub fn pack(w: u64, s: u32) -> u32
     requires { s ≤ 60 }
-    ensures { (result ≡ packOf w s) × (result ≤ 1400000000) }
+    ensures { (result ≡ pack_of w s) × (result ≤ 1400000000) }
 {
     if w == 0 {
         return 0;
@@ -156,7 +156,7 @@ pub fn pack(w: u64, s: u32) -> u32
 // The bits of the sine at r from its two sides, where `turned` counts what turns its sign over.
 pub fn sine_at(turned: u32, r: u64, sides: Sides) -> u32
     requires { (turned ≤ 2) × (sides.plus < 2 ^ 32) × (sides.minus < 2 ^ 32) }
-    ensures { (result ≡ sineFrom turned r sides.plus sides.minus) × (result % 2147483648 ≤ 1400000000) }
+    ensures { (result ≡ sine_from turned r sides.plus sides.minus) × (result % 2147483648 ≤ 1400000000) }
 {
     let s = dropped(r);
     let m = pack((r >> s) * gap(sides.plus, sides.minus), s);

@@ -9,7 +9,7 @@ use mathlib.Core.List.{List}
 use lib.ListN.{length, get_or, set, length-set}
 use lib.Seq.{get_or-set_same, get_or-set_other, ext_get_or}
 use lib.Ieee.{Float, nan}
-use Rattle.trig_all.specs.Rows.{Row, Run, angleOf}
+use Rattle.trig_all.specs.Rows.{Row, Run, angle_of}
 
 -- ---- a row of whole numbers
 pub row-start : {numbers : ℕ → ℕ} {row : List ℕ} → length row ≡ 8 → Row numbers 0 row
@@ -59,7 +59,7 @@ module _ {f : Float → Float} {at i : ℕ} {angles old row : List Float} where
   pub run-here : Run f at i angles old row → get_or row (at + i) nan ≡ get_or old (at + i) nan
   run-here r = r.rest (at + i) (inr (le_refl _))
 
-  pub run_more : Run f at i angles old row → at + i < 32 → (v : Float) → v ≡ f (angleOf angles at i) → Run f at (i + 1) angles old (set row (at + i) v)
+  pub run_more : Run f at i angles old row → at + i < 32 → (v : Float) → v ≡ f (angle_of angles at i) → Run f at (i + 1) angles old (set row (at + i) v)
   run_more r inside v e =
       record {
         size = length-set row (at + i) v ∙ r.size;
@@ -67,9 +67,9 @@ module _ {f : Float → Float} {at i : ℕ} {angles old row : List Float} where
         rest = λ j g. get_or-set_other row (at + i) j v nan (apart j g) ∙ r.rest j (before j g);
       }
     where
-      put : (k : ℕ) → (k ≡ i) ⊎ (k < i) → get_or (set row (at + i) v) (at + k) nan ≡ f (angleOf angles at k)
+      put : (k : ℕ) → (k ≡ i) ⊎ (k < i) → get_or (set row (at + i) v) (at + k) nan ≡ f (angle_of angles at k)
       put k (inl q) =
-          subst (λ (j : ℕ). get_or (set row (at + i) v) (at + j) nan ≡ f (angleOf angles at j)) (sym q) (get_or-set_same row (at + i) v nan (omega (arith, r.size)) ∙ e)
+          subst (λ (j : ℕ). get_or (set row (at + i) v) (at + j) nan ≡ f (angle_of angles at j)) (sym q) (get_or-set_same row (at + i) v nan (omega (arith, r.size)) ∙ e)
       put k (inr q) = get_or-set_other row (at + i) (at + k) v nan (λ (x : at + k ≡ at + i). omega arith) ∙ r.own k q
 
       apart : (j : ℕ) → (j < at) ⊎ (at + (i + 1) ≤ j) → j ≡ at + i → ⊥

@@ -1,8 +1,8 @@
 // From a run's angles to its sines and cosines, which take the angles' places in two rows of 32. In each pass a step waits for none
 // before it.
 ghost use Rattle.std.specs.Prelude.{◌≡◌, ℕ, ◌+◌, ◌-◌, ◌≤◌, length};
-ghost use Rattle.trig_rule.specs.Steps.{sinePlus, sineMinus, cosinePlus, cosineMinus, sineOf, cosineOf};
-ghost use Rattle.trig_all.specs.Rows.{Row, Run, rest_at, flipAt};
+ghost use Rattle.trig_rule.specs.Steps.{sine_plus, sine_minus, cosine_plus, cosine_minus, sine_of, cosine_of};
+ghost use Rattle.trig_all.specs.Rows.{Row, Run, rest_at, flip_at};
 
 use crate::steps::{cosine_from, sine_from, stepped_bits};
 use crate::sums::{cosine_sums, put_fourths, sine_sums};
@@ -12,7 +12,7 @@ use trig::inner::{fixed, reduce};
 fn put_rests(x: &[f32; 32], at: usize, n: usize, r: &mut [u64; 8], flip: &mut [u8; 8])
     requires { (n ≤ 8) × (at + n ≤ 32) × (length r.old ≡ 8) × (length flip.old ≡ 8) }
     ensures rests { Row (rest_at x.now at) n r.new }
-    ensures flips { Row (flipAt x.now at) n flip.new }
+    ensures flips { Row (flip_at x.now at) n flip.new }
 {
     let mut i = 0usize;
     while i < n {
@@ -33,8 +33,8 @@ fn put_cosines(
     y: &mut [f32; 32],
 )
     requires places { (n ≤ 8) × (at + n ≤ 32) × (length y.old ≡ 32) }
-    requires sums { Row (λ (k : ℕ). cosinePlus (rest_at x.now at k)) n plus.now × Row (λ (k : ℕ). cosineMinus (rest_at x.now at k)) n minus.now }
-    ensures { Run cosineOf at n x.now y.old y.new }
+    requires sums { Row (λ (k : ℕ). cosine_plus (rest_at x.now at k)) n plus.now × Row (λ (k : ℕ). cosine_minus (rest_at x.now at k)) n minus.now }
+    ensures { Run cosine_of at n x.now y.old y.new }
 {
     let mut i = 0usize;
     while i < n {
@@ -54,9 +54,9 @@ fn put_sines(
     x: &mut [f32; 32],
 )
     requires places { (n ≤ 8) × (at + n ≤ 32) × (length x.old ≡ 32) }
-    requires rests { Row (rest_at x.old at) n r.now × Row (flipAt x.old at) n flip.now }
-    requires sums { Row (λ (k : ℕ). sinePlus (rest_at x.old at k)) n plus.now × Row (λ (k : ℕ). sineMinus (rest_at x.old at k)) n minus.now }
-    ensures { Run sineOf at n x.old x.old x.new }
+    requires rests { Row (rest_at x.old at) n r.now × Row (flip_at x.old at) n flip.now }
+    requires sums { Row (λ (k : ℕ). sine_plus (rest_at x.old at k)) n plus.now × Row (λ (k : ℕ). sine_minus (rest_at x.old at k)) n minus.now }
+    ensures { Run sine_of at n x.old x.old x.new }
 {
     let mut i = 0usize;
     while i < n {
@@ -68,8 +68,8 @@ fn put_sines(
 // Puts the sines of the angles from place `from` to before `to` in their places, and the cosines beside them.
 pub fn sin_cos_run(x: &mut [f32; 32], y: &mut [f32; 32], from: usize, to: usize)
     requires { (length x.old ≡ 32) × (length y.old ≡ 32) × (from ≤ to) × (to ≤ from + 8) × (to ≤ 32) }
-    ensures sines { Run sineOf from (to - from) x.old x.old x.new }
-    ensures cosines { Run cosineOf from (to - from) x.old y.old y.new }
+    ensures sines { Run sine_of from (to - from) x.old x.old x.new }
+    ensures cosines { Run cosine_of from (to - from) x.old y.old y.new }
 {
     let n = to - from;
     let mut r = [0u64; 8];

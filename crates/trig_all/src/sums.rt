@@ -2,15 +2,15 @@
 // lanes; how many angles there are is not written in it, since a loop of 8 known places is unrolled instead. The functions ask that a row
 // has 8 places, which its type says and the logic does not know.
 ghost use Rattle.std.specs.Prelude.{◌≡◌, ℕ, ◌+◌, ◌^◌, ◌≤◌, ◌<◌, get_or, length};
-ghost use Rattle.trig_rule.specs.Steps.{squareOf, fourthOf, risen, sinePlus, sineMinus, cosinePlus, cosineMinus};
-ghost use Rattle.trig_all.specs.Rows.{Row, Below, rungsOf};
+ghost use Rattle.trig_rule.specs.Steps.{square_of, fourth_of, risen, sine_plus, sine_minus, cosine_plus, cosine_minus};
+ghost use Rattle.trig_all.specs.Rows.{Row, Below, rungs_of};
 
 use crate::steps::{fourth, rise, square};
 
 // Puts the fourth power of each.
 pub(crate) fn put_fourths(r: &[u64; 8], n: usize, v: &mut [u64; 8])
     requires { (n ≤ 8) × (length v.old ≡ 8) × Below (2 ^ 58) n r.now }
-    ensures { Row (λ (k : ℕ). fourthOf (get_or r.now k 0)) n v.new }
+    ensures { Row (λ (k : ℕ). fourth_of (get_or r.now k 0)) n v.new }
 {
     let mut i = 0usize;
     while i < n {
@@ -46,7 +46,7 @@ fn next_rungs(v: &[u64; 8], a: u64, b: u64, n: usize, row: &mut [u32; 8])
 // a + v·(b + v·(c + v·(d + v·e))) for each v.
 fn ladder(v: &[u64; 8], a: u64, b: u64, c: u64, d: u64, e: u64, n: usize, row: &mut [u32; 8])
     requires { (n ≤ 8) × (a + b + c + d + e < 2 ^ 32) × (length row.old ≡ 8) × Below (2 ^ 32) n v.now }
-    ensures { Row (λ (k : ℕ). rungsOf a b c d e (get_or v.now k 0)) n row.new }
+    ensures { Row (λ (k : ℕ). rungs_of a b c d e (get_or v.now k 0)) n row.new }
 {
     first_rungs(v, c, d, e, n, row);
     next_rungs(v, a, b, n, row);
@@ -55,7 +55,7 @@ fn ladder(v: &[u64; 8], a: u64, b: u64, c: u64, d: u64, e: u64, n: usize, row: &
 // Each times the square of its r.
 fn times_squares(r: &[u64; 8], n: usize, row: &mut [u32; 8])
     requires { (n ≤ 8) × (length row.old ≡ 8) × Below (2 ^ 58) n r.now × Below (2 ^ 32) n row.old }
-    ensures { Row (λ (k : ℕ). risen 0 (squareOf (get_or r.now k 0)) (get_or row.old k 0)) n row.new }
+    ensures { Row (λ (k : ℕ). risen 0 (square_of (get_or r.now k 0)) (get_or row.old k 0)) n row.new }
 {
     let mut i = 0usize;
     while i < n {
@@ -72,9 +72,9 @@ pub(crate) fn sine_sums(
     plus: &mut [u32; 8],
     minus: &mut [u32; 8],
 )
-    requires { (n ≤ 8) × (length plus.old ≡ 8) × (length minus.old ≡ 8) × Below (2 ^ 58) n r.now × Row (λ (k : ℕ). fourthOf (get_or r.now k 0)) n v.now }
-    ensures plus { Row (λ (k : ℕ). sinePlus (get_or r.now k 0)) n plus.new }
-    ensures minus { Row (λ (k : ℕ). sineMinus (get_or r.now k 0)) n minus.new }
+    requires { (n ≤ 8) × (length plus.old ≡ 8) × (length minus.old ≡ 8) × Below (2 ^ 58) n r.now × Row (λ (k : ℕ). fourth_of (get_or r.now k 0)) n v.now }
+    ensures plus { Row (λ (k : ℕ). sine_plus (get_or r.now k 0)) n plus.new }
+    ensures minus { Row (λ (k : ℕ). sine_minus (get_or r.now k 0)) n minus.new }
 {
     ladder(
         v,
@@ -98,9 +98,9 @@ pub(crate) fn cosine_sums(
     plus: &mut [u32; 8],
     minus: &mut [u32; 8],
 )
-    requires { (n ≤ 8) × (length plus.old ≡ 8) × (length minus.old ≡ 8) × Below (2 ^ 58) n r.now × Row (λ (k : ℕ). fourthOf (get_or r.now k 0)) n v.now }
-    ensures plus { Row (λ (k : ℕ). cosinePlus (get_or r.now k 0)) n plus.new }
-    ensures minus { Row (λ (k : ℕ). cosineMinus (get_or r.now k 0)) n minus.new }
+    requires { (n ≤ 8) × (length plus.old ≡ 8) × (length minus.old ≡ 8) × Below (2 ^ 58) n r.now × Row (λ (k : ℕ). fourth_of (get_or r.now k 0)) n v.now }
+    ensures plus { Row (λ (k : ℕ). cosine_plus (get_or r.now k 0)) n plus.new }
+    ensures minus { Row (λ (k : ℕ). cosine_minus (get_or r.now k 0)) n minus.new }
 {
     ladder(
         v,

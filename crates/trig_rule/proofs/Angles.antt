@@ -9,14 +9,14 @@ use lib.Dec.{T, lit≤, lit<}
 use lib.Pow.{pow-add, pow_mono}
 use lib.Ieee.{Float, binary32, fits, to_bits, of_bits}
 use lib.Ieee.Bits.{of_bits-to_bits, to_bits-lt}
-use Rattle.floats.specs.Patterns.{hidden, signPlace}
+use Rattle.floats.specs.Patterns.{hidden, sign_place}
 use Rattle.trig_rule.specs.Rule.{Is}
-use Rattle.trig_rule.specs.Steps.{tinyBits, fixed_of, plain, sign_bit}
+use Rattle.trig_rule.specs.Steps.{tiny_bits, fixed_of, plain, sign_bit}
 use Rattle.trig_rule.proofs.Patterns.{bit, with-sign, sign_of_bits, sign_and_rest, normal-value, subnormal-value}
 
 -- ---- bits without the sign
 -- at least 2 ^ -33, so that it is a whole number of 2 ^ -56
-pub angle-value : (a : ℕ) → tinyBits ≤ a → a ≤ 1115684864 → Is (of_bits binary32 a) false (fixed_of a * 2 ^ 93)
+pub angle-value : (a : ℕ) → tiny_bits ≤ a → a ≤ 1115684864 → Is (of_bits binary32 a) false (fixed_of a * 2 ^ 93)
 angle-value a lo hi = subst (λ (n : ℕ). Is (of_bits binary32 a) false n) value (normal-value a (omega arith) (omega arith))
   where
     split : a / hidden - 1 ≡ a / hidden - 94 + 93
@@ -32,7 +32,7 @@ pub record Small (a : ℕ) : Type 0 where
   pub value : Is (of_bits binary32 a) false units
   pub under : units < 2 ^ 137
 
-pub small-value : (a : ℕ) → a < tinyBits → Small a
+pub small-value : (a : ℕ) → a < tiny_bits → Small a
 small-value a h = go (dec_le hidden a)
   where
     go : Dec (hidden ≤ a) → Small a
@@ -57,5 +57,5 @@ signed x f =
       bits = p.1;
       value = λ n v.
           subst (λ (y : Float). Is y p.0 n) (of_bits-to_bits binary32 x f)
-          (subst (λ (c : ℕ). Is (of_bits binary32 c) p.0 n) (sym (sign_and_rest b p.0 p.1)) (with-sign p.0 (b % signPlace) n (omega arith) v));
+          (subst (λ (c : ℕ). Is (of_bits binary32 c) p.0 n) (sym (sign_and_rest b p.0 p.1)) (with-sign p.0 (b % sign_place) n (omega arith) v));
     }

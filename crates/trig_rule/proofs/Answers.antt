@@ -8,9 +8,9 @@ use lib.Dec.{T, lit<}
 use lib.Ieee.{Float, nan, inf, fin, down, binary32, fits}
 use lib.Ieee.Bits.{of_bits-fits}
 use lib.Ieee.Fits.{nan-fits, down_pos}
-use Rattle.trig_rule.specs.Reduction.{turnUnits, Reduced}
-use Rattle.trig_rule.specs.Rule.{inReach, Is}
-use Rattle.trig_rule.specs.Steps.{tinyBits, fixed_of, flipOf, rest_of, plain, sign_bit, sineAt, cosineAt, sineOf, cosineOf}
+use Rattle.trig_rule.specs.Reduction.{turn_units, Reduced}
+use Rattle.trig_rule.specs.Rule.{in_the_reach, Is}
+use Rattle.trig_rule.specs.Steps.{tiny_bits, fixed_of, flip_of, rest_of, plain, sign_bit, sine_at, cosine_at, sine_of, cosine_of}
 use Rattle.trig_rule.proofs.Turns.{reduced, reduced-unique, rest-no-half}
 use Rattle.trig_rule.proofs.Angles.{angle-value, small-value, Signed, signed}
 use Rattle.trig_rule.proofs.Reach.{reach-plain}
@@ -18,21 +18,21 @@ use Rattle.trig_rule.proofs.Little.{little-reduced}
 use Rattle.trig_rule.proofs.Ruled.{sine-far, sine-tiny, sine-main, cosine-far, cosine-tiny, cosine-main}
 
 -- ---- the format
-pub sine-fits : (x : Float) → T (fits binary32 x) → T (fits binary32 (sineOf x))
-sine-fits x f = go (inReach x) refl (dec_le tinyBits (plain x))
+pub sine-fits : (x : Float) → T (fits binary32 x) → T (fits binary32 (sine_of x))
+sine-fits x f = go (in_the_reach x) refl (dec_le tiny_bits (plain x))
   where
-    go : (b : Bool) → inReach x ≡ b → Dec (tinyBits ≤ plain x) → T (fits binary32 (sineOf x))
+    go : (b : Bool) → in_the_reach x ≡ b → Dec (tiny_bits ≤ plain x) → T (fits binary32 (sine_of x))
     go false h d = subst (λ (y : Float). T (fits binary32 y)) (sym (sine-far x h)) (nan-fits binary32)
     go true h (no g) = subst (λ (y : Float). T (fits binary32 y)) (sym (sine-tiny x h (lt_of_not-le g))) f
-    go true h (yes l) = subst (λ (y : Float). T (fits binary32 y)) (sym (sine-main x h l)) (of_bits-fits binary32 (sineAt (sign_bit x + flipOf (fixed_of (plain x))) (rest_of (fixed_of (plain x)))))
+    go true h (yes l) = subst (λ (y : Float). T (fits binary32 y)) (sym (sine-main x h l)) (of_bits-fits binary32 (sine_at (sign_bit x + flip_of (fixed_of (plain x))) (rest_of (fixed_of (plain x)))))
 
-pub cosine-fits : (x : Float) → T (fits binary32 (cosineOf x))
-cosine-fits x = go (inReach x) refl (dec_le tinyBits (plain x))
+pub cosine-fits : (x : Float) → T (fits binary32 (cosine_of x))
+cosine-fits x = go (in_the_reach x) refl (dec_le tiny_bits (plain x))
   where
-    go : (b : Bool) → inReach x ≡ b → Dec (tinyBits ≤ plain x) → T (fits binary32 (cosineOf x))
+    go : (b : Bool) → in_the_reach x ≡ b → Dec (tiny_bits ≤ plain x) → T (fits binary32 (cosine_of x))
     go false h d = subst (λ (y : Float). T (fits binary32 y)) (sym (cosine-far x h)) (nan-fits binary32)
     go true h (no g) = subst (λ (y : Float). T (fits binary32 y)) (sym (cosine-tiny x h (lt_of_not-le g))) (of_bits-fits binary32 1065353216)
-    go true h (yes l) = subst (λ (y : Float). T (fits binary32 y)) (sym (cosine-main x h l)) (of_bits-fits binary32 (cosineAt (rest_of (fixed_of (plain x)))))
+    go true h (yes l) = subst (λ (y : Float). T (fits binary32 y)) (sym (cosine-main x h l)) (of_bits-fits binary32 (cosine_at (rest_of (fixed_of (plain x)))))
 
 -- ---- an exact half of a turn
 -- a value has one size
@@ -41,19 +41,19 @@ size-unique nan s t n m v w = absurd v
 size-unique (inf u) s t n m v w = absurd v
 size-unique (fin u k e) s t n m v w = eq_of_mul-eq-mul_right (down e) (down_pos e) n m (sym v.1 ∙ w.1)
 
-tiny-no-half : (n : ℕ) → n < 2 ^ 137 → 2 * n ≡ turnUnits → ⊥
-tiny-no-half n h e = lt_irrefl turnUnits (lt_of_le_of_lt (le_of_eq (sym e)) (lt_of_le_of_lt (twice n h) (lit< tt)))
+tiny-no-half : (n : ℕ) → n < 2 ^ 137 → 2 * n ≡ turn_units → ⊥
+tiny-no-half n h e = lt_irrefl turn_units (lt_of_le_of_lt (le_of_eq (sym e)) (lt_of_le_of_lt (twice n h) (lit< tt)))
   where
     twice : (n : ℕ) → n < 2 ^ 137 → 2 * n ≤ 2 * 2 ^ 137
     twice n h = le_of_lt (mul-lt-mul_of_pos_left h (lit< tt))
 
-pub no-half : (x : Float) → T (fits binary32 x) → T (inReach x) → (s b : Bool) (n r : ℕ) → Is x s n → Reduced n r b → 2 * r ≡ turnUnits → ⊥
-no-half x f t s b n r v d e = go (dec_le tinyBits (plain x))
+pub no-half : (x : Float) → T (fits binary32 x) → T (in_the_reach x) → (s b : Bool) (n r : ℕ) → Is x s n → Reduced n r b → 2 * r ≡ turn_units → ⊥
+no-half x f t s b n r v d e = go (dec_le tiny_bits (plain x))
   where
     z : Signed x
     z = signed x f
 
-    go : Dec (tinyBits ≤ plain x) → ⊥
+    go : Dec (tiny_bits ≤ plain x) → ⊥
     go (yes l) =
         let X = fixed_of (plain x) in
         let same : n ≡ X * 2 ^ 93 = size-unique x s z.minus n (X * 2 ^ 93) v (z.value (X * 2 ^ 93) (angle-value (plain x) l (reach-plain x f t))) in

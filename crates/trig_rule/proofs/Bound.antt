@@ -11,9 +11,9 @@ use lib.Pow.{pow_pos, pow_mono, pow-add, shr_lt}
 use lib.Count.{count_leading_zeros, leading_length}
 use lib.Ieee.{binary32, of_bits}
 use borrow.Author.Tests.{le-leb, lt-leb}
-use Rattle.trig_rule.specs.Sums.{whole, sineAdded, sineTaken, sineSide, cosineAdded, cosineTaken, cosineSide}
+use Rattle.trig_rule.specs.Sums.{whole, sine_added, sine_taken, sine_side, cosine_added, cosine_taken, cosine_side}
 use Rattle.trig_rule.specs.Rule.{Is, Within}
-use Rattle.trig_rule.specs.Steps.{half, sinePlus, sineMinus, cosinePlus, cosineMinus, gap_of, dropOf, packOf}
+use Rattle.trig_rule.specs.Steps.{half, sine_plus, sine_minus, cosine_plus, cosine_minus, gap_of, drop_of, pack_of}
 use Rattle.trig_rule.proofs.Near.{SineNear, sine-near, CosineNear, cosine-near}
 use Rattle.trig_rule.proofs.Gaps.{sine-gap, cosine-gap}
 use Rattle.trig_rule.proofs.Packed.{Packed, pack-near, pow_lt_cancel}
@@ -27,7 +27,7 @@ gap-minus : (a t : ℕ) → a < t → gap_of a t + a ≡ t
 gap-minus a t h = simp (lt-leb t a h) (omega arith)
 
 -- ---- the product of R, cut to 31 digits, and the gap
-drop_le : (R : ℕ) → R ≤ half → dropOf R ≤ 27
+drop_le : (R : ℕ) → R ≤ half → drop_of R ≤ 27
 drop_le R h =
     let l = leading_length 64 R (omega arith) in
     let e : count_leading_zeros 64 R + l.0 ≡ 64 = l.1 in
@@ -35,12 +35,12 @@ drop_le R h =
     let v : l.0 < 59 = pow_lt_cancel u in
     omega arith
 
-kept-lt : (R : ℕ) → R ≤ half → R / 2 ^ dropOf R < 2 ^ 31
+kept-lt : (R : ℕ) → R ≤ half → R / 2 ^ drop_of R < 2 ^ 31
 kept-lt R h =
     let l = leading_length 64 R (omega arith) in
     let e : count_leading_zeros 64 R + l.0 ≡ 64 = l.1 in
-    let m : l.0 ≤ 31 + dropOf R = omega arith in
-    shr_lt 31 (dropOf R) (lt_of_lt_of_le l.2 (pow_mono m))
+    let m : l.0 ≤ 31 + drop_of R = omega arith in
+    shr_lt 31 (drop_of R) (lt_of_lt_of_le l.2 (pow_mono m))
 
 cut-above : (y u v c d : ℕ) → y ≤ u + c → u ≤ v → y ≤ v + (c + d)
 cut-above y u v c d h l = omega arith
@@ -73,8 +73,8 @@ module _ (R g s y : ℕ) (hs : s ≤ 27) (hg : g ≤ 2 ^ 30) where
 -- the sides by the steps' own comparison: they change places where the steps take away more than they add
 pub record SineAt (R : ℕ) : Type 0 where
   pub units : ℕ
-  pub value : Is (of_bits binary32 (packOf (R / 2 ^ dropOf R * gap_of (sinePlus R) (sineMinus R)) (dropOf R))) false units
-  pub bound : Within units (sineSide (leb (sineMinus R) (sinePlus R)) R (2 ^ 56)) (sineSide (not (leb (sineMinus R) (sinePlus R))) R (2 ^ 56)) (whole 31 (2 ^ 56))
+  pub value : Is (of_bits binary32 (pack_of (R / 2 ^ drop_of R * gap_of (sine_plus R) (sine_minus R)) (drop_of R))) false units
+  pub bound : Within units (sine_side (leb (sine_minus R) (sine_plus R)) R (2 ^ 56)) (sine_side (not (leb (sine_minus R) (sine_plus R))) R (2 ^ 56)) (whole 31 (2 ^ 56))
 
 -- g is a - t, each near its side over the whole W
 module _ (R g a t A T W y : ℕ) (hR : R ≤ 2 ^ 58) (sum : g + t ≡ a) (al : R * a * W ≤ 2 ^ 86 * A) (ah : 2 ^ 86 * A ≤ R * (a + 15) * W) (tl : R * t * W ≤ 2 ^ 86 * T) (th : 2 ^ 86 * T ≤ R * (t + 15) * W)
@@ -96,16 +96,16 @@ pub sine-at : (R : ℕ) → R ≤ half → SineAt R
 sine-at R h = record { units = p.units; value = p.value; bound = go (dec_le t a) }
   where
     a : ℕ
-    a = sinePlus R
+    a = sine_plus R
 
     t : ℕ
-    t = sineMinus R
+    t = sine_minus R
 
     g : ℕ
-    g = gap_of (sinePlus R) (sineMinus R)
+    g = gap_of (sine_plus R) (sine_minus R)
 
     s : ℕ
-    s = dropOf R
+    s = drop_of R
 
     g-le : g ≤ 2 ^ 30
     g-le = sine-gap R h
@@ -138,19 +138,19 @@ sine-at R h = record { units = p.units; value = p.value; bound = go (dec_le t a)
     W = whole 31 (2 ^ 56)
 
     family : Bool → Type 0
-    family b = Within y (sineSide b R (2 ^ 56)) (sineSide (not b) R (2 ^ 56)) W
+    family b = Within y (sine_side b R (2 ^ 56)) (sine_side (not b) R (2 ^ 56)) W
 
     go : Dec (t ≤ a) → family (leb t a)
-    go (yes k) = subst family (sym (le-leb t a k)) (sine-within R g a t (sineAdded R (2 ^ 56)) (sineTaken R (2 ^ 56)) W y small (gap-plus a t k) n.plus-low n.plus-high n.minus-low n.minus-high ya yb)
+    go (yes k) = subst family (sym (le-leb t a k)) (sine-within R g a t (sine_added R (2 ^ 56)) (sine_taken R (2 ^ 56)) W y small (gap-plus a t k) n.plus-low n.plus-high n.minus-low n.minus-high ya yb)
     go (no f) =
         let k : a < t = lt_of_not-le f in
-        subst family (sym (lt-leb t a k)) (sine-within R g t a (sineTaken R (2 ^ 56)) (sineAdded R (2 ^ 56)) W y small (gap-minus a t k) n.minus-low n.minus-high n.plus-low n.plus-high ya yb)
+        subst family (sym (lt-leb t a k)) (sine-within R g t a (sine_taken R (2 ^ 56)) (sine_added R (2 ^ 56)) W y small (gap-minus a t k) n.minus-low n.minus-high n.plus-low n.plus-high ya yb)
 
 -- ---- the cosine
 pub record CosineAt (R : ℕ) : Type 0 where
   pub units : ℕ
-  pub value : Is (of_bits binary32 (packOf (gap_of (cosinePlus R) (cosineMinus R)) 58)) false units
-  pub bound : Within units (cosineSide (leb (cosineMinus R) (cosinePlus R)) R (2 ^ 56)) (cosineSide (not (leb (cosineMinus R) (cosinePlus R))) R (2 ^ 56)) (whole 30 (2 ^ 56))
+  pub value : Is (of_bits binary32 (pack_of (gap_of (cosine_plus R) (cosine_minus R)) 58)) false units
+  pub bound : Within units (cosine_side (leb (cosine_minus R) (cosine_plus R)) R (2 ^ 56)) (cosine_side (not (leb (cosine_minus R) (cosine_plus R))) R (2 ^ 56)) (whole 30 (2 ^ 56))
 
 module _ (g a t A T W y : ℕ) (sum : g + t ≡ a) (al : a * W ≤ 2 ^ 28 * A) (ah : 2 ^ 28 * A ≤ (a + 8) * W) (tl : t * W ≤ 2 ^ 28 * T) (th : 2 ^ 28 * T ≤ (t + 8) * W)
     (ya : y ≤ 2 ^ 121 * g + 2 ^ 126) (yb : 2 ^ 121 * g ≤ y + 2 ^ 126) where
@@ -167,13 +167,13 @@ pub cosine-at : (R : ℕ) → R ≤ half → CosineAt R
 cosine-at R h = record { units = p.units; value = p.value; bound = go (dec_le t a) }
   where
     a : ℕ
-    a = cosinePlus R
+    a = cosine_plus R
 
     t : ℕ
-    t = cosineMinus R
+    t = cosine_minus R
 
     g : ℕ
-    g = gap_of (cosinePlus R) (cosineMinus R)
+    g = gap_of (cosine_plus R) (cosine_minus R)
 
     g-lt : g < 2 ^ 30
     g-lt = cosine-gap R h
@@ -197,10 +197,10 @@ cosine-at R h = record { units = p.units; value = p.value; bound = go (dec_le t 
     W = whole 30 (2 ^ 56)
 
     family : Bool → Type 0
-    family b = Within y (cosineSide b R (2 ^ 56)) (cosineSide (not b) R (2 ^ 56)) W
+    family b = Within y (cosine_side b R (2 ^ 56)) (cosine_side (not b) R (2 ^ 56)) W
 
     go : Dec (t ≤ a) → family (leb t a)
-    go (yes k) = subst family (sym (le-leb t a k)) (cosine-within g a t (cosineAdded R (2 ^ 56)) (cosineTaken R (2 ^ 56)) W y (gap-plus a t k) n.plus-low n.plus-high n.minus-low n.minus-high ya yb)
+    go (yes k) = subst family (sym (le-leb t a k)) (cosine-within g a t (cosine_added R (2 ^ 56)) (cosine_taken R (2 ^ 56)) W y (gap-plus a t k) n.plus-low n.plus-high n.minus-low n.minus-high ya yb)
     go (no f) =
         let k : a < t = lt_of_not-le f in
-        subst family (sym (lt-leb t a k)) (cosine-within g t a (cosineTaken R (2 ^ 56)) (cosineAdded R (2 ^ 56)) W y (gap-minus a t k) n.minus-low n.minus-high n.plus-low n.plus-high ya yb)
+        subst family (sym (lt-leb t a k)) (cosine-within g t a (cosine_taken R (2 ^ 56)) (cosine_added R (2 ^ 56)) W y (gap-minus a t k) n.minus-low n.minus-high n.plus-low n.plus-high ya yb)

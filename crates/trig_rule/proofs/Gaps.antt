@@ -10,7 +10,7 @@ use lib.Dec.{T, leb, leb→le}
 use lib.Ieee.Fits.{and_l, and_r}
 use borrow.Author.Tests.{le-leb, lt-leb}
 use Rattle.trig_rule.specs.Sums.{factorial}
-use Rattle.trig_rule.specs.Steps.{half, squareOf, fourthOf, coefficient, ladder, sinePlus, sineMinus, cosinePlus, cosineMinus, gap_of}
+use Rattle.trig_rule.specs.Steps.{half, square_of, fourth_of, coefficient, ladder, sine_plus, sine_minus, cosine_plus, cosine_minus, gap_of}
 use Rattle.trig_rule.proofs.Ladder.{most, peak, ladder-le}
 use Rattle.trig_rule.proofs.Sided.{powers}
 
@@ -40,25 +40,25 @@ gap-le a t n h k = go (dec_le t a)
 
 module _ (R : ℕ) (small : R ≤ half) where
   abbrev z : ℕ
-  z = squareOf R
+  z = square_of R
 
   abbrev v : ℕ
-  v = fourthOf R
+  v = fourth_of R
 
-  z-le : squareOf R ≤ 2649351757
+  z-le : square_of R ≤ 2649351757
   z-le = (powers R small).square_le
 
-  v-le-z : fourthOf R ≤ squareOf R
+  v-le-z : fourth_of R ≤ square_of R
   v-le-z =
       let a : z * z ≤ 2649351757 * z = mul-le-mul_right z z-le in
       let b : v * 2 ^ 32 ≤ z * z = div-mul-le_self (z * z) (2 ^ 32) in
       omega arith
 
-  peak-le : (U : ℕ) (js : List ℕ) → ladder U (fourthOf R) js ≤ peak U js
+  peak-le : (U : ℕ) (js : List ℕ) → ladder U (fourth_of R) js ≤ peak U js
   peak-le U js = let p = powers R small in ladder-le 0 U (2 ^ 200) (2 ^ 224) (R ^ 4) v refl p.fourth-low p.fourth-high p.fourth-le js
 
   -- ---- the sine: what is added beside the 1 is at most what is taken away, and that is less than 2
-  pub sine-gap : gap_of (sinePlus R) (sineMinus R) ≤ 2 ^ 30
+  pub sine-gap : gap_of (sine_plus R) (sine_minus R) ≤ 2 ^ 30
   unfolding under peak factorial
   sine-gap =
       let e = ladder (2 ^ 30) v (5 ∷ 9 ∷ 13 ∷ 17 ∷ []) in
@@ -66,10 +66,10 @@ module _ (R : ℕ) (small : R ≤ half) where
       let order : v * e ≤ z * o = mul-le-mul v-le-z (ladder-mono (2 ^ 30) v (5 ∷ 9 ∷ 13 ∷ 17 ∷ []) (3 ∷ 7 ∷ 11 ∷ 15 ∷ []) tt) in
       let most-o : o ≤ 3199446237 = peak-le (2 ^ 30) (3 ∷ 7 ∷ 11 ∷ 15 ∷ []) in
       let top : z * o ≤ 2649351757 * 3199446237 = mul-le-mul z-le most-o in
-      gap-le (sinePlus R) (sineMinus R) (2 ^ 30) (omega arith) (omega arith)
+      gap-le (sine_plus R) (sine_minus R) (2 ^ 30) (omega arith) (omega arith)
 
   -- ---- the cosine: the same, and what is taken away is at most r ^ 2 / 2 more
-  pub cosine-gap : gap_of (cosinePlus R) (cosineMinus R) < 2 ^ 30
+  pub cosine-gap : gap_of (cosine_plus R) (cosine_minus R) < 2 ^ 30
   unfolding under peak factorial ladder
   cosine-gap =
       let e = ladder (2 ^ 28) v (4 ∷ 8 ∷ 12 ∷ 16 ∷ []) in
@@ -86,5 +86,5 @@ module _ (R : ℕ) (small : R ≤ half) where
       let inner : v * o ≤ v * e = mul-le-mul_left v (ladder-mono (2 ^ 28) v (6 ∷ 10 ∷ 14 ∷ 18 ∷ []) (4 ∷ 8 ∷ 12 ∷ 16 ∷ []) tt) in
       let split : z * (2147483648 + q) ≡ z * 2147483648 + z * q = mul-add z 2147483648 q in
       let wide : z * q ≤ 2 ^ 32 * q = mul-le-mul_right q (le_trans z-le (omega arith)) in
-      let bound : gap_of (cosinePlus R) (cosineMinus R) ≤ 2 ^ 30 - 1 = gap-le (cosinePlus R) (cosineMinus R) (2 ^ 30 - 1) (omega arith) (omega arith) in
+      let bound : gap_of (cosine_plus R) (cosine_minus R) ≤ 2 ^ 30 - 1 = gap-le (cosine_plus R) (cosine_minus R) (2 ^ 30 - 1) (omega arith) (omega arith) in
       omega arith

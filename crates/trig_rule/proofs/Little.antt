@@ -10,8 +10,8 @@ use lib.Dec.{T, leb, leb→le, lit≤}
 use lib.ListN.{length}
 use lib.Pow.{pow-add}
 use lib.Ieee.Fits.{and_l, and_r}
-use Rattle.trig_rule.specs.Sums.{factorial, term, terms, whole, sineSide, cosineSide}
-use Rattle.trig_rule.specs.Reduction.{turnUnits, apart, Reduced}
+use Rattle.trig_rule.specs.Sums.{factorial, term, terms, whole, sine_side, cosine_side}
+use Rattle.trig_rule.specs.Reduction.{turn_units, apart, Reduced}
 use Rattle.trig_rule.specs.Rule.{tolerance, Within}
 use Rattle.trig_rule.proofs.Factorial.{factorial-pos, factorial-divides}
 use Rattle.trig_rule.proofs.Ladder.{up_to}
@@ -35,15 +35,15 @@ pub little-reduced : (n : ℕ) → n < 2 ^ 137 → Reduced n n false
 little-reduced n h =
     record {
       turns = 0;
-      left = add-zero n ∙ sym (ap (λ (m : ℕ). m + n) (zero-mul turnUnits) ∙ zero-add n);
-      smallest = λ k. nearest-none n turnUnits k (le_trans (add-le-add (le_of_lt h) (le_of_lt h)) (lit≤ tt));
+      left = add-zero n ∙ sym (ap (λ (m : ℕ). m + n) (zero-mul turn_units) ∙ zero-add n);
+      smallest = λ k. nearest-none n turn_units k (le_trans (add-le-add (le_of_lt h) (le_of_lt h)) (lit≤ tt));
     }
 
 -- ---- the terms from r ^ 2 / 2! on
 -- every exponent is 2 at least
-unfoldable twoUp : List ℕ → Bool
-twoUp [] = true
-twoUp (j ∷ js) = leb 2 j && twoUp js
+unfoldable two_up : List ℕ → Bool
+two_up [] = true
+two_up (j ∷ js) = leb 2 j && two_up js
 
 two-le-factorial : (j : ℕ) → 2 ≤ j → 2 ≤ factorial j
 unfolding factorial
@@ -76,12 +76,12 @@ module _ (N n d : ℕ) (small : n * 2 ^ 12 ≤ d) where
       regroup : (x y a b g : ℕ) → x * y * (a * b * g) ≡ x * a * b * (y * g)
       regroup x y a b g = simp (mul_assoc, mul_left_comm)
 
-  terms-small : (js : List ℕ) → T (twoUp js) → T (up_to N js) → 2 ^ 25 * terms N n d js ≤ length js * whole N d
-  unfolding terms twoUp up_to
+  terms-small : (js : List ℕ) → T (two_up js) → T (up_to N js) → 2 ^ 25 * terms N n d js ≤ length js * whole N d
+  unfolding terms two_up up_to
   terms-small [] t u = le_of_eq (mul-zero (2 ^ 25) ∙ sym (zero-mul (whole N d)))
   terms-small (j ∷ js) t u =
-      let a = term-small j (leb→le 2 j (and_l (leb 2 j) (twoUp js) t)) (leb→le j N (and_l (leb j N) (up_to N js) u)) in
-      let b = terms-small js (and_r (leb 2 j) (twoUp js) t) (and_r (leb j N) (up_to N js) u) in
+      let a = term-small j (leb→le 2 j (and_l (leb 2 j) (two_up js) t)) (leb→le j N (and_l (leb j N) (up_to N js) u)) in
+      let b = terms-small js (and_r (leb 2 j) (two_up js) t) (and_r (leb j N) (up_to N js) u) in
       le_trans (le_of_eq (mul-add (2 ^ 25) (term N n d j) (terms N n d js))) (le_trans (add-le-add a b) (le_of_eq (one_more (length js) (whole N d))))
     where
       one_more : (l w : ℕ) → w + l * w ≡ suc l * w
@@ -91,7 +91,7 @@ module _ (N n d : ℕ) (small : n * 2 ^ 12 ≤ d) where
           next = omega arith
 
   -- eight of them at most
-  rest-small : (js : List ℕ) → T (twoUp js) → T (up_to N js) → length js ≤ 8 → 2 ^ 149 * terms N n d js ≤ tolerance * whole N d
+  rest-small : (js : List ℕ) → T (two_up js) → T (up_to N js) → length js ≤ 8 → 2 ^ 149 * terms N n d js ≤ tolerance * whole N d
   rest-small js t u l =
       le_trans (le_of_eq (mul_assoc (2 ^ 124) (2 ^ 25) (terms N n d js)))
       (le_trans (mul-le-mul_left (2 ^ 124) (le_trans (terms-small js t u) (mul-le-mul_right (whole N d) l))) (le_trans (le_of_eq (sym (mul_assoc (2 ^ 124) 8 (whole N d)))) (mul-le-mul_right (whole N d) (lit≤ tt))))
@@ -118,8 +118,8 @@ sine-first n =
     regroup : (a r b g : ℕ) → a * (r * b * g) ≡ r * (a * b * g)
     regroup a r b g = simp (mul_assoc, mul_left_comm)
 
-pub sine-little : (n : ℕ) → n < 2 ^ 137 → Within n (sineSide true n (2 ^ 149)) (sineSide false n (2 ^ 149)) (whole 31 (2 ^ 149))
-unfolding terms twoUp up_to
+pub sine-little : (n : ℕ) → n < 2 ^ 137 → Within n (sine_side true n (2 ^ 149)) (sine_side false n (2 ^ 149)) (whole 31 (2 ^ 149))
+unfolding terms two_up up_to
 sine-little n h =
     let js : List ℕ = 5 ∷ 9 ∷ 13 ∷ 17 ∷ 21 ∷ 25 ∷ 29 ∷ [] in
     let ks : List ℕ = 3 ∷ 7 ∷ 11 ∷ 15 ∷ 19 ∷ 23 ∷ 27 ∷ 31 ∷ [] in
@@ -130,8 +130,8 @@ cosine-first : (n : ℕ) → 2 ^ 149 * (n ^ 0 * (2 ^ 149) ^ 30 * (factorial 30 /
 unfolding whole factorial
 cosine-first n = ap (λ (m : ℕ). 2 ^ 149 * (m * (2 ^ 149) ^ 30 * (factorial 30 / factorial 0))) (pow-zero n)
 
-pub cosine-little : (n : ℕ) → n < 2 ^ 137 → Within (2 ^ 149) (cosineSide true n (2 ^ 149)) (cosineSide false n (2 ^ 149)) (whole 30 (2 ^ 149))
-unfolding terms twoUp up_to
+pub cosine-little : (n : ℕ) → n < 2 ^ 137 → Within (2 ^ 149) (cosine_side true n (2 ^ 149)) (cosine_side false n (2 ^ 149)) (whole 30 (2 ^ 149))
+unfolding terms two_up up_to
 cosine-little n h =
     let js : List ℕ = 4 ∷ 8 ∷ 12 ∷ 16 ∷ 20 ∷ 24 ∷ 28 ∷ [] in
     let ks : List ℕ = 2 ∷ 6 ∷ 10 ∷ 14 ∷ 18 ∷ 22 ∷ 26 ∷ 30 ∷ [] in

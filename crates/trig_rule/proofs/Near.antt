@@ -6,26 +6,26 @@ use native.Mathlib.Nat.{add-le-add, le_refl, le_trans, le_of_eq, mul_assoc, mul_
 use native.Mathlib.Omega.{arith}
 use mathlib.Core.List.{[], ◌∷◌}
 use lib.Dec.{lit≤}
-use Rattle.trig_rule.specs.Sums.{factorial, terms, whole, sineAdded, sineTaken, cosineAdded, cosineTaken}
-use Rattle.trig_rule.specs.Steps.{half, squareOf, fourthOf, ladder, sinePlus, sineMinus, cosinePlus, cosineMinus}
+use Rattle.trig_rule.specs.Sums.{factorial, terms, whole, sine_added, sine_taken, cosine_added, cosine_taken}
+use Rattle.trig_rule.specs.Steps.{half, square_of, fourth_of, ladder, sine_plus, sine_minus, cosine_plus, cosine_minus}
 use Rattle.trig_rule.proofs.Nested.{follows}
 use Rattle.trig_rule.proofs.Ladder.{peak, lost, lack, up_to}
 use Rattle.trig_rule.proofs.Sided.{Sided, four, two}
 
 -- ---- the four sides, the first terms apart
-sine-plus-side : (R : ℕ) → R ≤ half → Sided 31 R (2 ^ 30) 1 (fourthOf R * ladder (2 ^ 30) (fourthOf R) (5 ∷ 9 ∷ 13 ∷ 17 ∷ []) / 2 ^ 32) 6 (5 ∷ 9 ∷ 13 ∷ 17 ∷ 21 ∷ 25 ∷ 29 ∷ [])
+sine-plus-side : (R : ℕ) → R ≤ half → Sided 31 R (2 ^ 30) 1 (fourth_of R * ladder (2 ^ 30) (fourth_of R) (5 ∷ 9 ∷ 13 ∷ 17 ∷ []) / 2 ^ 32) 6 (5 ∷ 9 ∷ 13 ∷ 17 ∷ 21 ∷ 25 ∷ 29 ∷ [])
 unfolding follows up_to peak lost lack factorial
 sine-plus-side R h = four 31 (2 ^ 30) 1 2 5 (5 ∷ 9 ∷ 13 ∷ 17 ∷ []) (21 ∷ 25 ∷ 29 ∷ []) tt tt refl R h 5 refl refl (lit≤ tt)
 
-sine-minus-side : (R : ℕ) → R ≤ half → Sided 31 R (2 ^ 30) 1 (squareOf R * ladder (2 ^ 30) (fourthOf R) (3 ∷ 7 ∷ 11 ∷ 15 ∷ []) / 2 ^ 32) 15 (3 ∷ 7 ∷ 11 ∷ 15 ∷ 19 ∷ 23 ∷ 27 ∷ 31 ∷ [])
+sine-minus-side : (R : ℕ) → R ≤ half → Sided 31 R (2 ^ 30) 1 (square_of R * ladder (2 ^ 30) (fourth_of R) (3 ∷ 7 ∷ 11 ∷ 15 ∷ []) / 2 ^ 32) 15 (3 ∷ 7 ∷ 11 ∷ 15 ∷ 19 ∷ 23 ∷ 27 ∷ 31 ∷ [])
 unfolding follows up_to peak lost lack factorial
 sine-minus-side R h = two 31 (2 ^ 30) 1 0 3 (3 ∷ 7 ∷ 11 ∷ 15 ∷ []) (19 ∷ 23 ∷ 27 ∷ 31 ∷ []) tt tt refl R h 14 refl refl (lit≤ tt)
 
-cosine-plus-side : (R : ℕ) → R ≤ half → Sided 30 R (2 ^ 28) 0 (fourthOf R * ladder (2 ^ 28) (fourthOf R) (4 ∷ 8 ∷ 12 ∷ 16 ∷ []) / 2 ^ 32) 8 (4 ∷ 8 ∷ 12 ∷ 16 ∷ 20 ∷ 24 ∷ 28 ∷ [])
+cosine-plus-side : (R : ℕ) → R ≤ half → Sided 30 R (2 ^ 28) 0 (fourth_of R * ladder (2 ^ 28) (fourth_of R) (4 ∷ 8 ∷ 12 ∷ 16 ∷ []) / 2 ^ 32) 8 (4 ∷ 8 ∷ 12 ∷ 16 ∷ 20 ∷ 24 ∷ 28 ∷ [])
 unfolding follows up_to peak lost lack factorial
 cosine-plus-side R h = four 30 (2 ^ 28) 0 2 4 (4 ∷ 8 ∷ 12 ∷ 16 ∷ []) (20 ∷ 24 ∷ 28 ∷ []) tt tt refl R h 7 refl refl (lit≤ tt)
 
-cosine-minus-side : (R : ℕ) → R ≤ half → Sided 30 R (2 ^ 28) 0 (squareOf R * ladder (2 ^ 28) (fourthOf R) (2 ∷ 6 ∷ 10 ∷ 14 ∷ 18 ∷ []) / 2 ^ 32) 7 (2 ∷ 6 ∷ 10 ∷ 14 ∷ 18 ∷ 22 ∷ 26 ∷ 30 ∷ [])
+cosine-minus-side : (R : ℕ) → R ≤ half → Sided 30 R (2 ^ 28) 0 (square_of R * ladder (2 ^ 28) (fourth_of R) (2 ∷ 6 ∷ 10 ∷ 14 ∷ 18 ∷ []) / 2 ^ 32) 7 (2 ∷ 6 ∷ 10 ∷ 14 ∷ 18 ∷ 22 ∷ 26 ∷ 30 ∷ [])
 unfolding follows up_to peak lost lack factorial
 cosine-minus-side R h = two 30 (2 ^ 28) 0 0 2 (2 ∷ 6 ∷ 10 ∷ 14 ∷ 18 ∷ []) (22 ∷ 26 ∷ 30 ∷ []) tt tt refl R h 6 refl refl (lit≤ tt)
 
@@ -52,10 +52,10 @@ to_one n = pow-suc n 0 ∙ ap (λ (m : ℕ). m * n) (pow-zero n) ∙ one-mul n
 
 -- ---- the sine: sin r / r in units of 2 ^ -30, times r, which is R units of 2 ^ -56
 pub record SineNear (R : ℕ) : Type 0 where
-  pub plus-low : R * sinePlus R * whole 31 (2 ^ 56) ≤ 2 ^ 86 * sineAdded R (2 ^ 56)
-  pub plus-high : 2 ^ 86 * sineAdded R (2 ^ 56) ≤ R * (sinePlus R + 15) * whole 31 (2 ^ 56)
-  pub minus-low : R * sineMinus R * whole 31 (2 ^ 56) ≤ 2 ^ 86 * sineTaken R (2 ^ 56)
-  pub minus-high : 2 ^ 86 * sineTaken R (2 ^ 56) ≤ R * (sineMinus R + 15) * whole 31 (2 ^ 56)
+  pub plus-low : R * sine_plus R * whole 31 (2 ^ 56) ≤ 2 ^ 86 * sine_added R (2 ^ 56)
+  pub plus-high : 2 ^ 86 * sine_added R (2 ^ 56) ≤ R * (sine_plus R + 15) * whole 31 (2 ^ 56)
+  pub minus-low : R * sine_minus R * whole 31 (2 ^ 56) ≤ 2 ^ 86 * sine_taken R (2 ^ 56)
+  pub minus-high : 2 ^ 86 * sine_taken R (2 ^ 56) ≤ R * (sine_minus R + 15) * whole 31 (2 ^ 56)
 
 -- a smaller error is below 15, and below 8
 more_room : (n q e f W : ℕ) → e ≤ f → n * (q + e) * W ≤ n * (q + f) * W
@@ -74,13 +74,13 @@ sine-near R h =
     let p = sine-plus-side R h in
     let m = sine-minus-side R h in
     let W = whole 31 (2 ^ 56) in
-    let q = fourthOf R * ladder (2 ^ 30) (fourthOf R) (5 ∷ 9 ∷ 13 ∷ 17 ∷ []) / 2 ^ 32 in
-    let o = squareOf R * ladder (2 ^ 30) (fourthOf R) (3 ∷ 7 ∷ 11 ∷ 15 ∷ []) / 2 ^ 32 in
+    let q = fourth_of R * ladder (2 ^ 30) (fourth_of R) (5 ∷ 9 ∷ 13 ∷ 17 ∷ []) / 2 ^ 32 in
+    let o = square_of R * ladder (2 ^ 30) (fourth_of R) (3 ∷ 7 ∷ 11 ∷ 15 ∷ []) / 2 ^ 32 in
     let t = terms 31 R (2 ^ 56) (5 ∷ 9 ∷ 13 ∷ 17 ∷ 21 ∷ 25 ∷ 29 ∷ []) in
     let pl : q * (R * W) ≤ 2 ^ 86 * t = subst (λ (n : ℕ). q * (n * W) ≤ 2 ^ 86 * t) (to_one R) p.low in
     let ph : 2 ^ 86 * t ≤ (q + 6) * (R * W) = subst (λ (n : ℕ). 2 ^ 86 * t ≤ (q + 6) * (n * W)) (to_one R) p.high in
-    let ml : o * (R * W) ≤ 2 ^ 86 * sineTaken R (2 ^ 56) = subst (λ (n : ℕ). o * (n * W) ≤ 2 ^ 86 * sineTaken R (2 ^ 56)) (to_one R) m.low in
-    let mh : 2 ^ 86 * sineTaken R (2 ^ 56) ≤ (o + 15) * (R * W) = subst (λ (n : ℕ). 2 ^ 86 * sineTaken R (2 ^ 56) ≤ (o + 15) * (n * W)) (to_one R) m.high in
+    let ml : o * (R * W) ≤ 2 ^ 86 * sine_taken R (2 ^ 56) = subst (λ (n : ℕ). o * (n * W) ≤ 2 ^ 86 * sine_taken R (2 ^ 56)) (to_one R) m.low in
+    let mh : 2 ^ 86 * sine_taken R (2 ^ 56) ≤ (o + 15) * (R * W) = subst (λ (n : ℕ). 2 ^ 86 * sine_taken R (2 ^ 56) ≤ (o + 15) * (n * W)) (to_one R) m.high in
     record {
       plus-low = first-low (2 ^ 30) (2 ^ 86) q R W (R ^ 1 * (2 ^ 56) ^ 30 * (factorial 31 / factorial 1)) t (sine-first R) pl;
       plus-high = le_trans (first-high (2 ^ 30) (2 ^ 86) q 6 R W (R ^ 1 * (2 ^ 56) ^ 30 * (factorial 31 / factorial 1)) t (sine-first R) ph) (more_room R (2 ^ 30 + q) 6 15 W (omega arith));
@@ -90,10 +90,10 @@ sine-near R h =
 
 -- ---- the cosine, in units of 2 ^ -28
 pub record CosineNear (R : ℕ) : Type 0 where
-  pub plus-low : cosinePlus R * whole 30 (2 ^ 56) ≤ 2 ^ 28 * cosineAdded R (2 ^ 56)
-  pub plus-high : 2 ^ 28 * cosineAdded R (2 ^ 56) ≤ (cosinePlus R + 8) * whole 30 (2 ^ 56)
-  pub minus-low : cosineMinus R * whole 30 (2 ^ 56) ≤ 2 ^ 28 * cosineTaken R (2 ^ 56)
-  pub minus-high : 2 ^ 28 * cosineTaken R (2 ^ 56) ≤ (cosineMinus R + 8) * whole 30 (2 ^ 56)
+  pub plus-low : cosine_plus R * whole 30 (2 ^ 56) ≤ 2 ^ 28 * cosine_added R (2 ^ 56)
+  pub plus-high : 2 ^ 28 * cosine_added R (2 ^ 56) ≤ (cosine_plus R + 8) * whole 30 (2 ^ 56)
+  pub minus-low : cosine_minus R * whole 30 (2 ^ 56) ≤ 2 ^ 28 * cosine_taken R (2 ^ 56)
+  pub minus-high : 2 ^ 28 * cosine_taken R (2 ^ 56) ≤ (cosine_minus R + 8) * whole 30 (2 ^ 56)
 
 cosine-first : (R : ℕ) → 2 ^ 28 * (R ^ 0 * (2 ^ 56) ^ 30 * (factorial 30 / factorial 0)) ≡ 2 ^ 28 * (1 * whole 30 (2 ^ 56))
 unfolding whole factorial
@@ -105,14 +105,14 @@ cosine-near R h =
     let p = cosine-plus-side R h in
     let m = cosine-minus-side R h in
     let W = whole 30 (2 ^ 56) in
-    let q = fourthOf R * ladder (2 ^ 28) (fourthOf R) (4 ∷ 8 ∷ 12 ∷ 16 ∷ []) / 2 ^ 32 in
-    let o = squareOf R * ladder (2 ^ 28) (fourthOf R) (2 ∷ 6 ∷ 10 ∷ 14 ∷ 18 ∷ []) / 2 ^ 32 in
+    let q = fourth_of R * ladder (2 ^ 28) (fourth_of R) (4 ∷ 8 ∷ 12 ∷ 16 ∷ []) / 2 ^ 32 in
+    let o = square_of R * ladder (2 ^ 28) (fourth_of R) (2 ∷ 6 ∷ 10 ∷ 14 ∷ 18 ∷ []) / 2 ^ 32 in
     let t1 = R ^ 0 * (2 ^ 56) ^ 30 * (factorial 30 / factorial 0) in
     let t = terms 30 R (2 ^ 56) (4 ∷ 8 ∷ 12 ∷ 16 ∷ 20 ∷ 24 ∷ 28 ∷ []) in
     let pl : q * (1 * W) ≤ 2 ^ 28 * t = subst (λ (n : ℕ). q * (n * W) ≤ 2 ^ 28 * t) (pow-zero R) p.low in
     let ph : 2 ^ 28 * t ≤ (q + 8) * (1 * W) = subst (λ (n : ℕ). 2 ^ 28 * t ≤ (q + 8) * (n * W)) (pow-zero R) p.high in
-    let ml : o * (1 * W) ≤ 2 ^ 28 * cosineTaken R (2 ^ 56) = subst (λ (n : ℕ). o * (n * W) ≤ 2 ^ 28 * cosineTaken R (2 ^ 56)) (pow-zero R) m.low in
-    let mh : 2 ^ 28 * cosineTaken R (2 ^ 56) ≤ (o + 7) * (1 * W) = subst (λ (n : ℕ). 2 ^ 28 * cosineTaken R (2 ^ 56) ≤ (o + 7) * (n * W)) (pow-zero R) m.high in
+    let ml : o * (1 * W) ≤ 2 ^ 28 * cosine_taken R (2 ^ 56) = subst (λ (n : ℕ). o * (n * W) ≤ 2 ^ 28 * cosine_taken R (2 ^ 56)) (pow-zero R) m.low in
+    let mh : 2 ^ 28 * cosine_taken R (2 ^ 56) ≤ (o + 7) * (1 * W) = subst (λ (n : ℕ). 2 ^ 28 * cosine_taken R (2 ^ 56) ≤ (o + 7) * (n * W)) (pow-zero R) m.high in
     record {
       plus-low = le_trans (le_of_eq (ap (λ (k : ℕ). k * W) (sym (one-mul (2 ^ 28 + q))))) (first-low (2 ^ 28) (2 ^ 28) q 1 W t1 t (cosine-first R) pl);
       plus-high = le_trans (first-high (2 ^ 28) (2 ^ 28) q 8 1 W t1 t (cosine-first R) ph) (le_of_eq (ap (λ (k : ℕ). k * W) (one-mul (2 ^ 28 + q + 8))));

@@ -12,27 +12,27 @@ use lib.Ieee.{Float, nan, inf, fin, binary32, odd, of_fields, of_bits}
 use lib.Ieee.Bits.{cond_no}
 use lib.Ieee.Exact.{HasValue, odd_sign}
 use borrow.Author.Tests.{le-leb, lt-leb}
-use Rattle.floats.specs.Patterns.{hidden, infinityBits, signPlace}
+use Rattle.floats.specs.Patterns.{hidden, infinity_bits, sign_place}
 use Rattle.trig_rule.specs.Rule.{Is}
 
 -- ---- the fields of a pattern without and with the sign's bit
-pub ofBits-plus : (b : ℕ) → b < signPlace → of_bits binary32 b ≡ of_fields binary32 false (b / hidden) (b % hidden)
+pub of_pattern-plus : (b : ℕ) → b < sign_place → of_bits binary32 b ≡ of_fields binary32 false (b / hidden) (b % hidden)
 unfolding of_bits
-ofBits-plus b h =
-    ap (λ (s : Bool). of_fields binary32 s (b % signPlace / hidden) (b % hidden)) (lt-leb signPlace b h)
+of_pattern-plus b h =
+    ap (λ (s : Bool). of_fields binary32 s (b % sign_place / hidden) (b % hidden)) (lt-leb sign_place b h)
     ∙ ap (λ (y : ℕ). of_fields binary32 false (y / hidden) (b % hidden)) (mod-eq_of_lt h)
 
-pub ofBits-minus : (b : ℕ) → b < signPlace → of_bits binary32 (signPlace + b) ≡ of_fields binary32 true (b / hidden) (b % hidden)
+pub of_pattern-minus : (b : ℕ) → b < sign_place → of_bits binary32 (sign_place + b) ≡ of_fields binary32 true (b / hidden) (b % hidden)
 unfolding of_bits
-ofBits-minus b h =
-    ap (λ (s : Bool). of_fields binary32 s ((signPlace + b) % signPlace / hidden) ((signPlace + b) % hidden)) (le-leb signPlace (signPlace + b) (omega arith))
-    ∙ ap (λ (y : ℕ). of_fields binary32 true y ((signPlace + b) % hidden)) high
+of_pattern-minus b h =
+    ap (λ (s : Bool). of_fields binary32 s ((sign_place + b) % sign_place / hidden) ((sign_place + b) % hidden)) (le-leb sign_place (sign_place + b) (omega arith))
+    ∙ ap (λ (y : ℕ). of_fields binary32 true y ((sign_place + b) % hidden)) high
     ∙ ap (λ (y : ℕ). of_fields binary32 true (b / hidden) y) low
   where
-    high : (signPlace + b) % signPlace / hidden ≡ b / hidden
+    high : (sign_place + b) % sign_place / hidden ≡ b / hidden
     high = omega arith
 
-    low : (signPlace + b) % hidden ≡ b % hidden
+    low : (sign_place + b) % hidden ≡ b % hidden
     low = omega arith
 
 -- ---- the sign's bit alone turns the sign over
@@ -56,21 +56,21 @@ bit false = 0
 bit true = 1
 
 -- bits below 2 ^ 31, with a sign before them
-pub with-sign : (s : Bool) (b a : ℕ) → b < signPlace → Is (of_bits binary32 b) false a → Is (of_bits binary32 (bit s * signPlace + b)) s a
+pub with-sign : (s : Bool) (b a : ℕ) → b < sign_place → Is (of_bits binary32 b) false a → Is (of_bits binary32 (bit s * sign_place + b)) s a
 with-sign false b a h v = subst (λ (n : ℕ). Is (of_bits binary32 n) false a) (sym (zero-add b)) v
 with-sign true b a h v =
-    subst (λ (x : Float). Is x true a) (sym (ofBits-minus b h)) (fields-minus (b / hidden) (b % hidden) a (2 ^ 149) (subst (λ (x : Float). Is x false a) (ofBits-plus b h) v))
+    subst (λ (x : Float). Is x true a) (sym (of_pattern-minus b h)) (fields-minus (b / hidden) (b % hidden) a (2 ^ 149) (subst (λ (x : Float). Is x false a) (of_pattern-plus b h) v))
 
-pub sign_of_bits : (b : ℕ) → b < 4294967296 → (s : Bool) × (b / signPlace ≡ bit s)
-sign_of_bits b h = go (dec_le signPlace b)
+pub sign_of_bits : (b : ℕ) → b < 4294967296 → (s : Bool) × (b / sign_place ≡ bit s)
+sign_of_bits b h = go (dec_le sign_place b)
   where
-    go : Dec (signPlace ≤ b) → (s : Bool) × (b / signPlace ≡ bit s)
+    go : Dec (sign_place ≤ b) → (s : Bool) × (b / sign_place ≡ bit s)
     go (yes k) = (true, omega arith)
     go (no f) = (false, omega arith)
 
 -- a pattern is its sign's bit and the bits below it
-pub sign_and_rest : (b : ℕ) (s : Bool) → b / signPlace ≡ bit s → b ≡ bit s * signPlace + b % signPlace
-sign_and_rest b s e = sym (div-add-mod' b signPlace) ∙ ap (λ (n : ℕ). n * signPlace + b % signPlace) e
+pub sign_and_rest : (b : ℕ) (s : Bool) → b / sign_place ≡ bit s → b ≡ bit s * sign_place + b % sign_place
+sign_and_rest b s e = sym (div-add-mod' b sign_place) ∙ ap (λ (n : ℕ). n * sign_place + b % sign_place) e
 
 -- ---- normal numbers: a field x + 1 below 255 and the digits t stand for (2 ^ 23 + t) * 2 ^ x units
 differ : (x : ℕ) → suc x < 255 → suc x ≡ 255 → ⊥
@@ -82,9 +82,9 @@ under_ones t x h = cond_no (eqb (suc x) 255) (cond (eqb t 0) (inf false) nan) (o
 
 fields : (x t b : ℕ) → b ≡ suc x * hidden + t → t < hidden → suc x < 255 → of_bits binary32 b ≡ odd 24 false (hidden + t) x 149
 fields x t b e ht hx =
-    ofBits-plus b low ∙ ap (λ (y : ℕ). of_fields binary32 false y (b % hidden)) high ∙ ap (λ (y : ℕ). of_fields binary32 false (suc x) y) rest ∙ under_ones t x hx
+    of_pattern-plus b low ∙ ap (λ (y : ℕ). of_fields binary32 false y (b % hidden)) high ∙ ap (λ (y : ℕ). of_fields binary32 false (suc x) y) rest ∙ under_ones t x hx
   where
-    low : b < signPlace
+    low : b < sign_place
     low = omega arith
 
     high : b / hidden ≡ suc x
@@ -93,7 +93,7 @@ fields x t b e ht hx =
     rest : b % hidden ≡ t
     rest = omega arith
 
-pub normal-value : (a : ℕ) → hidden ≤ a → a < infinityBits → Is (of_bits binary32 a) false ((a % hidden + hidden) * 2 ^ (a / hidden - 1))
+pub normal-value : (a : ℕ) → hidden ≤ a → a < infinity_bits → Is (of_bits binary32 a) false ((a % hidden + hidden) * 2 ^ (a / hidden - 1))
 normal-value a lo hi =
     subst (λ (n : ℕ). Is (of_bits binary32 a) false (n * 2 ^ (a / hidden - 1))) (add_comm hidden (a % hidden))
     (subst (λ (x : Float). Is x false ((hidden + a % hidden) * 2 ^ (a / hidden - 1))) (sym (fields (a / hidden - 1) (a % hidden) a (omega arith) (omega arith) (omega arith)))
@@ -133,7 +133,7 @@ zero_field t = odd_sign 24 false t 0 149
 
 pub subnormal-value : (a : ℕ) → a < hidden → Is (of_bits binary32 a) false a
 subnormal-value a h =
-    subst (λ (x : Float). Is x false a) (sym (ofBits-plus a (omega arith)))
+    subst (λ (x : Float). Is x false a) (sym (of_pattern-plus a (omega arith)))
     (subst (λ (k : ℕ). Is (of_fields binary32 false k (a % hidden)) false a) (sym none) (at_zero (a % hidden) a (omega arith)))
   where
     none : a / hidden ≡ 0
@@ -155,12 +155,12 @@ top_field s t d m e h = go (eqb d 0) h
         let z : ◌≡◌ {A = ℕ} 0 1 = cc in
         omega arith
 
-pub finite-lt : (b : ℕ) (t : Bool) (m : ℕ) (e : ℤ) → b < 4294967296 → of_bits binary32 b ≡ fin t m e → b % signPlace < infinityBits
+pub finite-lt : (b : ℕ) (t : Bool) (m : ℕ) (e : ℤ) → b < 4294967296 → of_bits binary32 b ≡ fin t m e → b % sign_place < infinity_bits
 unfolding of_bits
-finite-lt b t m e h k = go (dec_le infinityBits (b % signPlace))
+finite-lt b t m e h k = go (dec_le infinity_bits (b % sign_place))
   where
-    go : Dec (infinityBits ≤ b % signPlace) → b % signPlace < infinityBits
+    go : Dec (infinity_bits ≤ b % sign_place) → b % sign_place < infinity_bits
     go (yes l) =
-        let x : b % signPlace / hidden ≡ 255 = omega arith in
-        absurd (top_field (leb signPlace b) t (b % hidden) m e (ap (λ (n : ℕ). of_fields binary32 (leb signPlace b) n (b % hidden)) (sym x) ∙ k))
+        let x : b % sign_place / hidden ≡ 255 = omega arith in
+        absurd (top_field (leb sign_place b) t (b % hidden) m e (ap (λ (n : ℕ). of_fields binary32 (leb sign_place b) n (b % hidden)) (sym x) ∙ k))
     go (no f) = lt_of_not-le f

@@ -13,9 +13,9 @@ use lib.IntN.{ℤ, pos}
 use lib.Ieee.{Float, nan, inf, fin, up, down, below, level, binary32, fits, to_bits, of_bits, le, is_nan}
 use lib.Ieee.Bits.{of_bits-to_bits, to_bits-lt}
 use lib.Ieee.Fits.{and_l, and_r, and_i, eq→eqb, down_pos}
-use Rattle.floats.specs.Patterns.{hidden, infinityBits}
-use Rattle.trig_rule.specs.Rule.{inReach, Is}
-use Rattle.trig_rule.specs.Steps.{tinyBits, plain}
+use Rattle.floats.specs.Patterns.{hidden, infinity_bits}
+use Rattle.trig_rule.specs.Rule.{in_the_reach, Is}
+use Rattle.trig_rule.specs.Steps.{tiny_bits, plain}
 use Rattle.trig_rule.proofs.Patterns.{normal-value, subnormal-value, finite-lt}
 use Rattle.trig_rule.proofs.Angles.{Signed, signed}
 
@@ -62,7 +62,7 @@ minus-sixty-four : of_bits binary32 3263168512 ≡ fin true 1 (pos 6)
 unfolding of_bits
 minus-sixty-four = refl
 
-reach-is : (x : Float) → inReach x ≡ (le (fin true 1 (pos 6)) x && le x (fin false 1 (pos 6)))
+reach-is : (x : Float) → in_the_reach x ≡ (le (fin true 1 (pos 6)) x && le x (fin false 1 (pos 6)))
 reach-is x = ap (λ (y : Float). le y x && le x (of_bits binary32 1115684864)) minus-sixty-four ∙ ap (λ (y : Float). le (fin true 1 (pos 6)) x && le x y) sixty-four
 
 -- a / d is n units: it is at most 64 where n is at most 64 * 2 ^ 149
@@ -76,13 +76,13 @@ of-units a d n e h =
     le_of_mul-le-mul_right {k = 2 ^ 149}
     (le_trans (le_of_eq (ap (λ (m : ℕ). m * 2 ^ 149) (mul-one a) ∙ e)) (le_trans (mul-le-mul_right d h) (le_of_eq (mul_right_comm 64 (2 ^ 149) d)))) (pow_pos 149)
 
-pub reach-size : (x : Float) (s : Bool) (n : ℕ) → Is x s n → T (inReach x) → n ≤ 2 ^ 155
+pub reach-size : (x : Float) (s : Bool) (n : ℕ) → Is x s n → T (in_the_reach x) → n ≤ 2 ^ 155
 unfolding le
 reach-size nan s n v t = absurd v
 reach-size (inf u) s n v t = absurd v
 reach-size (fin u m e) s n v t = in-units (m * up e) (down e) n (down_pos e) v.1 (between u (m * up e * 1) (64 * down e) (subst T (reach-is (fin u m e)) t))
 
-pub size-reach : (x : Float) (s : Bool) (n : ℕ) → Is x s n → n ≤ 2 ^ 155 → T (inReach x)
+pub size-reach : (x : Float) (s : Bool) (n : ℕ) → Is x s n → n ≤ 2 ^ 155 → T (in_the_reach x)
 unfolding le
 size-reach nan s n v h = absurd v
 size-reach (inf u) s n v h = absurd v
@@ -92,7 +92,7 @@ size-reach (fin u m e) s n v h = subst T (sym (reach-is (fin u m e))) (to-betwee
     wide p = omega arith
 
 -- no NaN and no infinity is in reach
-pub reach-finite : (x : Float) → T (inReach x) → (s : Bool) × (m : ℕ) × (e : ℤ) × (x ≡ fin s m e)
+pub reach-finite : (x : Float) → T (in_the_reach x) → (s : Bool) × (m : ℕ) × (e : ℤ) × (x ≡ fin s m e)
 unfolding le
 reach-finite nan t = absurd (subst T (reach-is nan) t)
 reach-finite (inf true) t = absurd (subst T (reach-is (inf true)) t)
@@ -104,7 +104,7 @@ pub record Sized (x : Float) : Type 0 where
   pub minus : Bool
   pub units : ℕ
   pub value : Is x minus units
-  pub from-tiny : tinyBits ≤ plain x → 2 ^ 137 ≤ units
+  pub from-tiny : tiny_bits ≤ plain x → 2 ^ 137 ≤ units
   pub from-far : 1115684864 < plain x → 2 ^ 155 < units
 
 far : (f q : ℕ) → hidden ≤ q → 132 ≤ f → (f ≡ 132 → hidden < q) → 2 ^ 155 < q * 2 ^ f
@@ -123,7 +123,7 @@ sized x t m e f h = go (dec_le hidden (plain x))
     s : Signed x
     s = signed x f
 
-    finite : plain x < infinityBits
+    finite : plain x < infinity_bits
     finite = finite-lt (to_bits binary32 x) t m e (to_bits-lt binary32 x f) (of_bits-to_bits binary32 x f ∙ h)
 
     go : Dec (hidden ≤ plain x) → Sized x
@@ -132,26 +132,26 @@ sized x t m e f h = go (dec_le hidden (plain x))
           minus = s.minus;
           units = (a % hidden + hidden) * 2 ^ (a / hidden - 1);
           value = s.value ((a % hidden + hidden) * 2 ^ (a / hidden - 1)) (normal-value a k finite);
-          from-tiny = λ (l : tinyBits ≤ plain x). le_trans (lit≤ tt) (mul-le-mul (low (a % hidden)) (pow_mono (field l)));
+          from-tiny = λ (l : tiny_bits ≤ plain x). le_trans (lit≤ tt) (mul-le-mul (low (a % hidden)) (pow_mono (field l)));
           from-far = λ (l : 1115684864 < plain x). far (a / hidden - 1) (a % hidden + hidden) (low (a % hidden)) (omega arith) (λ e. omega arith);
         }
       where
         low : (r : ℕ) → hidden ≤ r + hidden
         low r = omega arith
 
-        field : tinyBits ≤ plain x → 114 ≤ plain x / hidden - 1
+        field : tiny_bits ≤ plain x → 114 ≤ plain x / hidden - 1
         field l = omega arith
     go (no g) =
         record {
           minus = s.minus;
           units = a;
           value = s.value a (subnormal-value a (lt_of_not-le g));
-          from-tiny = λ (l : tinyBits ≤ plain x). absurd (g (le_trans (omega arith) l));
+          from-tiny = λ (l : tiny_bits ≤ plain x). absurd (g (le_trans (omega arith) l));
           from-far = λ (l : 1115684864 < plain x). absurd (g (le_trans (omega arith) l));
         }
 
 -- ---- what the steps ask of the bits
-pub reach-plain : (x : Float) → T (fits binary32 x) → T (inReach x) → plain x ≤ 1115684864
+pub reach-plain : (x : Float) → T (fits binary32 x) → T (in_the_reach x) → plain x ≤ 1115684864
 reach-plain x f t = go (dec_le (plain x) 1115684864)
   where
     go : Dec (plain x ≤ 1115684864) → plain x ≤ 1115684864
@@ -161,6 +161,6 @@ reach-plain x f t = go (dec_le (plain x) 1115684864)
         let z = sized x c.0 c.1 c.2 f c.3 in
         absurd (not-le_of_lt (z.from-far (lt_of_not-le g)) (reach-size x z.minus z.units z.value t))
 
-pub reach-not-nan : (x : Float) → T (inReach x) → is_nan x ≡ false
+pub reach-not-nan : (x : Float) → T (in_the_reach x) → is_nan x ≡ false
 unfolding is_nan
 reach-not-nan x t = let c = reach-finite x t in ap is_nan c.3

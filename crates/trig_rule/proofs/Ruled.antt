@@ -9,10 +9,10 @@ use lib.Dec.{T, leb, lit≤}
 use lib.Ieee.{Float, nan, binary32, fits, of_bits, unlike}
 use lib.Ieee.Bits.{is_true}
 use borrow.Author.Tests.{le-ltb, lt-ltb}
-use Rattle.floats.specs.Patterns.{hidden, signPlace}
-use Rattle.trig_rule.specs.Sums.{whole, sineSide, cosineSide}
-use Rattle.trig_rule.specs.Rule.{inReach, Is, Within, SineRule, CosineRule}
-use Rattle.trig_rule.specs.Steps.{tinyBits, fixed_of, turnsOf, rest_of, flipOf, sinePlus, sineMinus, cosinePlus, cosineMinus, gap_of, overOf, dropOf, packOf, plain, sign_bit, sineAt, cosineAt, sineOf, cosineOf}
+use Rattle.floats.specs.Patterns.{hidden, sign_place}
+use Rattle.trig_rule.specs.Sums.{whole, sine_side, cosine_side}
+use Rattle.trig_rule.specs.Rule.{in_the_reach, Is, Within, SineRule, CosineRule}
+use Rattle.trig_rule.specs.Steps.{tiny_bits, fixed_of, turns_of, rest_of, flip_of, sine_plus, sine_minus, cosine_plus, cosine_minus, gap_of, over_of, drop_of, pack_of, plain, sign_bit, sine_at, cosine_at, sine_of, cosine_of}
 use Rattle.trig_rule.proofs.Patterns.{bit, with-sign, bits-value}
 use Rattle.trig_rule.proofs.Packed.{pack-lt}
 use Rattle.trig_rule.proofs.Bound.{SineAt, sine-at, CosineAt, cosine-at}
@@ -47,36 +47,36 @@ again false true = refl
 again true false = refl
 again true true = refl
 
-drop_le : (R : ℕ) → dropOf R ≤ 60
+drop_le : (R : ℕ) → drop_of R ≤ 60
 drop_le R = omega arith
 
 -- ---- the cases of the definitions
-pub sine-far : (x : Float) → inReach x ≡ false → sineOf x ≡ nan
-unfolding sineOf
+pub sine-far : (x : Float) → in_the_reach x ≡ false → sine_of x ≡ nan
+unfolding sine_of
 sine-far x h = simp h
 
-pub sine-tiny : (x : Float) → inReach x ≡ true → plain x < tinyBits → sineOf x ≡ x
-unfolding sineOf
-sine-tiny x h l = simp (h, lt-ltb (plain x) tinyBits l)
+pub sine-tiny : (x : Float) → in_the_reach x ≡ true → plain x < tiny_bits → sine_of x ≡ x
+unfolding sine_of
+sine-tiny x h l = simp (h, lt-ltb (plain x) tiny_bits l)
 
-pub sine-main : (x : Float) → inReach x ≡ true → tinyBits ≤ plain x → sineOf x ≡ of_bits binary32 (sineAt (sign_bit x + flipOf (fixed_of (plain x))) (rest_of (fixed_of (plain x))))
-unfolding sineOf
-sine-main x h l = simp (h, le-ltb (plain x) tinyBits l)
+pub sine-main : (x : Float) → in_the_reach x ≡ true → tiny_bits ≤ plain x → sine_of x ≡ of_bits binary32 (sine_at (sign_bit x + flip_of (fixed_of (plain x))) (rest_of (fixed_of (plain x))))
+unfolding sine_of
+sine-main x h l = simp (h, le-ltb (plain x) tiny_bits l)
 
-pub cosine-far : (x : Float) → inReach x ≡ false → cosineOf x ≡ nan
-unfolding cosineOf
+pub cosine-far : (x : Float) → in_the_reach x ≡ false → cosine_of x ≡ nan
+unfolding cosine_of
 cosine-far x h = simp h
 
-pub cosine-tiny : (x : Float) → inReach x ≡ true → plain x < tinyBits → cosineOf x ≡ of_bits binary32 1065353216
-unfolding cosineOf
-cosine-tiny x h l = simp (h, lt-ltb (plain x) tinyBits l)
+pub cosine-tiny : (x : Float) → in_the_reach x ≡ true → plain x < tiny_bits → cosine_of x ≡ of_bits binary32 1065353216
+unfolding cosine_of
+cosine-tiny x h l = simp (h, lt-ltb (plain x) tiny_bits l)
 
-pub cosine-main : (x : Float) → inReach x ≡ true → tinyBits ≤ plain x → cosineOf x ≡ of_bits binary32 (cosineAt (rest_of (fixed_of (plain x))))
-unfolding cosineOf
-cosine-main x h l = simp (h, le-ltb (plain x) tinyBits l)
+pub cosine-main : (x : Float) → in_the_reach x ≡ true → tiny_bits ≤ plain x → cosine_of x ≡ of_bits binary32 (cosine_at (rest_of (fixed_of (plain x))))
+unfolding cosine_of
+cosine-main x h l = simp (h, le-ltb (plain x) tiny_bits l)
 
 -- ---- from 2 ^ -12 to 64: the angle is X units of 2 ^ -56, and R is what the turns leave
-module _ (x : Float) (f : T (fits binary32 x)) (lo : tinyBits ≤ plain x) (hi : plain x ≤ 1115684864) where
+module _ (x : Float) (f : T (fits binary32 x)) (lo : tiny_bits ≤ plain x) (hi : plain x ≤ 1115684864) where
   abbrev X : ℕ
   X = fixed_of (plain x)
 
@@ -84,7 +84,7 @@ module _ (x : Float) (f : T (fits binary32 x)) (lo : tinyBits ≤ plain x) (hi :
   R = rest_of (fixed_of (plain x))
 
   abbrev flip : Bool
-  flip = not (leb (turnsOf (fixed_of (plain x))) (fixed_of (plain x)))
+  flip = not (leb (turns_of (fixed_of (plain x))) (fixed_of (plain x)))
 
   s : Signed x
   s = signed x f
@@ -93,22 +93,22 @@ module _ (x : Float) (f : T (fits binary32 x)) (lo : tinyBits ≤ plain x) (hi :
   is-angle = s.value (X * 2 ^ 93) (angle-value (plain x) lo hi)
 
   abbrev plus : Bool
-  plus = leb (sineMinus (rest_of (fixed_of (plain x)))) (sinePlus (rest_of (fixed_of (plain x))))
+  plus = leb (sine_minus (rest_of (fixed_of (plain x)))) (sine_plus (rest_of (fixed_of (plain x))))
 
   abbrev packed : ℕ
-  packed = packOf (R / 2 ^ dropOf R * gap_of (sinePlus R) (sineMinus R)) (dropOf R)
+  packed = pack_of (R / 2 ^ drop_of R * gap_of (sine_plus R) (sine_minus R)) (drop_of R)
 
-  sine-bits : sineAt (sign_bit x + flipOf X) R ≡ bit (unlike (unlike s.minus flip) (not plus)) * signPlace + packed
+  sine-bits : sine_at (sign_bit x + flip_of X) R ≡ bit (unlike (unlike s.minus flip) (not plus)) * sign_place + packed
   sine-bits =
-      ap (λ (n : ℕ). (n + flipOf X + overOf (sinePlus R) (sineMinus R)) % 2 * signPlace + packed) s.bits
-      ∙ ap (λ (n : ℕ). (bit s.minus + n + overOf (sinePlus R) (sineMinus R)) % 2 * signPlace + packed) (bit_not (leb (turnsOf X) X))
-      ∙ ap (λ (n : ℕ). (bit s.minus + bit flip + n) % 2 * signPlace + packed) (bit_not plus)
-      ∙ ap (λ (n : ℕ). n * signPlace + packed) (signs s.minus flip (not plus))
+      ap (λ (n : ℕ). (n + flip_of X + over_of (sine_plus R) (sine_minus R)) % 2 * sign_place + packed) s.bits
+      ∙ ap (λ (n : ℕ). (bit s.minus + n + over_of (sine_plus R) (sine_minus R)) % 2 * sign_place + packed) (bit_not (leb (turns_of X) X))
+      ∙ ap (λ (n : ℕ). (bit s.minus + bit flip + n) % 2 * sign_place + packed) (bit_not plus)
+      ∙ ap (λ (n : ℕ). n * sign_place + packed) (signs s.minus flip (not plus))
 
   sine-found : SineAt R
   sine-found = sine-at R (rest_le X)
 
-  sine-rule : SineRule x (of_bits binary32 (sineAt (sign_bit x + flipOf X) R))
+  sine-rule : SineRule x (of_bits binary32 (sine_at (sign_bit x + flip_of X) R))
   sine-rule =
       let m = sine-found.units in
       let sign = unlike (unlike s.minus flip) (not plus) in
@@ -123,21 +123,21 @@ module _ (x : Float) (f : T (fits binary32 x)) (lo : tinyBits ≤ plain x) (hi :
         negative = sign;
         units = m;
         answer = subst (λ (b : ℕ). Is (of_bits binary32 b) sign m) (sym sine-bits)
-            (with-sign sign packed m (pack-lt (R / 2 ^ dropOf R * gap_of (sinePlus R) (sineMinus R)) (dropOf R) (drop_le R)) sine-found.value);
-        within = subst (λ (o : Bool). Within m (sineSide (not o) r (2 ^ 149)) (sineSide o r (2 ^ 149)) (whole 31 (2 ^ 149))) (sym (again (unlike s.minus flip) (not plus)))
-            (subst (λ (b : Bool). Within m (sineSide b r (2 ^ 149)) (sineSide (not plus) r (2 ^ 149)) (whole 31 (2 ^ 149))) (sym (not-not plus)) (sine-rescaled m R plus sine-found.bound));
+            (with-sign sign packed m (pack-lt (R / 2 ^ drop_of R * gap_of (sine_plus R) (sine_minus R)) (drop_of R) (drop_le R)) sine-found.value);
+        within = subst (λ (o : Bool). Within m (sine_side (not o) r (2 ^ 149)) (sine_side o r (2 ^ 149)) (whole 31 (2 ^ 149))) (sym (again (unlike s.minus flip) (not plus)))
+            (subst (λ (b : Bool). Within m (sine_side b r (2 ^ 149)) (sine_side (not plus) r (2 ^ 149)) (whole 31 (2 ^ 149))) (sym (not-not plus)) (sine-rescaled m R plus sine-found.bound));
       }
 
   abbrev right : Bool
-  right = leb (cosineMinus (rest_of (fixed_of (plain x)))) (cosinePlus (rest_of (fixed_of (plain x))))
+  right = leb (cosine_minus (rest_of (fixed_of (plain x)))) (cosine_plus (rest_of (fixed_of (plain x))))
 
   cosine-found : CosineAt R
   cosine-found = cosine-at R (rest_le X)
 
-  cosine-rule : CosineRule x (of_bits binary32 (cosineAt R))
+  cosine-rule : CosineRule x (of_bits binary32 (cosine_at R))
   cosine-rule =
       let m = cosine-found.units in
-      let g = packOf (gap_of (cosinePlus R) (cosineMinus R)) 58 in
+      let g = pack_of (gap_of (cosine_plus R) (cosine_minus R)) 58 in
       let r = R * 2 ^ 93 in
       record {
         minus = s.minus;
@@ -148,9 +148,9 @@ module _ (x : Float) (f : T (fits binary32 x)) (lo : tinyBits ≤ plain x) (hi :
         reduced = reduced X;
         negative = not right;
         units = m;
-        answer = subst (λ (n : ℕ). Is (of_bits binary32 (n * signPlace + g)) (not right) m) (sym (bit_not right))
-            (with-sign (not right) g m (pack-lt (gap_of (cosinePlus R) (cosineMinus R)) 58 (omega arith)) cosine-found.value);
-        within = subst (λ (b : Bool). Within m (cosineSide b r (2 ^ 149)) (cosineSide (not right) r (2 ^ 149)) (whole 30 (2 ^ 149))) (sym (not-not right)) (cosine-rescaled m R right cosine-found.bound);
+        answer = subst (λ (n : ℕ). Is (of_bits binary32 (n * sign_place + g)) (not right) m) (sym (bit_not right))
+            (with-sign (not right) g m (pack-lt (gap_of (cosine_plus R) (cosine_minus R)) 58 (omega arith)) cosine-found.value);
+        within = subst (λ (b : Bool). Within m (cosine_side b r (2 ^ 149)) (cosine_side (not right) r (2 ^ 149)) (whole 30 (2 ^ 149))) (sym (not-not right)) (cosine-rescaled m R right cosine-found.bound);
       }
 
 -- ---- below 2 ^ -12
@@ -161,7 +161,7 @@ same false = refl
 one_value : Is (of_bits binary32 1065353216) false (2 ^ 149)
 one_value = bits-value 126 hidden (lit≤ tt) (lit≤ tt) (lit≤ tt)
 
-module _ (x : Float) (f : T (fits binary32 x)) (lo : plain x < tinyBits) where
+module _ (x : Float) (f : T (fits binary32 x)) (lo : plain x < tiny_bits) where
   sign : Signed x
   sign = signed x f
 
@@ -184,7 +184,7 @@ module _ (x : Float) (f : T (fits binary32 x)) (lo : plain x < tinyBits) where
         negative = sign.minus;
         units = n;
         answer = is-small;
-        within = subst (λ (o : Bool). Within n (sineSide (not o) n (2 ^ 149)) (sineSide o n (2 ^ 149)) (whole 31 (2 ^ 149))) (sym (same sign.minus)) (sine-little n small.under);
+        within = subst (λ (o : Bool). Within n (sine_side (not o) n (2 ^ 149)) (sine_side o n (2 ^ 149)) (whole 31 (2 ^ 149))) (sym (same sign.minus)) (sine-little n small.under);
       }
 
   little-cosine-rule : CosineRule x (of_bits binary32 1065353216)
@@ -204,16 +204,16 @@ module _ (x : Float) (f : T (fits binary32 x)) (lo : plain x < tinyBits) where
       }
 
 -- ---- every f32 of at most 64 in size
-pub sine-keeps-rule : (x : Float) → T (fits binary32 x) → T (inReach x) → SineRule x (sineOf x)
-sine-keeps-rule x f t = go (dec_le tinyBits (plain x))
+pub sine-keeps-rule : (x : Float) → T (fits binary32 x) → T (in_the_reach x) → SineRule x (sine_of x)
+sine-keeps-rule x f t = go (dec_le tiny_bits (plain x))
   where
-    go : Dec (tinyBits ≤ plain x) → SineRule x (sineOf x)
-    go (yes l) = subst (λ (y : Float). SineRule x y) (sym (sine-main x (is_true (inReach x) t) l)) (sine-rule x f l (reach-plain x f t))
-    go (no g) = subst (λ (y : Float). SineRule x y) (sym (sine-tiny x (is_true (inReach x) t) (lt_of_not-le g))) (little-sine-rule x f (lt_of_not-le g))
+    go : Dec (tiny_bits ≤ plain x) → SineRule x (sine_of x)
+    go (yes l) = subst (λ (y : Float). SineRule x y) (sym (sine-main x (is_true (in_the_reach x) t) l)) (sine-rule x f l (reach-plain x f t))
+    go (no g) = subst (λ (y : Float). SineRule x y) (sym (sine-tiny x (is_true (in_the_reach x) t) (lt_of_not-le g))) (little-sine-rule x f (lt_of_not-le g))
 
-pub cosine-keeps-rule : (x : Float) → T (fits binary32 x) → T (inReach x) → CosineRule x (cosineOf x)
-cosine-keeps-rule x f t = go (dec_le tinyBits (plain x))
+pub cosine-keeps-rule : (x : Float) → T (fits binary32 x) → T (in_the_reach x) → CosineRule x (cosine_of x)
+cosine-keeps-rule x f t = go (dec_le tiny_bits (plain x))
   where
-    go : Dec (tinyBits ≤ plain x) → CosineRule x (cosineOf x)
-    go (yes l) = subst (λ (y : Float). CosineRule x y) (sym (cosine-main x (is_true (inReach x) t) l)) (cosine-rule x f l (reach-plain x f t))
-    go (no g) = subst (λ (y : Float). CosineRule x y) (sym (cosine-tiny x (is_true (inReach x) t) (lt_of_not-le g))) (little-cosine-rule x f (lt_of_not-le g))
+    go : Dec (tiny_bits ≤ plain x) → CosineRule x (cosine_of x)
+    go (yes l) = subst (λ (y : Float). CosineRule x y) (sym (cosine-main x (is_true (in_the_reach x) t) l)) (cosine-rule x f l (reach-plain x f t))
+    go (no g) = subst (λ (y : Float). CosineRule x y) (sym (cosine-tiny x (is_true (in_the_reach x) t) (lt_of_not-le g))) (little-cosine-rule x f (lt_of_not-le g))

@@ -8,7 +8,7 @@ use mathlib.Core.Bool.{Bool, true, false, not}
 use lib.Dec.{T, leb, leb→le}
 use lib.Pow.{pow-add}
 use lib.Ieee.Fits.{and_l, and_r}
-use Rattle.trig_rule.specs.Sums.{factorial, term, terms, whole, sineSide, cosineSide}
+use Rattle.trig_rule.specs.Sums.{factorial, term, terms, whole, sine_side, cosine_side}
 use Rattle.trig_rule.specs.Rule.{tolerance, Within}
 use Rattle.trig_rule.proofs.Ladder.{up_to}
 
@@ -44,15 +44,15 @@ unfolding whole
 whole_scaled N c d = ap (λ (m : ℕ). m * factorial N) (pow-product c d N) ∙ mul_assoc (c ^ N) (d ^ N) (factorial N)
 
 -- ---- from units of 2 ^ -56 to units of 2 ^ -149
-pub sine-side-scaled : (b : Bool) (R : ℕ) → sineSide b (R * 2 ^ 93) (2 ^ 149) ≡ (2 ^ 93) ^ 31 * sineSide b R (2 ^ 56)
+pub sine-side-scaled : (b : Bool) (R : ℕ) → sine_side b (R * 2 ^ 93) (2 ^ 149) ≡ (2 ^ 93) ^ 31 * sine_side b R (2 ^ 56)
 unfolding up_to
-sine-side-scaled true R = ap (λ (n : ℕ). sineSide true n (2 ^ 149)) (mul_comm R (2 ^ 93)) ∙ terms-scaled 31 (2 ^ 93) R (2 ^ 56) (1 ∷ 5 ∷ 9 ∷ 13 ∷ 17 ∷ 21 ∷ 25 ∷ 29 ∷ []) tt
-sine-side-scaled false R = ap (λ (n : ℕ). sineSide false n (2 ^ 149)) (mul_comm R (2 ^ 93)) ∙ terms-scaled 31 (2 ^ 93) R (2 ^ 56) (3 ∷ 7 ∷ 11 ∷ 15 ∷ 19 ∷ 23 ∷ 27 ∷ 31 ∷ []) tt
+sine-side-scaled true R = ap (λ (n : ℕ). sine_side true n (2 ^ 149)) (mul_comm R (2 ^ 93)) ∙ terms-scaled 31 (2 ^ 93) R (2 ^ 56) (1 ∷ 5 ∷ 9 ∷ 13 ∷ 17 ∷ 21 ∷ 25 ∷ 29 ∷ []) tt
+sine-side-scaled false R = ap (λ (n : ℕ). sine_side false n (2 ^ 149)) (mul_comm R (2 ^ 93)) ∙ terms-scaled 31 (2 ^ 93) R (2 ^ 56) (3 ∷ 7 ∷ 11 ∷ 15 ∷ 19 ∷ 23 ∷ 27 ∷ 31 ∷ []) tt
 
-pub cosine-side-scaled : (b : Bool) (R : ℕ) → cosineSide b (R * 2 ^ 93) (2 ^ 149) ≡ (2 ^ 93) ^ 30 * cosineSide b R (2 ^ 56)
+pub cosine-side-scaled : (b : Bool) (R : ℕ) → cosine_side b (R * 2 ^ 93) (2 ^ 149) ≡ (2 ^ 93) ^ 30 * cosine_side b R (2 ^ 56)
 unfolding up_to
-cosine-side-scaled true R = ap (λ (n : ℕ). cosineSide true n (2 ^ 149)) (mul_comm R (2 ^ 93)) ∙ terms-scaled 30 (2 ^ 93) R (2 ^ 56) (0 ∷ 4 ∷ 8 ∷ 12 ∷ 16 ∷ 20 ∷ 24 ∷ 28 ∷ []) tt
-cosine-side-scaled false R = ap (λ (n : ℕ). cosineSide false n (2 ^ 149)) (mul_comm R (2 ^ 93)) ∙ terms-scaled 30 (2 ^ 93) R (2 ^ 56) (2 ∷ 6 ∷ 10 ∷ 14 ∷ 18 ∷ 22 ∷ 26 ∷ 30 ∷ []) tt
+cosine-side-scaled true R = ap (λ (n : ℕ). cosine_side true n (2 ^ 149)) (mul_comm R (2 ^ 93)) ∙ terms-scaled 30 (2 ^ 93) R (2 ^ 56) (0 ∷ 4 ∷ 8 ∷ 12 ∷ 16 ∷ 20 ∷ 24 ∷ 28 ∷ []) tt
+cosine-side-scaled false R = ap (λ (n : ℕ). cosine_side false n (2 ^ 149)) (mul_comm R (2 ^ 93)) ∙ terms-scaled 30 (2 ^ 93) R (2 ^ 56) (2 ∷ 6 ∷ 10 ∷ 14 ∷ 18 ∷ 22 ∷ 26 ∷ 30 ∷ []) tt
 
 module _ (k m a t w : ℕ) (h : Within m a t w) where
   scaled-left : k * (m * w + 2 ^ 149 * t) ≡ m * (k * w) + 2 ^ 149 * (k * t)
@@ -75,18 +75,18 @@ module _ (k m a t w : ℕ) (h : Within m a t w) where
         below = le_trans (le_of_eq (mul_left_comm (2 ^ 149) k a)) (le_trans (mul-le-mul_left k h.below) (le_of_eq scaled-below));
       }
 
-pub sine-rescaled : (m R : ℕ) (b : Bool) → Within m (sineSide b R (2 ^ 56)) (sineSide (not b) R (2 ^ 56)) (whole 31 (2 ^ 56))
-    → Within m (sineSide b (R * 2 ^ 93) (2 ^ 149)) (sineSide (not b) (R * 2 ^ 93) (2 ^ 149)) (whole 31 (2 ^ 149))
+pub sine-rescaled : (m R : ℕ) (b : Bool) → Within m (sine_side b R (2 ^ 56)) (sine_side (not b) R (2 ^ 56)) (whole 31 (2 ^ 56))
+    → Within m (sine_side b (R * 2 ^ 93) (2 ^ 149)) (sine_side (not b) (R * 2 ^ 93) (2 ^ 149)) (whole 31 (2 ^ 149))
 sine-rescaled m R b h =
-    subst (λ (a : ℕ). Within m a (sineSide (not b) (R * 2 ^ 93) (2 ^ 149)) (whole 31 (2 ^ 149))) (sym (sine-side-scaled b R))
-    (subst (λ (t : ℕ). Within m ((2 ^ 93) ^ 31 * sineSide b R (2 ^ 56)) t (whole 31 (2 ^ 149))) (sym (sine-side-scaled (not b) R))
-    (subst (λ (w : ℕ). Within m ((2 ^ 93) ^ 31 * sineSide b R (2 ^ 56)) ((2 ^ 93) ^ 31 * sineSide (not b) R (2 ^ 56)) w) (sym (whole_scaled 31 (2 ^ 93) (2 ^ 56)))
-    (within-scaled ((2 ^ 93) ^ 31) m (sineSide b R (2 ^ 56)) (sineSide (not b) R (2 ^ 56)) (whole 31 (2 ^ 56)) h)))
+    subst (λ (a : ℕ). Within m a (sine_side (not b) (R * 2 ^ 93) (2 ^ 149)) (whole 31 (2 ^ 149))) (sym (sine-side-scaled b R))
+    (subst (λ (t : ℕ). Within m ((2 ^ 93) ^ 31 * sine_side b R (2 ^ 56)) t (whole 31 (2 ^ 149))) (sym (sine-side-scaled (not b) R))
+    (subst (λ (w : ℕ). Within m ((2 ^ 93) ^ 31 * sine_side b R (2 ^ 56)) ((2 ^ 93) ^ 31 * sine_side (not b) R (2 ^ 56)) w) (sym (whole_scaled 31 (2 ^ 93) (2 ^ 56)))
+    (within-scaled ((2 ^ 93) ^ 31) m (sine_side b R (2 ^ 56)) (sine_side (not b) R (2 ^ 56)) (whole 31 (2 ^ 56)) h)))
 
-pub cosine-rescaled : (m R : ℕ) (b : Bool) → Within m (cosineSide b R (2 ^ 56)) (cosineSide (not b) R (2 ^ 56)) (whole 30 (2 ^ 56))
-    → Within m (cosineSide b (R * 2 ^ 93) (2 ^ 149)) (cosineSide (not b) (R * 2 ^ 93) (2 ^ 149)) (whole 30 (2 ^ 149))
+pub cosine-rescaled : (m R : ℕ) (b : Bool) → Within m (cosine_side b R (2 ^ 56)) (cosine_side (not b) R (2 ^ 56)) (whole 30 (2 ^ 56))
+    → Within m (cosine_side b (R * 2 ^ 93) (2 ^ 149)) (cosine_side (not b) (R * 2 ^ 93) (2 ^ 149)) (whole 30 (2 ^ 149))
 cosine-rescaled m R b h =
-    subst (λ (a : ℕ). Within m a (cosineSide (not b) (R * 2 ^ 93) (2 ^ 149)) (whole 30 (2 ^ 149))) (sym (cosine-side-scaled b R))
-    (subst (λ (t : ℕ). Within m ((2 ^ 93) ^ 30 * cosineSide b R (2 ^ 56)) t (whole 30 (2 ^ 149))) (sym (cosine-side-scaled (not b) R))
-    (subst (λ (w : ℕ). Within m ((2 ^ 93) ^ 30 * cosineSide b R (2 ^ 56)) ((2 ^ 93) ^ 30 * cosineSide (not b) R (2 ^ 56)) w) (sym (whole_scaled 30 (2 ^ 93) (2 ^ 56)))
-    (within-scaled ((2 ^ 93) ^ 30) m (cosineSide b R (2 ^ 56)) (cosineSide (not b) R (2 ^ 56)) (whole 30 (2 ^ 56)) h)))
+    subst (λ (a : ℕ). Within m a (cosine_side (not b) (R * 2 ^ 93) (2 ^ 149)) (whole 30 (2 ^ 149))) (sym (cosine-side-scaled b R))
+    (subst (λ (t : ℕ). Within m ((2 ^ 93) ^ 30 * cosine_side b R (2 ^ 56)) t (whole 30 (2 ^ 149))) (sym (cosine-side-scaled (not b) R))
+    (subst (λ (w : ℕ). Within m ((2 ^ 93) ^ 30 * cosine_side b R (2 ^ 56)) ((2 ^ 93) ^ 30 * cosine_side (not b) R (2 ^ 56)) w) (sym (whole_scaled 30 (2 ^ 93) (2 ^ 56)))
+    (within-scaled ((2 ^ 93) ^ 30) m (cosine_side b R (2 ^ 56)) (cosine_side (not b) R (2 ^ 56)) (whole 30 (2 ^ 56)) h)))

@@ -9,7 +9,7 @@ use lib.Dec.{T, lit<}
 use lib.ListN.{length}
 use lib.Pow.{pow-add}
 use Rattle.trig_rule.specs.Sums.{factorial, terms}
-use Rattle.trig_rule.specs.Steps.{half, squareOf, fourthOf, weight, ladder}
+use Rattle.trig_rule.specs.Steps.{half, square_of, fourth_of, weight, ladder}
 use Rattle.trig_rule.proofs.Nested.{follows, wide, wide_is, nested, nested_is}
 use Rattle.trig_rule.proofs.Ladder.{product-low, product_high, most, peak, lost, lack, up_to, Held, ladder-le, held}
 
@@ -18,12 +18,12 @@ pub square-is : (n : ℕ) → n ^ 2 ≡ n * n
 square-is n = pow-add n 1 1 ∙ ap (λ (m : ℕ). m * m) (pow-suc n 0 ∙ ap (λ (m : ℕ). m * n) (pow-zero n) ∙ one-mul n)
 
 pub record Powers (R : ℕ) : Type 0 where
-  pub square-low : squareOf R * 2 ^ 84 ≤ R ^ 2
-  pub square-high : R ^ 2 ≤ (squareOf R + 3) * 2 ^ 84
-  pub square_le : squareOf R ≤ 2649351757
-  pub fourth-low : fourthOf R * 2 ^ 200 ≤ R ^ 4
-  pub fourth-high : R ^ 4 ≤ (fourthOf R + 5) * 2 ^ 200
-  pub fourth-le : fourthOf R ≤ most
+  pub square-low : square_of R * 2 ^ 84 ≤ R ^ 2
+  pub square-high : R ^ 2 ≤ (square_of R + 3) * 2 ^ 84
+  pub square_le : square_of R ≤ 2649351757
+  pub fourth-low : fourth_of R * 2 ^ 200 ≤ R ^ 4
+  pub fourth-high : R ^ 4 ≤ (fourth_of R + 5) * 2 ^ 200
+  pub fourth-le : fourth_of R ≤ most
 
 cut-square : (p z R : ℕ) → p * 2 ^ 26 ≤ R → R < p * 2 ^ 26 + 2 ^ 26 → z * 2 ^ 32 ≤ p * p → p * p < z * 2 ^ 32 + 2 ^ 32 → p ≤ 3373259426 → (z * 2 ^ 84 ≤ R * R) × (R * R ≤ (z + 3) * 2 ^ 84)
 cut-square p z R lo hi zlo zhi small =
@@ -50,7 +50,7 @@ cut-fourth z w X lo hi wlo whi small =
     within : (z + 3) * (z + 3) ≡ (z + 3) * z + (z + 3) * 3 → (z + 3) * z ≡ z * z + 3 * z → (z + 3) * (z + 3) ≤ (w + 5) * 2 ^ 32
     within e f = omega arith
 
-square-small : (R : ℕ) → R ≤ half → squareOf R ≤ 2649351757
+square-small : (R : ℕ) → R ≤ half → square_of R ≤ 2649351757
 square-small R h =
     let a : R / 2 ^ 26 ≤ 3373259426 = omega arith in
     let b : R / 2 ^ 26 * (R / 2 ^ 26) ≤ 3373259426 * 3373259426 = mul-le-mul a a in
@@ -64,17 +64,17 @@ fourth-small z h =
 pub powers : (R : ℕ) → R ≤ half → Powers R
 powers R h =
     let p = R / 2 ^ 26 in
-    let z = squareOf R in
+    let z = square_of R in
     let sq = cut-square p z R (div-mul-le_self R (2 ^ 26)) (lt-div-mul-add {a = R} {b = 2 ^ 26} (omega arith)) (div-mul-le_self (p * p) (2 ^ 32)) (lt-div-mul-add {a = p * p} {b = 2 ^ 32} (omega arith)) (omega arith) in
-    let fo = cut-fourth z (fourthOf R) (R * R) sq.0 sq.1 (div-mul-le_self (z * z) (2 ^ 32)) (lt-div-mul-add {a = z * z} {b = 2 ^ 32} (omega arith)) (square-small R h) in
+    let fo = cut-fourth z (fourth_of R) (R * R) sq.0 sq.1 (div-mul-le_self (z * z) (2 ^ 32)) (lt-div-mul-add {a = z * z} {b = 2 ^ 32} (omega arith)) (square-small R h) in
     let e2 : R * R ≡ R ^ 2 = sym (square-is R) in
     let e4 : R * R * (R * R) ≡ R ^ 4 = ap (λ (m : ℕ). m * m) e2 ∙ sym (pow-add R 2 2) in
     record {
       square-low = subst (λ (m : ℕ). z * 2 ^ 84 ≤ m) e2 sq.0;
       square-high = subst (λ (m : ℕ). m ≤ (z + 3) * 2 ^ 84) e2 sq.1;
       square_le = square-small R h;
-      fourth-low = subst (λ (m : ℕ). fourthOf R * 2 ^ 200 ≤ m) e4 fo.0;
-      fourth-high = subst (λ (m : ℕ). m ≤ (fourthOf R + 5) * 2 ^ 200) e4 fo.1;
+      fourth-low = subst (λ (m : ℕ). fourth_of R * 2 ^ 200 ≤ m) e4 fo.0;
+      fourth-high = subst (λ (m : ℕ). m ≤ (fourth_of R + 5) * 2 ^ 200) e4 fo.1;
       fourth-le = fourth-small z (square-small R h);
     }
 
@@ -131,10 +131,10 @@ D = 2 ^ 224
 
 module _ (N U i k j : ℕ) (js tail : List ℕ) (t : T (follows j (js ++ tail))) (u : T (up_to N (js ++ tail))) (ek : k + j + 4 * length (js ++ tail) ≡ N + 4) (R : ℕ) (small : R ≤ half) where
   abbrev v : ℕ
-  v = fourthOf R
+  v = fourth_of R
 
   abbrev h : ℕ
-  h = ladder U (fourthOf R) js
+  h = ladder U (fourth_of R) js
 
   abbrev e : ℕ
   e = lack U (lost U tail) js
@@ -167,10 +167,10 @@ module _ (N U i k j : ℕ) (js tail : List ℕ) (t : T (follows j (js ++ tail)))
       }
 
   -- js starts at i + 2
-  pub two : (f : ℕ) → j ≡ i + 2 → weight U j ≡ 16 * U → 3 * peak U js + (2649351757 + 3) * e ≤ f * 2 ^ 32 → Sided N R U i (squareOf R * h / 2 ^ 32) (1 + f) (js ++ tail)
+  pub two : (f : ℕ) → j ≡ i + 2 → weight U j ≡ 16 * U → 3 * peak U js + (2649351757 + 3) * e ≤ f * 2 ^ 32 → Sided N R U i (square_of R * h / 2 ^ 32) (1 + f) (js ++ tail)
   two f ej ew room =
       let p = powers R small in
-      let z = squareOf R in
+      let z = square_of R in
       let same : weight U j * nested N (R ^ 4) D (js ++ tail) ≡ 16 * s = ap (λ (m : ℕ). m * nested N (R ^ 4) D (js ++ tail)) ew ∙ mul_assoc 16 U (nested N (R ^ 4) D (js ++ tail)) in
       let lower : h * W ≤ 16 * s = le_trans kept.low (le_of_eq same) in
       let upper : 16 * s ≤ (h + e) * W = le_trans (le_of_eq (sym same)) kept.high in

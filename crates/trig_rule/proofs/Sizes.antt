@@ -15,9 +15,9 @@ use lib.Ieee.Bits.{is_true}
 use lib.Ieee.Fits.{and_l, and_r, and_i}
 use Rattle.floats.proofs.Signs.{SignedLe, le→signed, signed→le}
 use Rattle.floats.proofs.Within.{Within, within-le}
-use Rattle.floats.specs.Patterns.{signPlace}
-use Rattle.trig_rule.specs.Rule.{inReach, Is}
-use Rattle.trig_rule.specs.Steps.{half, rest_of, fixed_of, flipOf, plain, sign_bit, sinePlus, sineMinus, cosinePlus, cosineMinus, gap_of, overOf, dropOf, packOf, sineAt, cosineAt, sineOf, cosineOf}
+use Rattle.floats.specs.Patterns.{sign_place}
+use Rattle.trig_rule.specs.Rule.{in_the_reach, Is}
+use Rattle.trig_rule.specs.Steps.{half, rest_of, fixed_of, flip_of, plain, sign_bit, sine_plus, sine_minus, cosine_plus, cosine_minus, gap_of, over_of, drop_of, pack_of, sine_at, cosine_at, sine_of, cosine_of}
 use Rattle.trig_rule.proofs.Gaps.{sine-gap, cosine-gap}
 use Rattle.trig_rule.proofs.Patterns.{bit, with-sign}
 use Rattle.trig_rule.proofs.Packed.{Packed, pack-near, pack-lt}
@@ -51,33 +51,33 @@ sign_of (suc zero) h = (true, refl)
 sign_of (suc (suc n)) h = absurd (omega arith)
 
 -- a sign and what is packed
-signed-within : (n w s : ℕ) → n < 2 → w < 2 ^ 64 → s ≤ 60 → w * 2 ^ s < 2 ^ 88 → Within 64 (of_bits binary32 (n * signPlace + packOf w s))
+signed-within : (n w s : ℕ) → n < 2 → w < 2 ^ 64 → s ≤ 60 → w * 2 ^ s < 2 ^ 88 → Within 64 (of_bits binary32 (n * sign_place + pack_of w s))
 signed-within n w s few small short under =
     let p = pack-near w s small short under in
     let b = sign_of n few in
-    subst (λ (k : ℕ). Within 64 (of_bits binary32 (k * signPlace + packOf w s))) (sym b.1)
-    (value-within (of_bits binary32 (bit b.0 * signPlace + packOf w s)) b.0 p.units (with-sign b.0 (packOf w s) p.units (pack-lt w s short) p.value) (packed-small w s p under))
+    subst (λ (k : ℕ). Within 64 (of_bits binary32 (k * sign_place + pack_of w s))) (sym b.1)
+    (value-within (of_bits binary32 (bit b.0 * sign_place + pack_of w s)) b.0 p.units (with-sign b.0 (pack_of w s) p.units (pack-lt w s short) p.value) (packed-small w s p under))
 
 module _ (R : ℕ) (h : R ≤ half) where
-  kept-lt : R / 2 ^ dropOf R < 2 ^ 31
+  kept-lt : R / 2 ^ drop_of R < 2 ^ 31
   kept-lt =
       let l = leading_length 64 R (omega arith) in
       let e : count_leading_zeros 64 R + l.0 ≡ 64 = l.1 in
-      let m : l.0 ≤ 31 + dropOf R = omega arith in
-      shr_lt 31 (dropOf R) (lt_of_lt_of_le l.2 (pow_mono m))
+      let m : l.0 ≤ 31 + drop_of R = omega arith in
+      shr_lt 31 (drop_of R) (lt_of_lt_of_le l.2 (pow_mono m))
 
-  sine-at-within : (turned : ℕ) → Within 64 (of_bits binary32 (sineAt turned R))
+  sine-at-within : (turned : ℕ) → Within 64 (of_bits binary32 (sine_at turned R))
   sine-at-within turned =
-      let g = gap_of (sinePlus R) (sineMinus R) in
-      let s = dropOf R in
-      signed-within ((turned + overOf (sinePlus R) (sineMinus R)) % 2) (R / 2 ^ s * g) s (mod-lt (turned + overOf (sinePlus R) (sineMinus R)) {m = 2} (omega arith))
+      let g = gap_of (sine_plus R) (sine_minus R) in
+      let s = drop_of R in
+      signed-within ((turned + over_of (sine_plus R) (sine_minus R)) % 2) (R / 2 ^ s * g) s (mod-lt (turned + over_of (sine_plus R) (sine_minus R)) {m = 2} (omega arith))
       (lt_of_le_of_lt (mul-le-mul (le_of_lt kept-lt) (sine-gap R h)) (omega arith)) (omega arith)
       (lt_of_le_of_lt (le_of_eq (mul_right_comm (R / 2 ^ s) g (2 ^ s))) (lt_of_le_of_lt (mul-le-mul (le_trans (div-mul-le_self R (2 ^ s)) h) (sine-gap R h)) (omega arith)))
 
-  cosine-at-within : Within 64 (of_bits binary32 (cosineAt R))
+  cosine-at-within : Within 64 (of_bits binary32 (cosine_at R))
   cosine-at-within =
-      let g = gap_of (cosinePlus R) (cosineMinus R) in
-      signed-within (overOf (cosinePlus R) (cosineMinus R)) g 58 (over-lt (leb (cosineMinus R) (cosinePlus R)))
+      let g = gap_of (cosine_plus R) (cosine_minus R) in
+      signed-within (over_of (cosine_plus R) (cosine_minus R)) g 58 (over-lt (leb (cosine_minus R) (cosine_plus R)))
       (lt_of_lt_of_le (cosine-gap R h) (omega arith)) (omega arith) (mul-lt-mul_of_pos_right (cosine-gap R h) (lit< tt))
     where
       over-lt : (b : Bool) → cond b 0 1 < 2
@@ -101,12 +101,12 @@ sized (inf false) l u = absurd l
 sized (fin false m e) l u = record { whole = tt; bound = le_trans (le_of_eq (sym (mul-one (m * up e)))) (le→signed false (m * up e * 1) false (1 * 2 ^ 6 * down e) l) }
 sized (fin true m e) l u = record { whole = tt; bound = le_trans (le_of_eq (sym (mul-one (m * up e)))) (le→signed true (1 * 2 ^ 6 * down e) true (m * up e * 1) u) }
 
-reach-within : (x : Float) → T (inReach x) → Within 64 x
+reach-within : (x : Float) → T (in_the_reach x) → Within 64 x
 reach-within x h =
     sized x (subst (λ (z : Float). T (le x z)) reach-high (and_r (le (of_bits binary32 3263168512) x) (le x (of_bits binary32 1115684864)) h))
     (subst (λ (z : Float). T (le z x)) reach-low (and_l (le (of_bits binary32 3263168512) x) (le x (of_bits binary32 1115684864)) h))
 
-pub within-reach : (z : Float) → Within 32 z → T (inReach z)
+pub within-reach : (z : Float) → Within 32 z → T (in_the_reach z)
 unfolding le of_bits
 within-reach nan w = absurd w.whole
 within-reach (inf s) w = absurd w.whole
@@ -128,16 +128,16 @@ unfolding of_bits
 one-within = record { whole = tt; bound = lit≤ tt }
 
 -- ---- every angle in reach
-pub sine-within : (x : Float) → T (inReach x) → Within 64 (sineOf x)
+pub sine-within : (x : Float) → T (in_the_reach x) → Within 64 (sine_of x)
 sine-within x t = go (dec_le 964689920 (plain x))
   where
-    go : Dec (964689920 ≤ plain x) → Within 64 (sineOf x)
-    go (yes l) = subst (Within 64) (sym (sine-main x (is_true (inReach x) t) l)) (sine-at-within (rest_of (fixed_of (plain x))) (rest_le (fixed_of (plain x))) (sign_bit x + flipOf (fixed_of (plain x))))
-    go (no g) = subst (Within 64) (sym (sine-tiny x (is_true (inReach x) t) (lt_of_not-le g))) (reach-within x t)
+    go : Dec (964689920 ≤ plain x) → Within 64 (sine_of x)
+    go (yes l) = subst (Within 64) (sym (sine-main x (is_true (in_the_reach x) t) l)) (sine-at-within (rest_of (fixed_of (plain x))) (rest_le (fixed_of (plain x))) (sign_bit x + flip_of (fixed_of (plain x))))
+    go (no g) = subst (Within 64) (sym (sine-tiny x (is_true (in_the_reach x) t) (lt_of_not-le g))) (reach-within x t)
 
-pub cosine-within : (x : Float) → T (inReach x) → Within 64 (cosineOf x)
+pub cosine-within : (x : Float) → T (in_the_reach x) → Within 64 (cosine_of x)
 cosine-within x t = go (dec_le 964689920 (plain x))
   where
-    go : Dec (964689920 ≤ plain x) → Within 64 (cosineOf x)
-    go (yes l) = subst (Within 64) (sym (cosine-main x (is_true (inReach x) t) l)) (cosine-at-within (rest_of (fixed_of (plain x))) (rest_le (fixed_of (plain x))))
-    go (no g) = subst (Within 64) (sym (cosine-tiny x (is_true (inReach x) t) (lt_of_not-le g))) one-within
+    go : Dec (964689920 ≤ plain x) → Within 64 (cosine_of x)
+    go (yes l) = subst (Within 64) (sym (cosine-main x (is_true (in_the_reach x) t) l)) (cosine-at-within (rest_of (fixed_of (plain x))) (rest_le (fixed_of (plain x))))
+    go (no g) = subst (Within 64) (sym (cosine-tiny x (is_true (in_the_reach x) t) (lt_of_not-le g))) one-within

@@ -9,19 +9,19 @@ use lib.Pow.{pow_pos}
 use lib.IntN.{ℤ, negsuc}
 use lib.Ieee.{Float, nan, inf, fin, up, down, below, binary32, fits, of_bits, lt}
 use lib.Ieee.Bits.{is_true}
-use Rattle.trig_rule.specs.Rule.{inReach, Is}
-use Rattle.trig_rule.specs.Steps.{tinyBits, plain, sineOf, cosineOf}
+use Rattle.trig_rule.specs.Rule.{in_the_reach, Is}
+use Rattle.trig_rule.specs.Steps.{tiny_bits, plain, sine_of, cosine_of}
 use Rattle.trig_rule.proofs.Reach.{Sized, sized, size-reach}
 use Rattle.trig_rule.proofs.Ruled.{sine-tiny, cosine-tiny}
 
 -- 2 ^ -12 and its opposite
 abbrev pub least : Float
-least = of_bits binary32 tinyBits
+least = of_bits binary32 tiny_bits
 
-abbrev pub minusLeast : Float
-minusLeast = of_bits binary32 3112173568
+abbrev pub minus_least : Float
+minus_least = of_bits binary32 3112173568
 
-least-is : of_bits binary32 tinyBits ≡ fin false 1 (negsuc 11)
+least-is : of_bits binary32 tiny_bits ≡ fin false 1 (negsuc 11)
 unfolding of_bits
 least-is = refl
 
@@ -61,7 +61,7 @@ tiny-finite (inf true) t u = absurd t
 tiny-finite (inf false) t u = absurd u
 tiny-finite (fin s m e) t u = (s, m, e, refl)
 
-module _ (x : Float) (f : T (fits binary32 x)) (t : T (lt minusLeast x)) (u : T (lt x least)) where
+module _ (x : Float) (f : T (fits binary32 x)) (t : T (lt minus_least x)) (u : T (lt x least)) where
   t' : T (lt (fin true 1 (negsuc 11)) x)
   t' = subst (λ (y : Float). T (lt y x)) minus-least-is t
 
@@ -74,14 +74,14 @@ module _ (x : Float) (f : T (fits binary32 x)) (t : T (lt minusLeast x)) (u : T 
   under : size.units < 2 ^ 137
   under = tiny-size x size.minus size.units size.value t' u'
 
-  in_reach : inReach x ≡ true
-  in_reach = is_true (inReach x) (size-reach x size.minus size.units size.value (le_trans (le_of_lt under) (lit≤ tt)))
+  in_reach : in_the_reach x ≡ true
+  in_reach = is_true (in_the_reach x) (size-reach x size.minus size.units size.value (le_trans (le_of_lt under) (lit≤ tt)))
 
-  bits : plain x < tinyBits
-  bits = lt_of_not-le (λ (k : tinyBits ≤ plain x). not-le_of_lt under (size.from-tiny k))
+  bits : plain x < tiny_bits
+  bits = lt_of_not-le (λ (k : tiny_bits ≤ plain x). not-le_of_lt under (size.from-tiny k))
 
-  pub sine-of-tiny : sineOf x ≡ x
+  pub sine-of-tiny : sine_of x ≡ x
   sine-of-tiny = sine-tiny x in_reach bits
 
-  pub cosine-of-tiny : cosineOf x ≡ of_bits binary32 1065353216
+  pub cosine-of-tiny : cosine_of x ≡ of_bits binary32 1065353216
   cosine-of-tiny = cosine-tiny x in_reach bits

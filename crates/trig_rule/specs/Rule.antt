@@ -3,12 +3,12 @@ use Rattle.std.specs.Prelude.{ℕ, ◌+◌, ◌*◌, ◌^◌, ◌≤◌, Bool, n
 use Rattle.std.specs.Float.{binary32}
 use Rattle.std.specs.Float.Ieee.{of_bits, le, unlike}
 use Rattle.std.specs.Float.Ieee.Exact.{HasValue}
-use Rattle.trig_rule.specs.Sums.{whole, sineSide, cosineSide}
+use Rattle.trig_rule.specs.Sums.{whole, sine_side, cosine_side}
 use Rattle.trig_rule.specs.Reduction.{Reduced}
 
 -- "angles of at most 64 radians in size": from -64 to 64. A NaN is not among them.
-abbrev pub inReach : Float → Bool
-inReach x = le (of_bits binary32 3263168512) x && le x (of_bits binary32 1115684864)
+abbrev pub in_the_reach : Float → Bool
+in_the_reach x = le (of_bits binary32 3263168512) x && le x (of_bits binary32 1115684864)
 
 -- x is finite, of the sign s (true: minus), and n units of 2 ^ -149 in size
 abbrev pub Is : Float → Bool → ℕ → Type 0
@@ -36,7 +36,7 @@ pub record SineRule (x y : Float) : Type 0 where
   pub units : ℕ
   pub answer : Is y negative units
   pub within : let other = unlike (unlike minus below) negative in
-      Within units (sineSide (not other) rest (2 ^ 149)) (sineSide other rest (2 ^ 149)) (whole 31 (2 ^ 149))
+      Within units (sine_side (not other) rest (2 ^ 149)) (sine_side other rest (2 ^ 149)) (whole 31 (2 ^ 149))
 
 -- The cosine of x is the sum at r, whatever the signs.
 pub record CosineRule (x y : Float) : Type 0 where
@@ -49,4 +49,4 @@ pub record CosineRule (x y : Float) : Type 0 where
   pub negative : Bool
   pub units : ℕ
   pub answer : Is y negative units
-  pub within : Within units (cosineSide (not negative) rest (2 ^ 149)) (cosineSide negative rest (2 ^ 149)) (whole 30 (2 ^ 149))
+  pub within : Within units (cosine_side (not negative) rest (2 ^ 149)) (cosine_side negative rest (2 ^ 149)) (whole 30 (2 ^ 149))

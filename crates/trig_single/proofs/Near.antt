@@ -10,10 +10,10 @@ use lib.Dec.{T, leb, ltb}
 use lib.Pow.{pow_pos}
 use lib.Ieee.{Float, binary64, sub, round, to_bits, of_bits, is_nan, units, odd, size}
 use lib.Ieee.Scale.{round_same}
-use Rattle.trig_rule.specs.Steps.{gap_of, overOf, packOf}
-use Rattle.floats.specs.Patterns.{signPlace, wideHidden, wideSignPlace}
-use Rattle.decimal_rounding.specs.Wide.{narrowedOf}
-use Rattle.trig_single.specs.Single.{signedSingle, Ranged}
+use Rattle.trig_rule.specs.Steps.{gap_of, over_of, pack_of}
+use Rattle.floats.specs.Patterns.{sign_place, wide_hidden, wide_sign_place}
+use Rattle.decimal_rounding.specs.Wide.{narrowed_of}
+use Rattle.trig_single.specs.Single.{signed_single, Ranged}
 use Rattle.trig_single.proofs.Values.{round_number}
 use Rattle.trig_single.proofs.Taken.{carrier, taken}
 use Rattle.trig_single.proofs.Packed.{Packed, whole-packed}
@@ -22,20 +22,20 @@ use Rattle.trig_single.proofs.Packed.{Packed, whole-packed}
 pub record Near (x : Float) (s : Bool) (n k : ℕ) : Type 0 where
   pub number : T (not (is_nan x))
   pub range : Ranged (to_bits binary64 x)
-  pub sign : to_bits binary64 x / wideSignPlace ≡ cond s 1 0
-  pub size : narrowedOf (to_bits binary64 x % wideSignPlace) ≡ packOf n k
+  pub sign : to_bits binary64 x / wide_sign_place ≡ cond s 1 0
+  pub size : narrowed_of (to_bits binary64 x % wide_sign_place) ≡ pack_of n k
 
 pub packed-near : {s : Bool} {n k : ℕ} (x : Float) → T (not (is_nan x)) → Packed (to_bits binary64 x) s n k → Near x s n k
 packed-near {s} x number h =
     let both = parts s h.size (omega (arith, h.high)) h.bits in
     record {
       number = number;
-      range = inr (subst (λ (i : ℕ). 897 * wideHidden ≤ i) (sym both.1) h.low, subst (λ (i : ℕ). i < 1149 * wideHidden) (sym both.1) h.high);
+      range = inr (subst (λ (i : ℕ). 897 * wide_hidden ≤ i) (sym both.1) h.low, subst (λ (i : ℕ). i < 1149 * wide_hidden) (sym both.1) h.high);
       sign = both.0;
-      size = ap narrowedOf both.1 ∙ h.single;
+      size = ap narrowed_of both.1 ∙ h.single;
     }
   where
-    parts : (s : Bool) (p : ℕ) → p < wideSignPlace → to_bits binary64 x ≡ cond s wideSignPlace 0 + p → (to_bits binary64 x / wideSignPlace ≡ cond s 1 0) × (to_bits binary64 x % wideSignPlace ≡ p)
+    parts : (s : Bool) (p : ℕ) → p < wide_sign_place → to_bits binary64 x ≡ cond s wide_sign_place 0 + p → (to_bits binary64 x / wide_sign_place ≡ cond s 1 0) × (to_bits binary64 x % wide_sign_place ≡ p)
     parts true p l e = (omega arith, omega arith)
     parts false p l e = (omega arith, omega arith)
 
@@ -57,7 +57,7 @@ module _ (a t : ℕ) (ha : a < 2 ^ 32) (ht : t < 2 ^ 32) where
       go true = omega arith
       go false = omega arith
 
-  pub over-is : overOf a t ≡ cond (ltb a t) 1 0
+  pub over-is : over_of a t ≡ cond (ltb a t) 1 0
   over-is = go (leb t a) refl
     where
       go : (b : Bool) → leb t a ≡ b → ◌≡◌ {A = ℕ} (cond b 0 1) (cond (ltb a t) 1 0)
@@ -75,13 +75,13 @@ module _ (a t : ℕ) (ha : a < 2 ^ 32) (ht : t < 2 ^ 32) where
           packed-near (round binary64 (ltb a t) (gap_of a t) (2 ^ 28)) (round_number binary64 (ltb a t) (gap_of a t) (2 ^ 28))
           (whole-packed (ltb a t) 28 58 (gap_of a t) refl h (let g = gap_below in omega arith))
 
-  abbrev pub differenceOf : Float
-  differenceOf = sub binary64 (of_bits binary64 (carrier 28 + a - t)) (of_bits binary64 (carrier 28))
+  abbrev pub difference_of : Float
+  difference_of = sub binary64 (of_bits binary64 (carrier 28 + a - t)) (of_bits binary64 (carrier 28))
 
-  pub difference-near : Near differenceOf (ltb a t) (gap_of a t) 58
+  pub difference-near : Near difference_of (ltb a t) (gap_of a t) 58
   difference-near = subst (λ (x : Float). Near x (ltb a t) (gap_of a t) 58) (sym (taken 28 a t (omega arith) ha ht)) rounded-near
 
-  pub difference-answer : signedSingle (to_bits binary64 differenceOf) ≡ overOf a t * signPlace + packOf (gap_of a t) 58
+  pub difference-answer : signed_single (to_bits binary64 difference_of) ≡ over_of a t * sign_place + pack_of (gap_of a t) 58
   difference-answer =
       let near = difference-near in
-      ap (λ (i : ℕ). i * signPlace + narrowedOf (to_bits binary64 differenceOf % wideSignPlace)) (near.sign ∙ sym over-is) ∙ ap (λ (i : ℕ). overOf a t * signPlace + i) near.size
+      ap (λ (i : ℕ). i * sign_place + narrowed_of (to_bits binary64 difference_of % wide_sign_place)) (near.sign ∙ sym over-is) ∙ ap (λ (i : ℕ). over_of a t * sign_place + i) near.size

@@ -8,36 +8,36 @@ use borrow.Author.Tests.{ne_eqb}
 use lib.Count.{count_leading_zeros, leading_top}
 use lib.Pow.{pow-add, pow_mono, shl_lt}
 use lib.Ieee.{binary64, round, to_bits, of_bits}
-use Rattle.floats.specs.Patterns.{hidden, wideHidden, wideSignPlace}
-use Rattle.decimal_rounding.specs.Wide.{narrowedOf}
-use Rattle.trig_rule.specs.Steps.{packOf, roundedOf}
+use Rattle.floats.specs.Patterns.{hidden, wide_hidden, wide_sign_place}
+use Rattle.decimal_rounding.specs.Wide.{narrowed_of}
+use Rattle.trig_rule.specs.Steps.{pack_of, rounded_of}
 use Rattle.trig_single.proofs.Finite.{bits_back}
 use Rattle.trig_single.proofs.Taken.{whole-bits, digits_low, digits-high}
 
 -- ---- the packing, by the place j of the highest digit
-pub packed-at : (n k j : ℕ) → count_leading_zeros 64 n + suc j ≡ 64 → (n ≡ 0 → ⊥) → n < 2 ^ suc j → packOf n k ≡ (40 + k + j) * hidden + roundedOf (n * 2 ^ (63 - j))
+pub packed-at : (n k j : ℕ) → count_leading_zeros 64 n + suc j ≡ 64 → (n ≡ 0 → ⊥) → n < 2 ^ suc j → pack_of n k ≡ (40 + k + j) * hidden + rounded_of (n * 2 ^ (63 - j))
 packed-at n k j e some high =
     let z : count_leading_zeros 64 n ≡ 63 - j = omega arith in
     let f : 103 + k - (63 - j) ≡ 40 + k + j = omega arith in
     let g : suc j + (63 - j) ≡ 64 = omega arith in
-    ap (λ (b : Bool). cond b 0 ((103 + k - count_leading_zeros 64 n) * hidden + roundedOf (n * 2 ^ count_leading_zeros 64 n % 2 ^ 64))) (ne_eqb n 0 some)
-    ∙ ap (λ (z : ℕ). (103 + k - z) * hidden + roundedOf (n * 2 ^ z % 2 ^ 64)) z
-    ∙ ap (λ (i : ℕ). i * hidden + roundedOf (n * 2 ^ (63 - j) % 2 ^ 64)) f
-    ∙ ap (λ (i : ℕ). (40 + k + j) * hidden + roundedOf i) (mod-eq_of_lt (subst (λ (i : ℕ). n * 2 ^ (63 - j) < 2 ^ i) g (shl_lt (suc j) (63 - j) high)))
+    ap (λ (b : Bool). cond b 0 ((103 + k - count_leading_zeros 64 n) * hidden + rounded_of (n * 2 ^ count_leading_zeros 64 n % 2 ^ 64))) (ne_eqb n 0 some)
+    ∙ ap (λ (z : ℕ). (103 + k - z) * hidden + rounded_of (n * 2 ^ z % 2 ^ 64)) z
+    ∙ ap (λ (i : ℕ). i * hidden + rounded_of (n * 2 ^ (63 - j) % 2 ^ 64)) f
+    ∙ ap (λ (i : ℕ). (40 + k + j) * hidden + rounded_of i) (mod-eq_of_lt (subst (λ (i : ℕ). n * 2 ^ (63 - j) < 2 ^ i) g (shl_lt (suc j) (63 - j) high)))
 
 -- ---- b is the pattern p with the sign s, in the range of f32, and stands for n packed with k
 pub record Packed (b : ℕ) (s : Bool) (n k : ℕ) : Type 0 where
   pub size : ℕ
-  pub bits : b ≡ cond s wideSignPlace 0 + size
-  pub low : 897 * wideHidden ≤ size
-  pub high : size < 1149 * wideHidden
-  pub single : narrowedOf size ≡ packOf n k
+  pub bits : b ≡ cond s wide_sign_place 0 + size
+  pub low : 897 * wide_hidden ≤ size
+  pub high : size < 1149 * wide_hidden
+  pub single : narrowed_of size ≡ pack_of n k
 
-pub sign_below : (s : Bool) → cond s wideSignPlace 0 ≤ wideSignPlace
+pub sign_below : (s : Bool) → cond s wide_sign_place 0 ≤ wide_sign_place
 sign_below true = omega arith
 sign_below false = omega arith
 
-pub plain-sign : (s : Bool) (p : ℕ) → p < wideSignPlace → (cond s wideSignPlace 0 + p) % wideSignPlace ≡ p
+pub plain-sign : (s : Bool) (p : ℕ) → p < wide_sign_place → (cond s wide_sign_place 0 + p) % wide_sign_place ≡ p
 plain-sign true p h = omega arith
 plain-sign false p h = omega arith
 
@@ -52,21 +52,21 @@ module _ (s : Bool) (u k n : ℕ) (units : u + k ≡ 86) (some : 0 < n) (few : n
       at j e low high =
           let near : j ≤ 52 = short j low in
           let q = n * 2 ^ (52 - j) in
-          let p = (1022 + j - u) * wideHidden + q in
+          let p = (1022 + j - u) * wide_hidden + q in
           let ql = digits_low s u n j (omega arith) near low high in
           let qh = digits-high s u n j (omega arith) near low high in
           let shift : n * 2 ^ (63 - j) ≡ q * 2048 = shifted j near in
           let sb = sign_below s in
           let ps = plain-sign s p (omega arith) in
-          let whole : cond s wideSignPlace 0 + (1022 + j - u) * wideHidden + q ≡ cond s wideSignPlace 0 + p = omega arith in
+          let whole : cond s wide_sign_place 0 + (1022 + j - u) * wide_hidden + q ≡ cond s wide_sign_place 0 + p = omega arith in
           record {
             size = p;
-            bits = ap (to_bits binary64) (whole-bits s u n j (omega arith) near low high) ∙ ap (λ (i : ℕ). to_bits binary64 (of_bits binary64 i)) whole ∙ bits_back (cond s wideSignPlace 0 + p) (omega arith) (omega arith);
+            bits = ap (to_bits binary64) (whole-bits s u n j (omega arith) near low high) ∙ ap (λ (i : ℕ). to_bits binary64 (of_bits binary64 i)) whole ∙ bits_back (cond s wide_sign_place 0 + p) (omega arith) (omega arith);
             low = omega arith;
             high = omega arith;
             single =
-                (let r : narrowedOf p ≡ (40 + k + j) * hidden + roundedOf (q * 2048) = omega arith in r)
-                ∙ ap (λ (i : ℕ). (40 + k + j) * hidden + roundedOf i) (sym shift) ∙ sym (packed-at n k j e (λ z. omega arith) high);
+                (let r : narrowed_of p ≡ (40 + k + j) * hidden + rounded_of (q * 2048) = omega arith in r)
+                ∙ ap (λ (i : ℕ). (40 + k + j) * hidden + rounded_of i) (sym shift) ∙ sym (packed-at n k j e (λ z. omega arith) high);
           }
         where
           short : (j : ℕ) → 2 ^ j ≤ n → j ≤ 52

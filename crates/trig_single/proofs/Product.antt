@@ -12,11 +12,11 @@ use lib.Pow.{pow-add, pow_pos, pow_mono, shl_lt}
 use lib.Ieee.{binary64, round, nearest, to_bits, of_bits}
 use lib.Ieee.Fits.{nearest-le}
 use lib.Ieee.Nearest.{nearest-ge}
-use Rattle.floats.specs.Patterns.{wideHidden, wideSignPlace, narrowStep, narrowHalf}
+use Rattle.floats.specs.Patterns.{wide_hidden, wide_sign_place, narrow_step, narrow_half}
 use Rattle.decimal_rounding.proofs.Cell.{cell}
 use Rattle.decimal_rounding.proofs.Pattern.{units-bits}
-use Rattle.decimal_rounding.specs.Wide.{narrowedOf}
-use Rattle.trig_rule.specs.Steps.{packOf, roundedOf}
+use Rattle.decimal_rounding.specs.Wide.{narrowed_of}
+use Rattle.trig_rule.specs.Steps.{pack_of, rounded_of}
 use Rattle.trig_single.proofs.Finite.{bits_back}
 use Rattle.trig_single.proofs.Packed.{Packed, packed-at, sign_below, plain-sign, whole-packed}
 
@@ -56,7 +56,7 @@ module _ (s : Bool) (u k n i : ℕ) (units₀ : u + k ≡ 86) (many : 53 ≤ i) 
       let e : suc i + (63 - i) ≡ 64 = omega arith in
       subst (λ (x : ℕ). n * 2 ^ (63 - i) < 2 ^ x) e (shl_lt (suc i) (63 - i) high)
 
-  kept_low : wideHidden ≤ kept
+  kept_low : wide_hidden ≤ kept
   kept_low = let a = moved in let b = left-low in let c = moved-low in omega arith
 
   kept_high : kept < 9007199254740992
@@ -83,16 +83,16 @@ module _ (s : Bool) (u k n i : ℕ) (units₀ : u + k ≡ 86) (many : 53 ≤ i) 
   up-ge : kept ≤ up
   up-ge = nearest-ge kept (compare (left * 2 ^ 1074 * 2) (2 ^ u * 2 ^ field))
 
-  round-bits : round binary64 s n (2 ^ u) ≡ of_bits binary64 (cond s wideSignPlace 0 + field * wideHidden + up)
+  round-bits : round binary64 s n (2 ^ u) ≡ of_bits binary64 (cond s wide_sign_place 0 + field * wide_hidden + up)
   round-bits =
       let l : 54 + field ≤ 2098 = omega arith in
       cell binary64 s n (2 ^ u) kept field (left * 2 ^ 1074) (pow_pos u) kept_high in_cell cell-rest (inl kept_low)
       ∙ units-bits binary64 s up field (let a = up_le in let b = kept_high in omega arith) (inl (le_trans kept_low up-ge))
       (lt_of_lt_of_le (shl_lt 54 field (let a = up_le in let b = kept_high in let h : up < 2 ^ 54 = omega arith in h)) (pow_mono l))
 
-  long-packed : (to_bits binary64 (round binary64 s n (2 ^ u)) % narrowStep ≡ narrowHalf → ⊥) → Packed (to_bits binary64 (round binary64 s n (2 ^ u))) s n k
+  long-packed : (to_bits binary64 (round binary64 s n (2 ^ u)) % narrow_step ≡ narrow_half → ⊥) → Packed (to_bits binary64 (round binary64 s n (2 ^ u))) s n k
   long-packed apart =
-      let p = field * wideHidden + up in
+      let p = field * wide_hidden + up in
       let a = up_le in
       let b = up-ge in
       let kl = kept_low in
@@ -101,37 +101,37 @@ module _ (s : Bool) (u k n i : ℕ) (units₀ : u + k ≡ 86) (many : 53 ≤ i) 
       let f : 936 ≤ field = omega arith in
       let g : field ≤ 1084 = omega arith in
       let ps = plain-sign s p (omega arith) in
-      let same : cond s wideSignPlace 0 + field * wideHidden + up ≡ cond s wideSignPlace 0 + p = omega arith in
-      let bits : to_bits binary64 (round binary64 s n (2 ^ u)) ≡ cond s wideSignPlace 0 + p =
-      ap (to_bits binary64) round-bits ∙ ap (λ (x : ℕ). to_bits binary64 (of_bits binary64 x)) same ∙ bits_back (cond s wideSignPlace 0 + p) (omega arith) (omega arith) in
-      record { size = p; bits = bits; low = omega arith; high = omega arith; single = packs (λ e. apart (ap (λ (x : ℕ). x % narrowStep) bits ∙ tail s p e)) }
+      let same : cond s wide_sign_place 0 + field * wide_hidden + up ≡ cond s wide_sign_place 0 + p = omega arith in
+      let bits : to_bits binary64 (round binary64 s n (2 ^ u)) ≡ cond s wide_sign_place 0 + p =
+      ap (to_bits binary64) round-bits ∙ ap (λ (x : ℕ). to_bits binary64 (of_bits binary64 x)) same ∙ bits_back (cond s wide_sign_place 0 + p) (omega arith) (omega arith) in
+      record { size = p; bits = bits; low = omega arith; high = omega arith; single = packs (λ e. apart (ap (λ (x : ℕ). x % narrow_step) bits ∙ tail s p e)) }
     where
-      tail : (s : Bool) (p : ℕ) → p % narrowStep ≡ narrowHalf → (cond s wideSignPlace 0 + p) % narrowStep ≡ narrowHalf
+      tail : (s : Bool) (p : ℕ) → p % narrow_step ≡ narrow_half → (cond s wide_sign_place 0 + p) % narrow_step ≡ narrow_half
       tail true p e = omega arith
       tail false p e = omega arith
 
       -- the rounded number's digits past the 24th say what those of n say
       rounds : (m f kept L up x : ℕ) → m ≡ kept * 2048 + L → L < 2048 → kept ≤ up → up ≤ suc kept → f ≡ 896 + x
-          → ((f * wideHidden + up) % narrowStep < narrowHalf) ⊎ (narrowHalf < (f * wideHidden + up) % narrowStep)
-          → narrowedOf (f * wideHidden + up) ≡ x * 8388608 + roundedOf m
+          → ((f * wide_hidden + up) % narrow_step < narrow_half) ⊎ (narrow_half < (f * wide_hidden + up) % narrow_step)
+          → narrowed_of (f * wide_hidden + up) ≡ x * 8388608 + rounded_of m
       rounds m f kept L up x em l a b ef (inl h) = omega arith
       rounds m f kept L up x em l a b ef (inr h) = omega arith
 
-      side : (x : ℕ) → (x ≡ narrowHalf → ⊥) → (x < narrowHalf) ⊎ (narrowHalf < x)
-      side x differs = go (ltb x narrowHalf) refl
+      side : (x : ℕ) → (x ≡ narrow_half → ⊥) → (x < narrow_half) ⊎ (narrow_half < x)
+      side x differs = go (ltb x narrow_half) refl
         where
-          go : (b : Bool) → ltb x narrowHalf ≡ b → (x < narrowHalf) ⊎ (narrowHalf < x)
-          go true e = inl (ltb-true x narrowHalf e)
-          go false e = ⊎_elim (λ g. absurd (differs (sym g))) inr (eq-or-lt_of_le (ltb-false x narrowHalf e))
+          go : (b : Bool) → ltb x narrow_half ≡ b → (x < narrow_half) ⊎ (narrow_half < x)
+          go true e = inl (ltb-true x narrow_half e)
+          go false e = ⊎_elim (λ g. absurd (differs (sym g))) inr (eq-or-lt_of_le (ltb-false x narrow_half e))
 
-      packs : ((field * wideHidden + up) % narrowStep ≡ narrowHalf → ⊥) → narrowedOf (field * wideHidden + up) ≡ packOf n k
+      packs : ((field * wide_hidden + up) % narrow_step ≡ narrow_half → ⊥) → narrowed_of (field * wide_hidden + up) ≡ pack_of n k
       packs differs =
           let f : field ≡ 896 + (40 + k + i) = omega arith in
-          rounds (n * 2 ^ (63 - i)) field kept (left * 2 ^ (63 - i)) up (40 + k + i) moved left-low up-ge up_le f (side ((field * wideHidden + up) % narrowStep) differs)
+          rounds (n * 2 ^ (63 - i)) field kept (left * 2 ^ (63 - i)) up (40 + k + i) moved left-low up-ge up_le f (side ((field * wide_hidden + up) % narrow_step) differs)
           ∙ sym (packed-at n k i zeros (λ e. let p = pow_pos i in omega arith) high)
 
 module _ (s : Bool) (u k n : ℕ) (units₀ : u + k ≡ 86) (some : 0 < n) (few : n < 2 ^ 63) where
-  pub product-packed : (to_bits binary64 (round binary64 s n (2 ^ u)) % narrowStep ≡ narrowHalf → ⊥) → Packed (to_bits binary64 (round binary64 s n (2 ^ u))) s n k
+  pub product-packed : (to_bits binary64 (round binary64 s n (2 ^ u)) % narrow_step ≡ narrow_half → ⊥) → Packed (to_bits binary64 (round binary64 s n (2 ^ u))) s n k
   product-packed apart = go (ltb n (2 ^ 53)) refl
     where
       long : 2 ^ 53 ≤ n → (i : ℕ) → count_leading_zeros 64 n + suc i ≡ 64 → 2 ^ i ≤ n → n < 2 ^ suc i → Packed (to_bits binary64 (round binary64 s n (2 ^ u))) s n k

@@ -12,21 +12,21 @@ use lib.Pow.{pow-add, pow_pos, pow_mono}
 use lib.Ieee.{Float, binary64, sub, mul, round, to_bits, of_bits, of_int, is_nan, unlike}
 use lib.Ieee.Exact.{HasValue}
 use lib.Ieee.Scale.{round_same}
-use Rattle.trig_rule.specs.Steps.{half, gap_of, overOf, dropOf}
-use Rattle.floats.specs.Patterns.{signPlace, wideHidden, wideSignPlace, wideInfinityBits, narrowStep, narrowHalf}
-use Rattle.decimal_rounding.specs.Wide.{narrowedOf}
-use Rattle.trig_single.specs.Single.{Stands, sineFrom}
+use Rattle.trig_rule.specs.Steps.{half, gap_of, over_of, drop_of}
+use Rattle.floats.specs.Patterns.{sign_place, wide_hidden, wide_sign_place, wide_infinity_bits, narrow_step, narrow_half}
+use Rattle.decimal_rounding.specs.Wide.{narrowed_of}
+use Rattle.trig_single.specs.Single.{Stands, sine_from}
 use Rattle.trig_single.proofs.Values.{mul-values, round_number}
 use Rattle.trig_single.proofs.Taken.{carrier, taken}
-use Rattle.trig_single.proofs.Head.{pastLead, exact-value, number-bits, cut-bits, lead_low, lead_high, head-value}
+use Rattle.trig_single.proofs.Head.{past_lead, exact-value, number-bits, cut-bits, lead_low, lead_high, head-value}
 use Rattle.trig_single.proofs.Product.{product-packed}
 use Rattle.trig_single.proofs.Near.{Near, packed-near, zero-over, gap_below, over-is}
 
 -- ---- what the code makes of an angle r: the f64 of its leading digits
-abbrev pub wholeBits : ℕ → ℕ
-wholeBits r = to_bits binary64 (of_int binary64 (pos (r / 32)))
+abbrev pub whole_bits : ℕ → ℕ
+whole_bits r = to_bits binary64 (of_int binary64 (pos (r / 32)))
 
-whole_is : (r : ℕ) → wholeBits r ≡ to_bits binary64 (round binary64 false (r / 32) 1)
+whole_is : (r : ℕ) → whole_bits r ≡ to_bits binary64 (round binary64 false (r / 32) 1)
 unfolding of_int
 whole_is r = refl
 
@@ -35,7 +35,7 @@ unfolding of_int
 whole-number r = round_number binary64 false (r / 32) 1
 
 abbrev pub head_bits : ℕ → ℕ
-head_bits r = wholeBits r - wholeBits r % pastLead
+head_bits r = whole_bits r - whole_bits r % past_lead
 
 module _ (r : ℕ) (low : 2 ^ 36 ≤ r) (high : r ≤ half) where
   -- its value, by the leading digits of the definition; `place` is that of the highest digit of r / 32
@@ -43,11 +43,11 @@ module _ (r : ℕ) (low : 2 ^ 36 ≤ r) (high : r ≤ half) where
     pub place : ℕ
     pub near : place ≤ 52
     pub many : 31 ≤ place
-    pub drop : dropOf r ≡ place - 25
-    pub small : r / 2 ^ dropOf r < 2 ^ 31
-    pub some : 0 < r / 2 ^ dropOf r
-    pub finite : head_bits r < wideInfinityBits
-    pub value : HasValue (of_bits binary64 (head_bits r)) false (r / 2 ^ dropOf r * pastLead * 2 ^ (1022 + place)) (2 ^ 1074)
+    pub drop : drop_of r ≡ place - 25
+    pub small : r / 2 ^ drop_of r < 2 ^ 31
+    pub some : 0 < r / 2 ^ drop_of r
+    pub finite : head_bits r < wide_infinity_bits
+    pub value : HasValue (of_bits binary64 (head_bits r)) false (r / 2 ^ drop_of r * past_lead * 2 ^ (1022 + place)) (2 ^ 1074)
 
   at : (i : ℕ) → count_leading_zeros 64 r + suc i ≡ 64 → 2 ^ i ≤ r → r < 2 ^ suc i → Head
   at i zeros lo hi =
@@ -66,16 +66,16 @@ module _ (r : ℕ) (low : 2 ^ 36 ≤ r) (high : r ≤ half) where
       floor-high : (P Q : ℕ) → Q ≡ P * 32 → r < Q → r / 32 < P
       floor-high P Q e h = omega arith
 
-      made : (j : ℕ) → 31 ≤ j → j ≤ 52 → dropOf r ≡ j - 25 → 2 ^ j ≤ r / 32 → r / 32 < 2 ^ suc j → Head
+      made : (j : ℕ) → 31 ≤ j → j ≤ 52 → drop_of r ≡ j - 25 → 2 ^ j ≤ r / 32 → r / 32 < 2 ^ suc j → Head
       made j many near drop nl nh =
           let n = r / 32 in
           let lead = n / 2 ^ (j - 30) in
           let g : 5 + (j - 30) ≡ j - 25 = omega arith in
-          let same : lead ≡ r / 2 ^ dropOf r =
+          let same : lead ≡ r / 2 ^ drop_of r =
           div-div-eq-div-mul r 32 (2 ^ (j - 30)) ∙ ap (λ (x : ℕ). r / x) (sym (pow-add 2 5 (j - 30)) ∙ ap (λ (x : ℕ). 2 ^ x) (g ∙ sym drop)) in
           let ll = lead_low n j many near nl nh in
           let lh = lead_high n j many near nl nh in
-          let cut = cut-bits n j many near nl nh (wholeBits r) (whole_is r ∙ number-bits n j many near nl nh) in
+          let cut = cut-bits n j many near nl nh (whole_bits r) (whole_is r ∙ number-bits n j many near nl nh) in
           record {
             place = j;
             near = near;
@@ -85,8 +85,8 @@ module _ (r : ℕ) (low : 2 ^ 36 ≤ r) (high : r ≤ half) where
             some = subst (λ (x : ℕ). 0 < x) same (omega arith);
             finite = omega arith;
             value =
-                subst (λ (x : ℕ). HasValue (of_bits binary64 (head_bits r)) false (x * pastLead * 2 ^ (1022 + j)) (2 ^ 1074)) same
-                (subst (λ (x : ℕ). HasValue (of_bits binary64 x) false (lead * pastLead * 2 ^ (1022 + j)) (2 ^ 1074)) (sym cut) (head-value n j many near nl nh));
+                subst (λ (x : ℕ). HasValue (of_bits binary64 (head_bits r)) false (x * past_lead * 2 ^ (1022 + j)) (2 ^ 1074)) same
+                (subst (λ (x : ℕ). HasValue (of_bits binary64 x) false (lead * past_lead * 2 ^ (1022 + j)) (2 ^ 1074)) (sym cut) (head-value n j many near nl nh));
           }
 
   pub head : Head
@@ -94,29 +94,29 @@ module _ (r : ℕ) (low : 2 ^ 36 ≤ r) (high : r ≤ half) where
 
 -- ---- the product
 module _ (r a t : ℕ) (low : 2 ^ 36 ≤ r) (high : r ≤ half) (ha : a < 2 ^ 32) (ht : t < 2 ^ 32) where
-  abbrev sineWhole : ℕ
-  sineWhole = r / 2 ^ dropOf r * gap_of a t
+  abbrev sine_whole : ℕ
+  sine_whole = r / 2 ^ drop_of r * gap_of a t
 
-  abbrev pub sineProduct : Float
-  sineProduct = mul binary64 (of_bits binary64 (head_bits r)) (sub binary64 (of_bits binary64 (carrier 81 + a - t)) (of_bits binary64 (carrier 81)))
+  abbrev pub sine_product : Float
+  sine_product = mul binary64 (of_bits binary64 (head_bits r)) (sub binary64 (of_bits binary64 (carrier 81 + a - t)) (of_bits binary64 (carrier 81)))
 
   difference-value : HasValue (sub binary64 (of_bits binary64 (carrier 81 + a - t)) (of_bits binary64 (carrier 81))) (ltb a t) (gap_of a t) (2 ^ 81)
   difference-value =
       subst (λ (x : Float). HasValue x (ltb a t) (gap_of a t) (2 ^ 81)) (sym (taken 81 a t (omega arith) ha ht))
       (exact-value (ltb a t) 81 (gap_of a t) (omega arith) (let g = gap_below a t ha ht in omega arith))
 
-  product_is : sineProduct ≡ round binary64 (ltb a t) sineWhole (2 ^ (86 - dropOf r))
+  product_is : sine_product ≡ round binary64 (ltb a t) sine_whole (2 ^ (86 - drop_of r))
   product_is =
       let h = head r low high in
       let j = h.place in
-      let D = r / 2 ^ dropOf r in
+      let D = r / 2 ^ drop_of r in
       let g = gap_of a t in
-      let v = 86 - dropOf r in
+      let v = 86 - drop_of r in
       let e : 22 + (1022 + j) + v ≡ 1074 + 81 = omega (arith, h.drop, h.near, h.many) in
       mul-values binary64 (of_bits binary64 (head_bits r)) (sub binary64 (of_bits binary64 (carrier 81 + a - t)) (of_bits binary64 (carrier 81))) false (ltb a t)
-      (D * pastLead * 2 ^ (1022 + j)) (2 ^ 1074) g (2 ^ 81) (pow_pos 1074) (pow_pos 81) h.value difference-value
-      ∙ ap (λ (s : Bool). round binary64 s (D * pastLead * 2 ^ (1022 + j) * g) (2 ^ 1074 * 2 ^ 81)) (plain (ltb a t))
-      ∙ round_same binary64 (ltb a t) (D * pastLead * 2 ^ (1022 + j) * g) (2 ^ 1074 * 2 ^ 81) (D * g) (2 ^ v) (mul-pos (pow_pos 1074) (pow_pos 81)) (pow_pos v)
+      (D * past_lead * 2 ^ (1022 + j)) (2 ^ 1074) g (2 ^ 81) (pow_pos 1074) (pow_pos 81) h.value difference-value
+      ∙ ap (λ (s : Bool). round binary64 s (D * past_lead * 2 ^ (1022 + j) * g) (2 ^ 1074 * 2 ^ 81)) (plain (ltb a t))
+      ∙ round_same binary64 (ltb a t) (D * past_lead * 2 ^ (1022 + j) * g) (2 ^ 1074 * 2 ^ 81) (D * g) (2 ^ v) (mul-pos (pow_pos 1074) (pow_pos 81)) (pow_pos v)
       (ap (λ (x : ℕ). x * g * 2 ^ v) (mul_assoc D (2 ^ 22) (2 ^ (1022 + j)) ∙ ap (λ (x : ℕ). D * x) (sym (pow-add 2 22 (1022 + j))))
       ∙ ap (λ (x : ℕ). x * 2 ^ v) (mul_right_comm D (2 ^ (22 + (1022 + j))) g)
       ∙ mul_assoc (D * g) (2 ^ (22 + (1022 + j))) (2 ^ v)
@@ -126,51 +126,51 @@ module _ (r a t : ℕ) (low : 2 ^ 36 ≤ r) (high : r ≤ half) (ha : a < 2 ^ 32
       plain true = refl
       plain false = refl
 
-  whole_below : sineWhole < 2 ^ 63
+  whole_below : sine_whole < 2 ^ 63
   whole_below =
       let h = head r low high in
       let g = gap_below a t ha ht in
-      lt_of_le_of_lt (mul-le-mul_left (r / 2 ^ dropOf r) (le_of_lt g)) (mul-lt-mul_of_pos_right h.small (pow_pos 32))
+      lt_of_le_of_lt (mul-le-mul_left (r / 2 ^ drop_of r) (le_of_lt g)) (mul-lt-mul_of_pos_right h.small (pow_pos 32))
 
-  pub product-number : T (not (is_nan sineProduct))
-  product-number = subst (λ (y : Float). T (not (is_nan y))) (sym product_is) (round_number binary64 (ltb a t) sineWhole (2 ^ (86 - dropOf r)))
+  pub product-number : T (not (is_nan sine_product))
+  product-number = subst (λ (y : Float). T (not (is_nan y))) (sym product_is) (round_number binary64 (ltb a t) sine_whole (2 ^ (86 - drop_of r)))
 
   -- away from the middles of two f32 it packs as the whole number does
   abbrev Apart : Type 0
-  Apart = to_bits binary64 sineProduct % narrowStep ≡ narrowHalf → ⊥
+  Apart = to_bits binary64 sine_product % narrow_step ≡ narrow_half → ⊥
 
-  product-near : Apart → Near sineProduct (ltb a t) sineWhole (dropOf r)
-  product-near apart = subst (λ (y : Float). Near y (ltb a t) sineWhole (dropOf r)) (sym product_is) (⊎_elim none some (eq-zero-or-pos (gap_of a t)))
+  product-near : Apart → Near sine_product (ltb a t) sine_whole (drop_of r)
+  product-near apart = subst (λ (y : Float). Near y (ltb a t) sine_whole (drop_of r)) (sym product_is) (⊎_elim none some (eq-zero-or-pos (gap_of a t)))
     where
       u : ℕ
-      u = 86 - dropOf r
+      u = 86 - drop_of r
 
-      none : gap_of a t ≡ 0 → Near (round binary64 (ltb a t) sineWhole (2 ^ u)) (ltb a t) sineWhole (dropOf r)
+      none : gap_of a t ≡ 0 → Near (round binary64 (ltb a t) sine_whole (2 ^ u)) (ltb a t) sine_whole (drop_of r)
       none e =
-          let z : sineWhole ≡ 0 = ap (λ (g : ℕ). r / 2 ^ dropOf r * g) e ∙ mul-zero (r / 2 ^ dropOf r) in
-          subst (λ (n : ℕ). Near (round binary64 (ltb a t) n (2 ^ u)) (ltb a t) n (dropOf r)) (sym z) (zero-over (ltb a t) (2 ^ u) (dropOf r) (pow_pos u))
+          let z : sine_whole ≡ 0 = ap (λ (g : ℕ). r / 2 ^ drop_of r * g) e ∙ mul-zero (r / 2 ^ drop_of r) in
+          subst (λ (n : ℕ). Near (round binary64 (ltb a t) n (2 ^ u)) (ltb a t) n (drop_of r)) (sym z) (zero-over (ltb a t) (2 ^ u) (drop_of r) (pow_pos u))
 
-      some : 0 < gap_of a t → Near (round binary64 (ltb a t) sineWhole (2 ^ u)) (ltb a t) sineWhole (dropOf r)
+      some : 0 < gap_of a t → Near (round binary64 (ltb a t) sine_whole (2 ^ u)) (ltb a t) sine_whole (drop_of r)
       some s =
           let h = head r low high in
-          let e : u + dropOf r ≡ 86 = omega (arith, h.drop, h.near) in
-          packed-near (round binary64 (ltb a t) sineWhole (2 ^ u)) (round_number binary64 (ltb a t) sineWhole (2 ^ u))
-          (product-packed (ltb a t) u (dropOf r) sineWhole e (mul-pos h.some s) whole_below (λ m. apart (ap (λ (y : Float). to_bits binary64 y % narrowStep) product_is ∙ m)))
+          let e : u + drop_of r ≡ 86 = omega (arith, h.drop, h.near) in
+          packed-near (round binary64 (ltb a t) sine_whole (2 ^ u)) (round_number binary64 (ltb a t) sine_whole (2 ^ u))
+          (product-packed (ltb a t) u (drop_of r) sine_whole e (mul-pos h.some s) whole_below (λ m. apart (ap (λ (y : Float). to_bits binary64 y % narrow_step) product_is ∙ m)))
 
   -- with the sign turned over as often as `turned` says
-  abbrev pub turnedOver : ℕ → ℕ
-  turnedOver turned = (to_bits binary64 sineProduct + turned % 2 * wideSignPlace) % 2 ^ 64
+  abbrev pub turned_over : ℕ → ℕ
+  turned_over turned = (to_bits binary64 sine_product + turned % 2 * wide_sign_place) % 2 ^ 64
 
-  pub product-stands : (turned : ℕ) → (turnedOver turned % narrowStep ≡ narrowHalf → ⊥) → Stands (turnedOver turned) (sineFrom turned r a t)
+  pub product-stands : (turned : ℕ) → (turned_over turned % narrow_step ≡ narrow_half → ⊥) → Stands (turned_over turned) (sine_from turned r a t)
   product-stands turned apart =
-      let b = to_bits binary64 sineProduct in
+      let b = to_bits binary64 sine_product in
       let near = product-near (λ m. apart (omega arith)) in
-      let plain : turnedOver turned % wideSignPlace ≡ b % wideSignPlace = omega arith in
-      let sign : turnedOver turned / wideSignPlace ≡ (turned + overOf a t) % 2 = signed (near.sign ∙ sym (over-is a t ha ht)) in
+      let plain : turned_over turned % wide_sign_place ≡ b % wide_sign_place = omega arith in
+      let sign : turned_over turned / wide_sign_place ≡ (turned + over_of a t) % 2 = signed (near.sign ∙ sym (over-is a t ha ht)) in
       record {
-        range = ⊎_elim (λ e. inl (plain ∙ e)) (λ h. inr (subst (λ (i : ℕ). 897 * wideHidden ≤ i) (sym plain) h.0, subst (λ (i : ℕ). i < 1149 * wideHidden) (sym plain) h.1)) near.range;
-        single = ap (λ (i : ℕ). i * signPlace + narrowedOf (turnedOver turned % wideSignPlace)) sign ∙ ap (λ (i : ℕ). (turned + overOf a t) % 2 * signPlace + i) (ap narrowedOf plain ∙ near.size);
+        range = ⊎_elim (λ e. inl (plain ∙ e)) (λ h. inr (subst (λ (i : ℕ). 897 * wide_hidden ≤ i) (sym plain) h.0, subst (λ (i : ℕ). i < 1149 * wide_hidden) (sym plain) h.1)) near.range;
+        single = ap (λ (i : ℕ). i * sign_place + narrowed_of (turned_over turned % wide_sign_place)) sign ∙ ap (λ (i : ℕ). (turned + over_of a t) % 2 * sign_place + i) (ap narrowed_of plain ∙ near.size);
       }
     where
-      signed : to_bits binary64 sineProduct / wideSignPlace ≡ overOf a t → turnedOver turned / wideSignPlace ≡ (turned + overOf a t) % 2
+      signed : to_bits binary64 sine_product / wide_sign_place ≡ over_of a t → turned_over turned / wide_sign_place ≡ (turned + over_of a t) % 2
       signed e = omega arith

@@ -12,7 +12,7 @@ use lib.Pow.{pow-add, pow_pos, pow_mono, shl_lt}
 use lib.Ieee.{binary64, sub, round, units, nearest, of_bits}
 use lib.Ieee.Exact.{HasValue}
 use lib.Ieee.Scale.{round_same}
-use Rattle.floats.specs.Patterns.{wideHidden, wideSignPlace}
+use Rattle.floats.specs.Patterns.{wide_hidden, wide_sign_place}
 use Rattle.decimal_rounding.proofs.Cell.{cell}
 use Rattle.decimal_rounding.proofs.Compares.{compare-lt}
 use Rattle.decimal_rounding.proofs.Pattern.{units-bits}
@@ -22,7 +22,7 @@ use Rattle.trig_single.proofs.Values.{sub-values}
 
 -- the pattern of 1.5 * 2 ^ (52 - u)
 abbrev pub carrier : ℕ → ℕ
-carrier u = (1075 - u) * wideHidden + 2251799813685248
+carrier u = (1075 - u) * wide_hidden + 2251799813685248
 
 -- the digits of the carrier
 abbrev base : ℕ
@@ -30,13 +30,13 @@ base = 6755399441055744
 
 module _ (u a t : ℕ) (far : u ≤ 1000) (ha : a < 2 ^ 32) (ht : t < 2 ^ 32) where
   -- a carrier with a whole number in its last digits
-  module _ (b n : ℕ) (is : b ≡ (1075 - u) * wideHidden + n) (inside : n < wideHidden) where
-    carried : HasValue (of_bits binary64 b) false ((wideHidden + n) * 2 ^ (1074 - u)) (2 ^ 1074)
+  module _ (b n : ℕ) (is : b ≡ (1075 - u) * wide_hidden + n) (inside : n < wide_hidden) where
+    carried : HasValue (of_bits binary64 b) false ((wide_hidden + n) * 2 ^ (1074 - u)) (2 ^ 1074)
     carried =
-        let d : b % wideHidden + wideHidden ≡ wideHidden + n = omega arith in
-        let p : b / wideHidden - 1 ≡ 1074 - u = omega arith in
+        let d : b % wide_hidden + wide_hidden ≡ wide_hidden + n = omega arith in
+        let p : b / wide_hidden - 1 ≡ 1074 - u = omega arith in
         subst (λ (k : ℕ). HasValue (of_bits binary64 b) false (k * 2 ^ (1074 - u)) (2 ^ 1074)) d
-        (subst (λ (k : ℕ). HasValue (of_bits binary64 b) false ((b % wideHidden + wideHidden) * 2 ^ k) (2 ^ 1074)) p (pattern-value b (omega arith) (omega arith)))
+        (subst (λ (k : ℕ). HasValue (of_bits binary64 b) false ((b % wide_hidden + wide_hidden) * 2 ^ k) (2 ^ 1074)) p (pattern-value b (omega arith) (omega arith)))
 
   taken-values :
       sub binary64 (of_bits binary64 (carrier u + a - t)) (of_bits binary64 (carrier u))
@@ -46,7 +46,7 @@ module _ (u a t : ℕ) (far : u ≤ 1000) (ha : a < 2 ^ 32) (ht : t < 2 ^ 32) wh
   taken-values =
       let x = of_bits binary64 (carrier u + a - t) in
       let first : HasValue x false ((base + a - t) * 2 ^ (1074 - u)) (2 ^ 1074) =
-      subst (λ (k : ℕ). HasValue x false (k * 2 ^ (1074 - u)) (2 ^ 1074)) (let e : wideHidden + (2251799813685248 + a - t) ≡ base + a - t = omega arith in e)
+      subst (λ (k : ℕ). HasValue x false (k * 2 ^ (1074 - u)) (2 ^ 1074)) (let e : wide_hidden + (2251799813685248 + a - t) ≡ base + a - t = omega arith in e)
       (carried (carrier u + a - t) (2251799813685248 + a - t) (omega arith) (omega arith)) in
       sub-values binary64 x (of_bits binary64 (carrier u)) ((base + a - t) * 2 ^ (1074 - u)) (base * 2 ^ (1074 - u)) (2 ^ 1074) (pow_pos 1074) first
       (carried (carrier u) 2251799813685248 refl (omega arith))
@@ -109,7 +109,7 @@ module _ (s : Bool) (u n j : ℕ) (far : u ≤ 1000) (near : j ≤ 52) (low : 2 
       ∙ mul_assoc n (2 ^ (52 - j)) (2 ^ u * 2 ^ (1022 + j - u))
       ∙ ap (λ (k : ℕ). n * k) (ap (λ (k : ℕ). 2 ^ (52 - j) * k) (sym (pow-add 2 u (1022 + j - u))) ∙ sym (pow-add 2 (52 - j) (u + (1022 + j - u))) ∙ ap (λ (k : ℕ). 2 ^ k) e))
 
-  pub whole-bits : round binary64 s n (2 ^ u) ≡ of_bits binary64 (cond s wideSignPlace 0 + (1022 + j - u) * wideHidden + n * 2 ^ (52 - j))
+  pub whole-bits : round binary64 s n (2 ^ u) ≡ of_bits binary64 (cond s wide_sign_place 0 + (1022 + j - u) * wide_hidden + n * 2 ^ (52 - j))
   whole-bits =
       let q = n * 2 ^ (52 - j) in
       let k = 1022 + j - u in

@@ -2,7 +2,7 @@
 use borrow.Author.Rules.{rules}
 use mathlib.Core.Path.{sym, ap, ◌∙◌}
 use mathlib.Core.Logic.{⊎_elim}
-use Rattle.math.specs.Math.{radToDegOf}
+use Rattle.math.specs.Math.{rad_to_deg_of}
 use Rattle.angles.proofs.Heading.{at_rest, moving-x, moving-y}
 use Rattle.angles.proofs.rotation_deg.Statement.{statement}
 use Rattle.angles.proofs.rotation_deg.Tie as tie
@@ -13,7 +13,7 @@ returns c = sym (at_rest c.before.before.args.tangent c.before.if1.true c.if2.tr
 returns-2 : tie.Need-returns-2
 returns-2 c =
     c.rad-to-deg.ensures
-    ∙ ap radToDegOf c.before.atan2.ensures
+    ∙ ap rad_to_deg_of c.before.atan2.ensures
     ∙ sym
     (⊎_elim
     (λ w. moving-y c.before.before.before.args.tangent w.0.taken w.1.left)

@@ -4,15 +4,15 @@ use native.Mathlib.Omega.{arith}
 use Prim.Native.Nat.{ℕ}
 use mathlib.Core.Path.{◌≡◌, sym, ap, ◌∙◌}
 use mathlib.Core.Bool.{Bool, true, false, cond}
-use Rattle.atan2_rule.specs.Steps.{passes, fallbackOf, angleBits}
+use Rattle.atan2_rule.specs.Steps.{passes, fallback_of, angle_bits}
 use Rattle.atan2.proofs.angle.Statement.{statement}
 use Rattle.atan2.proofs.angle.Tie as tie
 
-taken : (u v left g : ℕ) → passes u v left g ≡ true → g ≡ angleBits u v left g
-taken u v left g h = sym (ap (λ (t : Bool). cond t g (fallbackOf u v left)) h)
+taken : (u v left g : ℕ) → passes u v left g ≡ true → g ≡ angle_bits u v left g
+taken u v left g h = sym (ap (λ (t : Bool). cond t g (fallback_of u v left)) h)
 
-left_out : (u v left g : ℕ) → passes u v left g ≡ false → fallbackOf u v left ≡ angleBits u v left g
-left_out u v left g h = sym (ap (λ (t : Bool). cond t g (fallbackOf u v left)) h)
+left_out : (u v left g : ℕ) → passes u v left g ≡ false → fallback_of u v left ≡ angle_bits u v left g
+left_out u v left g h = sym (ap (λ (t : Bool). cond t g (fallback_of u v left)) h)
 
 returns : tie.Need-returns
 returns c =

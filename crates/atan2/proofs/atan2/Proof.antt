@@ -7,8 +7,8 @@ use mathlib.Core.Bool.{Bool, true, false, cond, ◌&&◌}
 use lib.Dec.{eqb}
 use lib.Ieee.{Float, nan, binary32, binary64, to_bits, of_bits, div}
 use lib.Ieee.Scale.{finite}
-use Rattle.floats.specs.Patterns.{wideSignPlace}
-use Rattle.atan2_rule.specs.Steps.{plain, sign_bit, level, slanted, atan2Of}
+use Rattle.floats.specs.Patterns.{wide_sign_place}
+use Rattle.atan2_rule.specs.Steps.{plain, sign_bit, level, slanted, atan2_of}
 use Rattle.atan2.proofs.atan2.Statement.{statement}
 use Rattle.atan2.proofs.atan2.Tie as tie
 
@@ -24,33 +24,33 @@ module _ (y x : Float) where
   abbrev inside : Float
   inside = cond (eqb (plain y) 0) (level y (plain x) (sign_bit y) (sign_bit x)) (slanted y x (plain y) (plain x) (sign_bit y) (sign_bit x))
 
-  nan-first : finite y ≡ false → nan ≡ atan2Of y x
-  unfolding atan2Of
+  nan-first : finite y ≡ false → nan ≡ atan2_of y x
+  unfolding atan2_of
   nan-first h = sym (ap (λ (t : Bool). cond (t && finite x) (inside) nan) h)
 
-  nan-second : finite x ≡ false → nan ≡ atan2Of y x
-  unfolding atan2Of
+  nan-second : finite x ≡ false → nan ≡ atan2_of y x
+  unfolding atan2_of
   nan-second h = sym (ap (λ (t : Bool). cond (finite y && t) (inside) nan) h ∙ ap (λ (t : Bool). cond t (inside) nan) (and-off (finite y)))
 
-  both-finite : finite y ≡ true → finite x ≡ true → inside ≡ atan2Of y x
-  unfolding atan2Of
+  both-finite : finite y ≡ true → finite x ≡ true → inside ≡ atan2_of y x
+  unfolding atan2_of
   both-finite h k = sym (ap (λ (t : Bool). cond (t && finite x) (inside) nan) h ∙ ap (λ (t : Bool). cond t (inside) nan) k)
 
   -- c and d are the bits of y and x
   module _ (c d : ℕ) (ec : c ≡ to_bits binary64 y) (ed : d ≡ to_bits binary64 x) (h : finite y ≡ true) (k : finite x ≡ true) where
-    on-axis : c % wideSignPlace ≡ 0 → level y (d % wideSignPlace) (c / wideSignPlace) (d / wideSignPlace) ≡ atan2Of y x
+    on-axis : c % wide_sign_place ≡ 0 → level y (d % wide_sign_place) (c / wide_sign_place) (d / wide_sign_place) ≡ atan2_of y x
     on-axis z =
-        ap (λ (n : ℕ). level y (n % wideSignPlace) (c / wideSignPlace) (n / wideSignPlace)) ed
-        ∙ ap (λ (n : ℕ). level y (plain x) (n / wideSignPlace) (sign_bit x)) ec
-        ∙ sym (ap (λ (t : Bool). cond t (level y (plain x) (sign_bit y) (sign_bit x)) (slanted y x (plain y) (plain x) (sign_bit y) (sign_bit x))) (eq-eqb (plain y) 0 (sym (ap (λ (n : ℕ). n % wideSignPlace) ec) ∙ z)))
+        ap (λ (n : ℕ). level y (n % wide_sign_place) (c / wide_sign_place) (n / wide_sign_place)) ed
+        ∙ ap (λ (n : ℕ). level y (plain x) (n / wide_sign_place) (sign_bit x)) ec
+        ∙ sym (ap (λ (t : Bool). cond t (level y (plain x) (sign_bit y) (sign_bit x)) (slanted y x (plain y) (plain x) (sign_bit y) (sign_bit x))) (eq-eqb (plain y) 0 (sym (ap (λ (n : ℕ). n % wide_sign_place) ec) ∙ z)))
         ∙ both-finite h k
 
-    off-axis : (c % wideSignPlace ≡ 0 → ⊥)
-        → slanted y x (c % wideSignPlace) (d % wideSignPlace) (c / wideSignPlace) (d / wideSignPlace) ≡ atan2Of y x
+    off-axis : (c % wide_sign_place ≡ 0 → ⊥)
+        → slanted y x (c % wide_sign_place) (d % wide_sign_place) (c / wide_sign_place) (d / wide_sign_place) ≡ atan2_of y x
     off-axis z =
-        ap (λ (n : ℕ). slanted y x (c % wideSignPlace) (n % wideSignPlace) (c / wideSignPlace) (n / wideSignPlace)) ed
-        ∙ ap (λ (n : ℕ). slanted y x (n % wideSignPlace) (plain x) (n / wideSignPlace) (sign_bit x)) ec
-        ∙ sym (ap (λ (t : Bool). cond t (level y (plain x) (sign_bit y) (sign_bit x)) (slanted y x (plain y) (plain x) (sign_bit y) (sign_bit x))) (ne_eqb (plain y) 0 (λ (e : plain y ≡ 0). z (ap (λ (n : ℕ). n % wideSignPlace) ec ∙ e))))
+        ap (λ (n : ℕ). slanted y x (c % wide_sign_place) (n % wide_sign_place) (c / wide_sign_place) (n / wide_sign_place)) ed
+        ∙ ap (λ (n : ℕ). slanted y x (n % wide_sign_place) (plain x) (n / wide_sign_place) (sign_bit x)) ec
+        ∙ sym (ap (λ (t : Bool). cond t (level y (plain x) (sign_bit y) (sign_bit x)) (slanted y x (plain y) (plain x) (sign_bit y) (sign_bit x))) (ne_eqb (plain y) 0 (λ (e : plain y ≡ 0). z (ap (λ (n : ℕ). n % wide_sign_place) ec ∙ e))))
         ∙ both-finite h k
 
 returns : tie.Need-returns

@@ -6,7 +6,7 @@ use lib.Dec.{T}
 use lib.Ieee.{Float, nan, inf, fin, binary64, fits, is_nan}
 use lib.Ieee.Fits.{and_i, fits_widens}
 use lib.Ieee.Scale.{finite}
-use Rattle.floats.specs.Patterns.{wideInfinityBits}
+use Rattle.floats.specs.Patterns.{wide_infinity_bits}
 use Rattle.atan2_rule.specs.Steps.{plain}
 use Rattle.atan2_rule.proofs.Whole.{bits-finite}
 use Rattle.atan2.proofs.wide.Statement.{statement}
@@ -25,7 +25,7 @@ float-to-bits-result : tie.Need-float-to-bits-result
 float-to-bits-result c = no_nan _ c.before.requires
 
 returns : tie.Need-returns
-returns c = let x = c.before.args.x in (refl, ltb-true (plain x) wideInfinityBits (bits-finite x c.row-known.given ∙ c.before.requires))
+returns c = let x = c.before.args.x in (refl, ltb-true (plain x) wide_infinity_bits (bits-finite x c.row-known.given ∙ c.before.requires))
 
 pub wide_spec : {M : Type 1} → statement M
 wide_spec = tie.close (tie.spec float-to-float-result float-to-bits-result returns)

@@ -1,12 +1,12 @@
 -- `decimal_tens::tens` meets its contract: each arm's number is computed from the definition at the arm's key, and no key is left past the table.
 -- Assumes nothing.
-use Rattle.decimal_tens.specs.Tens.{tensOf}
+use Rattle.decimal_tens.specs.Tens.{tens_of}
 use Rattle.decimal_tens.proofs.Entries.{entry, past}
 use Rattle.decimal_tens.proofs.tens.Statement.{statement}
 use Rattle.decimal_tens.proofs.tens.Tie as tie
 
 pub tens-spec : {M : Type 1} → statement M
-unfolding tensOf
+unfolding tens_of
 tens-spec =
     tie.close
     (tie.spec

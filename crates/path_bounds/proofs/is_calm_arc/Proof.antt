@@ -1,11 +1,11 @@
 -- Each test is put in by its definition. Assumes nothing.
 use borrow.Author.Rules.{rules}
-use Rattle.path_bounds.specs.Calm.{isCalmArc}
+use Rattle.path_bounds.specs.Calm.{is_calm_arc}
 use Rattle.path_bounds.proofs.is_calm_arc.Statement.{statement}
 use Rattle.path_bounds.proofs.is_calm_arc.Tie as tie
 
 returns : tie.Need-returns
-unfolding isCalmArc
+unfolding is_calm_arc
 returns c = cc
 
 pub is-calm-arc-spec : {M : Type 1} → statement M

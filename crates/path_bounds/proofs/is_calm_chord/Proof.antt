@@ -2,7 +2,7 @@
 use borrow.Author.Rules.{rules}
 use mathlib.Core.Path.{sym, ap, ◌∙◌}
 use Rattle.floats.proofs.Tests.{passed}
-use Rattle.path_bounds.specs.Calm.{isMildWay}
+use Rattle.path_bounds.specs.Calm.{is_mild_way}
 use Rattle.path_bounds.proofs.Ways.{calm-tests}
 use Rattle.path_bounds.proofs.is_calm_chord.Statement.{statement}
 use Rattle.path_bounds.proofs.is_calm_chord.Tie as tie
@@ -16,7 +16,7 @@ returns c =
     let held = passed start.well-formed.0.1.1.1.1.0.1 in
     let number = passed (sym judged.is_finite.ensures ∙ ended.before.before.if1.true) in
     calm-tests start.args.chord held number ended.before.is-mild-point.ensures ended.is-mild-point2.ensures
-    (tested.is-mild-way.ensures ∙ ap isMildWay tested.before.Way-of.ensures) c.if2.true
+    (tested.is-mild-way.ensures ∙ ap is_mild_way tested.before.Way-of.ensures) c.if2.true
 
 returns-2 : tie.Need-returns-2
 returns-2 c = rw (c.is-calm-arc.ensures, c.before.from-ends.ensures)

@@ -1,11 +1,11 @@
 -- Each point is tested as the definition does. Assumes nothing.
 use borrow.Author.Rules.{rules}
-use Rattle.path_bounds.specs.Calm.{isMildWay}
+use Rattle.path_bounds.specs.Calm.{is_mild_way}
 use Rattle.path_bounds.proofs.is_mild_way.Statement.{statement}
 use Rattle.path_bounds.proofs.is_mild_way.Tie as tie
 
 returns : tie.Need-returns
-unfolding isMildWay
+unfolding is_mild_way
 returns c = cc
 
 pub is-mild-way-spec : {M : Type 1} → statement M

@@ -11,7 +11,7 @@ use Rattle.floats.proofs.Order.{same→real}
 use Rattle.decimal_rounding.proofs.Limits.{round-neg}
 use lib.Ieee.Bits.{to_bits-lt}
 use Rattle.trig_rule.specs.Steps.{plain}
-use Rattle.rotation.specs.Rotation.{fullTurn, unitsAt, reducedOf}
+use Rattle.rotation.specs.Rotation.{full_turn, units_at, reduced_of}
 use Rattle.rotation.proofs.Patterns.{within-bits, infinite-bits, beyond-bits}
 use Rattle.rotation.proofs.reduced.Statement.{statement}
 use Rattle.rotation.proofs.reduced.Tie as tie
@@ -23,8 +23,8 @@ lacks : (b : Bool) → b ≡ false → T (not b)
 lacks b e = subst (λ (a : Bool). T (not a)) (sym e) tt
 
 returns : tie.Need-returns
-unfolding reducedOf
-returns c = let e : c.before.args.degrees ≡ nan = differs_from_itself _ (held _ c.if1.true) in e ∙ sym (ap reducedOf e)
+unfolding reduced_of
+returns c = let e : c.before.args.degrees ≡ nan = differs_from_itself _ (held _ c.if1.true) in e ∙ sym (ap reduced_of e)
 
 float-to-bits-b : tie.Need-float-to-bits-b
 float-to-bits-b c = same→real _ (lacks _ c.if1.false)
@@ -45,7 +45,7 @@ returns-5 c =
     let start = c.before.before.before.before.before in
     let bits = to_bits-lt binary32 start.args.degrees (held _ start.well-formed.0.1) in
     ap neg c.rest2.ensures
-    ∙ sym (round-neg binary32 (unitsAt (plain start.args.degrees) % fullTurn) (2 ^ 149))
+    ∙ sym (round-neg binary32 (units_at (plain start.args.degrees) % full_turn) (2 ^ 149))
     ∙ sym (beyond-bits start.args.degrees true (held _ start.well-formed.0.1) (omega arith) c.before.before.before.if2.false c.before.before.if3.false)
 
 pub reduced-spec : {M : Type 1} → statement M

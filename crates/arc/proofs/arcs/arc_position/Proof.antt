@@ -5,7 +5,7 @@ use denote.Floats.{passes}
 use Rattle.flight.specs.declared.single.Placed.TheVariants as Placed
 use Rattle.bezier.proofs.Queries.{placed_at, placed-refused}
 use Rattle.arc.specs.declared.lines.LineSegment.{LineSegment}
-use Rattle.arc.specs.Lines.{linePositionOf}
+use Rattle.arc.specs.Lines.{line_position_of}
 use Rattle.arc.proofs.Cases.{placed-on-line, placed-on-arc}
 use Rattle.arc.proofs.arcs.arc_position.Statement.{statement}
 use Rattle.arc.proofs.arcs.arc_position.Tie as tie
@@ -13,7 +13,7 @@ use Rattle.arc.proofs.arcs.arc_position.Tie as tie
 returns : tie.Need-returns
 returns c =
     let progress = c.before.before.before.before.before.args.progress.value in
-    let on-chord = c.line-position.ensures ∙ ap (λ (l : LineSegment). linePositionOf l progress) c.before.chord-line.ensures in
+    let on-chord = c.line-position.ensures ∙ ap (λ (l : LineSegment). line_position_of l progress) c.before.chord-line.ensures in
     ap Placed.At on-chord ∙ placed-on-line _ _ c.before.before.if1.true
 
 arc-position-requires : tie.Need-arc-position-requires

@@ -1,13 +1,13 @@
 -- The tangent is turned into degrees. Assumes nothing.
 use borrow.Author.Rules.{rules}
 use mathlib.Core.Path.{ap, ◌∙◌}
-use Rattle.arc.specs.Arcs.{inDegrees, arcTurnedOf}
+use Rattle.arc.specs.Arcs.{in_degrees, arc_turned_of}
 use Rattle.arc.proofs.arcs.arc_rotation_deg.Statement.{statement}
 use Rattle.arc.proofs.arcs.arc_rotation_deg.Tie as tie
 
 returns : tie.Need-returns
-unfolding arcTurnedOf
-returns c = c.in-degrees.ensures ∙ ap inDegrees c.before.arc-tangent.ensures
+unfolding arc_turned_of
+returns c = c.in-degrees.ensures ∙ ap in_degrees c.before.arc-tangent.ensures
 
 pub arc-rotation-deg-spec : {M : Type 1} → statement M
 arc-rotation-deg-spec =

@@ -6,13 +6,13 @@ use Rattle.table_samples.specs.Samples.{steps_of}
 use Rattle.table_samples.proofs.Steps.{table_is}
 use Rattle.ellipse.specs.declared.ends.Arc.{Arc}
 use Rattle.ellipse.specs.Turn.{turn_of}
-use Rattle.ellipse.specs.Shape.{pointTurned, pointOn}
+use Rattle.ellipse.specs.Shape.{point_turned, point_on}
 use Rattle.arc.proofs.arcs.arc_table.Statement.{statement}
 use Rattle.arc.proofs.arcs.arc_table.Tie as tie
 
-own_turn : (shape : Arc) (turn : SinCos) → turn ≡ turn_of shape.x_axis_rotation → steps_of (pointTurned shape turn) 31 ≡ steps_of (pointOn shape) 31
-unfolding pointOn
-own_turn shape turn e = ap (λ (t : SinCos). steps_of (pointTurned shape t) 31) e
+own_turn : (shape : Arc) (turn : SinCos) → turn ≡ turn_of shape.x_axis_rotation → steps_of (point_turned shape turn) 31 ≡ steps_of (point_on shape) 31
+unfolding point_on
+own_turn shape turn e = ap (λ (t : SinCos). steps_of (point_turned shape t) 31) e
 
 returns : tie.Need-returns
 returns c = table_is _ _ _ (c.before.arc-steps.ensures ∙ own_turn _ _ c.before.before.turn-of.ensures) c.table_of.ensures.0 c.table_of.ensures.1

@@ -4,13 +4,13 @@ use mathlib.Core.Path.{sym, ap, ◌∙◌}
 use denote.Floats.{passes}
 use Rattle.flight.specs.declared.single.Placed.TheVariants as Placed
 use Rattle.bezier.proofs.Queries.{placed_at, placed-refused}
-use Rattle.arc.specs.Lines.{lineTangentOf}
+use Rattle.arc.specs.Lines.{line_tangent_of}
 use Rattle.arc.proofs.Cases.{headed-on-line, headed-on-arc}
 use Rattle.arc.proofs.arcs.arc_tangent.Statement.{statement}
 use Rattle.arc.proofs.arcs.arc_tangent.Tie as tie
 
 returns : tie.Need-returns
-returns c = ap Placed.At (c.line-tangent.ensures ∙ ap lineTangentOf c.before.chord-line.ensures) ∙ headed-on-line _ _ c.before.before.if1.true
+returns c = ap Placed.At (c.line-tangent.ensures ∙ ap line_tangent_of c.before.chord-line.ensures) ∙ headed-on-line _ _ c.before.before.if1.true
 
 arc-tangent-requires : tie.Need-arc-tangent-requires
 arc-tangent-requires c κs = passes _ (sym c.before.table-is-sound.ensures ∙ c.if2.true)

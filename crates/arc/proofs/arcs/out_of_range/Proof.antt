@@ -1,11 +1,11 @@
 -- The arc holds the numbers of a line fallback, and no table. Assumes nothing.
 use borrow.Author.Rules.{rules}
-use Rattle.arc.specs.Arcs.{outOfRange}
+use Rattle.arc.specs.Arcs.{out_of_range}
 use Rattle.arc.proofs.arcs.out_of_range.Statement.{statement}
 use Rattle.arc.proofs.arcs.out_of_range.Tie as tie
 
 returns : tie.Need-returns
-unfolding outOfRange
+unfolding out_of_range
 returns c = cc
 
 pub out-of-range-spec : {M : Type 1} → statement M

@@ -1,13 +1,13 @@
 -- The invariant: each place before i has its angle. The measure is the places left. Assumes nothing.
 use borrow.Author.Rules.{rules}
 use Prim.Native.Nat.{◌-◌}
-use Rattle.arc.specs.Rows.{angleFor}
+use Rattle.arc.specs.Rows.{angle_for}
 use Rattle.arc.proofs.Rows.{Replacing, replacing-start, replacing-more, replacing-row}
 use Rattle.arc.proofs.samples.put_angles.Statement.{statement}
 use Rattle.arc.proofs.samples.put_angles.Tie as tie
 
 abbrev invariant-loop : tie.invariant-loop
-invariant-loop shape x₀ i₀ x i = Replacing (angleFor shape) x₀ x i
+invariant-loop shape x₀ i₀ x i = Replacing (angle_for shape) x₀ x i
 
 abbrev decreases-loop : tie.decreases-loop
 decreases-loop shape x₀ i₀ x i = 32 - i

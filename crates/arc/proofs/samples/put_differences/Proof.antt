@@ -3,13 +3,13 @@ use borrow.Author.Rules.{rules}
 use mathlib.Core.Path.{◌≡◌, ap, ◌∙◌}
 use Prim.Native.Nat.{◌+◌, ◌-◌}
 use native.Mathlib.Omega.{arith}
-use Rattle.arc.specs.Rows.{stepFor}
+use Rattle.arc.specs.Rows.{step_for}
 use Rattle.arc.proofs.Rows.{Replacing, replacing-start, replacing-here, replacing-more, replacing-row}
 use Rattle.arc.proofs.samples.put_differences.Statement.{statement}
 use Rattle.arc.proofs.samples.put_differences.Tie as tie
 
 abbrev invariant-loop : tie.invariant-loop
-invariant-loop x₀ i₀ x i = Replacing (stepFor x₀) x₀ x i
+invariant-loop x₀ i₀ x i = Replacing (step_for x₀) x₀ x i
 
 abbrev decreases-loop : tie.decreases-loop
 decreases-loop x₀ i₀ x i = 31 - i

@@ -2,13 +2,13 @@
 use borrow.Author.Rules.{rules}
 use mathlib.Core.Path.{◌≡◌, ap, ◌∙◌}
 use Prim.Native.Nat.{◌-◌}
-use Rattle.arc.specs.Rows.{acrossFor, alongFor}
+use Rattle.arc.specs.Rows.{across_for, along_for}
 use Rattle.arc.proofs.Rows.{Replacing, replacing-start, replacing-here, replacing-more, replacing-row}
 use Rattle.arc.proofs.samples.put_points.Statement.{statement}
 use Rattle.arc.proofs.samples.put_points.Tie as tie
 
 abbrev invariant-loop : tie.invariant-loop
-invariant-loop center radii turn x₀ y₀ i₀ x y i = Replacing (acrossFor center radii turn x₀ y₀) x₀ x i × Replacing (alongFor center radii turn x₀ y₀) y₀ y i
+invariant-loop center radii turn x₀ y₀ i₀ x y i = Replacing (across_for center radii turn x₀ y₀) x₀ x i × Replacing (along_for center radii turn x₀ y₀) y₀ y i
 
 abbrev decreases-loop : tie.decreases-loop
 decreases-loop center radii turn x₀ y₀ i₀ x y i = 32 - i

@@ -2,7 +2,7 @@
 use borrow.Author.Rules.{rules}
 use native.Mathlib.Omega.{arith}
 use mathlib.Core.Path.{refl}
-use Rattle.trig_rule.specs.Steps.{sineOf, cosineOf}
+use Rattle.trig_rule.specs.Steps.{sine_of, cosine_of}
 use Rattle.arc.proofs.Rows.{replacing-start, replacing-row, run-after}
 use Rattle.arc.proofs.samples.put_sines.Statement.{statement}
 use Rattle.arc.proofs.samples.put_sines.Tie as tie
@@ -26,14 +26,14 @@ returns c =
     let first = second.before.before.before in
     let start = first.before.before.before in
     let x = start.args.x.now in
-    let s1 = run-after sineOf x (replacing-start start.requires.0) first.sin-cos-run.ensures.0 (λ j l. refl) (omega arith) in
-    let c1 = run-after cosineOf x (replacing-start start.requires.1) first.sin-cos-run.ensures.1 (λ j l. refl) (omega arith) in
-    let s2 = run-after sineOf x s1 second.sin-cos-run2.ensures.0 s1.rest (omega arith) in
-    let c2 = run-after cosineOf x c1 second.sin-cos-run2.ensures.1 s1.rest (omega arith) in
-    let s3 = run-after sineOf x s2 third.sin-cos-run3.ensures.0 s2.rest (omega arith) in
-    let c3 = run-after cosineOf x c2 third.sin-cos-run3.ensures.1 s2.rest (omega arith) in
-    let s4 = run-after sineOf x s3 c.sin-cos-run4.ensures.0 s3.rest (omega arith) in
-    let c4 = run-after cosineOf x c3 c.sin-cos-run4.ensures.1 s3.rest (omega arith) in
+    let s1 = run-after sine_of x (replacing-start start.requires.0) first.sin-cos-run.ensures.0 (λ j l. refl) (omega arith) in
+    let c1 = run-after cosine_of x (replacing-start start.requires.1) first.sin-cos-run.ensures.1 (λ j l. refl) (omega arith) in
+    let s2 = run-after sine_of x s1 second.sin-cos-run2.ensures.0 s1.rest (omega arith) in
+    let c2 = run-after cosine_of x c1 second.sin-cos-run2.ensures.1 s1.rest (omega arith) in
+    let s3 = run-after sine_of x s2 third.sin-cos-run3.ensures.0 s2.rest (omega arith) in
+    let c3 = run-after cosine_of x c2 third.sin-cos-run3.ensures.1 s2.rest (omega arith) in
+    let s4 = run-after sine_of x s3 c.sin-cos-run4.ensures.0 s3.rest (omega arith) in
+    let c4 = run-after cosine_of x c3 c.sin-cos-run4.ensures.1 s3.rest (omega arith) in
     (replacing-row s4 (omega arith), replacing-row c4 (omega arith))
 
 pub put-sines-spec : {M : Type 1} → statement M

@@ -7,20 +7,20 @@ use mathlib.Core.Path.{◌≡◌}
 use mathlib.Core.Bool.{Bool, true, false, not, cond}
 use lib.Dec.{T, ltb}
 use lib.Ieee.{binary64, nan_bits}
-use Rattle.floats.specs.Patterns.{wideSignPlace, wideInfinityBits}
+use Rattle.floats.specs.Patterns.{wide_sign_place, wide_infinity_bits}
 use Rattle.decimal_rounding.proofs.Wide.{no-nan-plain}
-use Rattle.atan2_rule.specs.Steps.{guessOf}
+use Rattle.atan2_rule.specs.Steps.{guess_of}
 use Rattle.atan2.proofs.guess.guess.Statement.{statement}
 use Rattle.atan2.proofs.guess.guess.Tie as tie
 
-no_nan : (b : ℕ) → b % wideSignPlace < wideInfinityBits → T (not (nan_bits binary64 b))
+no_nan : (b : ℕ) → b % wide_sign_place < wide_infinity_bits → T (not (nan_bits binary64 b))
 no_nan b h = no-nan-plain binary64 b (le_of_lt h)
 
 picked-le : (t : Bool) (a b p m : ℕ) → p ≡ cond t a b → a ≤ m → b ≤ m → p ≤ m
 picked-le true a b p m e h k = omega arith
 picked-le false a b p m e h k = omega arith
 
-signed : (s p : ℕ) → s ≤ 1 → p ≤ 9218868437227405311 → (s * wideSignPlace + p) % wideSignPlace < wideInfinityBits
+signed : (s p : ℕ) → s ≤ 1 → p ≤ 9218868437227405311 → (s * wide_sign_place + p) % wide_sign_place < wide_infinity_bits
 signed s p h k = omega arith
 
 mul-n : tie.Need-overflow-mul-n
@@ -51,7 +51,7 @@ float-from-bits-start : tie.Need-float-from-bits-start
 float-from-bits-start c = no_nan _ (omega arith)
 
 returns : tie.Need-returns
-unfolding guessOf
+unfolding guess_of
 returns c = (cc, c.near-bits.ensures.1, c.near-bits.ensures.2)
 
 pub guess-spec : {M : Type 1} → statement M

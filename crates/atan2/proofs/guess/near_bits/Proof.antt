@@ -7,7 +7,7 @@ use mathlib.Core.Bool.{Bool, true, false, not, cond}
 use lib.Dec.{T}
 use lib.Ieee.{Float, binary64, is_nan, ne, to_bits}
 use lib.Ieee.Compare.{differs_from_itself}
-use Rattle.atan2_rule.specs.Steps.{piBits, narrowed, nearOf}
+use Rattle.atan2_rule.specs.Steps.{pi_bits, narrowed, near_of}
 use Rattle.atan2.proofs.Numbers.{is_number}
 use Rattle.atan2.proofs.guess.near_bits.Statement.{statement}
 use Rattle.atan2.proofs.guess.near_bits.Tie as tie
@@ -16,13 +16,13 @@ not-nan : (x : Float) → ne x x ≡ true → is_nan x ≡ true
 unfolding is_nan
 not-nan x h = ap is_nan (differs_from_itself x (subst T (sym h) tt))
 
-at-nan : (g : Float) → is_nan g ≡ true → piBits ≡ nearOf g
-unfolding nearOf
-at-nan g h = sym (ap (λ (t : Bool). cond t piBits (narrowed (to_bits binary64 g))) h)
+at-nan : (g : Float) → is_nan g ≡ true → pi_bits ≡ near_of g
+unfolding near_of
+at-nan g h = sym (ap (λ (t : Bool). cond t pi_bits (narrowed (to_bits binary64 g))) h)
 
-at-number : (g : Float) → is_nan g ≡ false → narrowed (to_bits binary64 g) ≡ nearOf g
-unfolding nearOf
-at-number g h = sym (ap (λ (t : Bool). cond t piBits (narrowed (to_bits binary64 g))) h)
+at-number : (g : Float) → is_nan g ≡ false → narrowed (to_bits binary64 g) ≡ near_of g
+unfolding near_of
+at-number g h = sym (ap (λ (t : Bool). cond t pi_bits (narrowed (to_bits binary64 g))) h)
 
 returns : tie.Need-returns
 returns c = (at-nan _ (not-nan _ c.if1.true), omega arith, omega arith)

@@ -5,12 +5,12 @@ use native.Mathlib.Omega.{arith}
 use native.Mathlib.Nat.{lt_of_le_of_lt}
 use Prim.Native.Nat.{ℕ, ◌+◌, ◌/◌, ◌%◌, ◌^◌, ◌<◌}
 use lib.Pow.{shr_le}
-use Rattle.floats.specs.Patterns.{hidden, wideHidden}
+use Rattle.floats.specs.Patterns.{hidden, wide_hidden}
 use Rattle.atan2.proofs.scale.part.Statement.{statement}
 use Rattle.atan2.proofs.scale.part.Tie as tie
 
-few : (b d : ℕ) → (b % wideHidden + wideHidden) / hidden / 2 ^ d < 1073741824
-few b d = lt_of_le_of_lt (shr_le ((b % wideHidden + wideHidden) / hidden) d) (omega arith)
+few : (b d : ℕ) → (b % wide_hidden + wide_hidden) / hidden / 2 ^ d < 1073741824
+few b d = lt_of_le_of_lt (shr_le ((b % wide_hidden + wide_hidden) / hidden) d) (omega arith)
 
 returns : tie.Need-returns
 returns c = (simp (lt-ltb _ _ c.if1.true), few c.before.args.b _)

@@ -5,26 +5,26 @@ use native.Mathlib.Omega.{arith}
 use Prim.Native.Nat.{ℕ}
 use mathlib.Core.Path.{◌≡◌, sym, ap, ◌∙◌}
 use mathlib.Core.Bool.{Bool, true, false, cond}
-use Rattle.atan2_rule.specs.Steps.{aheadAt, climb, nearer, betweenOf}
+use Rattle.atan2_rule.specs.Steps.{ahead_at, climb, nearer, between_of}
 use Rattle.atan2.proofs.search.between.Statement.{statement}
 use Rattle.atan2.proofs.search.between.Tie as tie
 
 module _ (u v left from to : ℕ) where
-  at_first : aheadAt u v left from ≡ false → from ≡ betweenOf u v left from to
-  unfolding betweenOf
-  at_first h = sym (ap (λ (t : Bool). cond t (cond (aheadAt u v left to) to (nearer u v left (climb (aheadAt u v left) to 27 from))) from) h)
+  at_first : ahead_at u v left from ≡ false → from ≡ between_of u v left from to
+  unfolding between_of
+  at_first h = sym (ap (λ (t : Bool). cond t (cond (ahead_at u v left to) to (nearer u v left (climb (ahead_at u v left) to 27 from))) from) h)
 
-  at_last : aheadAt u v left from ≡ true → aheadAt u v left to ≡ true → to ≡ betweenOf u v left from to
-  unfolding betweenOf
+  at_last : ahead_at u v left from ≡ true → ahead_at u v left to ≡ true → to ≡ between_of u v left from to
+  unfolding between_of
   at_last h k =
-      sym (ap (λ (t : Bool). cond t (cond (aheadAt u v left to) to (nearer u v left (climb (aheadAt u v left) to 27 from))) from) h
-      ∙ ap (λ (t : Bool). cond t to (nearer u v left (climb (aheadAt u v left) to 27 from))) k)
+      sym (ap (λ (t : Bool). cond t (cond (ahead_at u v left to) to (nearer u v left (climb (ahead_at u v left) to 27 from))) from) h
+      ∙ ap (λ (t : Bool). cond t to (nearer u v left (climb (ahead_at u v left) to 27 from))) k)
 
-  inside : aheadAt u v left from ≡ true → aheadAt u v left to ≡ false → nearer u v left (climb (aheadAt u v left) to 27 from) ≡ betweenOf u v left from to
-  unfolding betweenOf
+  inside : ahead_at u v left from ≡ true → ahead_at u v left to ≡ false → nearer u v left (climb (ahead_at u v left) to 27 from) ≡ between_of u v left from to
+  unfolding between_of
   inside h k =
-      sym (ap (λ (t : Bool). cond t (cond (aheadAt u v left to) to (nearer u v left (climb (aheadAt u v left) to 27 from))) from) h
-      ∙ ap (λ (t : Bool). cond t to (nearer u v left (climb (aheadAt u v left) to 27 from))) k)
+      sym (ap (λ (t : Bool). cond t (cond (ahead_at u v left to) to (nearer u v left (climb (ahead_at u v left) to 27 from))) from) h
+      ∙ ap (λ (t : Bool). cond t to (nearer u v left (climb (ahead_at u v left) to 27 from))) k)
 
 returns : tie.Need-returns
 returns c =

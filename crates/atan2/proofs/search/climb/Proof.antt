@@ -5,12 +5,12 @@ use Prim.Native.Nat.{ℕ, suc, ◌+◌, ◌-◌, ◌^◌, ◌≤◌, ◌<◌}
 use mathlib.Core.Path.{◌≡◌, refl, sym, ap, ◌∙◌}
 use mathlib.Core.Bool.{Bool, cond, ◌&&◌}
 use lib.Dec.{ltb}
-use Rattle.atan2_rule.specs.Steps.{aheadAt, climb}
+use Rattle.atan2_rule.specs.Steps.{ahead_at, climb}
 use Rattle.atan2.proofs.search.climb.Statement.{statement}
 use Rattle.atan2.proofs.search.climb.Tie as tie
 
 abbrev invariant-loop : tie.invariant-loop
-invariant-loop u v left from to t₀ k₀ t k = (climb (aheadAt u v left) to k t ≡ climb (aheadAt u v left) to 27 from) × (947912704 ≤ t) × (t < to) × (k ≤ 27)
+invariant-loop u v left from to t₀ k₀ t k = (climb (ahead_at u v left) to k t ≡ climb (ahead_at u v left) to 27 from) × (947912704 ≤ t) × (t < to) × (k ≤ 27)
 
 abbrev decreases-loop : tie.decreases-loop
 decreases-loop u v left from to t₀ k₀ t k = k
@@ -40,7 +40,7 @@ loop-again : tie.Need-loop-preserved invariant-loop decreases-loop
 loop-again c =
     let at = c.before.before.before.args in
     let l = c.before.before.loop in
-    let test = aheadAt at.u at.v at.left in
+    let test = ahead_at at.u at.v at.left in
     (ap (climb test at.to (l.k - 1)) c.stride.ensures.0 ∙ sym (climb-step test at.to l.k l.t c.before.loop-test.true) ∙ l.invariant.0, c.stride.ensures.1, c.stride.ensures.2, omega arith)
 
 at_none : (test : ℕ → Bool) (to t k : ℕ) → k ≡ 0 → climb test to k t ≡ t
@@ -51,7 +51,7 @@ returns c =
     let at = c.before.before.args in
     let l = c.before.loop in
     let e : l.k ≡ 0 = omega arith in
-    (sym (at_none (aheadAt at.u at.v at.left) at.to l.t l.k e) ∙ l.invariant.0, l.invariant.1, l.invariant.2)
+    (sym (at_none (ahead_at at.u at.v at.left) at.to l.t l.k e) ∙ l.invariant.0, l.invariant.1, l.invariant.2)
 
 pub climb-spec : {M : Type 1} → statement M
 climb-spec =

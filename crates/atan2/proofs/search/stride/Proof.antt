@@ -8,7 +8,7 @@ use mathlib.Core.Path.{◌≡◌, refl, sym, ap, subst, ◌∙◌}
 use mathlib.Core.Bool.{Bool, true, false, cond, ◌&&◌}
 use lib.Pow.{pow_mono}
 use lib.Dec.{ltb, lit≤}
-use Rattle.atan2_rule.specs.Steps.{aheadAt}
+use Rattle.atan2_rule.specs.Steps.{ahead_at}
 use Rattle.atan2.proofs.search.stride.Statement.{statement}
 use Rattle.atan2.proofs.search.stride.Tie as tie
 
@@ -54,13 +54,13 @@ returns-2 c =
     let at = c.before.before.before.args in
     let s = shifted at.k c.before.before.before.requires.5 in
     let under : at.t + 2 ^ at.k < at.to = subst (λ (n : ℕ). at.t + n < at.to) s c.before.before.if1.false in
-    (ap (λ (n : ℕ). at.t + n) s ∙ reached at.t (at.t + 2 ^ at.k) at.to _ under (sym (ap (λ (n : ℕ). aheadAt at.u at.v at.left (at.t + n)) s) ∙ sym c.before.ahead-at.ensures ∙ c.if2.true), omega arith, omega arith)
+    (ap (λ (n : ℕ). at.t + n) s ∙ reached at.t (at.t + 2 ^ at.k) at.to _ under (sym (ap (λ (n : ℕ). ahead_at at.u at.v at.left (at.t + n)) s) ∙ sym c.before.ahead-at.ensures ∙ c.if2.true), omega arith, omega arith)
 
 returns-3 : tie.Need-returns-3
 returns-3 c =
     let at = c.before.before.before.args in
     let s = shifted at.k c.before.before.before.requires.5 in
-    (kept at.t (at.t + 2 ^ at.k) at.to _ (sym (ap (λ (n : ℕ). aheadAt at.u at.v at.left (at.t + n)) s) ∙ sym c.before.ahead-at.ensures ∙ c.if2.false), omega arith, omega arith)
+    (kept at.t (at.t + 2 ^ at.k) at.to _ (sym (ap (λ (n : ℕ). ahead_at at.u at.v at.left (at.t + n)) s) ∙ sym c.before.ahead-at.ensures ∙ c.if2.false), omega arith, omega arith)
 
 pub stride-spec : {M : Type 1} → statement M
 stride-spec =

@@ -4,7 +4,7 @@ use Prim.Native.Nat.{ℕ, ◌+◌, ◌*◌}
 use mathlib.Core.Path.{◌≡◌, refl, sym, ap, ◌∙◌}
 use mathlib.Core.Bool.{Bool, true, false, cond, ◌&&◌}
 use lib.Dec.{leb, eqb}
-use Rattle.atan2.specs.Sums.{judgedOf}
+use Rattle.atan2.specs.Sums.{judged_of}
 use Rattle.atan2.proofs.test.judged.Statement.{statement}
 use Rattle.atan2.proofs.test.judged.Tie as tie
 
@@ -27,10 +27,10 @@ both-picked u p a v q b A e f g = e ∙ ap (λ (n : ℕ). u * n + v * q) f ∙ a
 
 module _ (u v left flip cu cd su sd A B F G : ℕ) (ea : A ≡ u * cu + v * cond (eqb left flip) sd su) (eb : B ≡ u * cd + v * cond (eqb left flip) su sd) where
   test-taken : F ≡ v * cond (eqb left 0) cu cd + u * cond (eqb flip 0) su sd → G ≡ v * cond (eqb left 0) cd cu + u * cond (eqb flip 0) sd su
-      → (leb A (B + 900 * (u + v)) && leb B (A + 900 * (u + v))) ≡ true → leb (G + 900 * (u + v)) F ≡ judgedOf u v left flip cu cd su sd
+      → (leb A (B + 900 * (u + v)) && leb B (A + 900 * (u + v))) ≡ true → leb (G + 900 * (u + v)) F ≡ judged_of u v left flip cu cd su sd
   test-taken ef eg h = and-true (leb A (B + 900 * (u + v))) (leb B (A + 900 * (u + v))) (leb (G + 900 * (u + v)) F) h ∙ rw (ea, eb, ef, eg)
 
-  test-left : (leb A (B + 900 * (u + v)) && leb B (A + 900 * (u + v))) ≡ false → false ≡ judgedOf u v left flip cu cd su sd
+  test-left : (leb A (B + 900 * (u + v)) && leb B (A + 900 * (u + v))) ≡ false → false ≡ judged_of u v left flip cu cd su sd
   test-left h =
       and-false (leb A (B + 900 * (u + v))) (leb B (A + 900 * (u + v)))
       (leb (v * cond (eqb left 0) cd cu + u * cond (eqb flip 0) sd su + 900 * (u + v)) (v * cond (eqb left 0) cu cd + u * cond (eqb flip 0) su sd)) h

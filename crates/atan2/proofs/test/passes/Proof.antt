@@ -9,19 +9,19 @@ use mathlib.Core.Path.{◌≡◌, sym, ap, subst, ◌∙◌}
 use mathlib.Core.Bool.{Bool, cond}
 use Rattle.trig_rule.specs.Reduction.{turn}
 use Rattle.trig_rule.specs.Steps.{half, fixed_of}
-use Rattle.atan2_rule.specs.Steps.{passesAt, passes}
+use Rattle.atan2_rule.specs.Steps.{passes_at, passes}
 use Rattle.atan2_rule.proofs.Fixed.{under-half}
 use Rattle.atan2.proofs.Weighed.{judged-is}
 use Rattle.atan2.proofs.test.passes.Statement.{statement}
 use Rattle.atan2.proofs.test.passes.Tie as tie
 
-straight : (u v left b : ℕ) → fixed_of b ≤ half → passesAt u v left 0 (fixed_of b) ≡ passes u v left b
+straight : (u v left b : ℕ) → fixed_of b ≤ half → passes_at u v left 0 (fixed_of b) ≡ passes u v left b
 unfolding passes
-straight u v left b h = sym (ap (λ (t : Bool). cond t (passesAt u v left 0 (fixed_of b)) (passesAt u v left 1 (turn - fixed_of b))) (le-leb (fixed_of b) half h))
+straight u v left b h = sym (ap (λ (t : Bool). cond t (passes_at u v left 0 (fixed_of b)) (passes_at u v left 1 (turn - fixed_of b))) (le-leb (fixed_of b) half h))
 
-flipped : (u v left b : ℕ) → half < fixed_of b → passesAt u v left 1 (turn - fixed_of b) ≡ passes u v left b
+flipped : (u v left b : ℕ) → half < fixed_of b → passes_at u v left 1 (turn - fixed_of b) ≡ passes u v left b
 unfolding passes
-flipped u v left b h = sym (ap (λ (t : Bool). cond t (passesAt u v left 0 (fixed_of b)) (passesAt u v left 1 (turn - fixed_of b))) (lt-leb (fixed_of b) half h))
+flipped u v left b h = sym (ap (λ (t : Bool). cond t (passes_at u v left 0 (fixed_of b)) (passes_at u v left 1 (turn - fixed_of b))) (lt-leb (fixed_of b) half h))
 
 -- no other angle in range is above half a turn
 only-pi : (b : ℕ) → 947912704 ≤ b → b ≤ 1078530011 → half < fixed_of b → b ≡ 1078530011
@@ -44,7 +44,7 @@ returns c =
     let start = c.before.before.before.before in
     let at = start.args in
     let fixed = c.before.before.before.fixed.ensures.0 in
-    c.judged.ensures ∙ judged-is c.before.sides.ensures at.u at.v at.left 0 ∙ ap (passesAt at.u at.v at.left 0) fixed
+    c.judged.ensures ∙ judged-is c.before.sides.ensures at.u at.v at.left 0 ∙ ap (passes_at at.u at.v at.left 0) fixed
     ∙ straight at.u at.v at.left at.b (subst (λ (n : ℕ). n ≤ half) fixed c.before.before.if1.true)
 
 returns-2 : tie.Need-returns-2
@@ -53,7 +53,7 @@ returns-2 c =
     let at = start.args in
     let above : half < fixed_of at.b = subst (λ (n : ℕ). half < n) c.before.before.before.fixed.ensures.0 c.before.before.if1.false in
     c.judged2.ensures ∙ judged-is c.before.past-pi.ensures at.u at.v at.left 1
-    ∙ ap (λ (n : ℕ). passesAt at.u at.v at.left 1 (turn - fixed_of n)) (sym (only-pi at.b start.requires.2 start.requires.3 above))
+    ∙ ap (λ (n : ℕ). passes_at at.u at.v at.left 1 (turn - fixed_of n)) (sym (only-pi at.b start.requires.2 start.requires.3 above))
     ∙ flipped at.u at.v at.left at.b above
 
 pub passes-spec : {M : Type 1} → statement M

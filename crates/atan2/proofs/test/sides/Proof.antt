@@ -5,8 +5,8 @@ use native.Mathlib.Nat.{mul-le-mul, le_trans, le_of_eq}
 use Prim.Native.Nat.{ℕ, ◌*◌, ◌/◌, ◌^◌, ◌≤◌, ◌<◌}
 use mathlib.Core.Path.{◌≡◌, ap}
 use lib.Dec.{lit≤}
-use Rattle.trig_rule.specs.Steps.{half, sinePlus, sineMinus, cosinePlus, cosineMinus}
-use Rattle.atan2_rule.specs.Steps.{cosineUp, cosineDown, sineUp, sineDown}
+use Rattle.trig_rule.specs.Steps.{half, sine_plus, sine_minus, cosine_plus, cosine_minus}
+use Rattle.atan2_rule.specs.Steps.{cosine_up, cosine_down, sine_up, sine_down}
 use Rattle.atan2_rule.proofs.Sides.{cosine-up-most, cosine-down-most, sine-up-most, sine-down-most}
 use Rattle.atan2.specs.Sums.{SumsAt}
 use Rattle.atan2.proofs.test.sides.Statement.{statement}
@@ -21,12 +21,12 @@ cut_product r g h k = mul-le-mul (cut h) (under k)
     under : g < 2 ^ 32 → g ≤ 4294967295
     under l = omega arith
 
-sums_at : (r cp cm sp sm : ℕ) → r ≤ half → cp ≡ cosinePlus r → cm ≡ cosineMinus r → sp ≡ sinePlus r → sm ≡ sineMinus r → SumsAt r (4 * cp) (4 * cm) (r / 67108864 * sp / 1073741824) (r / 67108864 * sm / 1073741824)
+sums_at : (r cp cm sp sm : ℕ) → r ≤ half → cp ≡ cosine_plus r → cm ≡ cosine_minus r → sp ≡ sine_plus r → sm ≡ sine_minus r → SumsAt r (4 * cp) (4 * cm) (r / 67108864 * sp / 1073741824) (r / 67108864 * sm / 1073741824)
 sums_at r cp cm sp sm h ecp ecm esp esm =
-    let a : 4 * cp ≡ cosineUp r = ap (λ (n : ℕ). 4 * n) ecp in
-    let b : 4 * cm ≡ cosineDown r = ap (λ (n : ℕ). 4 * n) ecm in
-    let d : r / 67108864 * sp / 1073741824 ≡ sineUp r = ap (λ (n : ℕ). r / 67108864 * n / 1073741824) esp in
-    let e : r / 67108864 * sm / 1073741824 ≡ sineDown r = ap (λ (n : ℕ). r / 67108864 * n / 1073741824) esm in
+    let a : 4 * cp ≡ cosine_up r = ap (λ (n : ℕ). 4 * n) ecp in
+    let b : 4 * cm ≡ cosine_down r = ap (λ (n : ℕ). 4 * n) ecm in
+    let d : r / 67108864 * sp / 1073741824 ≡ sine_up r = ap (λ (n : ℕ). r / 67108864 * n / 1073741824) esp in
+    let e : r / 67108864 * sm / 1073741824 ≡ sine_down r = ap (λ (n : ℕ). r / 67108864 * n / 1073741824) esm in
     record {
       cosine-up = a;
       cosine-down = b;

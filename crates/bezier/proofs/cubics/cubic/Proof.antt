@@ -1,11 +1,11 @@
 -- The curve holds what it was given and the table that was made. Assumes nothing.
 use borrow.Author.Rules.{rules}
-use Rattle.bezier.specs.Cubics.{cubicOf, madeCubicOf}
+use Rattle.bezier.specs.Cubics.{cubic_of, made_cubic_of}
 use Rattle.bezier.proofs.cubics.cubic.Statement.{statement}
 use Rattle.bezier.proofs.cubics.cubic.Tie as tie
 
 returns : tie.Need-returns
-unfolding madeCubicOf cubicOf
+unfolding made_cubic_of cubic_of
 returns c = cc
 
 pub cubic-spec : {M : Type 1} → statement M

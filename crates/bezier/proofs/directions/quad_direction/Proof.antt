@@ -3,37 +3,37 @@ use borrow.Author.Rules.{rules}
 use mathlib.Core.Path.{◌≡◌, ap, ◌∙◌}
 use lib.Ieee.{Float}
 use Rattle.math.specs.declared.points.Point.{Point}
-use Rattle.math.specs.Math.{normalizeOf, subOf}
-use Rattle.table.specs.Lookup.{rawOf}
-use Rattle.bezier.specs.Curves.{isNothing}
-use Rattle.bezier.specs.Quads.{quadDerivativeOf, quadSampleOf, quadDirection}
+use Rattle.math.specs.Math.{normalize_of, sub_of}
+use Rattle.table.specs.Lookup.{raw_of}
+use Rattle.bezier.specs.Curves.{is_nothing}
+use Rattle.bezier.specs.Quads.{quad_derivative_of, quad_sample_of, quad_direction}
 use Rattle.bezier.proofs.Queries.{tried-first, tried-second}
 use Rattle.bezier.proofs.directions.quad_direction.Statement.{statement}
 use Rattle.bezier.proofs.directions.quad_direction.Tie as tie
 
 -- the first direction, by its definition
-first : (c : tie.After-normalize) → let a = c.before.before.before.args in c.normalize.result ≡ normalizeOf (quadDerivativeOf a.start a.control a.end a.raw.value)
-first c = c.normalize.ensures ∙ ap normalizeOf c.before.quad-derivative.ensures
+first : (c : tie.After-normalize) → let a = c.before.before.before.args in c.normalize.result ≡ normalize_of (quad_derivative_of a.start a.control a.end a.raw.value)
+first c = c.normalize.ensures ∙ ap normalize_of c.before.quad-derivative.ensures
 
 returns : tie.Need-returns
-unfolding quadDirection
+unfolding quad_direction
 returns c =
     let at_here = c.before.before in
     let at_there = at_here.before in
     let at_raw = at_there.before in
     let at_test = at_raw.before.before.before in
     let a = at_test.before.before.before.before.args in
-    let further = at_raw.raw-parameter-in.ensures ∙ ap (rawOf a.entries.now a.total) at_raw.before.ahead.ensures in
-    let there = at_there.quad-sample.ensures ∙ ap (quadSampleOf a.start a.control a.end) further in
-    let apart = c.before.sub.ensures ∙ ap (λ (p : Point). subOf p at_here.quad-sample2.result) there ∙ ap (subOf _) at_here.quad-sample2.ensures in
-    c.normalize2.ensures ∙ ap normalizeOf apart
-    ∙ tried-second _ _ _ (at_test.is-nothing.ensures ∙ ap isNothing (first at_test.before)) at_raw.before.before.if1.true
+    let further = at_raw.raw-parameter-in.ensures ∙ ap (raw_of a.entries.now a.total) at_raw.before.ahead.ensures in
+    let there = at_there.quad-sample.ensures ∙ ap (quad_sample_of a.start a.control a.end) further in
+    let apart = c.before.sub.ensures ∙ ap (λ (p : Point). sub_of p at_here.quad-sample2.result) there ∙ ap (sub_of _) at_here.quad-sample2.ensures in
+    c.normalize2.ensures ∙ ap normalize_of apart
+    ∙ tried-second _ _ _ (at_test.is-nothing.ensures ∙ ap is_nothing (first at_test.before)) at_raw.before.before.if1.true
 
 returns-2 : tie.Need-returns-2
-unfolding quadDirection
+unfolding quad_direction
 returns-2 c =
     let is = first c.before.before in
-    is ∙ tried-first _ _ _ (c.before.is-nothing.ensures ∙ ap isNothing is) c.if1.false
+    is ∙ tried-first _ _ _ (c.before.is-nothing.ensures ∙ ap is_nothing is) c.if1.false
 
 pub quad-direction-spec : {M : Type 1} → statement M
 quad-direction-spec =

@@ -2,15 +2,15 @@
 use borrow.Author.Rules.{rules}
 use mathlib.Core.Path.{ap, ◌∙◌}
 use lib.Ieee.{Float}
-use Rattle.bezier.specs.Cubics.{cubicTangentAt, cubicTangentOf}
+use Rattle.bezier.specs.Cubics.{cubic_tangent_at, cubic_tangent_of}
 use Rattle.bezier.proofs.lookups.cubic_tangent.Statement.{statement}
 use Rattle.bezier.proofs.lookups.cubic_tangent.Tie as tie
 
 returns : tie.Need-returns
-unfolding cubicTangentOf
+unfolding cubic_tangent_of
 returns c =
     let start = c.before.before.before in
-    c.cubic-tangent-at.ensures ∙ ap (λ (raw : Float). cubicTangentAt start.args.curve raw start.args.progress.value) c.before.raw-parameter.ensures
+    c.cubic-tangent-at.ensures ∙ ap (λ (raw : Float). cubic_tangent_at start.args.curve raw start.args.progress.value) c.before.raw-parameter.ensures
 
 pub cubic-tangent-spec : {M : Type 1} → statement M
 cubic-tangent-spec =

@@ -2,15 +2,15 @@
 use borrow.Author.Rules.{rules}
 use mathlib.Core.Path.{ap, ◌∙◌}
 use lib.Ieee.{Float}
-use Rattle.bezier.specs.Quads.{quadTangentAt, quadTangentOf}
+use Rattle.bezier.specs.Quads.{quad_tangent_at, quad_tangent_of}
 use Rattle.bezier.proofs.lookups.quad_tangent.Statement.{statement}
 use Rattle.bezier.proofs.lookups.quad_tangent.Tie as tie
 
 returns : tie.Need-returns
-unfolding quadTangentOf
+unfolding quad_tangent_of
 returns c =
     let start = c.before.before.before in
-    c.quad-tangent-at.ensures ∙ ap (λ (raw : Float). quadTangentAt start.args.curve raw start.args.progress.value) c.before.raw-parameter.ensures
+    c.quad-tangent-at.ensures ∙ ap (λ (raw : Float). quad_tangent_at start.args.curve raw start.args.progress.value) c.before.raw-parameter.ensures
 
 pub quad-tangent-spec : {M : Type 1} → statement M
 quad-tangent-spec =

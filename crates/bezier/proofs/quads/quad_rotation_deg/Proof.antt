@@ -2,9 +2,9 @@
 use borrow.Author.Rules.{rules}
 use mathlib.Core.Path.{sym, ap, ◌∙◌}
 use denote.Floats.{passes}
-use Rattle.angles.specs.Angles.{rotationDegOf}
+use Rattle.angles.specs.Angles.{rotation_deg_of}
 use Rattle.flight.specs.declared.single.Turned.TheVariants as Turned
-use Rattle.bezier.specs.Quads.{quadTurnedOf}
+use Rattle.bezier.specs.Quads.{quad_turned_of}
 use Rattle.bezier.proofs.Queries.{turned_by, turned-refused}
 use Rattle.bezier.proofs.quads.quad_rotation_deg.Statement.{statement}
 use Rattle.bezier.proofs.quads.quad_rotation_deg.Tie as tie
@@ -13,13 +13,13 @@ quad-tangent-requires : tie.Need-quad-tangent-requires
 quad-tangent-requires c κs = passes _ (sym c.before.table-is-sound.ensures ∙ c.if1.true)
 
 returns : tie.Need-returns
-unfolding quadTurnedOf
+unfolding quad_turned_of
 returns c =
-    let degrees = c.tidy.ensures ∙ c.before.rotation-deg.ensures ∙ ap rotationDegOf c.before.before.quad-tangent.ensures in
+    let degrees = c.tidy.ensures ∙ c.before.rotation-deg.ensures ∙ ap rotation_deg_of c.before.before.quad-tangent.ensures in
     ap Turned.Degrees degrees ∙ turned_by _ _ _ c.before.before.before.before.table-is-sound.ensures c.before.before.before.if1.true
 
 returns-2 : tie.Need-returns-2
-unfolding quadTurnedOf
+unfolding quad_turned_of
 returns-2 c = turned-refused _ _ _ c.before.table-is-sound.ensures c.if1.false
 
 pub quad-rotation-deg-spec : {M : Type 1} → statement M

@@ -2,7 +2,7 @@
 use mathlib.Core.Path.{◌≡◌, refl, ap, ◌∙◌}
 use lib.IntN.{pos}
 use lib.Ieee.{Float, binary32, of_bits, of_int, div, round}
-use Rattle.floats.specs.Floats.{clamp01Of}
+use Rattle.floats.specs.Floats.{clamp01_of}
 use Rattle.table.specs.Lookup.{mark_of}
 use borrow.Author.Rules.{rules}
 use Rattle.bezier.proofs.rows.sample_mark.Statement.{statement}
@@ -14,7 +14,7 @@ thirty-one = refl
 
 returns : tie.Need-returns
 unfolding mark_of
-returns c = c.clamp01.ensures ∙ ap (λ (z : Float). clamp01Of (div binary32 (of_int binary32 (pos c.before.before.args.i)) z)) thirty-one
+returns c = c.clamp01.ensures ∙ ap (λ (z : Float). clamp01_of (div binary32 (of_int binary32 (pos c.before.before.args.i)) z)) thirty-one
 
 pub sample-mark-spec : {M : Type 1} → statement M
 sample-mark-spec =

@@ -6,16 +6,16 @@ use mathlib.Core.Path.{◌≡◌, refl, ap, sym, ◌∙◌}
 use native.Mathlib.Omega.{arith}
 use borrow.Author.Tests.{lt-ltb}
 use lib.ListN.{length, get_or, length-drop, drop}
-use Rattle.commands.specs.Listed.{commandOf, listed}
-use Rattle.commands.specs.Checked.{judged, checkCommandsOf}
+use Rattle.commands.specs.Listed.{command_of, listed}
+use Rattle.commands.specs.Checked.{judged, check_commands_of}
 use Rattle.commands.specs.declared.encoding.Decoded.TheVariants.{Command}
-use Rattle.commands.proofs.Listing.{listedFrom, check-few, command-fits, from-bad, from-left-over, from_end, judged-next}
+use Rattle.commands.proofs.Listing.{listed_from, check-few, command-fits, from-bad, from-left-over, from_end, judged-next}
 use Rattle.commands.proofs.checking.check_commands.Statement.{statement}
 use Rattle.commands.proofs.checking.check_commands.Tie as tie
 
 abbrev invariant-loop : tie.invariant-loop
 invariant-loop letters numbers count letter-at₀ at₀ letter_at at =
-    (letter_at ≤ length letters) × (at ≤ length numbers) × (judged (listedFrom letters numbers letter_at at) ≡ judged (listed 0 letters numbers))
+    (letter_at ≤ length letters) × (at ≤ length numbers) × (judged (listed_from letters numbers letter_at at) ≡ judged (listed 0 letters numbers))
 
 abbrev decreases-loop : tie.decreases-loop
 decreases-loop letters numbers count letter-at₀ at₀ letter_at at = length letters - letter_at
@@ -32,7 +32,7 @@ decoded w = w.before.before.before.before
 
 -- the command that is read, and its numbers are there
 command : (w : tie.After-width invariant-loop decreases-loop) → let l = (loop (decoded w)).loop in
-    commandOf (get_or (start (loop (decoded w))).args.letters.now l.letter_at 0) (drop l.at (start (loop (decoded w))).args.numbers.now) ≡ Command w.before.before.command.given.0.0
+    command_of (get_or (start (loop (decoded w))).args.letters.now l.letter_at 0) (drop l.at (start (loop (decoded w))).args.numbers.now) ≡ Command w.before.before.command.given.0.0
 command w = sym (decoded w).decode.ensures ∙ w.before.before.command.given.1
 
 fits : (w : tie.After-width invariant-loop decreases-loop) → (loop (decoded w)).loop.at + w.width.result ≤ length (start (loop (decoded w))).args.numbers.now
@@ -43,11 +43,11 @@ fits w =
 
 -- ---- the answers
 returns : tie.Need-returns invariant-loop decreases-loop
-unfolding checkCommandsOf
+unfolding check_commands_of
 returns c = simp (lt-ltb 65536 _ c.if1.true)
 
 loop-holds : tie.Need-loop-init invariant-loop decreases-loop
-unfolding listedFrom
+unfolding listed_from
 loop-holds c = (omega arith, omega arith, refl)
 
 returns-2 : tie.Need-returns-2 invariant-loop decreases-loop
@@ -81,7 +81,7 @@ returns-3 c =
     let a = (start c.before.before).args in
     let l = c.before.before.loop in
     ap judged (sym (from-left-over a.letters.now a.numbers.now (length a.letters.now) l.at (omega arith) c.if2.true))
-    ∙ ap (λ k. judged (listedFrom a.letters.now a.numbers.now k l.at)) (let e : length a.letters.now ≡ l.letter_at = omega arith in e)
+    ∙ ap (λ k. judged (listed_from a.letters.now a.numbers.now k l.at)) (let e : length a.letters.now ≡ l.letter_at = omega arith in e)
     ∙ l.invariant.2
     ∙ sym (check-few a.letters.now a.numbers.now (omega arith))
 

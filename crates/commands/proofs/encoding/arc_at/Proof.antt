@@ -1,4 +1,4 @@
--- `commands::encoding::arc_at` meets its contract: each way out is a case of `arcOf`. Assumes nothing.
+-- `commands::encoding::arc_at` meets its contract: each way out is a case of `arc_of`. Assumes nothing.
 use borrow.Author.Rules.{rules}
 use mathlib.Core.Path.{sym, ◌∙◌}
 use Rattle.commands.proofs.Decoding.{arc-flagged, arc-large, arc-sweep}

@@ -1,4 +1,4 @@
--- `commands::encoding::decode` meets its contract: each way out is a case of `commandOf`, and the numbers from `at` on are those that `drop` leaves.
+-- `commands::encoding::decode` meets its contract: each way out is a case of `command_of`, and the numbers from `at` on are those that `drop` leaves.
 -- Assumes nothing.
 use borrow.Author.Rules.{rules}
 use Prim.Native.Nat.{ℕ, ◌+◌}
@@ -8,7 +8,7 @@ use native.Mathlib.Omega.{arith}
 use lib.Ieee.{Float}
 use lib.ListN.{drop, length-drop}
 use Rattle.math.specs.declared.points.Point.{Point}
-use Rattle.commands.specs.Listed.{pointAt}
+use Rattle.commands.specs.Listed.{point_at}
 use Rattle.commands.proofs.Decoding.{point-first, point-later, is_move, is-line, is-quad, is-cubic, is-arc, is-close, short-move, short-line, short-quad, short-cubic, short-arc, unknown}
 use Rattle.commands.proofs.encoding.decode.Statement.{statement}
 use Rattle.commands.proofs.encoding.decode.Tie as tie
@@ -17,10 +17,10 @@ use Rattle.commands.proofs.encoding.decode.Tie as tie
 abbrev left : tie.Start → List Float
 left s = drop s.args.at s.args.numbers.now
 
-abbrev first : (s : tie.Start) {p : Point} → p ≡ pointAt s.args.numbers.now s.args.at → p ≡ pointAt (left s) 0
+abbrev first : (s : tie.Start) {p : Point} → p ≡ point_at s.args.numbers.now s.args.at → p ≡ point_at (left s) 0
 first s e = point-first s.args.numbers.now s.args.at e
 
-abbrev later : (s : tie.Start) (i : ℕ) {p : Point} → p ≡ pointAt s.args.numbers.now (s.args.at + i) → p ≡ pointAt (left s) i
+abbrev later : (s : tie.Start) (i : ℕ) {p : Point} → p ≡ point_at s.args.numbers.now (s.args.at + i) → p ≡ point_at (left s) i
 later s i e = point-later s.args.numbers.now s.args.at i e
 
 returns : tie.Need-returns

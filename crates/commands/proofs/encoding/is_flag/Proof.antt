@@ -1,4 +1,4 @@
--- `commands::encoding::is_flag` meets its contract: the two tests of its body are those of `isFlag`. Assumes nothing.
+-- `commands::encoding::is_flag` meets its contract: the two tests of its body are those of `is_flag`. Assumes nothing.
 use borrow.Author.Rules.{rules}
 use Rattle.commands.proofs.encoding.is_flag.Statement.{statement}
 use Rattle.commands.proofs.encoding.is_flag.Tie as tie

@@ -4,7 +4,7 @@ use mathlib.Core.Path.{◌≡◌, refl, ap, sym, ◌∙◌, subst}
 use mathlib.Core.Logic.{◌⊎◌, inl, inr, ⊎_elim}
 use Prim.Native.Nat.{ℕ, ◌+◌, ◌-◌, ◌*◌, ◌^◌, ◌≤◌, ◌<◌}
 use native.Mathlib.Omega.{arith}
-use Rattle.decimal_digits.specs.Digits.{digitsAmong, val}
+use Rattle.decimal_digits.specs.Digits.{digits_among, val}
 use Rattle.decimal_digits.specs.Leading.{Leads}
 use Rattle.decimal_digits.specs.Exponent.{capped}
 use Rattle.decimal_digits.proofs.Values.{ten-pos}
@@ -40,14 +40,14 @@ module _ (c : tie.After-nearest) (up down : ℕ) (e : c.before.before.before.bef
       (subst (λ (i : ℕ). capped (start.args.places + down) ≤ i) x (subst (λ (i : ℕ). i ≤ c.before.before.before.before.sum.result) y c.before.before.if2.false))
       (subst (λ (i : ℕ). i - capped (start.args.places + down) ≤ 102) x (subst (λ (i : ℕ). c.before.before.before.before.sum.result - i ≤ 102) y c.before.if3.false)))
 
-  leading : Leading start.args.w place (val (digitsAmong start.args.part.now) * 10 ^ up) (10 ^ (start.args.places + down))
+  leading : Leading start.args.w place (val (digits_among start.args.part.now) * 10 ^ up) (10 ^ (start.args.places + down))
   leading = placed start.args.w (start.args.dropped + 64 + up) _ (start.args.places + down) (sized _ _ _ up start.pre.leads) place apart.at-or-past
 
 returns : tie.Need-returns
 returns c =
     let a = c.before.before.args in
     record {
-      bits = λ up down e f one. none-nearest _ a.dropped up (a.places + down) (subst (λ (w : ℕ). Leads (digitsAmong a.part.now) w a.dropped) c.if1.true c.before.before.requires.leads);
+      bits = λ up down e f one. none-nearest _ a.dropped up (a.places + down) (subst (λ (w : ℕ). Leads (digits_among a.part.now) w a.dropped) c.if1.true c.before.before.requires.leads);
     }
 
 returns-2 : tie.Need-returns-2
@@ -98,7 +98,7 @@ returns-5 : tie.Need-returns-5
 returns-5 c =
     let near = c.before.before.before.before in
     let a = c.before.before.before.before.before.before.before.before.before.before.before.args in
-    let ds = digitsAmong a.part.now in
+    let ds = digits_among a.part.now in
     let m = c.before.before.m.given.0.0 in
     let k = c.before.before.m.given.0.1.0 in
     record {

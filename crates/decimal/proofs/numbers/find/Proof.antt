@@ -6,7 +6,7 @@ use native.Mathlib.Omega.{arith}
 use lib.Dec.{eqb}
 use lib.ListN.{get_or}
 use borrow.Author.Tests.{not-true, not-false, eq-eqb, ne_eqb}
-use Rattle.scan.specs.Bytes.{among, points, exponentMarks}
+use Rattle.scan.specs.Bytes.{among, points, exponent_marks}
 use Rattle.scan.proofs.RunLaws.{one-onward}
 use Rattle.decimal.specs.Decimal.{minus}
 use Rattle.decimal.proofs.Found.{plain_at, marked-at, mark-inside, number-no-digit, number-no-exponent, scanned, held_plain, held-falling, held-rising}
@@ -15,8 +15,8 @@ use Rattle.decimal.proofs.numbers.find.Statement.{statement}
 use Rattle.decimal.proofs.numbers.find.Tie as tie
 
 -- an e stands past the digits
-is-mark : (c : tie.Else2) → among (get_or c.before.before.before.before.before.before.before.before.before.args.text.now c.before.before.before.before.gather-many.result.at 0) exponentMarks ≡ true
-is-mark c = ap (λ (x : ℕ). among x exponentMarks) (sym c.before.before.byte_at.ensures) ∙ sym c.before.is-exponent-mark.ensures ∙ not-false _ c.if2.false
+is-mark : (c : tie.Else2) → among (get_or c.before.before.before.before.before.before.before.before.before.args.text.now c.before.before.before.before.gather-many.result.at 0) exponent_marks ≡ true
+is-mark c = ap (λ (x : ℕ). among x exponent_marks) (sym c.before.before.byte_at.ensures) ∙ sym c.before.is-exponent-mark.ensures ∙ not-false _ c.if2.false
 
 -- then the text goes on
 mark-lt : (c : tie.Else2) → c.before.before.before.before.gather-many.result.at + 1 < 2 ^ 64
@@ -42,7 +42,7 @@ returns-2 c =
     let all = some.before.gather-many.ensures in
     let point = some.before.before in
     let whole = point.before in
-    let no-mark = ap (λ (x : ℕ). among x exponentMarks) (sym c.before.before.byte_at.ensures) ∙ sym c.before.is-exponent-mark.ensures ∙ not-true _ c.if2.true in
+    let no-mark = ap (λ (x : ℕ). among x exponent_marks) (sym c.before.before.byte_at.ensures) ∙ sym c.before.is-exponent-mark.ensures ∙ not-true _ c.if2.true in
     let end = plain_at _ all.passed no-mark in
     record {
       said = (

@@ -8,7 +8,7 @@ use lib.Dec.{eqb}
 use lib.Ieee.{binary32, of_bits}
 use borrow.Author.Rules.{rules}
 use borrow.Author.Tests.{leb-true, ltb-true, eqb-true}
-use Rattle.floats.specs.Patterns.{signPlace}
+use Rattle.floats.specs.Patterns.{sign_place}
 use Rattle.decimal_rounding.proofs.Wide.{no-nan-single}
 use Rattle.decimal_digits.proofs.Values.{ten-pos}
 use Rattle.decimal.specs.Decimal.{minus, numerator, denominator, places_of}
@@ -76,7 +76,7 @@ returns-2 : tie.Need-returns-2
 returns-2 c =
     let start = c.before.before.before.before.before.before.before.before.before in
     value-signed _ _ _ _ _ _ start.requires _ true (sym (ap (λ (n : ℕ). eqb n minus) (sym c.before.before.before.before.before.before.byte_at.ensures) ∙ c.if3.true))
-    (ap (λ (n : ℕ). of_bits binary32 n) (add_comm c.before.magnitude.result signPlace) ∙ sym ((nearest c.before).is true))
+    (ap (λ (n : ℕ). of_bits binary32 n) (add_comm c.before.magnitude.result sign_place) ∙ sym ((nearest c.before).is true))
 
 returns-3 : tie.Need-returns-3
 returns-3 c =

@@ -6,7 +6,7 @@ use native.Mathlib.Omega.{arith}
 use borrow.Author.Rules.{rules}
 use lib.Dec.{eqb}
 use lib.ListN.{length, get_or}
-use Rattle.scan.specs.Bytes.{among, points, exponentMarks}
+use Rattle.scan.specs.Bytes.{among, points, exponent_marks}
 use Rattle.scan.proofs.ByteLaws.{alone-is, alone-isnt}
 use Rattle.scan.proofs.RunLaws.{byte_inside, one_byte, one_none}
 use Rattle.decimal_digits.proofs.Taking.{gathers-none}
@@ -39,7 +39,7 @@ returns-2 c h =
     let settled = c.settle.ensures h in
     let ended = fills.ended (omega (arith, settled.few)) in
     let plain = neither (eqb whole taken.at) _ c.before.before.if2.false in
-    let no-mark = ap (λ (b : ℕ). among b exponentMarks) (sym byte) ∙ sym c.before.before.before.is-exponent-mark.ensures ∙ plain.1 in
+    let no-mark = ap (λ (b : ℕ). among b exponent_marks) (sym byte) ∙ sym c.before.before.before.is-exponent-mark.ensures ∙ plain.1 in
     quick-read _ _ settled
     (quick-number start.args.at sign.before.lead.ensures.0 (fills-all text whole 0 taken fills settled.few)
     (one_none points text taken.at (alone-isnt _ 46 (λ e. no-point.if1.true (byte ∙ e))))
@@ -79,7 +79,7 @@ returns-5 c h =
     let settled = c.settle2.ensures h in
     let before-few : taken.w < 2 ^ 53 = omega (arith, fills.takes.grows, settled.few) in
     let after = fills-all text (taken.at + 1) taken.w all fills settled.few in
-    let no-mark = ap (λ (b : ℕ). among b exponentMarks) (sym c.before.before.before.before.byte-at3.ensures) ∙ sym c.before.before.before.is-exponent-mark2.ensures ∙ c.before.before.if4.false in
+    let no-mark = ap (λ (b : ℕ). among b exponent_marks) (sym c.before.before.before.before.byte-at3.ensures) ∙ sym c.before.before.before.is-exponent-mark2.ensures ∙ c.before.before.if4.false in
     quick-read _ _ settled
     (quick-number start.args.at sign.before.lead.ensures.0 (fills-all text whole 0 taken first.whole-digits.ensures before-few)
     (one_byte points text taken.at no_zero (alone-is _ 46 (is-point point))) after some.if3.false (plain_at (taken.at + 1) after.passed no-mark) settled.few)

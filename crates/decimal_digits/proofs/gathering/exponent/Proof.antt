@@ -3,10 +3,10 @@
 use Rattle.std.proofs.Common.{◌≡◌, ℕ, ◌+◌, ◌-◌, ◌*◌, ◌<◌, ◌≤◌, length, get_or, sym, refl, ap, ◌∙◌, subst, arith, rules}
 use borrow.Author.Tests.{not-true, not-false}
 use Rattle.scan.specs.Bytes.{digits}
-use Rattle.scan.specs.Runs.{pastDigitsOf}
+use Rattle.scan.specs.Runs.{past_digits_of}
 use Rattle.scan.proofs.ByteLaws.{digit-range}
 use Rattle.scan.proofs.RunLaws.{all_pass, all-stop, all_end}
-use Rattle.decimal_digits.specs.Digits.{digitsIn, val}
+use Rattle.decimal_digits.specs.Digits.{digits_in, val}
 use Rattle.decimal_digits.specs.Exponent.{capped}
 use Rattle.decimal_digits.proofs.Values.{digit_lt}
 use Rattle.decimal_digits.proofs.Capping.{size-start, size-digit, power-is}
@@ -14,7 +14,7 @@ use Rattle.decimal_digits.proofs.gathering.exponent.Statement.{statement}
 use Rattle.decimal_digits.proofs.gathering.exponent.Tie as tie
 
 abbrev invariant-loop : tie.invariant-loop
-invariant-loop text from at₀ size₀ at size = (from ≤ at) × (pastDigitsOf text at ≡ pastDigitsOf text from) × (size ≡ capped (val (digitsIn text from at)))
+invariant-loop text from at₀ size₀ at size = (from ≤ at) × (past_digits_of text at ≡ past_digits_of text from) × (size ≡ capped (val (digits_in text from at)))
 
 abbrev decreases-loop : tie.decreases-loop
 decreases-loop text from at₀ size₀ at size = length text - at
@@ -38,8 +38,8 @@ loop-again c =
     let is_one = sym c.before.before.before.before.is_digit.ensures ∙ not-false _ c.before.before.before.if1.false in (
       omega arith,
       all_pass digits text at inside is_one ∙ at-loop.loop.invariant.1,
-      c.longer.ensures (val (digitsIn text from at)) at-loop.loop.invariant.2
-          ∙ ap (λ (d : ℕ). capped (val (digitsIn text from at) * 10 + d)) c.before.digit.ensures
+      c.longer.ensures (val (digits_in text from at)) at-loop.loop.invariant.2
+          ∙ ap (λ (d : ℕ). capped (val (digits_in text from at) * 10 + d)) c.before.digit.ensures
           ∙ ap capped (size-digit text from at at-loop.loop.invariant.0 inside is_one),
     )
 

@@ -1,14 +1,14 @@
 -- `decimal_digits::gathering::past_many_digits` meets its contract. The invariant: the run from `at` ends where the run from `from` does. The measure is what is left of the
 -- text. Assumes nothing.
 use Rattle.std.proofs.Common.{◌≡◌, ◌+◌, ◌-◌, length, sym, refl, ap, ◌∙◌, arith, rules}
-use Rattle.scan.specs.Runs.{pastDigitsOf}
+use Rattle.scan.specs.Runs.{past_digits_of}
 use Rattle.decimal_digits.proofs.Lanes.{both}
 use Rattle.decimal_digits.proofs.Taking.{run-same}
 use Rattle.decimal_digits.proofs.gathering.past_many_digits.Statement.{statement}
 use Rattle.decimal_digits.proofs.gathering.past_many_digits.Tie as tie
 
 abbrev invariant-loop : tie.invariant-loop
-invariant-loop text from at₀ at = pastDigitsOf text at ≡ pastDigitsOf text from
+invariant-loop text from at₀ at = past_digits_of text at ≡ past_digits_of text from
 
 abbrev decreases-loop : tie.decreases-loop
 decreases-loop text from at₀ at = length text - at
@@ -39,7 +39,7 @@ loop-again c =
     let inside = c.before.before.before.before.has.ensures c.before.before.before.if1.true in
     let t = both c.before.before.all_digits.result c.before.all-digits2.result c.if2.true in
     let on : at + 16 ≡ at + 8 + 8 = omega arith in
-    ap (pastDigitsOf text) on
+    ap (past_digits_of text) on
     ∙ run-same text (at + 8) (omega (arith, inside)) 8 (sym (c.before.all-digits2.ensures t.1))
     ∙ run-same text at (omega (arith, inside)) 8 (sym (c.before.before.all_digits.ensures t.0))
     ∙ at-loop.loop.invariant

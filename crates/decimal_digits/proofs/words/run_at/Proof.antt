@@ -2,19 +2,19 @@
 use Rattle.std.proofs.Common.{◌≡◌, ℕ, ◌+◌, ◌-◌, ◌*◌, ◌/◌, ◌<◌, length, sym, refl, ap, ◌∙◌, le_of_lt, arith, rules}
 use lib.Bits.{bit_xor}
 use lib.Count.{count_trailing_zeros, trailing_le}
-use Rattle.decimal_digits.specs.Words.{laid, eightOf, begun, each, Below}
+use Rattle.decimal_digits.specs.Words.{laid, eight_of, begun, each, Below}
 use Rattle.decimal_digits.proofs.Lanes.{eight-below, none_other, some-other, whole-value, part-value}
 use Rattle.decimal_digits.proofs.words.run_at.Statement.{statement}
 use Rattle.decimal_digits.proofs.words.run_at.Tie as tie
 
-bytes : (c : tie.After-shared-slice-known) → Below 256 (eightOf c.before.args.text.now c.before.args.at)
+bytes : (c : tie.After-shared-slice-known) → Below 256 (eight_of c.before.args.text.now c.before.args.at)
 bytes c = eight-below c.before.args.text.now c.before.args.at (λ i. omega (arith, c.shared-slice-known.given i))
 
-lanes-are : (c : tie.After-values) → c.values.result ≡ bit_xor (laid 8 (eightOf c.before.before.before.args.text.now c.before.before.before.args.at)) (each 48 8)
+lanes-are : (c : tie.After-values) → c.values.result ≡ bit_xor (laid 8 (eight_of c.before.before.before.args.text.now c.before.before.before.args.at)) (each 48 8)
 lanes-are c = c.values.ensures ∙ ap (λ (z : ℕ). bit_xor z (each 48 8)) c.before.word_at.ensures
 
 abbrev count_of : tie.Start → ℕ
-count_of c = length (begun (eightOf c.args.text.now c.args.at))
+count_of c = length (begun (eight_of c.args.text.now c.args.at))
 
 -- the lowest mark
 first : (c : tie.Else1)
@@ -45,7 +45,7 @@ returns-2 c =
     let moved : up ≡ 4 * (8 - count_of start) = omega (arith, s.0) in
     record {
       count = omega (arith, s.0);
-      value = part-value (eightOf start.args.text.now start.args.at) refl (bytes c.before.before.before.before.before) _ (lanes-are c.before.before.before) _ _ up (le_of_lt s.1) moved refl c.eight2.ensures;
+      value = part-value (eight_of start.args.text.now start.args.at) refl (bytes c.before.before.before.before.before) _ (lanes-are c.before.before.before) _ _ up (le_of_lt s.1) moved refl c.eight2.ensures;
     }
 
 pub run-at-spec : {M : Type 1} → statement M

@@ -8,7 +8,7 @@ use borrow.Author.Rules.{rules}
 use borrow.Author.Tests.{not-true, not-false}
 use lib.ListN.{length, drop, get_or}
 use Rattle.scan.proofs.ByteLaws.{digit-range}
-use Rattle.decimal_digits.specs.Digits.{digitsAmong}
+use Rattle.decimal_digits.specs.Digits.{digits_among}
 use Rattle.decimal_digits.proofs.Values.{val-lt}
 use Rattle.decimal_tie.specs.Words.{wide_of, Small}
 use Rattle.decimal_tie.specs.Weighing.{against}
@@ -19,7 +19,7 @@ use Rattle.decimal_tie.proofs.scales.compare_rest.Statement.{statement}
 use Rattle.decimal_tie.proofs.scales.compare_rest.Tie as tie
 
 abbrev invariant-loop : tie.invariant-loop
-invariant-loop part from i₀ w₀ i w = Small w × (against (digitsAmong (drop i part)) (wide_of w) ≡ against (digitsAmong (drop from part)) (wide_of w₀))
+invariant-loop part from i₀ w₀ i w = Small w × (against (digits_among (drop i part)) (wide_of w) ≡ against (digits_among (drop from part)) (wide_of w₀))
 
 abbrev decreases-loop : tie.decreases-loop
 decreases-loop part from i₀ w₀ i w = length part - i
@@ -46,13 +46,13 @@ read_first :
     (c : tie.After-digit invariant-loop decreases-loop)
     → let at-loop = c.before.before.before.before.before.before in
     let args = at-loop.before.before.args in
-    against (c.digit.result ∷ digitsAmong (drop (at-loop.loop.i + 1) args.part.now)) (wide_of at-loop.loop.w) ≡ against (digitsAmong (drop args.from args.part.now)) (wide_of args.f)
+    against (c.digit.result ∷ digits_among (drop (at-loop.loop.i + 1) args.part.now)) (wide_of at-loop.loop.w) ≡ against (digits_among (drop args.from args.part.now)) (wide_of args.f)
 read_first c =
     let at-loop = c.before.before.before.before.before.before in
     let part = at-loop.before.before.args.part.now in
     let w = at-loop.loop.w in
     let is_one = sym c.before.before.before.is_digit.ensures ∙ not-false _ c.before.before.if1.false in
-    ap (λ (d : ℕ). against (d ∷ digitsAmong (drop (at-loop.loop.i + 1) part)) (wide_of w)) c.digit.ensures
+    ap (λ (d : ℕ). against (d ∷ digits_among (drop (at-loop.loop.i + 1) part)) (wide_of w)) c.digit.ensures
     ∙ ap (λ (ds : List ℕ). against ds (wide_of w)) (sym (digit-first part at-loop.loop.i c.before.before.before.before.before.loop-test.true is_one))
     ∙ at-loop.loop.invariant.1
 

@@ -6,14 +6,14 @@ use native.Mathlib.Omega.{arith}
 use borrow.Author.Rules.{rules}
 use lib.ListN.{length, drop, get_or}
 use Rattle.scan.proofs.ByteLaws.{digit-range}
-use Rattle.decimal_digits.specs.Digits.{digitsAmong}
+use Rattle.decimal_digits.specs.Digits.{digits_among}
 use Rattle.decimal_tie.specs.Weighing.{first, others}
 use Rattle.decimal_tie.proofs.Parts.{digit-first, other-first, none_first}
 use Rattle.decimal_tie.proofs.scales.take.Statement.{statement}
 use Rattle.decimal_tie.proofs.scales.take.Tie as tie
 
 abbrev invariant-loop : tie.invariant-loop
-invariant-loop part from i₀ i = digitsAmong (drop i part) ≡ digitsAmong (drop from part)
+invariant-loop part from i₀ i = digits_among (drop i part) ≡ digits_among (drop from part)
 
 abbrev decreases-loop : tie.decreases-loop
 decreases-loop part from i₀ i = length part - i

@@ -3,7 +3,7 @@ use mathlib.Core.Path.{◌≡◌, ap, sym, ◌∙◌, subst}
 use mathlib.Core.Logic.{⊎_elim}
 use Prim.Native.Nat.{ℕ, ◌*◌, ◌^◌}
 use native.Mathlib.Omega.{arith}
-use Rattle.decimal_digits.specs.Digits.{digitsAmong}
+use Rattle.decimal_digits.specs.Digits.{digits_among}
 use Rattle.decimal_tie.specs.Weighing.{weigh_of}
 use borrow.Author.Rules.{rules}
 use Rattle.decimal_tie.proofs.scales.weigh.Statement.{statement}
@@ -15,8 +15,8 @@ returns c =
     let words = c.before.before.in-six-words.ensures in
     let none : 0 ≡ start.args.count = ⊎_elim (λ (e : start.args.count ≡ 0). sym e) (λ (e : start.args.zeros ≡ 0). absurd (omega (arith, c.before.if1.true))) start.requires.2 in
     c.weigh-small.ensures
-    ∙ ap (λ (s : ℕ). weigh_of (digitsAmong start.args.part.now) 0 start.args.zeros s) (sym words.is)
-    ∙ ap (λ (n : ℕ). weigh_of (digitsAmong start.args.part.now) n start.args.zeros (start.args.odd * 2 ^ start.args.k)) none
+    ∙ ap (λ (s : ℕ). weigh_of (digits_among start.args.part.now) 0 start.args.zeros s) (sym words.is)
+    ∙ ap (λ (n : ℕ). weigh_of (digits_among start.args.part.now) n start.args.zeros (start.args.odd * 2 ^ start.args.k)) none
 
 returns-2 : tie.Need-returns-2
 returns-2 c =
@@ -24,8 +24,8 @@ returns-2 c =
     let words = c.before.before.in-six-words.ensures in
     let none : 0 ≡ start.args.zeros = omega (arith, c.before.if1.false) in
     c.weigh-large.ensures
-    ∙ ap (λ (s : ℕ). weigh_of (digitsAmong start.args.part.now) start.args.count 0 s) (sym words.is)
-    ∙ ap (λ (n : ℕ). weigh_of (digitsAmong start.args.part.now) start.args.count n (start.args.odd * 2 ^ start.args.k)) none
+    ∙ ap (λ (s : ℕ). weigh_of (digits_among start.args.part.now) start.args.count 0 s) (sym words.is)
+    ∙ ap (λ (n : ℕ). weigh_of (digits_among start.args.part.now) start.args.count n (start.args.odd * 2 ^ start.args.k)) none
 
 pub weigh-spec : {M : Type 1} → statement M
 weigh-spec =

@@ -6,7 +6,7 @@ use Prim.Native.Nat.{ℕ, ◌+◌, ◌-◌, ◌*◌, ◌^◌, ◌<◌}
 use native.Mathlib.Omega.{arith}
 use borrow.Author.Rules.{rules}
 use lib.ListN.{drop}
-use Rattle.decimal_digits.specs.Digits.{digitsAmong}
+use Rattle.decimal_digits.specs.Digits.{digits_among}
 use Rattle.decimal_tie.specs.Words.{wide_of, Small}
 use Rattle.decimal_tie.specs.Weighing.{partly, first, others}
 use Rattle.decimal_tie.proofs.Wides.{tens-wide, tens-none, tens-past, none-small}
@@ -16,7 +16,7 @@ use Rattle.decimal_tie.proofs.scales.whole_digits.Tie as tie
 
 abbrev invariant-loop : tie.invariant-loop
 invariant-loop part count at₀ w₀ more₀ at w more =
-    Small w × ((s : ℕ) → partly 0 (digitsAmong part) count s ≡ partly (wide_of w) (digitsAmong (drop at part)) more s)
+    Small w × ((s : ℕ) → partly 0 (digits_among part) count s ≡ partly (wide_of w) (digits_among (drop at part)) more s)
 
 abbrev decreases-loop : tie.decreases-loop
 decreases-loop part count at₀ w₀ more₀ at w more = more
@@ -30,14 +30,14 @@ times-ten-requires c κs = (c.before.before.loop.invariant.0, c.take.ensures.sma
 -- one digit more of the whole ones
 onward :
     (c : tie.After-take invariant-loop decreases-loop) (s : ℕ)
-    → partly 0 (digitsAmong c.before.before.before.before.args.part.now) c.before.before.before.before.args.count s
-    ≡ partly (wide_of c.before.before.loop.w * 10 + c.take.result.digit) (digitsAmong (drop c.take.result.at c.before.before.before.before.args.part.now)) (c.before.before.loop.more - 1) s
+    → partly 0 (digits_among c.before.before.before.before.args.part.now) c.before.before.before.before.args.count s
+    ≡ partly (wide_of c.before.before.loop.w * 10 + c.take.result.digit) (digits_among (drop c.take.result.at c.before.before.before.before.args.part.now)) (c.before.before.loop.more - 1) s
 onward c s =
     let at-loop = c.before.before in
     let part = at-loop.before.before.args.part.now in
     at-loop.loop.invariant.1 s
     ∙ partly-on _ _ _ s c.before.loop-test.true
-    ∙ ap (λ (d : ℕ). partly (wide_of at-loop.loop.w * 10 + d) (others (digitsAmong (drop at-loop.loop.at part))) (at-loop.loop.more - 1) s) (sym c.take.ensures.digit-is)
+    ∙ ap (λ (d : ℕ). partly (wide_of at-loop.loop.w * 10 + d) (others (digits_among (drop at-loop.loop.at part))) (at-loop.loop.more - 1) s) (sym c.take.ensures.digit-is)
     ∙ ap (λ (ds : List ℕ). partly (wide_of at-loop.loop.w * 10 + c.take.result.digit) ds (at-loop.loop.more - 1) s) (sym c.take.ensures.rest-is)
 
 returns : tie.Need-returns invariant-loop decreases-loop
@@ -51,7 +51,7 @@ loop-again : tie.Need-loop-preserved invariant-loop decreases-loop
 loop-again c =
     let tens = c.before.before.before.times-ten.ensures in
     let taken = c.before.before.before.before in
-    let rest = digitsAmong (drop taken.take.result.at taken.before.before.before.before.args.part.now) in (
+    let rest = digits_among (drop taken.take.result.at taken.before.before.before.before.args.part.now) in (
       tens.small,
       λ s. onward taken s ∙ ap (λ (w : ℕ). partly w rest (taken.before.before.loop.more - 1) s) (tens-none _ _ _ tens c.before.if1.false),
     )

@@ -1,12 +1,12 @@
 -- `ellipse::from_ends` meets its contract: the centre and both angles of the way. Assumes nothing.
 use borrow.Author.Rules.{rules}
-use Rattle.floats.specs.Floats.{zeroF, oneF}
-use Rattle.ellipse.specs.Ends.{fromEndsOf}
+use Rattle.floats.specs.Floats.{zero_f, one_f}
+use Rattle.ellipse.specs.Ends.{from_ends_of}
 use Rattle.ellipse.proofs.ends.from_ends.Statement.{statement}
 use Rattle.ellipse.proofs.ends.from_ends.Tie as tie
 
 returns : tie.Need-returns
-unfolding fromEndsOf zeroF oneF
+unfolding from_ends_of zero_f one_f
 returns c =
     let placed = c.before.before.before in
     rw (

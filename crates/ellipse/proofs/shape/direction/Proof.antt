@@ -1,12 +1,12 @@
 -- `ellipse::direction` meets its contract: what each call ensures, put together in the definition's order. Assumes nothing.
 use borrow.Author.Rules.{rules}
 use mathlib.Core.Path.{◌∙◌}
-use Rattle.ellipse.specs.Shape.{directionOn}
+use Rattle.ellipse.specs.Shape.{direction_on}
 use Rattle.ellipse.proofs.shape.direction.Statement.{statement}
 use Rattle.ellipse.proofs.shape.direction.Tie as tie
 
 returns : tie.Need-returns
-unfolding directionOn
+unfolding direction_on
 returns c =
     let turned = c.before.before in
     let angled = turned.before in

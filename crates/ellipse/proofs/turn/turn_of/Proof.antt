@@ -2,7 +2,7 @@
 use borrow.Author.Rules.{rules}
 use mathlib.Core.Path.{◌≡◌}
 use Rattle.trig.specs.declared.SinCos.{SinCos}
-use Rattle.trig_rule.specs.Steps.{sineOf, cosineOf}
+use Rattle.trig_rule.specs.Steps.{sine_of, cosine_of}
 use Rattle.rotation.specs.Rotation.{phi_of}
 use Rattle.ellipse.proofs.turn.turn_of.Statement.{statement}
 use Rattle.ellipse.proofs.turn.turn_of.Tie as tie
@@ -10,8 +10,8 @@ use Rattle.ellipse.proofs.turn.turn_of.Tie as tie
 returns : tie.Need-returns
 returns c =
     let rotation = c.before.before.args.x-axis-rotation in
-    let sine : c.sin-cos.result.sin ≡ sineOf (phi_of rotation) = cc in
-    let cosine : c.sin-cos.result.cos ≡ cosineOf (phi_of rotation) = cc in
+    let sine : c.sin-cos.result.sin ≡ sine_of (phi_of rotation) = cc in
+    let cosine : c.sin-cos.result.cos ≡ cosine_of (phi_of rotation) = cc in
     λ i. record { sin = sine i; cos = cosine i }
 
 pub turn-of-spec : {M : Type 1} → statement M

@@ -3,7 +3,7 @@ use borrow.Author.Rules.{rules}
 use mathlib.Core.Path.{refl, ap, ◌∙◌}
 use denote.Floats.{passes}
 use lib.Ieee.{Float}
-use Rattle.trig_rule.specs.Steps.{cosineOf}
+use Rattle.trig_rule.specs.Steps.{cosine_of}
 use Rattle.math.specs.Math.{point_of}
 use Rattle.kihavute.specs.Pair.{pair_of}
 use Rattle.kihavute.proofs.Keeping.{sine-kept, cosine-kept}
@@ -18,7 +18,7 @@ returns c =
     let held = passes _ start.well-formed.0.1 in (
       c.pair.ensures
           ∙ ap (λ (x : Float). pair_of (point_of x c.before.sin-cos.result.sin)) both.1
-          ∙ ap (λ (y : Float). pair_of (point_of (cosineOf angle) y)) both.0,
+          ∙ ap (λ (y : Float). pair_of (point_of (cosine_of angle) y)) both.0,
       (sine-kept angle held refl, cosine-kept angle held refl),
     )
 

@@ -3,7 +3,7 @@ use borrow.Author.Rules.{rules}
 use mathlib.Core.Path.{sym}
 use Rattle.arc.specs.declared.arcs.MadeArc.{MadeArc}
 use Rattle.c_answer.proofs.Giving.{given-same}
-use Rattle.kihavute_curves.specs.Lone.{arcLone}
+use Rattle.kihavute_curves.specs.Lone.{arc_lone}
 use Rattle.kihavute_curves.proofs.LoneGiven.{arc-askable, asked-given, not-given}
 use Rattle.kihavute_curves.proofs.arcs.kihavute_arc.Statement.{statement}
 use Rattle.kihavute_curves.proofs.arcs.kihavute_arc.Tie as tie
@@ -19,7 +19,7 @@ returns c =
     let made = told.before.before in
     let start = made.before.before in
     given-same _ _
-    (asked-given (λ (m : MadeArc). m.verdict) (λ (m : MadeArc). arcLone m.arc start.args.progress) made.made.ensures _ (sym told.enum_told.given.1) asked.arc-lone.ensures)
+    (asked-given (λ (m : MadeArc). m.verdict) (λ (m : MadeArc). arc_lone m.arc start.args.progress) made.made.ensures _ (sym told.enum_told.given.1) asked.arc-lone.ensures)
     given.give-lone.ensures
 
 returns-2 : tie.Need-returns-2
@@ -29,7 +29,7 @@ returns-2 c =
     let made = told.before.before in
     let start = made.before.before in
     given-same _ _
-    (not-given (λ (m : MadeArc). m.verdict) (λ (m : MadeArc). arcLone m.arc start.args.progress) made.made.ensures _ (sym told.verdict.given.1))
+    (not-given (λ (m : MadeArc). m.verdict) (λ (m : MadeArc). arc_lone m.arc start.args.progress) made.made.ensures _ (sym told.verdict.given.1))
     given.refuse.ensures
 
 pub kihavute-arc-spec : {M : Type 1} → statement M

@@ -5,9 +5,9 @@ use mathlib.Core.Path.{ap, sym, ◌∙◌}
 use mathlib.Core.Bool.{Bool, cond}
 use mathlib.Core.List.{List, [], ◌∷◌}
 use Rattle.arc.specs.declared.arcs.MadeArc.{MadeArc}
-use Rattle.c_output.specs.Filling.{arcNumbers}
+use Rattle.c_output.specs.Filling.{arc_numbers}
 use Rattle.c_output.proofs.FilledCases.{filled-made}
-use Rattle.kihavute_curves.specs.Arcs.{fellBack}
+use Rattle.kihavute_curves.specs.Arcs.{fell_back}
 use Rattle.kihavute_curves.proofs.arcs.kihavute_arc_shape.Statement.{statement}
 use Rattle.kihavute_curves.proofs.arcs.kihavute_arc_shape.Tie as tie
 
@@ -17,7 +17,7 @@ returns c =
     let tested = filled.before.before.before.before in
     let listed = tested.before in
     let made = listed.before.before in
-    filled-made (λ (m : MadeArc). m.verdict) (λ (m : MadeArc). fellBack m ∷ []) (λ (m : MadeArc). arcNumbers m.arc.shape) made.made.ensures
+    filled-made (λ (m : MadeArc). m.verdict) (λ (m : MadeArc). fell_back m ∷ []) (λ (m : MadeArc). arc_numbers m.arc.shape) made.made.ensures
     (ap (λ (b : Bool). cond b 1 0 ∷ []) (sym tested.if1.true)) listed.arc-numbers.ensures filled.fill.ensures
 
 returns-2 : tie.Need-returns-2
@@ -26,7 +26,7 @@ returns-2 c =
     let tested = filled.before.before.before.before in
     let listed = tested.before in
     let made = listed.before.before in
-    filled-made (λ (m : MadeArc). m.verdict) (λ (m : MadeArc). fellBack m ∷ []) (λ (m : MadeArc). arcNumbers m.arc.shape) made.made.ensures
+    filled-made (λ (m : MadeArc). m.verdict) (λ (m : MadeArc). fell_back m ∷ []) (λ (m : MadeArc). arc_numbers m.arc.shape) made.made.ensures
     (ap (λ (b : Bool). cond b 1 0 ∷ []) (sym tested.if1.false)) listed.arc-numbers.ensures filled.fill2.ensures
 
 pub kihavute-arc-shape-spec : {M : Type 1} → statement M

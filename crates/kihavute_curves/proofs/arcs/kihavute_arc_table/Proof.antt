@@ -5,9 +5,9 @@ use mathlib.Core.Path.{ap, sym, ◌∙◌}
 use mathlib.Core.Bool.{Bool, cond}
 use mathlib.Core.List.{List, [], ◌∷◌}
 use Rattle.arc.specs.declared.arcs.MadeArc.{MadeArc}
-use Rattle.c_output.specs.Filling.{tableNumbers}
+use Rattle.c_output.specs.Filling.{table_numbers}
 use Rattle.c_output.proofs.FilledCases.{filled-made}
-use Rattle.kihavute_curves.specs.Arcs.{fellBack, heldTable}
+use Rattle.kihavute_curves.specs.Arcs.{fell_back, held_table}
 use Rattle.kihavute_curves.proofs.arcs.kihavute_arc_table.Statement.{statement}
 use Rattle.kihavute_curves.proofs.arcs.kihavute_arc_table.Tie as tie
 
@@ -17,9 +17,9 @@ returns c =
     let tested = filled.before.before.before.before in
     let listed = tested.before in
     let made = listed.before.before in
-    filled-made (λ (m : MadeArc). m.verdict) (λ (m : MadeArc). fellBack m ∷ []) heldTable made.made.ensures
+    filled-made (λ (m : MadeArc). m.verdict) (λ (m : MadeArc). fell_back m ∷ []) held_table made.made.ensures
     (ap (λ (b : Bool). cond b 1 0 ∷ []) (sym tested.if1.true))
-    (ap (λ (b : Bool). cond b [] (tableNumbers made.made.result.arc.table)) (sym tested.if1.true)) filled.fill.ensures
+    (ap (λ (b : Bool). cond b [] (table_numbers made.made.result.arc.table)) (sym tested.if1.true)) filled.fill.ensures
 
 returns-2 : tie.Need-returns-2
 returns-2 c =
@@ -27,9 +27,9 @@ returns-2 c =
     let tested = filled.before.before.before.before in
     let listed = tested.before in
     let made = listed.before.before in
-    filled-made (λ (m : MadeArc). m.verdict) (λ (m : MadeArc). fellBack m ∷ []) heldTable made.made.ensures
+    filled-made (λ (m : MadeArc). m.verdict) (λ (m : MadeArc). fell_back m ∷ []) held_table made.made.ensures
     (ap (λ (b : Bool). cond b 1 0 ∷ []) (sym tested.if1.false))
-    (listed.table-numbers.ensures ∙ ap (λ (b : Bool). cond b [] (tableNumbers made.made.result.arc.table)) (sym tested.if1.false)) filled.fill2.ensures
+    (listed.table-numbers.ensures ∙ ap (λ (b : Bool). cond b [] (table_numbers made.made.result.arc.table)) (sym tested.if1.false)) filled.fill2.ensures
 
 pub kihavute-arc-table-spec : {M : Type 1} → statement M
 kihavute-arc-table-spec =

@@ -3,7 +3,7 @@ use borrow.Author.Rules.{rules}
 use mathlib.Core.Path.{sym}
 use Rattle.arc.specs.declared.lines.MadeLine.{MadeLine}
 use Rattle.c_answer.proofs.Giving.{given-same}
-use Rattle.kihavute_curves.specs.Lone.{lineLone}
+use Rattle.kihavute_curves.specs.Lone.{line_lone}
 use Rattle.kihavute_curves.proofs.LoneGiven.{asked-given, not-given}
 use Rattle.kihavute_curves.proofs.arcs.kihavute_line.Statement.{statement}
 use Rattle.kihavute_curves.proofs.arcs.kihavute_line.Tie as tie
@@ -16,7 +16,7 @@ returns c =
     let made = told.before.before in
     let start = made.before.before in
     given-same _ _
-    (asked-given (λ (m : MadeLine). m.verdict) (λ (m : MadeLine). lineLone m.line start.args.progress) made.line.ensures _ (sym told.enum_told.given.1) asked.line-lone.ensures)
+    (asked-given (λ (m : MadeLine). m.verdict) (λ (m : MadeLine). line_lone m.line start.args.progress) made.line.ensures _ (sym told.enum_told.given.1) asked.line-lone.ensures)
     given.give-lone.ensures
 
 returns-2 : tie.Need-returns-2
@@ -26,7 +26,7 @@ returns-2 c =
     let made = told.before.before in
     let start = made.before.before in
     given-same _ _
-    (not-given (λ (m : MadeLine). m.verdict) (λ (m : MadeLine). lineLone m.line start.args.progress) made.line.ensures _ (sym told.verdict.given.1))
+    (not-given (λ (m : MadeLine). m.verdict) (λ (m : MadeLine). line_lone m.line start.args.progress) made.line.ensures _ (sym told.verdict.given.1))
     given.refuse.ensures
 
 pub kihavute-line-spec : {M : Type 1} → statement M

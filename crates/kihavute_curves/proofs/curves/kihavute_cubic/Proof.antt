@@ -3,7 +3,7 @@ use borrow.Author.Rules.{rules}
 use mathlib.Core.Path.{sym}
 use Rattle.bezier.specs.declared.cubics.MadeCubic.{MadeCubic}
 use Rattle.c_answer.proofs.Giving.{given-same}
-use Rattle.kihavute_curves.specs.Lone.{cubicLone}
+use Rattle.kihavute_curves.specs.Lone.{cubic_lone}
 use Rattle.kihavute_curves.proofs.LoneGiven.{cubic-askable, asked-given, not-given}
 use Rattle.kihavute_curves.proofs.curves.kihavute_cubic.Statement.{statement}
 use Rattle.kihavute_curves.proofs.curves.kihavute_cubic.Tie as tie
@@ -19,7 +19,7 @@ returns c =
     let made = told.before.before in
     let start = made.before.before in
     given-same _ _
-    (asked-given (λ (m : MadeCubic). m.verdict) (λ (m : MadeCubic). cubicLone m.curve start.args.progress) made.cubic.ensures _ (sym told.enum_told.given.1) asked.cubic-lone.ensures)
+    (asked-given (λ (m : MadeCubic). m.verdict) (λ (m : MadeCubic). cubic_lone m.curve start.args.progress) made.cubic.ensures _ (sym told.enum_told.given.1) asked.cubic-lone.ensures)
     given.give-lone.ensures
 
 returns-2 : tie.Need-returns-2
@@ -29,7 +29,7 @@ returns-2 c =
     let made = told.before.before in
     let start = made.before.before in
     given-same _ _
-    (not-given (λ (m : MadeCubic). m.verdict) (λ (m : MadeCubic). cubicLone m.curve start.args.progress) made.cubic.ensures _ (sym told.verdict.given.1))
+    (not-given (λ (m : MadeCubic). m.verdict) (λ (m : MadeCubic). cubic_lone m.curve start.args.progress) made.cubic.ensures _ (sym told.verdict.given.1))
     given.refuse.ensures
 
 pub kihavute-cubic-spec : {M : Type 1} → statement M

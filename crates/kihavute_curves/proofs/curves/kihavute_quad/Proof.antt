@@ -3,7 +3,7 @@ use borrow.Author.Rules.{rules}
 use mathlib.Core.Path.{sym}
 use Rattle.bezier.specs.declared.quads.MadeQuad.{MadeQuad}
 use Rattle.c_answer.proofs.Giving.{given-same}
-use Rattle.kihavute_curves.specs.Lone.{quadLone}
+use Rattle.kihavute_curves.specs.Lone.{quad_lone}
 use Rattle.kihavute_curves.proofs.LoneGiven.{quad-askable, asked-given, not-given}
 use Rattle.kihavute_curves.proofs.curves.kihavute_quad.Statement.{statement}
 use Rattle.kihavute_curves.proofs.curves.kihavute_quad.Tie as tie
@@ -19,7 +19,7 @@ returns c =
     let made = told.before.before in
     let start = made.before.before in
     given-same _ _
-    (asked-given (λ (m : MadeQuad). m.verdict) (λ (m : MadeQuad). quadLone m.curve start.args.progress) made.quad.ensures _ (sym told.enum_told.given.1) asked.quad-lone.ensures)
+    (asked-given (λ (m : MadeQuad). m.verdict) (λ (m : MadeQuad). quad_lone m.curve start.args.progress) made.quad.ensures _ (sym told.enum_told.given.1) asked.quad-lone.ensures)
     given.give-lone.ensures
 
 returns-2 : tie.Need-returns-2
@@ -29,7 +29,7 @@ returns-2 c =
     let made = told.before.before in
     let start = made.before.before in
     given-same _ _
-    (not-given (λ (m : MadeQuad). m.verdict) (λ (m : MadeQuad). quadLone m.curve start.args.progress) made.quad.ensures _ (sym told.verdict.given.1))
+    (not-given (λ (m : MadeQuad). m.verdict) (λ (m : MadeQuad). quad_lone m.curve start.args.progress) made.quad.ensures _ (sym told.verdict.given.1))
     given.refuse.ensures
 
 pub kihavute-quad-spec : {M : Type 1} → statement M

@@ -2,7 +2,7 @@
 use borrow.Author.Rules.{rules}
 use mathlib.Core.Path.{sym, ap}
 use Rattle.c_answer.proofs.Giving.{given-same}
-use Rattle.kihavute_curves.specs.Splines.{measureGiven}
+use Rattle.kihavute_curves.specs.Splines.{measure_given}
 use Rattle.kihavute_curves.proofs.SplinesGiven.{length-of-given}
 use Rattle.kihavute_curves.proofs.splines.give_length.Statement.{statement}
 use Rattle.kihavute_curves.proofs.splines.give_length.Tie as tie
@@ -11,7 +11,7 @@ returns : tie.Need-returns
 returns c = given-same _ _ (length-of-given _ _ _ c.before.before.before.before.bits.ensures (sym c.before.before.before.before.before.before.decreases.given.1)) c.before.before.accept.ensures
 
 returns-2 : tie.Need-returns-2
-returns-2 c = given-same _ _ (ap measureGiven (sym c.before.before.before.before.before.measured2.given.1)) c.before.before.refuse.ensures
+returns-2 c = given-same _ _ (ap measure_given (sym c.before.before.before.before.before.measured2.given.1)) c.before.before.refuse.ensures
 
 pub give-length-spec : {M : Type 1} → statement M
 give-length-spec =

@@ -2,12 +2,12 @@
 use borrow.Author.Rules.{rules}
 use mathlib.Core.Path.{refl, sym, ap, ◌∙◌}
 use Rattle.c_answer.proofs.Giving.{given-same}
-use Rattle.kihavute_paths.specs.Morphs.{boundsGiven}
+use Rattle.kihavute_paths.specs.Morphs.{bounds_given}
 use Rattle.kihavute_paths.proofs.morphs.kihavute_bounds.Statement.{statement}
 use Rattle.kihavute_paths.proofs.morphs.kihavute_bounds.Tie as tie
 
 returns : tie.Need-returns
-returns c = given-same _ _ (ap boundsGiven c.before.before.before.before.bounds-at.ensures) c.before.before.give-bounds.ensures
+returns c = given-same _ _ (ap bounds_given c.before.before.before.before.bounds-at.ensures) c.before.before.give-bounds.ensures
 
 pub kihavute-bounds-spec : {M : Type 1} → statement M
 kihavute-bounds-spec =

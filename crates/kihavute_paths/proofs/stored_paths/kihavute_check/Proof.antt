@@ -1,4 +1,4 @@
--- `kihavute_check` meets its contract: both ways out are cases of `checkGiven`. Assumes nothing.
+-- `kihavute_check` meets its contract: both ways out are cases of `check_given`. Assumes nothing.
 use Rattle.c_answer.proofs.Giving.{given-same}
 use Rattle.kihavute_paths.proofs.CheckGiven.{check-yes, check-no}
 use mathlib.Core.Path.{sym, ◌∙◌}

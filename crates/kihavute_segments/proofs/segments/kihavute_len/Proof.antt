@@ -1,7 +1,7 @@
 -- `kihavute_len` meets its contract: each case of what the entry below ensures is given as the definition says. Assumes nothing.
 use borrow.Author.Rules.{rules}
 use mathlib.Core.Path.{sym, ap, ◌∙◌}
-use Rattle.path_stored.specs.Queries.{countedAnswer}
+use Rattle.path_stored.specs.Queries.{counted_answer}
 use Rattle.c_answer.proofs.Giving.{given-same}
 use Rattle.kihavute_segments.proofs.segments.kihavute_len.Statement.{statement}
 use Rattle.kihavute_segments.proofs.segments.kihavute_len.Tie as tie
@@ -10,13 +10,13 @@ returns : tie.Need-returns
 returns c =
     let given = c.before.before in
     let told = given.before.before.before in
-    given-same _ _ (ap countedAnswer (sym told.count.given.1 ∙ told.before.before.len.ensures)) given.accept.ensures
+    given-same _ _ (ap counted_answer (sym told.count.given.1 ∙ told.before.before.len.ensures)) given.accept.ensures
 
 returns-2 : tie.Need-returns-2
 returns-2 c =
     let given = c.before.before in
     let told = given.before.before.before in
-    given-same _ _ (ap countedAnswer (sym told.refusal.given.1 ∙ told.before.before.len.ensures)) given.refuse.ensures
+    given-same _ _ (ap counted_answer (sym told.refusal.given.1 ∙ told.before.before.len.ensures)) given.refuse.ensures
 
 pub kihavute-len-spec : {M : Type 1} → statement M
 kihavute-len-spec =

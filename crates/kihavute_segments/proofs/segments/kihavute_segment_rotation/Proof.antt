@@ -3,10 +3,10 @@ use borrow.Author.Rules.{rules}
 use mathlib.Core.Path.{ap, ◌∙◌}
 use Rattle.path_segment.specs.declared.segments.PathSegment.{PathSegment}
 use Rattle.path_stored.specs.declared.queries.Part.{Part}
-use Rattle.path_part.specs.Parts.{rotationOf}
-use Rattle.c_answer.specs.Places.{turnGiven}
+use Rattle.path_part.specs.Parts.{rotation_of}
+use Rattle.c_answer.specs.Places.{turn_given}
 use Rattle.c_answer.proofs.Giving.{given-same}
-use Rattle.kihavute_segments.specs.Segments.{rotationGiven}
+use Rattle.kihavute_segments.specs.Segments.{rotation_given}
 use Rattle.kihavute_segments.proofs.SegmentsGiven.{found-given, found_none, found-refused}
 use Rattle.kihavute_segments.proofs.segments.kihavute_segment_rotation.Statement.{statement}
 use Rattle.kihavute_segments.proofs.segments.kihavute_segment_rotation.Tie as tie
@@ -20,9 +20,9 @@ returns c =
     let part = read.segment.result in
     let along = read.before.before.before.before.before.before.before.args.along in
     given-same _ _
-    (ap turnGiven asked.rotation-deg.ensures
-    ∙ found-given (λ (s : PathSegment). turnGiven (rotationOf s part.table along)) part.found _ told.found.given.1
-    ∙ ap (λ (p : Part). rotationGiven p along) read.segment.ensures)
+    (ap turn_given asked.rotation-deg.ensures
+    ∙ found-given (λ (s : PathSegment). turn_given (rotation_of s part.table along)) part.found _ told.found.given.1
+    ∙ ap (λ (p : Part). rotation_given p along) read.segment.ensures)
     given.give-turn.ensures
 
 returns-2 : tie.Need-returns-2
@@ -33,7 +33,7 @@ returns-2 c =
     let part = read.segment.result in
     let along = read.before.before.before.before.before.before.before.args.along in
     given-same _ _
-    (found_none (λ (s : PathSegment). turnGiven (rotationOf s part.table along)) part.found told.enum_told.given.1 ∙ ap (λ (p : Part). rotationGiven p along) read.segment.ensures)
+    (found_none (λ (s : PathSegment). turn_given (rotation_of s part.table along)) part.found told.enum_told.given.1 ∙ ap (λ (p : Part). rotation_given p along) read.segment.ensures)
     given.accept.ensures
 
 returns-3 : tie.Need-returns-3
@@ -44,7 +44,7 @@ returns-3 c =
     let part = read.segment.result in
     let along = read.before.before.before.before.before.before.before.args.along in
     given-same _ _
-    (found-refused (λ (s : PathSegment). turnGiven (rotationOf s part.table along)) part.found _ told.found2.given.1 ∙ ap (λ (p : Part). rotationGiven p along) read.segment.ensures)
+    (found-refused (λ (s : PathSegment). turn_given (rotation_of s part.table along)) part.found _ told.found2.given.1 ∙ ap (λ (p : Part). rotation_given p along) read.segment.ensures)
     given.refuse.ensures
 
 pub kihavute-segment-rotation-spec : {M : Type 1} → statement M

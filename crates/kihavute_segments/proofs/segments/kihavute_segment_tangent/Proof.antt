@@ -3,10 +3,10 @@ use borrow.Author.Rules.{rules}
 use mathlib.Core.Path.{ap, ◌∙◌}
 use Rattle.path_segment.specs.declared.segments.PathSegment.{PathSegment}
 use Rattle.path_stored.specs.declared.queries.Part.{Part}
-use Rattle.path_part.specs.Parts.{tangentOf}
-use Rattle.c_answer.specs.Places.{placeGiven}
+use Rattle.path_part.specs.Parts.{tangent_of}
+use Rattle.c_answer.specs.Places.{place_given}
 use Rattle.c_answer.proofs.Giving.{given-same}
-use Rattle.kihavute_segments.specs.Segments.{tangentGiven}
+use Rattle.kihavute_segments.specs.Segments.{tangent_given}
 use Rattle.kihavute_segments.proofs.SegmentsGiven.{found-given, found_none, found-refused}
 use Rattle.kihavute_segments.proofs.segments.kihavute_segment_tangent.Statement.{statement}
 use Rattle.kihavute_segments.proofs.segments.kihavute_segment_tangent.Tie as tie
@@ -20,9 +20,9 @@ returns c =
     let part = read.segment.result in
     let along = read.before.before.before.before.before.before.before.args.along in
     given-same _ _
-    (ap placeGiven asked.tangent.ensures
-    ∙ found-given (λ (s : PathSegment). placeGiven (tangentOf s part.table along)) part.found _ told.found.given.1
-    ∙ ap (λ (p : Part). tangentGiven p along) read.segment.ensures)
+    (ap place_given asked.tangent.ensures
+    ∙ found-given (λ (s : PathSegment). place_given (tangent_of s part.table along)) part.found _ told.found.given.1
+    ∙ ap (λ (p : Part). tangent_given p along) read.segment.ensures)
     given.give-place.ensures
 
 returns-2 : tie.Need-returns-2
@@ -33,7 +33,7 @@ returns-2 c =
     let part = read.segment.result in
     let along = read.before.before.before.before.before.before.before.args.along in
     given-same _ _
-    (found_none (λ (s : PathSegment). placeGiven (tangentOf s part.table along)) part.found told.enum_told.given.1 ∙ ap (λ (p : Part). tangentGiven p along) read.segment.ensures)
+    (found_none (λ (s : PathSegment). place_given (tangent_of s part.table along)) part.found told.enum_told.given.1 ∙ ap (λ (p : Part). tangent_given p along) read.segment.ensures)
     given.accept.ensures
 
 returns-3 : tie.Need-returns-3
@@ -44,7 +44,7 @@ returns-3 c =
     let part = read.segment.result in
     let along = read.before.before.before.before.before.before.before.args.along in
     given-same _ _
-    (found-refused (λ (s : PathSegment). placeGiven (tangentOf s part.table along)) part.found _ told.found2.given.1 ∙ ap (λ (p : Part). tangentGiven p along) read.segment.ensures)
+    (found-refused (λ (s : PathSegment). place_given (tangent_of s part.table along)) part.found _ told.found2.given.1 ∙ ap (λ (p : Part). tangent_given p along) read.segment.ensures)
     given.refuse.ensures
 
 pub kihavute-segment-tangent-spec : {M : Type 1} → statement M

@@ -4,7 +4,7 @@ use mathlib.Core.Path.{◌≡◌, sym, ap, ◌∙◌}
 use lib.ListN.{length}
 use native.Mathlib.Omega.{arith}
 use Rattle.floats.proofs.Known.{mapped-length}
-use Rattle.path_segment.specs.Segments.{kind_of, width_of, hasTable}
+use Rattle.path_segment.specs.Segments.{kind_of, width_of, has_table}
 use Rattle.path_segment.proofs.Reading.{fields-width}
 use Rattle.kihavute_segments.proofs.SegmentsGiven.{places-some, put-own, put_both}
 use Rattle.kihavute_segments.proofs.segments.put_part.Statement.{statement}
@@ -22,7 +22,7 @@ put-table-requires c κs =
     let judged = c.before.before.before in
     let put = judged.before.before.before.before.before in
     let start = put.before.before.before in
-    let has = ap hasTable (sym judged.before.before.kind.ensures) ∙ sym judged.before.has-table.ensures ∙ judged.if1.true in
+    let has = ap has_table (sym judged.before.before.kind.ensures) ∙ sym judged.before.has-table.ensures ∙ judged.if1.true in
     let place : c.width.result ≡ width_of (kind_of start.args.segment) = c.width.ensures ∙ ap width_of c.before.kind2.ensures in
     omega (arith, place, places-some (kind_of start.args.segment) has, start.requires, put.put-segment.auto.0)
 
@@ -33,7 +33,7 @@ returns c =
     let put = judged.before.before.before.before.before in
     let start = put.before.before.before in
     let a = start.args in
-    let has = ap hasTable (sym judged.before.before.kind.ensures) ∙ sym judged.before.has-table.ensures ∙ judged.if1.true in
+    let has = ap has_table (sym judged.before.before.kind.ensures) ∙ sym judged.before.has-table.ensures ∙ judged.if1.true in
     put_both a.segment a.table a.out.now put.put-segment.new.0 _ _ has (size start) start.requires put.put-segment.ensures
     (stored.before.width.ensures ∙ ap width_of stored.before.before.kind2.ensures) stored.put-table.ensures
 
@@ -42,7 +42,7 @@ returns-2 c =
     let put = c.before.before.before.before.before in
     let start = put.before.before.before in
     let a = start.args in
-    let none = ap hasTable (sym c.before.before.kind.ensures) ∙ sym c.before.has-table.ensures ∙ c.if1.false in
+    let none = ap has_table (sym c.before.before.kind.ensures) ∙ sym c.before.has-table.ensures ∙ c.if1.false in
     put-own a.segment a.table a.out.now _ none start.requires put.put-segment.ensures
 
 pub put-part-spec : {M : Type 1} → statement M

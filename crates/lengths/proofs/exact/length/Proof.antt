@@ -9,8 +9,8 @@ use lib.Ieee.Fits.{and_i, fits_widens}
 use Rattle.floats.specs.Kinds.{real}
 use Rattle.floats.proofs.Tests.{passed, failed}
 use Rattle.floats.proofs.Order.{same→real}
-use Rattle.root.specs.Root.{rootOf}
-use Rattle.lengths.specs.Length.{squareSumOf, narrowOf, length_of}
+use Rattle.root.specs.Root.{root_of}
+use Rattle.lengths.specs.Length.{square_sum_of, narrow_of, length_of}
 use Rattle.decimal_rounding.proofs.Wide.{no-nan-single}
 use Rattle.lengths.proofs.Upward.{squares-upward, upward-real}
 use Rattle.lengths.proofs.Edges.{length-nan-x, length-nan-y, root-tiny, root-huge, middling, sum_fits}
@@ -46,7 +46,7 @@ returns-3 c =
     let e1 = c.before.before.before.before in
     let x = e1.before.args.x in
     let y = e1.before.args.y in
-    sym (root-tiny (squareSumOf x y) (sum_fits x y) (squares-upward x y (number x e1.if1.false) (number y c.before.before.before.if2.false)) (passed c.if3.true))
+    sym (root-tiny (square_sum_of x y) (sum_fits x y) (squares-upward x y (number x e1.if1.false) (number y c.before.before.before.if2.false)) (passed c.if3.true))
 
 returns-4 : tie.Need-returns-4
 unfolding length_of
@@ -54,23 +54,23 @@ returns-4 c =
     let e1 = c.before.before.before.before.before in
     let x = e1.before.args.x in
     let y = e1.before.args.y in
-    infinite ∙ sym (root-huge (squareSumOf x y) (sum_fits x y) (squares-upward x y (number x e1.if1.false) (number y c.before.before.before.before.if2.false)) (passed c.if4.true))
+    infinite ∙ sym (root-huge (square_sum_of x y) (sum_fits x y) (squares-upward x y (number x e1.if1.false) (number y c.before.before.before.before.if2.false)) (passed c.if4.true))
 
 float-to-bits-root-pattern : tie.Need-float-to-bits-root-pattern
-unfolding squareSumOf
+unfolding square_sum_of
 float-to-bits-root-pattern c =
     let e1 = c.before.before.before.before.before in
     let x = e1.before.args.x in
     let y = e1.before.args.y in
-    upward-real (squareSumOf x y) (squares-upward x y (number x e1.if1.false) (number y c.before.before.before.before.if2.false))
+    upward-real (square_sum_of x y) (squares-upward x y (number x e1.if1.false) (number y c.before.before.before.before.if2.false))
 
 root-pattern-requires : tie.Need-root-pattern-requires
-unfolding squareSumOf
+unfolding square_sum_of
 root-pattern-requires c κs =
     let e1 = c.before.before.before.before.before in
     let x = e1.before.args.x in
     let y = e1.before.args.y in
-    middling (squareSumOf x y) (sum_fits x y) (squares-upward x y (number x e1.if1.false) (number y c.before.before.before.before.if2.false)) (failed c.before.if3.false) (failed c.if4.false)
+    middling (square_sum_of x y) (sum_fits x y) (squares-upward x y (number x e1.if1.false) (number y c.before.before.before.before.if2.false)) (failed c.before.if3.false) (failed c.if4.false)
 
 float-from-bits-result : tie.Need-float-from-bits-result
 float-from-bits-result c = no-nan-single _ c.root-pattern.ensures.1
@@ -81,7 +81,7 @@ returns-5 c =
     let start = c.before.before.before.before.before.before.before in
     let x = start.args.x in
     let y = start.args.y in
-    c.root-pattern.ensures.0 ∙ ap (λ (z : Float). narrowOf (rootOf binary64 z)) (of_bits-to_bits binary64 (squareSumOf x y) (sum_fits x y))
+    c.root-pattern.ensures.0 ∙ ap (λ (z : Float). narrow_of (root_of binary64 z)) (of_bits-to_bits binary64 (square_sum_of x y) (sum_fits x y))
 
 pub length_spec : {M : Type 1} → statement M
 length_spec =

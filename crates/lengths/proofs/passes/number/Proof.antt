@@ -4,7 +4,7 @@ use mathlib.Core.Logic.{inl, inr}
 use lib.Ieee.{of_bits, is_nan}
 use Rattle.floats.proofs.Tests.{passed}
 use Rattle.floats.proofs.Order.{lt-real-r}
-use Rattle.lengths.specs.Length.{lowestF}
+use Rattle.lengths.specs.Length.{lowest_f}
 use Rattle.lengths.proofs.passes.number.Statement.{statement}
 use Rattle.lengths.proofs.passes.number.Tie as tie
 
@@ -12,7 +12,7 @@ returns : tie.Need-returns
 returns c = (lt-real-r _ _ (passed c.if1.true), inl refl)
 
 returns-2 : tie.Need-returns-2
-unfolding lowestF is_nan of_bits
+unfolding lowest_f is_nan of_bits
 returns-2 c = (tt, inr refl)
 
 pub number-spec : {M : Type 1} → statement M

@@ -6,8 +6,8 @@ use Prim.Native.Nat.{◌+◌, ◌*◌, ◌/◌}
 use native.Mathlib.Omega.{arith}
 use denote.Floats.{passes}
 use lib.Ieee.{binary64, to_bits}
-use Rattle.floats.specs.Patterns.{narrowStep, narrowHalf}
-use Rattle.floats.specs.Floats.{zeroF}
+use Rattle.floats.specs.Patterns.{narrow_step, narrow_half}
+use Rattle.floats.specs.Floats.{zero_f}
 use Rattle.floats.proofs.Tests.{passed}
 use Rattle.decimal_rounding.proofs.Wide.{no_nan, no-nan-single}
 use Rattle.lengths.proofs.Judged.{settled}
@@ -28,18 +28,18 @@ returns : tie.Need-returns
 returns c =
     let start = c.before.before.before in
     let e = c.before.before.clamped.ensures in
-    let t = (to_bits binary64 c.before.before.clamped.result + narrowHalf) / narrowStep in
+    let t = (to_bits binary64 c.before.before.clamped.result + narrow_half) / narrow_step in
     inr (
-      under-far (t * narrowStep + 268435455) (omega (arith, e)) (omega (arith, e)) start.args.s (passed c.if2.true),
+      under-far (t * narrow_step + 268435455) (omega (arith, e)) (omega (arith, e)) start.args.s (passed c.if2.true),
       settled t (omega (arith, e)) (omega (arith, e)) start.args.s (passes _ start.well-formed.0.1) start.requires (passed c.before.if1.true) (passed c.if2.true),
     )
 
 returns-2 : tie.Need-returns-2
-unfolding zeroF
+unfolding zero_f
 returns-2 c = inl refl
 
 returns-3 : tie.Need-returns-3
-unfolding zeroF
+unfolding zero_f
 returns-3 c = inl refl
 
 pub root-or-zero-spec : {M : Type 1} → statement M

@@ -1,13 +1,13 @@
 -- Each coordinate is itself or the lowest, and a number either way. Assumes nothing.
 use borrow.Author.Rules.{rules}
-use Rattle.lengths.specs.Length.{squareSumOf}
+use Rattle.lengths.specs.Length.{square_sum_of}
 use Rattle.lengths.proofs.Upward.{squares-upward}
 use Rattle.lengths.proofs.Far.{summed}
 use Rattle.lengths.proofs.passes.square_sum.Statement.{statement}
 use Rattle.lengths.proofs.passes.square_sum.Tie as tie
 
 returns : tie.Need-returns
-unfolding squareSumOf
+unfolding square_sum_of
 returns c =
     let a = c.before.before.before.number.ensures in
     let b = c.before.number2.ensures in

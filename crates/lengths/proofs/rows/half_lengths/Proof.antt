@@ -7,7 +7,7 @@ use mathlib.Core.Path.{◌≡◌, refl, subst}
 use Prim.Native.Nat.{ℕ, ◌-◌}
 use lib.ListN.{get_or}
 use lib.Ieee.{nan}
-use Rattle.floats.specs.Floats.{zeroF}
+use Rattle.floats.specs.Floats.{zero_f}
 use Rattle.lengths.specs.Length.{Judged}
 use Rattle.lengths.proofs.Lists.{measured, passing-row, Flagged, flagged-start, flagged-on}
 use Rattle.lengths.proofs.rows.half_lengths.Statement.{statement}
@@ -23,7 +23,7 @@ loop-holds : tie.Need-loop-init invariant-loop decreases-loop
 loop-holds c = flagged-start (search rules)
 
 loop-again : tie.Need-loop-preserved invariant-loop decreases-loop
-unfolding zeroF
+unfolding zero_f
 loop-again c =
     let t = c.loop-test.true in
     let k = c.before.loop.k in

@@ -4,7 +4,7 @@ use borrow.Author.Rules.{rules}
 use native.Mathlib.Omega.{arith}
 use mathlib.Core.Path.{◌≡◌, refl}
 use Prim.Native.Nat.{ℕ, ◌+◌, ◌*◌, ◌-◌, ◌/◌, ◌≤◌}
-use Rattle.floats.specs.Floats.{zeroF}
+use Rattle.floats.specs.Floats.{zero_f}
 use Rattle.lengths.proofs.Lists.{measured, passing-row, Flagged, flagged-start, flagged-less, flagged-more}
 use Rattle.lengths.proofs.rows.lengths.Statement.{statement}
 use Rattle.lengths.proofs.rows.lengths.Tie as tie
@@ -35,7 +35,7 @@ element-write-out : tie.Need-element-write-out invariant-loop2 decreases-loop2 i
 element-write-out c = search rules
 
 loop2-again : tie.Need-loop2-preserved invariant-loop2 decreases-loop2 invariant-loop decreases-loop
-unfolding zeroF
+unfolding zero_f
 loop2-again c =
     let at-run = c.before.before in
     let t = c.loop2-test.true in

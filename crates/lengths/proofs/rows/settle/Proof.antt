@@ -3,7 +3,7 @@
 use borrow.Author.Rules.{rules}
 use mathlib.Core.Logic.{⊎_elim}
 use Prim.Native.Nat.{◌-◌}
-use Rattle.floats.specs.Floats.{zeroF}
+use Rattle.floats.specs.Floats.{zero_f}
 use Rattle.lengths.proofs.Lists.{measured, Settling, settling-start, settling-put, settling-keep}
 use Rattle.lengths.proofs.rows.settle.Statement.{statement}
 use Rattle.lengths.proofs.rows.settle.Tie as tie
@@ -18,7 +18,7 @@ loop-holds : tie.Need-loop-init invariant-loop decreases-loop
 loop-holds c = settling-start c.requires
 
 loop-again : tie.Need-loop-preserved invariant-loop decreases-loop
-unfolding zeroF
+unfolding zero_f
 loop-again c =
     let i = c.before.before.before.loop.invariant in
     let t = c.before.before.loop-test.true in

@@ -2,7 +2,7 @@
 use borrow.Author.Rules.{rules}
 use mathlib.Core.Path.{refl, sym, ap, ◌∙◌}
 use Rattle.morph.proofs.Sharing.{in-first, in-second}
-use Rattle.morph.specs.Shapes.{betweenAt}
+use Rattle.morph.specs.Shapes.{between_at}
 use Rattle.morph.proofs.between.between_at.Statement.{statement}
 use Rattle.morph.proofs.between.between_at.Tie as tie
 
@@ -13,7 +13,7 @@ point-at-requires-2 : tie.Need-point-at-requires-2
 point-at-requires-2 c κs = in-second c.before.before.before.args.from.now c.before.before.before.args.to.now _ c.before.before.before.requires
 
 returns : tie.Need-returns
-unfolding betweenAt
+unfolding between_at
 returns c = rw (c.lerp-point.ensures, c.before.point-at2.ensures, c.before.before.point_at.ensures) refl
 
 pub between-at-spec : {M : Type 1} → statement M

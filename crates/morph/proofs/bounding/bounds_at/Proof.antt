@@ -1,7 +1,7 @@
 -- The shapes are judged; then the bounds. Assumes nothing.
 use borrow.Author.Rules.{rules}
 use mathlib.Core.Path.{sym, ◌∙◌}
-use Rattle.floats.specs.Floats.{zeroF}
+use Rattle.floats.specs.Floats.{zero_f}
 use Rattle.morph.proofs.Widening.{bounds-refused, bounds-none, bounds-within}
 use Rattle.morph.proofs.bounding.bounds_at.Statement.{statement}
 use Rattle.morph.proofs.bounding.bounds_at.Tie as tie
@@ -10,7 +10,7 @@ returns : tie.Need-returns
 returns c = bounds-refused _ _ _ _ (sym c.before.before.before.judge-two.ensures ∙ c.before.refusal.given.1)
 
 returns-2 : tie.Need-returns-2
-unfolding zeroF
+unfolding zero_f
 returns-2 c = bounds-none _ _ _ (sym c.before.before.before.before.judge-two.ensures ∙ c.before.before.enum_told.given.1) _ c.before.shared.ensures c.if1.true
 
 returns-3 : tie.Need-returns-3

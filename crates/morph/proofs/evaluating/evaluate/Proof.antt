@@ -2,7 +2,7 @@
 use borrow.Author.Rules.{rules}
 use mathlib.Core.Path.{◌≡◌, sym, ◌∙◌}
 use native.Mathlib.Omega.{arith}
-use Rattle.polyline.specs.Judging.{judgeTwoOf}
+use Rattle.polyline.specs.Judging.{judge_two_of}
 use Rattle.polyline.specs.declared.judging.Judged.TheVariants.{Fine}
 use Rattle.morph.proofs.Sharing.{shared-upto}
 use Rattle.morph.proofs.Answers.{evaluate-refused, evaluate-no-room, evaluated}
@@ -10,7 +10,7 @@ use Rattle.morph.proofs.evaluating.evaluate.Statement.{statement}
 use Rattle.morph.proofs.evaluating.evaluate.Tie as tie
 
 -- the shapes are fine
-fine : (p : tie.After-shared) → judgeTwoOf p.before.before.before.before.before.before.before.args.from.now p.before.before.before.before.before.before.before.args.to.now ≡ Fine
+fine : (p : tie.After-shared) → judge_two_of p.before.before.before.before.before.before.before.args.from.now p.before.before.before.before.before.before.before.args.to.now ≡ Fine
 fine p = sym p.before.before.before.judge-two.ensures ∙ p.before.enum_told.given.1
 
 returns : tie.Need-returns

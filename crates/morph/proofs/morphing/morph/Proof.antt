@@ -1,7 +1,7 @@
 -- The shapes are judged, the count, the plans, the room; then both outputs are filled. Assumes nothing.
 use borrow.Author.Rules.{rules}
 use mathlib.Core.Path.{◌≡◌, sym, ◌∙◌}
-use Rattle.polyline.specs.Judging.{judgeTwoOf}
+use Rattle.polyline.specs.Judging.{judge_two_of}
 use Rattle.polyline.specs.declared.judging.Judged.TheVariants.{Fine}
 use Rattle.morph.proofs.Answers.{at_count, Planning, shapes-refused, count_long, plans-refused, no-first, no_second, room-first, room-second, both-filled}
 use Rattle.morph.proofs.morphing.morph.Statement.{statement}
@@ -15,7 +15,7 @@ abbrev counted : tie.After-needed2 → tie.After-at-least-two
 counted p = p.before.before.before.before.before.before.before
 
 -- the shapes are fine
-fine : (p : tie.After-at-least-two) → judgeTwoOf (start p).args.from.now (start p).args.to.now ≡ Fine
+fine : (p : tie.After-at-least-two) → judge_two_of (start p).args.from.now (start p).args.to.now ≡ Fine
 fine p = sym p.before.before.before.judge-two.ensures ∙ p.before.enum_told.given.1
 
 -- and both plans are known, with the numbers that they need

@@ -1,4 +1,4 @@
--- `path_append::fitting` meets its contract: each way out is a case of `fittingOf`. Assumes nothing.
+-- `path_append::fitting` meets its contract: each way out is a case of `fitting_of`. Assumes nothing.
 use Rattle.path_append.proofs.Fitting.{Counted, counted, no_kind, no-numbers, no_table, no_length, no-command, roomy}
 use Rattle.path_append.proofs.InUse.{numbers-bound, tables-bound}
 use Rattle.path_stored.specs.Buffers.{lent}

@@ -2,7 +2,7 @@
 use Rattle.path_append.proofs.Added.{added-passed, passed-room}
 use Rattle.path_stored.specs.Buffers.{Buffers, lent}
 use Rattle.path_append.specs.declared.pushing.Appended.{Appended}
-use Rattle.path_append.specs.Appending.{isAdded, afterwards}
+use Rattle.path_append.specs.Appending.{is_added, afterwards}
 use mathlib.Core.Path.{sym, ap, ◌∙◌}
 use borrow.Author.Rules.{rules}
 use Rattle.path_append.proofs.pushing.push_segment.Statement.{statement}
@@ -25,7 +25,7 @@ left p answer =
 store-requires : tie.Need-store-requires
 store-requires c κs =
     let t = c.before.before.before.before.before in
-    passed-room _ _ _ _ (added-passed _ _ _ _ (ap isAdded (sym (judged t).judge.ensures) ∙ ap isAdded t.enum_told.given.1))
+    passed-room _ _ _ _ (added-passed _ _ _ _ (ap is_added (sym (judged t).judge.ensures) ∙ ap is_added t.enum_told.given.1))
 
 returns : tie.Need-returns
 returns c =

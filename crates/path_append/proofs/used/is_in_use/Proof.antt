@@ -1,4 +1,4 @@
--- `path_append::is_in_use` meets its contract: each way out is a case of `inUse`. Assumes nothing.
+-- `path_append::is_in_use` meets its contract: each way out is a case of `in_use`. Assumes nothing.
 use Rattle.path_append.proofs.InUse.{few-kinds, many-kinds, few-lengths, few-commands, few-numbers, few-tables, checked}
 use lib.Seq.{length-take-le}
 use mathlib.Core.Path.{sym}

@@ -6,9 +6,9 @@ use Prim.Native.Nat.{◌<◌}
 use native.Mathlib.Omega.{arith}
 use lib.ListN.{length}
 use lib.Ieee.{Float, le}
-use Rattle.floats.specs.Floats.{zeroF, oneF, epsilonF}
+use Rattle.floats.specs.Floats.{zero_f, one_f, epsilon_f}
 use Rattle.table.specs.Lookup.{at, target_of, share_of}
-use Rattle.table.specs.Spots.{before, pathTotal}
+use Rattle.table.specs.Spots.{before, path_total}
 use Rattle.table.proofs.Before.{path-total}
 use Rattle.path_place.proofs.Standing.{spot-inside}
 use Rattle.path_batch.proofs.Along.{along-short, along-low, along-high, along-within}
@@ -23,33 +23,33 @@ inside s = let h = spot-inside s.args.lengths.now s.requires.0 s.args.progress.v
 abbrev start : tie.After-clamp01 → tie.Start
 start t = t.before.before.before.before
 
-long : (t : tie.After-clamp01) → le (pathTotal (start t).args.lengths.now) epsilonF ≡ false
-unfolding epsilonF
+long : (t : tie.After-clamp01) → le (path_total (start t).args.lengths.now) epsilon_f ≡ false
+unfolding epsilon_f
 long t = rw (path-total (start t).args.lengths.now (start t).requires.0.some) at t.before.if1.false
 
 abbrev aim : tie.After-clamp01 → Float
-aim t = target_of (pathTotal (start t).args.lengths.now) (start t).args.progress.value
+aim t = target_of (path_total (start t).args.lengths.now) (start t).args.progress.value
 
 -- ---- the answers
 
 returns : tie.Need-returns
-unfolding epsilonF oneF
+unfolding epsilon_f one_f
 returns c =
     let s = c.before.before.before in
     along-short _ _ (rw (path-total s.args.lengths.now s.requires.0.some) at c.if1.true)
 
-low : (c : tie.Else2) → le (aim c.before) zeroF ≡ false
-unfolding zeroF target_of
+low : (c : tie.Else2) → le (aim c.before) zero_f ≡ false
+unfolding zero_f target_of
 low c = let t = c.before in rw (t.clamp01.ensures, path-total (start t).args.lengths.now (start t).requires.0.some) at c.if2.false
 
 returns-2 : tie.Need-returns-2
-unfolding zeroF target_of
+unfolding zero_f target_of
 returns-2 c =
     let t = c.before in
     along-low _ _ (long t) (rw (t.clamp01.ensures, path-total (start t).args.lengths.now (start t).requires.0.some) at c.if2.true)
 
 returns-3 : tie.Need-returns-3
-unfolding oneF target_of
+unfolding one_f target_of
 returns-3 c =
     let t = c.before.before in
     along-high _ _ (long t) (low c.before) (rw (t.clamp01.ensures, path-total (start t).args.lengths.now (start t).requires.0.some) at c.if3.true)

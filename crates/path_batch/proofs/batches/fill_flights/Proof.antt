@@ -13,17 +13,17 @@ use Rattle.answers.specs.Report.{written}
 use Rattle.table.specs.declared.quantities.Progress.{Progress}
 use Rattle.table.specs.Spots.{spot_of}
 use Rattle.flight.specs.declared.Flight.{Flight}
-use Rattle.flight.specs.Flights.{segmentGiven}
+use Rattle.flight.specs.Flights.{segment_given}
 use Rattle.path_stored.specs.Buffers.{Buffers, buffers, lent}
 use Rattle.path_place.specs.declared.cursors.Cursor.{Cursor}
-use Rattle.path_place.specs.Cursors.{cursorOf, Moving}
+use Rattle.path_place.specs.Cursors.{cursor_of, Moving}
 use Rattle.path_place.proofs.Standing.{some-path}
 use Rattle.path_marks.specs.Marks.{Marks}
 use Rattle.path_marks.proofs.Marking.{marks-none, marks-same}
-use Rattle.path_query.specs.Flights.{flightOf, flownWithin}
+use Rattle.path_query.specs.Flights.{flight_of, flown_within}
 use Rattle.path_query.proofs.Seats.{some-place, seated, flight-is}
 use Rattle.path_query.proofs.Answering.{flight-some}
-use Rattle.path_batch.specs.Batches.{each, segmentsFor, rawsFor, foundFor, numbersOf, numbersFor}
+use Rattle.path_batch.specs.Batches.{each, segments_for, raws_for, found_for, numbers_of, numbers_for}
 use Rattle.path_batch.proofs.Filling.{Looking, looking-first, looking-next, among, looking-moves, looking-leaps, each-size, each_next, each_at, each-filled, each-equal, numbers-size, numbers-next, segment-there}
 use Rattle.path_batch.proofs.batches.fill_flights.Statement.{statement}
 use Rattle.path_batch.proofs.batches.fill_flights.Tie as tie
@@ -31,8 +31,8 @@ use Rattle.path_batch.proofs.batches.fill_flights.Tie as tie
 abbrev invariant-loop : tie.invariant-loop
 invariant-loop kinds fields tables lengths commands progresses segments raws₀ out₀ shift₀ field-marks₀ table-marks₀ at₀ k₀ raws out shift field-marks table-marks at k =
     let b = buffers kinds fields tables lengths commands in
-    Looking kinds progresses at k × (raws ≡ written (rawsFor b (take k progresses)) raws₀) × Marks kinds shift field-marks table-marks
-    × (out ≡ written (numbersFor b (take k progresses)) out₀)
+    Looking kinds progresses at k × (raws ≡ written (raws_for b (take k progresses)) raws₀) × Marks kinds shift field-marks table-marks
+    × (out ≡ written (numbers_for b (take k progresses)) out₀)
 
 abbrev decreases-loop : tie.decreases-loop
 decreases-loop kinds fields tables lengths commands progresses segments raws₀ out₀ shift₀ field-marks₀ table-marks₀ at₀ k₀ raws out shift field-marks table-marks at k = length progresses - k
@@ -53,21 +53,21 @@ path l = let a = (start l).args in lent a.kinds a.fields a.tables a.lengths a.co
 
 -- what fills the output
 abbrev raw_of : Loop → Float → Float
-raw_of l p = (flightOf (path l) p).raw.value
+raw_of l p = (flight_of (path l) p).raw.value
 
 -- neither output has changed its length
-found-segments : (l : Loop) → length (written (foundFor (path l).lengths (start l).args.progresses.now) (start l).args.segments.now) ≡ length (start l).args.segments.now
-found-segments l = let a = (start l).args in each-filled (λ p. (spot_of (path l).lengths p).segment) a.progresses.now a.segments.now (start l).pre.places.segmentsRoom
+found-segments : (l : Loop) → length (written (found_for (path l).lengths (start l).args.progresses.now) (start l).args.segments.now) ≡ length (start l).args.segments.now
+found-segments l = let a = (start l).args in each-filled (λ p. (spot_of (path l).lengths p).segment) a.progresses.now a.segments.now (start l).pre.places.segments_room
 
 raws-size : (l : Loop) → length l.loop.raws ≡ length (start l).args.raws.now
 raws-size l =
     let a = (start l).args in
-    ap length l.loop.inv.1 ∙ each-size (raw_of l) a.progresses.now a.raws.now l.loop.k l.loop.inv.0.upto (start l).pre.places.rawsRoom
+    ap length l.loop.inv.1 ∙ each-size (raw_of l) a.progresses.now a.raws.now l.loop.k l.loop.inv.0.upto (start l).pre.places.raws_room
 
 out-size : (l : Loop) → length l.loop.out ≡ length (start l).args.out.now
 out-size l =
     let a = (start l).args in
-    ap length l.loop.inv.3 ∙ numbers-size (path l) a.progresses.now a.out.now l.loop.k l.loop.inv.0.upto (start l).pre.outRoom
+    ap length l.loop.inv.3 ∙ numbers-size (path l) a.progresses.now a.out.now l.loop.k l.loop.inv.0.upto (start l).pre.out_room
 
 -- inside the loop
 abbrev Inside : Type 0
@@ -137,11 +137,11 @@ Ended = tie.Joined2 invariant-loop decreases-loop
 abbrev started : Ended → Starting
 started h = h.before.before
 
-landed : (h : Ended) → h.if2.here ≡ cursorOf (path (looked (read (started h)))).kinds (read (started h)).wide.result
+landed : (h : Ended) → h.if2.here ≡ cursor_of (path (looked (read (started h)))).kinds (read (started h)).wide.result
 landed h = ⊎_elim (λ near. near.2 ∙ near.1.ensures) (λ far. far.2 ∙ far.1.ensures) h.if2.came
 
-landed-there : (h : Ended) → let l = looked (read (started h)) in h.if2.here ≡ cursorOf (path l).kinds (spot_of (path l).lengths (progress l)).segment
-landed-there h = let w = read (started h) in landed h ∙ ap (cursorOf (path (looked w)).kinds) (segment-is w)
+landed-there : (h : Ended) → let l = looked (read (started h)) in h.if2.here ≡ cursor_of (path l).kinds (spot_of (path l).lengths (progress l)).segment
+landed-there h = let w = read (started h) in landed h ∙ ap (cursor_of (path (looked w)).kinds) (segment-is w)
 
 -- ---- the answers
 
@@ -152,11 +152,11 @@ fill-segments-requires c κs =
     record {
       path = some-path (some-place pre.places.path);
       few = (let one = stored.one in let most = stored.few in omega arith);
-      segmentsRoom = pre.places.segmentsRoom;
+      segments_room = pre.places.segments_room;
     }
 
 loop-holds : tie.Need-loop-init invariant-loop decreases-loop
-unfolding each numbersFor
+unfolding each numbers_for
 loop-holds c =
     let path = c.before.before.before.before.before.before.before.before.before.before.before.before.before.before.requires.places.path in
     (looking-first c.before.before.before.before.first-cursor.ensures path.some, refl, marks-none path.path.few, refl)
@@ -165,7 +165,7 @@ mul_wide : tie.Need-overflow-mul-wide invariant-loop decreases-loop
 mul_wide c = omega (arith, more c, few c)
 
 slice-read-wide : tie.Need-slice-read-wide invariant-loop decreases-loop
-slice-read-wide c = let t = c.before in omega (arith, more t, ap length (found t.before).fill-segments.ensures, found-segments t.before, (start t.before).pre.places.segmentsRoom)
+slice-read-wide c = let t = c.before in omega (arith, more t, ap length (found t.before).fill-segments.ensures, found-segments t.before, (start t.before).pre.places.segments_room)
 
 mul-progress : tie.Need-overflow-mul-progress invariant-loop decreases-loop
 mul-progress c = omega (arith, more (inside c), few (inside c))
@@ -212,13 +212,13 @@ mul-raws : tie.Need-overflow-mul-raws invariant-loop decreases-loop
 mul-raws c = omega (arith, more (tested c), few (tested c))
 
 slice-write-raws : tie.Need-slice-write-raws invariant-loop decreases-loop
-slice-write-raws c = let t = tested c in omega (arith, more t, raws-size t.before, (start t.before).pre.places.rawsRoom)
+slice-write-raws c = let t = tested c in omega (arith, more t, raws-size t.before, (start t.before).pre.places.raws_room)
 
 mul-put-numbers : tie.Need-overflow-mul-put-numbers invariant-loop decreases-loop
 mul-put-numbers c = let t = tested c.before in omega (arith, more t, few t)
 
 put-numbers-requires : tie.Need-put-numbers-requires invariant-loop decreases-loop
-put-numbers-requires c κs = let t = tested c.before in omega (arith, more t, out-size t.before, (start t.before).pre.outRoom)
+put-numbers-requires c κs = let t = tested c.before in omega (arith, more t, out-size t.before, (start t.before).pre.out_room)
 
 add-k : tie.Need-overflow-add-k invariant-loop decreases-loop
 add-k c = let t = tested c.before.before.before.before in omega (arith, more t, few t)
@@ -240,15 +240,15 @@ loop-again c =
     let here = h.if2.here in
     let flown =
     tidied.before.before.before.flown-within.ensures
-    ∙ ap (flownWithin a.kinds.now a.fields.now a.tables.now here.segment) (along-is (started h))
+    ∙ ap (flown_within a.kinds.now a.fields.now a.tables.now here.segment) (along-is (started h))
     ∙ flight-is (path l) p (spot_of a.lengths.now p) here refl (landed-there h)
     ∙ flight-some (path l) p pre.places.path.some in (
       looking-next here w.wide.result (landed h) (within w) (more t),
-      each_next (raw_of l) a.progresses.now _ l.loop.raws l.loop.k _ (more t) pre.places.rawsRoom l.loop.inv.1
+      each_next (raw_of l) a.progresses.now _ l.loop.raws l.loop.k _ (more t) pre.places.raws_room l.loop.inv.1
           (tidied.tidy.ensures ∙ tidied.before.number_of.ensures ∙ ap (λ (flight : Flight). flight.raw.value) flown),
       (ready (started h)).1,
       put.put-numbers.ensures
-          ∙ numbers-next (path l) a.progresses.now a.out.now l.loop.out l.loop.k _ (more t) pre.outRoom l.loop.inv.3 (ap numbersOf flown),
+          ∙ numbers-next (path l) a.progresses.now a.out.now l.loop.out l.loop.k _ (more t) pre.out_room l.loop.inv.3 (ap numbers_of flown),
     )
 
 same_length : tie.Need-same-length invariant-loop decreases-loop
@@ -268,13 +268,13 @@ returns c =
     record {
       places =
           record {
-            segmentsAre =
+            segments_are =
                 (found l).fill-segments.ensures
                 ∙ ap (λ (xs : List _). written xs a.segments.now)
-                (each-equal (λ p. (spot_of (path l).lengths p).segment) (λ p. segmentGiven (flightOf (path l) p).segment) (λ p. segment-there (path l) p (start l).requires.places.path.some refl) a.progresses.now);
-            rawsAre = l.loop.invariant.1 ∙ ap (λ (ps : List Float). written (rawsFor (path l) ps) a.raws.now) all;
+                (each-equal (λ p. (spot_of (path l).lengths p).segment) (λ p. segment_given (flight_of (path l) p).segment) (λ p. segment-there (path l) p (start l).requires.places.path.some refl) a.progresses.now);
+            raws_are = l.loop.invariant.1 ∙ ap (λ (ps : List Float). written (raws_for (path l) ps) a.raws.now) all;
           };
-      outIs = l.loop.invariant.3 ∙ ap (λ (ps : List Float). written (numbersFor (path l) ps) a.out.now) all;
+      out_is = l.loop.invariant.3 ∙ ap (λ (ps : List Float). written (numbers_for (path l) ps) a.out.now) all;
     }
 
 pub fill-flights-spec : {M : Type 1} → statement M

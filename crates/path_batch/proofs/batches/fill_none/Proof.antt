@@ -6,13 +6,13 @@ use native.Mathlib.Omega.{arith}
 use Prim.Native.Nat.{ℕ}
 use lib.ListN.{length, replicate}
 use Rattle.answers.specs.Report.{written}
-use Rattle.flight.specs.Flights.{noSegment}
+use Rattle.flight.specs.Flights.{no_segment}
 use Rattle.path_batch.proofs.Filling.{same_size, same_next}
 use Rattle.path_batch.proofs.batches.fill_none.Statement.{statement}
 use Rattle.path_batch.proofs.batches.fill_none.Tie as tie
 
 abbrev invariant-loop : tie.invariant-loop
-invariant-loop segments₀ count k₀ segments k = (k ≤ count) × (segments ≡ written (replicate k noSegment) segments₀)
+invariant-loop segments₀ count k₀ segments k = (k ≤ count) × (segments ≡ written (replicate k no_segment) segments₀)
 
 abbrev decreases-loop : tie.decreases-loop
 decreases-loop segments₀ count k₀ segments k = count - k
@@ -24,26 +24,26 @@ slice-write-segments : tie.Need-slice-write-segments invariant-loop decreases-lo
 slice-write-segments c =
     let l = c.before.loop in
     let a = c.before.before.args in
-    let n : length l.segments ≡ length a.segments.now = rw l.invariant.1 (same_size noSegment a.segments.now l.k (omega arith)) in
+    let n : length l.segments ≡ length a.segments.now = rw l.invariant.1 (same_size no_segment a.segments.now l.k (omega arith)) in
     omega arith
 
 loop-again : tie.Need-loop-preserved invariant-loop decreases-loop
 loop-again c =
     let l = c.before.loop in
-    let a = c.before.before.args in (omega arith, same_next noSegment a.segments.now l.segments l.k (omega arith) l.invariant.1)
+    let a = c.before.before.args in (omega arith, same_next no_segment a.segments.now l.segments l.k (omega arith) l.invariant.1)
 
 same_length : tie.Need-same-length invariant-loop decreases-loop
 same_length c =
     let l = c.before.loop in
     let a = c.before.before.args in
-    rw l.invariant.1 (same_size noSegment a.segments.now l.k (omega arith))
+    rw l.invariant.1 (same_size no_segment a.segments.now l.k (omega arith))
 
 returns : tie.Need-returns invariant-loop decreases-loop
 returns c =
     let l = c.before.loop in
     let a = c.before.before.args in
     let all : l.k ≡ a.count = omega arith in
-    l.invariant.1 ∙ ap (λ (k : ℕ). written (replicate k noSegment) a.segments.now) all
+    l.invariant.1 ∙ ap (λ (k : ℕ). written (replicate k no_segment) a.segments.now) all
 
 pub fill-none-spec : {M : Type 1} → statement M
 fill-none-spec =

@@ -12,17 +12,17 @@ use mathlib.Core.List.{List}
 use Rattle.answers.specs.Report.{written}
 use Rattle.table.specs.declared.quantities.Progress.{Progress}
 use Rattle.table.specs.Spots.{spot_of}
-use Rattle.flight.specs.Flights.{segmentGiven}
+use Rattle.flight.specs.Flights.{segment_given}
 use Rattle.path_stored.specs.Buffers.{Buffers, buffers, lent}
 use Rattle.path_place.specs.declared.cursors.Cursor.{Cursor}
-use Rattle.path_place.specs.Cursors.{cursorOf, Moving}
-use Rattle.path_place.specs.Places.{rawWithin}
+use Rattle.path_place.specs.Cursors.{cursor_of, Moving}
+use Rattle.path_place.specs.Places.{raw_within}
 use Rattle.path_place.proofs.Standing.{some-path, standing, place_is}
 use Rattle.path_marks.specs.Marks.{Marks}
 use Rattle.path_marks.proofs.Marking.{marks-none, marks-same}
-use Rattle.path_query.specs.Flights.{flightOf}
+use Rattle.path_query.specs.Flights.{flight_of}
 use Rattle.path_query.proofs.Seats.{some-place}
-use Rattle.path_batch.specs.Batches.{each, segmentsFor, rawsFor, foundFor}
+use Rattle.path_batch.specs.Batches.{each, segments_for, raws_for, found_for}
 use Rattle.path_batch.proofs.Filling.{Looking, looking-first, looking-next, among, looking-moves, looking-leaps, each-size, each_next, each_at, each-filled, each-equal, segment-there, raw-there}
 use Rattle.path_batch.proofs.batches.fill_places.Statement.{statement}
 use Rattle.path_batch.proofs.batches.fill_places.Tie as tie
@@ -30,7 +30,7 @@ use Rattle.path_batch.proofs.batches.fill_places.Tie as tie
 abbrev invariant-loop : tie.invariant-loop
 invariant-loop kinds fields tables lengths commands progresses segments raws₀ shift₀ field-marks₀ table-marks₀ at₀ i₀ raws shift field-marks table-marks at i =
     let b = buffers kinds fields tables lengths commands in
-    Looking kinds progresses at i × (raws ≡ written (rawsFor b (take i progresses)) raws₀) × Marks kinds shift field-marks table-marks
+    Looking kinds progresses at i × (raws ≡ written (raws_for b (take i progresses)) raws₀) × Marks kinds shift field-marks table-marks
 
 abbrev decreases-loop : tie.decreases-loop
 decreases-loop kinds fields tables lengths commands progresses segments raws₀ shift₀ field-marks₀ table-marks₀ at₀ i₀ raws shift field-marks table-marks at i = length progresses - i
@@ -51,16 +51,16 @@ path l = let a = (start l).args in lent a.kinds a.fields a.tables a.lengths a.co
 
 -- what fills the output
 abbrev raw_of : Loop → Float → Float
-raw_of l p = (flightOf (path l) p).raw.value
+raw_of l p = (flight_of (path l) p).raw.value
 
 -- neither output has changed its length
-found-segments : (l : Loop) → length (written (foundFor (path l).lengths (start l).args.progresses.now) (start l).args.segments.now) ≡ length (start l).args.segments.now
-found-segments l = let a = (start l).args in each-filled (λ p. (spot_of (path l).lengths p).segment) a.progresses.now a.segments.now (start l).pre.segmentsRoom
+found-segments : (l : Loop) → length (written (found_for (path l).lengths (start l).args.progresses.now) (start l).args.segments.now) ≡ length (start l).args.segments.now
+found-segments l = let a = (start l).args in each-filled (λ p. (spot_of (path l).lengths p).segment) a.progresses.now a.segments.now (start l).pre.segments_room
 
 raws-size : (l : Loop) → length l.loop.raws ≡ length (start l).args.raws.now
 raws-size l =
     let a = (start l).args in
-    ap length l.loop.inv.1 ∙ each-size (raw_of l) a.progresses.now a.raws.now l.loop.i l.loop.inv.0.upto (start l).pre.rawsRoom
+    ap length l.loop.inv.1 ∙ each-size (raw_of l) a.progresses.now a.raws.now l.loop.i l.loop.inv.0.upto (start l).pre.raws_room
 
 -- inside the loop
 abbrev Inside : Type 0
@@ -130,11 +130,11 @@ Ended = tie.Joined2 invariant-loop decreases-loop
 abbrev started : Ended → Starting
 started h = h.before.before
 
-landed : (h : Ended) → h.if2.here ≡ cursorOf (path (looked (read (started h)))).kinds (read (started h)).wide.result
+landed : (h : Ended) → h.if2.here ≡ cursor_of (path (looked (read (started h)))).kinds (read (started h)).wide.result
 landed h = ⊎_elim (λ near. near.2 ∙ near.1.ensures) (λ far. far.2 ∙ far.1.ensures) h.if2.came
 
-landed-there : (h : Ended) → let l = looked (read (started h)) in h.if2.here ≡ cursorOf (path l).kinds (spot_of (path l).lengths (progress l)).segment
-landed-there h = let w = read (started h) in landed h ∙ ap (cursorOf (path (looked w)).kinds) (segment-is w)
+landed-there : (h : Ended) → let l = looked (read (started h)) in h.if2.here ≡ cursor_of (path l).kinds (spot_of (path l).lengths (progress l)).segment
+landed-there h = let w = read (started h) in landed h ∙ ap (cursor_of (path (looked w)).kinds) (segment-is w)
 
 -- ---- the answers
 
@@ -145,7 +145,7 @@ fill-segments-requires c κs =
     record {
       path = some-path (some-place pre.path);
       few = (let one = stored.one in let most = stored.few in omega arith);
-      segmentsRoom = pre.segmentsRoom;
+      segments_room = pre.segments_room;
     }
 
 loop-holds : tie.Need-loop-init invariant-loop decreases-loop
@@ -158,7 +158,7 @@ mul_wide : tie.Need-overflow-mul-wide invariant-loop decreases-loop
 mul_wide c = omega (arith, more c, few c)
 
 slice-read-wide : tie.Need-slice-read-wide invariant-loop decreases-loop
-slice-read-wide c = let t = c.before in omega (arith, more t, ap length (found t.before).fill-segments.ensures, found-segments t.before, (start t.before).pre.segmentsRoom)
+slice-read-wide c = let t = c.before in omega (arith, more t, ap length (found t.before).fill-segments.ensures, found-segments t.before, (start t.before).pre.segments_room)
 
 mul-progress : tie.Need-overflow-mul-progress invariant-loop decreases-loop
 mul-progress c = omega (arith, more (inside c), few (inside c))
@@ -205,7 +205,7 @@ mul-raws : tie.Need-overflow-mul-raws invariant-loop decreases-loop
 mul-raws c = omega (arith, more (tested c), few (tested c))
 
 slice-write-raws : tie.Need-slice-write-raws invariant-loop decreases-loop
-slice-write-raws c = let t = tested c in omega (arith, more t, raws-size t.before, (start t.before).pre.rawsRoom)
+slice-write-raws c = let t = tested c in omega (arith, more t, raws-size t.before, (start t.before).pre.raws_room)
 
 add-i : tie.Need-overflow-add-i invariant-loop decreases-loop
 add-i c = omega (arith, more (tested c), few (tested c))
@@ -224,10 +224,10 @@ loop-again c =
     let p = progress l in
     let here = h.if2.here in
     let raw = c.before.before.raw-within in
-    let value = raw.ensures ∙ ap (rawWithin a.kinds.now a.tables.now here.segment) (along-is (started h)) in
+    let value = raw.ensures ∙ ap (raw_within a.kinds.now a.tables.now here.segment) (along-is (started h)) in
     let pair = place_is a.kinds.now a.tables.now a.lengths.now p (spot_of a.lengths.now p) here raw.result refl (landed-there h) value in (
       looking-next here w.wide.result (landed h) (within w) (more t),
-      each_next (raw_of l) a.progresses.now _ l.loop.raws l.loop.i _ (more t) pre.rawsRoom l.loop.inv.1
+      each_next (raw_of l) a.progresses.now _ l.loop.raws l.loop.i _ (more t) pre.raws_room l.loop.inv.1
           (c.tidy.ensures ∙ c.before.number_of.ensures ∙ raw-there (path l) p pre.path.some pair),
       (ready (started h)).1,
     )
@@ -244,11 +244,11 @@ returns c =
     let a = (start l).args in
     let all : take l.loop.i a.progresses.now ≡ a.progresses.now = take_all l.loop.i a.progresses.now (omega arith) in
     record {
-      segmentsAre =
+      segments_are =
           (found l).fill-segments.ensures
           ∙ ap (λ (xs : List _). written xs a.segments.now)
-          (each-equal (λ p. (spot_of (path l).lengths p).segment) (λ p. segmentGiven (flightOf (path l) p).segment) (λ p. segment-there (path l) p (start l).requires.path.some refl) a.progresses.now);
-      rawsAre = l.loop.invariant.1 ∙ ap (λ (ps : List Float). written (rawsFor (path l) ps) a.raws.now) all;
+          (each-equal (λ p. (spot_of (path l).lengths p).segment) (λ p. segment_given (flight_of (path l) p).segment) (λ p. segment-there (path l) p (start l).requires.path.some refl) a.progresses.now);
+      raws_are = l.loop.invariant.1 ∙ ap (λ (ps : List Float). written (raws_for (path l) ps) a.raws.now) all;
     }
 
 pub fill-places-spec : {M : Type 1} → statement M

@@ -10,13 +10,13 @@ use lib.Ieee.{Float, nan}
 use Rattle.answers.specs.Report.{written}
 use Rattle.table.specs.Spots.{spot_of}
 use Rattle.path_place.proofs.Standing.{spot-inside}
-use Rattle.path_batch.specs.Batches.{each, foundFor}
+use Rattle.path_batch.specs.Batches.{each, found_for}
 use Rattle.path_batch.proofs.Filling.{each-size, each_next}
 use Rattle.path_batch.proofs.batches.fill_segments.Statement.{statement}
 use Rattle.path_batch.proofs.batches.fill_segments.Tie as tie
 
 abbrev invariant-loop : tie.invariant-loop
-invariant-loop lengths progresses segments₀ from₀ near₀ i₀ segments from near i = (i ≤ length progresses) × (segments ≡ written (foundFor lengths (take i progresses)) segments₀)
+invariant-loop lengths progresses segments₀ from₀ near₀ i₀ segments from near i = (i ≤ length progresses) × (segments ≡ written (found_for lengths (take i progresses)) segments₀)
 
 abbrev decreases-loop : tie.decreases-loop
 decreases-loop lengths progresses segments₀ from₀ near₀ i₀ segments from near i = length progresses - i
@@ -32,7 +32,7 @@ start l = l.before.before.before.before
 segments-size : (l : Loop) → length l.loop.segments ≡ length (start l).args.segments.now
 segments-size l =
     let a = (start l).args in
-    ap length l.loop.inv.1 ∙ each-size (λ p. (spot_of a.lengths.now p).segment) a.progresses.now a.segments.now l.loop.i l.loop.inv.0 (start l).pre.segmentsRoom
+    ap length l.loop.inv.1 ∙ each-size (λ p. (spot_of a.lengths.now p).segment) a.progresses.now a.segments.now l.loop.i l.loop.inv.0 (start l).pre.segments_room
 
 -- where the next search starts is settled: that one more progress was left, the loop's start, and the spot
 abbrev Settled : Type 0
@@ -75,7 +75,7 @@ mul-segments : tie.Need-overflow-mul-segments invariant-loop decreases-loop
 mul-segments c = omega (arith, more c, few c)
 
 slice-write-segments : tie.Need-slice-write-segments invariant-loop decreases-loop
-slice-write-segments c = omega (arith, more c, segments-size (looked c), (start (looked c)).pre.segmentsRoom)
+slice-write-segments c = omega (arith, more c, segments-size (looked c), (start (looked c)).pre.segments_room)
 
 add-i : tie.Need-overflow-add-i invariant-loop decreases-loop
 add-i c = omega (arith, more c, few c)
@@ -90,7 +90,7 @@ loop-again c =
     let pre = (start l).pre in
     let is = (spotted c).segment-near.ensures in (
       omega (arith, more c),
-      each_next (λ p. (spot_of a.lengths.now p).segment) a.progresses.now a.segments.now l.loop.segments l.loop.i _ (more c) pre.segmentsRoom l.loop.inv.1 is,
+      each_next (λ p. (spot_of a.lengths.now p).segment) a.progresses.now a.segments.now l.loop.segments l.loop.i _ (more c) pre.segments_room l.loop.inv.1 is,
     )
 
 same_length : tie.Need-same-length invariant-loop decreases-loop
@@ -101,7 +101,7 @@ returns c =
     let l = c.before in
     let a = (start l).args in
     let all : take l.loop.i a.progresses.now ≡ a.progresses.now = take_all l.loop.i a.progresses.now (omega arith) in
-    l.loop.invariant.1 ∙ ap (λ (ps : List Float). written (foundFor a.lengths.now ps) a.segments.now) all
+    l.loop.invariant.1 ∙ ap (λ (ps : List Float). written (found_for a.lengths.now ps) a.segments.now) all
 
 pub fill-segments-spec : {M : Type 1} → statement M
 fill-segments-spec =

@@ -1,4 +1,4 @@
--- `path_batch::flights` meets its contract: each way out is a case of `flightsOf`, and the buffers lent are f32 values, so that `ordered-flights` shows demand 3. Assumes nothing.
+-- `path_batch::flights` meets its contract: each way out is a case of `flights_of`, and the buffers lent are f32 values, so that `ordered-flights` shows demand 3. Assumes nothing.
 use borrow.Author.Rules.{rules}
 use mathlib.Core.Path.{sym, ◌∙◌}
 use native.Mathlib.Omega.{arith}
@@ -49,10 +49,10 @@ fill-flights-requires c κs =
       places =
           record {
             path = a-flight (stored-rule _ (passed stored)) (omega (arith, some.if5.false));
-            segmentsRoom = first.if2.false;
-            rawsRoom = room.before.if3.false;
+            segments_room = first.if2.false;
+            raws_room = room.before.if3.false;
           };
-      outRoom = room.if4.false;
+      out_room = room.if4.false;
     }
 
 returns-5 : tie.Need-returns-5

@@ -3,9 +3,9 @@ use borrow.Author.Rules.{rules}
 use mathlib.Core.Path.{◌≡◌}
 use mathlib.Core.Bool.{false}
 use lib.Ieee.{Float, le}
-use Rattle.floats.specs.Floats.{zeroF, epsilonF}
+use Rattle.floats.specs.Floats.{zero_f, epsilon_f}
 use Rattle.table.specs.Lookup.{target_of}
-use Rattle.table.specs.Spots.{pathTotal}
+use Rattle.table.specs.Spots.{path_total}
 use Rattle.table.proofs.Before.{path-total}
 use Rattle.path_batch.proofs.Along.{segment-short, segment-low, segment-high, segment-within}
 use Rattle.path_batch.proofs.batches.segment_near.Statement.{statement}
@@ -16,27 +16,27 @@ use Rattle.path_batch.proofs.batches.segment_near.Tie as tie
 abbrev start : tie.After-clamp01 → tie.Start
 start t = t.before.before.before.before
 
-long : (t : tie.After-clamp01) → le (pathTotal (start t).args.lengths.now) epsilonF ≡ false
-unfolding epsilonF
+long : (t : tie.After-clamp01) → le (path_total (start t).args.lengths.now) epsilon_f ≡ false
+unfolding epsilon_f
 long t = rw (path-total (start t).args.lengths.now (start t).requires.some) at t.before.if1.false
 
 abbrev aim : tie.After-clamp01 → Float
-aim t = target_of (pathTotal (start t).args.lengths.now) (start t).args.progress.value
+aim t = target_of (path_total (start t).args.lengths.now) (start t).args.progress.value
 
-low : (c : tie.Else2) → le (aim c.before) zeroF ≡ false
-unfolding zeroF target_of
+low : (c : tie.Else2) → le (aim c.before) zero_f ≡ false
+unfolding zero_f target_of
 low c = let t = c.before in rw (t.clamp01.ensures, path-total (start t).args.lengths.now (start t).requires.some) at c.if2.false
 
 -- ---- the answers
 
 returns : tie.Need-returns
-unfolding epsilonF
+unfolding epsilon_f
 returns c =
     let s = c.before.before.before in
     segment-short _ _ (rw (path-total s.args.lengths.now s.requires.some) at c.if1.true)
 
 returns-2 : tie.Need-returns-2
-unfolding zeroF target_of
+unfolding zero_f target_of
 returns-2 c =
     let t = c.before in
     segment-low _ _ (long t) (rw (t.clamp01.ensures, path-total (start t).args.lengths.now (start t).requires.some) at c.if2.true)

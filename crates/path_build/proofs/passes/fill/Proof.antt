@@ -5,7 +5,7 @@ use Prim.Native.Nat.{◌-◌}
 use native.Mathlib.Omega.{arith}
 use lib.ListN.{length}
 use Rattle.path_stored.specs.Buffers.{buffers}
-use Rattle.path_build.specs.Lists.{storedList}
+use Rattle.path_build.specs.Lists.{stored_list}
 use Rattle.path_build.proofs.Along.{Storing, storing-none, stored-kinds, stored-fields, stored-tables, stored-lengths}
 use Rattle.path_build.proofs.Along.{stored-commands, stored-all, storing-number, storing-asks, storing-next}
 use Rattle.path_build.proofs.passes.fill.Statement.{statement}
@@ -13,7 +13,7 @@ use Rattle.path_build.proofs.passes.fill.Tie as tie
 
 abbrev invariant-loop : tie.invariant-loop
 invariant-loop letters numbers kinds₀ fields₀ tables₀ lengths₀ commands₀ count site₀ letter-at₀ at₀ kinds fields tables lengths commands site letter_at at =
-    Storing (storedList letters numbers) site letter_at at (buffers kinds₀ fields₀ tables₀ lengths₀ commands₀) (buffers kinds fields tables lengths commands)
+    Storing (stored_list letters numbers) site letter_at at (buffers kinds₀ fields₀ tables₀ lengths₀ commands₀) (buffers kinds fields tables lengths commands)
 
 abbrev decreases-loop : tie.decreases-loop
 decreases-loop letters numbers kinds₀ fields₀ tables₀ lengths₀ commands₀ count site₀ letter-at₀ at₀ kinds fields tables lengths commands site letter_at at = length letters - letter_at

@@ -5,14 +5,14 @@ use Prim.Native.Nat.{◌-◌}
 use mathlib.Core.Path.{sym, ◌∙◌}
 use native.Mathlib.Omega.{arith}
 use lib.ListN.{length}
-use Rattle.path_build.specs.Lists.{storedList}
+use Rattle.path_build.specs.Lists.{stored_list}
 use Rattle.path_build.proofs.Lists.{formed}
 use Rattle.path_build.proofs.Along.{Measuring, measuring-none, measuring-inside, measuring-few, measuring-bad, measuring-fits, measured-refused, measuring-more, measured-all}
 use Rattle.path_build.proofs.passes.judge.Statement.{statement}
 use Rattle.path_build.proofs.passes.judge.Tie as tie
 
 abbrev invariant-loop : tie.invariant-loop
-invariant-loop letters numbers count site₀ letter-at₀ at₀ site letter_at at = Measuring (storedList letters numbers) site letter_at at
+invariant-loop letters numbers count site₀ letter-at₀ at₀ site letter_at at = Measuring (stored_list letters numbers) site letter_at at
 
 abbrev decreases-loop : tie.decreases-loop
 decreases-loop letters numbers count site₀ letter-at₀ at₀ site letter_at at = length letters - letter_at

@@ -5,14 +5,14 @@ use Prim.Native.Nat.{◌-◌}
 use mathlib.Core.Path.{sym, ◌∙◌}
 use native.Mathlib.Omega.{arith}
 use lib.ListN.{length}
-use Rattle.path_build.specs.Lists.{storedList}
+use Rattle.path_build.specs.Lists.{stored_list}
 use Rattle.path_build.proofs.Lists.{formed}
 use Rattle.path_build.proofs.Along.{Surveying, surveying-none, surveying-inside, surveying-few, surveying-fits, surveying-more, surveyed-all}
 use Rattle.path_build.proofs.passes.survey.Statement.{statement}
 use Rattle.path_build.proofs.passes.survey.Tie as tie
 
 abbrev invariant-loop : tie.invariant-loop
-invariant-loop letters numbers size tally₀ letter-at₀ at₀ tally letter_at at = Surveying (storedList letters numbers) tally letter_at at
+invariant-loop letters numbers size tally₀ letter-at₀ at₀ tally letter_at at = Surveying (stored_list letters numbers) tally letter_at at
 
 abbrev decreases-loop : tie.decreases-loop
 decreases-loop letters numbers size tally₀ letter-at₀ at₀ tally letter_at at = length letters - letter_at

@@ -6,13 +6,13 @@ use mathlib.Core.Path.{◌≡◌, refl}
 use mathlib.Core.Bool.{◌&&◌}
 use native.Mathlib.Omega.{arith}
 use lib.ListN.{length, drop}
-use Rattle.path_build.specs.Plain.{allNear}
+use Rattle.path_build.specs.Plain.{all_near}
 use Rattle.path_build.proofs.Counting.{near-more, near-all}
 use Rattle.path_build.proofs.plain.all_near.Statement.{statement}
 use Rattle.path_build.proofs.plain.all_near.Tie as tie
 
 abbrev invariant-loop : tie.invariant-loop
-invariant-loop numbers size near₀ i₀ near i = (i ≤ length numbers) × ((near && allNear (drop i numbers)) ≡ allNear numbers)
+invariant-loop numbers size near₀ i₀ near i = (i ≤ length numbers) × ((near && all_near (drop i numbers)) ≡ all_near numbers)
 
 abbrev decreases-loop : tie.decreases-loop
 decreases-loop numbers size near₀ i₀ near i = length numbers - i

@@ -7,13 +7,13 @@ use native.Mathlib.Nat.{zero-add}
 use native.Mathlib.Omega.{arith}
 use lib.Dec.{eqb}
 use lib.ListN.{length, get_or, drop}
-use Rattle.path_build.specs.Plain.{oneIf, countIn}
+use Rattle.path_build.specs.Plain.{one_if, count_in}
 use Rattle.path_build.proofs.Counting.{count_next, count-end, one-most}
 use Rattle.path_build.proofs.plain.count_of.Statement.{statement}
 use Rattle.path_build.proofs.plain.count_of.Tie as tie
 
 abbrev invariant-loop : tie.invariant-loop
-invariant-loop letters letter size count₀ i₀ count i = (i ≤ length letters) × (count ≤ i) × (count + countIn letter (drop i letters) ≡ countIn letter letters)
+invariant-loop letters letter size count₀ i₀ count i = (i ≤ length letters) × (count ≤ i) × (count + count_in letter (drop i letters) ≡ count_in letter letters)
 
 abbrev decreases-loop : tie.decreases-loop
 decreases-loop letters letter size count₀ i₀ count i = length letters - i
@@ -22,7 +22,7 @@ decreases-loop letters letter size count₀ i₀ count i = length letters - i
 abbrev looped : tie.After-one-if invariant-loop decreases-loop → tie.At-loop invariant-loop decreases-loop
 looped c = c.before.before.before
 
-most : (c : tie.After-one-if invariant-loop decreases-loop) → let a = (looped c).before.before.args in oneIf (eqb (get_or a.letters.now (looped c).loop.i 0) a.letter) ≤ 1
+most : (c : tie.After-one-if invariant-loop decreases-loop) → let a = (looped c).before.before.args in one_if (eqb (get_or a.letters.now (looped c).loop.i 0) a.letter) ≤ 1
 most c = let a = (looped c).before.before.args in one-most (eqb (get_or a.letters.now (looped c).loop.i 0) a.letter)
 
 -- ---- the answers

@@ -2,40 +2,40 @@
 use borrow.Author.Rules.{rules}
 use mathlib.Core.Path.{sym, ap, ◌∙◌, subst}
 use lib.Dec.{T}
-use Rattle.arc.specs.Lines.{lineTangentOf}
+use Rattle.arc.specs.Lines.{line_tangent_of}
 use Rattle.path_segment.specs.declared.segments.PathSegment.{PathSegment}
-use Rattle.path_segment.specs.Segments.{tables_of, hasTable, kind_of}
-use Rattle.path_heading.specs.Headings.{headingOf}
+use Rattle.path_segment.specs.Segments.{tables_of, has_table, kind_of}
+use Rattle.path_heading.specs.Headings.{heading_of}
 use Rattle.path_heading.proofs.ahead.heading.Statement.{statement}
 use Rattle.path_heading.proofs.ahead.heading.Tie as tie
 
 quad-heading-requires : tie.Need-quad-heading-requires
-unfolding hasTable tables_of
-quad-heading-requires c κs = c.before.before.before.before.requires (subst (λ (s : PathSegment). T (hasTable (kind_of s))) (sym c.before.segment2.given.1) tt)
+unfolding has_table tables_of
+quad-heading-requires c κs = c.before.before.before.before.requires (subst (λ (s : PathSegment). T (has_table (kind_of s))) (sym c.before.segment2.given.1) tt)
 
 cubic-heading-requires : tie.Need-cubic-heading-requires
-unfolding hasTable tables_of
-cubic-heading-requires c κs = c.before.before.before.before.requires (subst (λ (s : PathSegment). T (hasTable (kind_of s))) (sym c.before.segment3.given.1) tt)
+unfolding has_table tables_of
+cubic-heading-requires c κs = c.before.before.before.before.requires (subst (λ (s : PathSegment). T (has_table (kind_of s))) (sym c.before.segment3.given.1) tt)
 
 returns : tie.Need-returns
-unfolding headingOf
+unfolding heading_of
 returns c = rw c.before.before.segment.given.1 c.line-tangent.ensures
 
 returns-2 : tie.Need-returns-2
-unfolding headingOf
+unfolding heading_of
 returns-2 c = rw c.before.before.segment2.given.1 c.quad-heading.ensures
 
 returns-3 : tie.Need-returns-3
-unfolding headingOf
+unfolding heading_of
 returns-3 c = rw c.before.before.segment3.given.1 c.cubic-heading.ensures
 
 returns-4 : tie.Need-returns-4
-unfolding headingOf
+unfolding heading_of
 returns-4 c = rw c.before.before.segment4.given.1 c.arc-heading.ensures
 
 returns-5 : tie.Need-returns-5
-unfolding headingOf
-returns-5 c = rw c.before.before.before.segment5.given.1 (c.line-tangent2.ensures ∙ ap lineTangentOf c.before.chord-line.ensures)
+unfolding heading_of
+returns-5 c = rw c.before.before.before.segment5.given.1 (c.line-tangent2.ensures ∙ ap line_tangent_of c.before.chord-line.ensures)
 
 pub heading-spec : {M : Type 1} → statement M
 heading-spec =

@@ -39,7 +39,7 @@ add-t6 c =
     let start = c.before.before.before in
     let inside = start.requires.move in
     let from = walked_from start.requires.move.is in
-    record { fits = omega (arith, from.fieldsAre, c.before.fields-near.ensures, before-most width_of 11 width-most start.args.kinds.now start.args.segment) }
+    record { fits = omega (arith, from.fields_are, c.before.fields-near.ensures, before-most width_of 11 width-most start.args.kinds.now start.args.segment) }
 
 mul-t8 : tie.Need-overflow-mul-t8
 mul-t8 c = record { fits = omega (arith, walked-tables (walked c) (few c)) }

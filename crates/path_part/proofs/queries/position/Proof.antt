@@ -3,7 +3,7 @@ use borrow.Author.Rules.{rules}
 use mathlib.Core.Path.{ap, ◌∙◌}
 use Rattle.flight.specs.declared.single.Placed.TheVariants as Placed
 use Rattle.arc.specs.declared.lines.LineSegment.{LineSegment}
-use Rattle.arc.specs.Lines.{linePositionOf}
+use Rattle.arc.specs.Lines.{line_position_of}
 use Rattle.path_part.specs.Parts.{position_of}
 use Rattle.path_part.proofs.queries.position.Statement.{statement}
 use Rattle.path_part.proofs.queries.position.Tie as tie
@@ -29,7 +29,7 @@ unfolding position_of
 returns-5 c =
     let told = c.before.before.before in
     let along = told.before.before.args.along.value in
-    rw told.segment5.given.1 (ap Placed.At (c.line-position2.ensures ∙ ap (λ (line : LineSegment). linePositionOf line along) c.before.chord-line.ensures))
+    rw told.segment5.given.1 (ap Placed.At (c.line-position2.ensures ∙ ap (λ (line : LineSegment). line_position_of line along) c.before.chord-line.ensures))
 
 pub position-spec : {M : Type 1} → statement M
 position-spec =

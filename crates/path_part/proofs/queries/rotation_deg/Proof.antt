@@ -2,18 +2,18 @@
 use borrow.Author.Rules.{rules}
 use mathlib.Core.Path.{sym, ap, ◌∙◌}
 use Rattle.flight.specs.declared.single.Turned.TheVariants as Turned
-use Rattle.path_part.specs.Parts.{rotationOf}
+use Rattle.path_part.specs.Parts.{rotation_of}
 use Rattle.path_part.proofs.queries.rotation_deg.Statement.{statement}
 use Rattle.path_part.proofs.queries.rotation_deg.Tie as tie
 
 returns : tie.Need-returns
-unfolding rotationOf
+unfolding rotation_of
 returns c =
     let told = c.before.before.before in
     rw (sym told.before.before.tangent.ensures ∙ told.to.given.1) (ap Turned.Degrees (c.tidy.ensures ∙ c.before.rotation-deg.ensures))
 
 returns-2 : tie.Need-returns-2
-unfolding rotationOf
+unfolding rotation_of
 returns-2 c = rw (sym c.before.before.before.tangent.ensures ∙ c.before.refusal.given.1)
 
 pub rotation-deg-spec : {M : Type 1} → statement M

@@ -4,7 +4,7 @@ use borrow.Author.Rules.{rules}
 use Rattle.path_segment.specs.Segments.{tables_of}
 use Rattle.path_segment.proofs.Widths.{tables-most}
 use Rattle.path_stored.proofs.Counting.{before-most}
-use Rattle.path_place.specs.Cursors.{cursorOf}
+use Rattle.path_place.specs.Cursors.{cursor_of}
 use Rattle.path_place.proofs.cursors.cursor_at.Statement.{statement}
 use Rattle.path_place.proofs.cursors.cursor_at.Tie as tie
 
@@ -16,7 +16,7 @@ mul-t5 c =
     record { fits = omega (arith, c.tables-before.ensures, before-most tables_of 1 tables-most start.args.kinds.now start.args.segment) }
 
 returns : tie.Need-returns
-unfolding cursorOf
+unfolding cursor_of
 returns c = rw (c.before.fields-before.ensures, c.tables-before.ensures)
 
 pub cursor-at-spec : {M : Type 1} → statement M

@@ -1,4 +1,4 @@
--- With a segment or without: both cases of `flightOf`. Assumes nothing.
+-- With a segment or without: both cases of `flight_of`. Assumes nothing.
 use borrow.Author.Rules.{rules}
 use mathlib.Core.Path.{◌∙◌}
 use native.Mathlib.Omega.{arith}

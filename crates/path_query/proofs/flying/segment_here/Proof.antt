@@ -3,8 +3,8 @@ use borrow.Author.Rules.{rules}
 use mathlib.Core.Path.{sym, ap, ◌∙◌, subst}
 use Prim.Native.Nat.{ℕ, ◌+◌, ◌≤◌}
 use lib.ListN.{length, get_or, drop}
-use Rattle.path_segment.specs.Segments.{width_of, segmentOf}
-use Rattle.path_stored.specs.Stored.{segmentIn}
+use Rattle.path_segment.specs.Segments.{width_of, segment_of}
+use Rattle.path_stored.specs.Stored.{segment_in}
 use Rattle.path_stored.proofs.Reading.{segment-fields}
 use Rattle.path_query.proofs.Seats.{cursor-fields}
 use Rattle.path_query.proofs.flying.segment_here.Statement.{statement}
@@ -20,10 +20,10 @@ segment-at-requires c κs =
     )
 
 returns : tie.Need-returns
-unfolding segmentIn
+unfolding segment_in
 returns c =
     let start = c.before.before.before.before.before in
-    c.segment-at.ensures ∙ ap (λ (n : ℕ). segmentOf (get_or start.args.kinds.now start.args.at.segment 0) (drop n start.args.fields.now)) (cursor-fields _ _ start.requires.standing.is)
+    c.segment-at.ensures ∙ ap (λ (n : ℕ). segment_of (get_or start.args.kinds.now start.args.at.segment 0) (drop n start.args.fields.now)) (cursor-fields _ _ start.requires.standing.is)
 
 pub segment-here-spec : {M : Type 1} → statement M
 segment-here-spec =

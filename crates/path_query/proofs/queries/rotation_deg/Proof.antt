@@ -2,16 +2,16 @@
 use borrow.Author.Rules.{rules}
 use mathlib.Core.Path.{sym, ap, ◌∙◌}
 use Rattle.flight.specs.declared.single.Turned.TheVariants as Turned
-use Rattle.path_query.specs.Answered.{turnedOf}
+use Rattle.path_query.specs.Answered.{turned_of}
 use Rattle.path_query.proofs.queries.rotation_deg.Statement.{statement}
 use Rattle.path_query.proofs.queries.rotation_deg.Tie as tie
 
 returns : tie.Need-returns
-unfolding turnedOf
+unfolding turned_of
 returns c = rw (sym c.before.before.before.before.before.before.flight.ensures.0 ∙ c.before.before.before.before.there.given.1) (ap Turned.Degrees (c.tidy.ensures ∙ c.before.rotation-deg.ensures))
 
 returns-2 : tie.Need-returns-2
-unfolding turnedOf
+unfolding turned_of
 returns-2 c = rw (sym c.before.before.before.flight.ensures.0 ∙ c.before.refusal.given.1)
 
 pub rotation-deg-spec : {M : Type 1} → statement M

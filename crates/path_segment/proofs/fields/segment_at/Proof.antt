@@ -1,4 +1,4 @@
--- `path_segment::fields::segment_at` meets its contract: each arm is a case of `segmentOf`. Assumes nothing.
+-- `path_segment::fields::segment_at` meets its contract: each arm is a case of `segment_of`. Assumes nothing.
 use Rattle.path_segment.proofs.Reading.{fifth, line_at, quad_at, cubic-at, arc-at, fallback-at}
 use Rattle.path_segment.proofs.Runs.{room}
 use Rattle.path_segment.specs.Segments.{width_of}

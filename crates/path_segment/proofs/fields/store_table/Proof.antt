@@ -1,6 +1,6 @@
 -- `path_segment::store_table` meets its contract: with a table and without one. Assumes nothing.
 use Rattle.path_segment.proofs.Tables.{total-is, stored_some, table-some, table_none}
-use Rattle.path_segment.specs.Segments.{kind_of, hasTable, tableNumbers}
+use Rattle.path_segment.specs.Segments.{kind_of, has_table, table_numbers}
 use lib.Seq.{sets}
 use native.Mathlib.Omega.{arith}
 use mathlib.Core.Path.{◌≡◌, sym, ap, ◌∙◌}
@@ -12,8 +12,8 @@ use Rattle.path_segment.proofs.fields.store_table.Tie as tie
 abbrev start : tie.After-has-table → tie.Start
 start p = p.before.before.before
 
-abbrev has : (p : tie.After-has-table) → hasTable (kind_of (start p).args.segment) ≡ p.has-table.result
-has p = ap hasTable (sym p.before.kind.ensures) ∙ sym p.has-table.ensures
+abbrev has : (p : tie.After-has-table) → has_table (kind_of (start p).args.segment) ≡ p.has-table.result
+has p = ap has_table (sym p.before.kind.ensures) ∙ sym p.has-table.ensures
 
 -- ---- the answers
 put-table-requires : tie.Need-put-table-requires
@@ -30,10 +30,10 @@ returns c =
     let a = (start asked).args in
     let curve = has asked ∙ made.before.if1.true in
     record {
-      lengthTold = c.tidy.ensures ∙ ap (λ t. t.total) made.segment-table.ensures ∙ total-is a.segment curve;
-      tablesAfter =
+      length_told = c.tidy.ensures ∙ ap (λ t. t.total) made.segment-table.ensures ∙ total-is a.segment curve;
+      tables_after =
           put.put-table.ensures
-          ∙ ap (λ t. sets a.tables.now a.at (tableNumbers t)) made.segment-table.ensures
+          ∙ ap (λ t. sets a.tables.now a.at (table_numbers t)) made.segment-table.ensures
           ∙ ap (sets a.tables.now a.at) (sym (stored_some a.segment curve));
     }
 
@@ -41,7 +41,7 @@ returns-2 : tie.Need-returns-2
 returns-2 c =
     let asked = c.before.before in
     let a = (start asked).args in
-    record { lengthTold = c.segment-length.ensures; tablesAfter = ap (sets a.tables.now a.at) (sym (table_none a.segment (has asked ∙ c.before.if1.false))) }
+    record { length_told = c.segment-length.ensures; tables_after = ap (sets a.tables.now a.at) (sym (table_none a.segment (has asked ∙ c.before.if1.false))) }
 
 pub store-table-spec : {M : Type 1} → statement M
 store-table-spec =

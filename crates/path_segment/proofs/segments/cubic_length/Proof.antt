@@ -1,12 +1,12 @@
 -- The total of its table. Assumes nothing.
 use borrow.Author.Rules.{rules}
 use mathlib.Core.Path.{ap, ◌∙◌}
-use Rattle.path_segment.specs.Segments.{lengthFor}
+use Rattle.path_segment.specs.Segments.{length_for}
 use Rattle.path_segment.proofs.segments.cubic_length.Statement.{statement}
 use Rattle.path_segment.proofs.segments.cubic_length.Tie as tie
 
 returns : tie.Need-returns
-unfolding lengthFor
+unfolding length_for
 returns c = c.tidy.ensures ∙ ap (λ t. t.total) c.before.cubic-table.ensures
 
 pub cubic-length-spec : {M : Type 1} → statement M

@@ -1,6 +1,6 @@
 -- `path_stored::are_known` meets its contract. The invariant: all kinds are known where those before i are and those from i on. The measure is the kinds left. Assumes nothing.
 use Rattle.path_stored.proofs.Testing.{known_next, known-end}
-use Rattle.path_stored.specs.Stored.{areKnown}
+use Rattle.path_stored.specs.Stored.{are_known}
 use lib.ListN.{length, drop}
 use mathlib.Core.Bool.{◌&&◌}
 use mathlib.Core.Path.{◌≡◌, refl, sym, ◌∙◌}
@@ -10,7 +10,7 @@ use Rattle.path_stored.proofs.checking.are_known.Statement.{statement}
 use Rattle.path_stored.proofs.checking.are_known.Tie as tie
 
 abbrev invariant-loop : tie.invariant-loop
-invariant-loop kinds known₀ i₀ known i = areKnown kinds ≡ (known && areKnown (drop i kinds))
+invariant-loop kinds known₀ i₀ known i = are_known kinds ≡ (known && are_known (drop i kinds))
 
 abbrev decreases-loop : tie.decreases-loop
 decreases-loop kinds known₀ i₀ known i = length kinds - i

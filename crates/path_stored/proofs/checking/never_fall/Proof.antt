@@ -1,7 +1,7 @@
 -- `path_stored::never_fall` meets its contract. The invariant: no number falls where none before k does and none from there on, with the last before k before them. The measure is the numbers
 -- left. Assumes nothing.
 use Rattle.path_stored.proofs.Testing.{falls-next, falls-end}
-use Rattle.path_stored.specs.Stored.{neverFall}
+use Rattle.path_stored.specs.Stored.{never_fall}
 use lib.ListN.{length, drop}
 use mathlib.Core.Bool.{◌&&◌}
 use mathlib.Core.Path.{◌≡◌, refl, sym, ◌∙◌}
@@ -11,7 +11,7 @@ use Rattle.path_stored.proofs.checking.never_fall.Statement.{statement}
 use Rattle.path_stored.proofs.checking.never_fall.Tie as tie
 
 abbrev invariant-loop : tie.invariant-loop
-invariant-loop commands rise₀ previous₀ k₀ rise previous k = neverFall 0 commands ≡ (rise && neverFall previous (drop k commands))
+invariant-loop commands rise₀ previous₀ k₀ rise previous k = never_fall 0 commands ≡ (rise && never_fall previous (drop k commands))
 
 abbrev decreases-loop : tie.decreases-loop
 decreases-loop commands rise₀ previous₀ k₀ rise previous k = length commands - k

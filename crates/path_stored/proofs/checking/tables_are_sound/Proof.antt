@@ -1,8 +1,8 @@
 -- `path_stored::tables_are_sound` meets its contract. The invariant: the tables before j are sound. The measure is the tables left. Assumes nothing.
-use Rattle.path_stored.proofs.Testing.{soundAt, row-part, sound-next, sound-stop}
-use Rattle.path_stored.specs.Stored.{tablesAreSound}
-use Rattle.path_segment.specs.Segments.{tableAt}
-use Rattle.table.specs.Sound.{tableIsSound}
+use Rattle.path_stored.proofs.Testing.{sound_at, row-part, sound-next, sound-stop}
+use Rattle.path_stored.specs.Stored.{tables_are_sound}
+use Rattle.path_segment.specs.Segments.{table_at}
+use Rattle.table.specs.Sound.{table_is_sound}
 use native.Mathlib.Omega.{arith}
 use mathlib.Core.Bool.{true}
 use mathlib.Core.Path.{◌≡◌, refl, sym, ap, ◌∙◌}
@@ -12,13 +12,13 @@ use Rattle.path_stored.proofs.checking.tables_are_sound.Statement.{statement}
 use Rattle.path_stored.proofs.checking.tables_are_sound.Tie as tie
 
 abbrev invariant-loop : tie.invariant-loop
-invariant-loop tables n j₀ j = (j ≤ n) × (tablesAreSound tables j ≡ true)
+invariant-loop tables n j₀ j = (j ≤ n) × (tables_are_sound tables j ≡ true)
 
 abbrev decreases-loop : tie.decreases-loop
 decreases-loop tables n j₀ j = n - j
 
 loop-holds : tie.Need-loop-init invariant-loop decreases-loop
-unfolding tablesAreSound
+unfolding tables_are_sound
 loop-holds c = (omega arith, refl)
 
 -- the table at j, whichever way its test went
@@ -26,7 +26,7 @@ abbrev judging : tie.After-row-is-sound invariant-loop decreases-loop → tie.At
 judging p = p.before.before.before
 
 judged : (p : tie.After-row-is-sound invariant-loop decreases-loop)
-    → let t = (judging p).before.before.args.tables.now in let j = (judging p).loop.j in soundAt t j ≡ p.row-is-sound.result
+    → let t = (judging p).before.before.args.tables.now in let j = (judging p).loop.j in sound_at t j ≡ p.row-is-sound.result
 judged p =
     let l = judging p in
     let t = l.before.before.args.tables.now in

@@ -2,7 +2,7 @@
 use Prim.Native.Nat.{◌-◌}
 use native.Mathlib.Omega.{arith}
 use borrow.Author.Rules.{rules}
-use Rattle.path_stored.specs.Near.{moreFields}
+use Rattle.path_stored.specs.Near.{more_fields}
 use Rattle.path_stored.proofs.Lanes.{Halves, halves, lanes-most, joined, all-fields, more-few}
 use Rattle.path_stored.proofs.near.fields_near.Statement.{statement}
 use Rattle.path_stored.proofs.near.fields_near.Tie as tie
@@ -29,8 +29,8 @@ add-result c =
     let start = c.before.before.before.before in
     let pre = start.requires in
     let h = parts c.before.before in
-    let high = lanes-most moreFields more-few start.args.kinds.now pre.known _ _ _ h.short (omega arith) c.before.fields-of-last.ensures in
-    let low = lanes-most moreFields more-few start.args.kinds.now pre.known _ _ _ h.rest (omega arith) c.fields-of-last2.ensures in
+    let high = lanes-most more_fields more-few start.args.kinds.now pre.known _ _ _ h.short (omega arith) c.before.fields-of-last.ensures in
+    let low = lanes-most more_fields more-few start.args.kinds.now pre.known _ _ _ h.rest (omega arith) c.fields-of-last2.ensures in
     record { fits = omega arith }
 
 returns : tie.Need-returns
@@ -38,7 +38,7 @@ returns c =
     let start = c.before.before.before.before in
     let a = start.args in
     all-fields a.kinds.now start.requires.known a.from a.to _ start.requires.order start.requires.inside
-    (joined a.kinds.now start.requires.known moreFields more-few a.from a.to _ _ _ start.requires c.before.before.at-most-eight.ensures c.before.fields-of-last.ensures
+    (joined a.kinds.now start.requires.known more_fields more-few a.from a.to _ _ _ start.requires c.before.before.at-most-eight.ensures c.before.fields-of-last.ensures
     c.fields-of-last2.ensures)
 
 pub fields-near-spec : {M : Type 1} → statement M

@@ -4,7 +4,7 @@ use mathlib.Core.Path.{◌≡◌}
 use native.Mathlib.Omega.{arith}
 use borrow.Author.Rules.{rules}
 use lib.Bits.{bit_and, and_le_r}
-use Rattle.path_stored.specs.Near.{laid, itself, moreFields}
+use Rattle.path_stored.specs.Near.{laid, itself, more_fields}
 use Rattle.path_stored.proofs.Lanes.{lanes-most, field-lanes}
 use Rattle.path_stored.proofs.near.fields_of_last.Statement.{statement}
 use Rattle.path_stored.proofs.near.fields_of_last.Tie as tie
@@ -41,7 +41,7 @@ mul-result-2 c = record { fits = omega (arith, from4-most c) }
 
 lanes : (c : tie.After-last-few) → let a = c.before.before.args in
     2 * c.last-few.result + bit_and ((c.last-few.result + 361700864190383365) / 8) 72340172838076673
-    ≡ laid moreFields a.kinds.now (a.end - a.few) a.few + 2 * bit_and ((c.last-few.result + 289360691352306692) / 8) 72340172838076673
+    ≡ laid more_fields a.kinds.now (a.end - a.few) a.few + 2 * bit_and ((c.last-few.result + 289360691352306692) / 8) 72340172838076673
 lanes c =
     let start = c.before.before in
     let pre = start.requires in

@@ -1,7 +1,7 @@
 -- `path_stored::parts::segment` meets its contract. Assumes nothing.
 use Rattle.path_stored.proofs.Reading.{segment-fields}
-use Rattle.path_stored.specs.Stored.{segmentIn}
-use Rattle.path_segment.specs.Segments.{segmentOf}
+use Rattle.path_stored.specs.Stored.{segment_in}
+use Rattle.path_segment.specs.Segments.{segment_of}
 use lib.ListN.{get_or, drop}
 use native.Mathlib.Omega.{arith}
 use mathlib.Core.Path.{ap, ◌∙◌}
@@ -16,8 +16,8 @@ segment-at-requires c κs =
     (pre.0.known a.i pre.1, omega (arith, segment-fields pre.0 a.i pre.1, c.before.fields-before.ensures))
 
 returns : tie.Need-returns
-unfolding segmentIn
-returns c = let a = c.before.before.before.before.before.args in c.segment-at.ensures ∙ ap (λ at. segmentOf (get_or a.kinds.now a.i 0) (drop at a.fields.now)) c.before.before.fields-before.ensures
+unfolding segment_in
+returns c = let a = c.before.before.before.before.before.args in c.segment-at.ensures ∙ ap (λ at. segment_of (get_or a.kinds.now a.i 0) (drop at a.fields.now)) c.before.before.fields-before.ensures
 
 pub segment-spec : {M : Type 1} → statement M
 segment-spec =

@@ -1,8 +1,8 @@
--- `path_stored::parts::segment_table` meets its contract: both ways out are cases of `tableIn`. Assumes nothing.
+-- `path_stored::parts::segment_table` meets its contract: both ways out are cases of `table_in`. Assumes nothing.
 use Rattle.path_stored.proofs.Reading.{segment-table}
 use Rattle.path_stored.proofs.Counting.{tables-at-most}
-use Rattle.path_stored.specs.Stored.{tableIn}
-use Rattle.path_segment.specs.Segments.{hasTable, tableAt}
+use Rattle.path_stored.specs.Stored.{table_in}
+use Rattle.path_segment.specs.Segments.{has_table, table_at}
 use lib.ListN.{get_or}
 use mathlib.Core.Bool.{true}
 use native.Mathlib.Omega.{arith}
@@ -16,7 +16,7 @@ use Rattle.path_stored.proofs.parts.segment_table.Tie as tie
 abbrev start : tie.After-tables-before → tie.Start
 start p = p.before.before.before.before.before.before
 
-abbrev curve : (p : tie.After-tables-before) → hasTable (get_or (start p).args.kinds.now (start p).args.i 0) ≡ true
+abbrev curve : (p : tie.After-tables-before) → has_table (get_or (start p).args.kinds.now (start p).args.i 0) ≡ true
 curve p = sym p.before.before.has-table.ensures ∙ p.before.if1.true
 
 mul-table-at : tie.Need-overflow-mul-table-at
@@ -26,13 +26,13 @@ table-at-requires : tie.Need-table-at-requires
 table-at-requires c κs = let s = start c in omega (arith, segment-table s.pre.0 s.args.i s.pre.1 (curve c), c.tables-before.ensures)
 
 returns : tie.Need-returns
-unfolding tableIn
+unfolding table_in
 returns c =
     let a = (start c.before).args in
-    rw (curve c.before) (c.table_at.ensures ∙ ap (λ n. tableAt a.tables.now (33 * n)) c.before.tables-before.ensures)
+    rw (curve c.before) (c.table_at.ensures ∙ ap (λ n. table_at a.tables.now (33 * n)) c.before.tables-before.ensures)
 
 returns-2 : tie.Need-returns-2
-unfolding tableIn
+unfolding table_in
 returns-2 c = let has = sym c.before.before.has-table.ensures ∙ c.before.if1.false in rw has c.no_table.ensures
 
 pub segment-table-spec : {M : Type 1} → statement M

@@ -1,16 +1,16 @@
--- `path_stored::len` meets its contract: both ways out are cases of `countedOf`. Assumes nothing.
-use Rattle.path_stored.specs.Queries.{countedOf}
+-- `path_stored::len` meets its contract: both ways out are cases of `counted_of`. Assumes nothing.
+use Rattle.path_stored.specs.Queries.{counted_of}
 use mathlib.Core.Path.{sym, ◌∙◌}
 use borrow.Author.Rules.{rules}
 use Rattle.path_stored.proofs.queries.len.Statement.{statement}
 use Rattle.path_stored.proofs.queries.len.Tie as tie
 
 returns : tie.Need-returns
-unfolding countedOf
+unfolding counted_of
 returns c = let t = sym c.before.check-path.ensures ∙ c.if1.true in simp t
 
 returns-2 : tie.Need-returns-2
-unfolding countedOf
+unfolding counted_of
 returns-2 c = let t = sym c.before.check-path.ensures ∙ c.if1.false in simp t
 
 pub len_spec : {M : Type 1} → statement M

@@ -2,7 +2,7 @@
 use mathlib.Core.Path.{ap}
 use native.Mathlib.Omega.{arith}
 use lib.Ieee.{binary32, add}
-use Rattle.arc.specs.Lines.{lineLengthOf}
+use Rattle.arc.specs.Lines.{line_length_of}
 use Rattle.commands.proofs.Storing.{four-put}
 use Rattle.path_storing.proofs.Judged.{kind_fits, length-fits, command-fits, line-fits, line-laid}
 use borrow.Author.Rules.{rules}
@@ -33,7 +33,7 @@ slice-write-commands : tie.Need-slice-write-commands
 slice-write-commands c = command-fits (start (first c.before.before.before.before)).requires.1
 
 returns : tie.Need-returns
-unfolding lineLengthOf
+unfolding line_length_of
 returns c =
     let two = c.before.before.before.before.before in
     let one = first two in

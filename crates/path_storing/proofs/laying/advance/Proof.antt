@@ -2,7 +2,7 @@
 use borrow.Author.Rules.{rules}
 use mathlib.Core.Path.{sym, ap, ◌∙◌}
 use lib.Ieee.{binary32, add}
-use Rattle.path_storing.specs.Sites.{judgedOf, advanceOf}
+use Rattle.path_storing.specs.Sites.{judged_of, advance_of}
 use Rattle.path_storing.proofs.Judged.{goes_on, not_finite}
 use Rattle.path_storing.proofs.laying.advance.Statement.{statement}
 use Rattle.path_storing.proofs.laying.advance.Tie as tie
@@ -21,7 +21,7 @@ returns c =
     (judged.before.tidy.ensures ∙ ap (add binary32 _) measured.segment-length.ensures) (sym judged.is_finite.ensures ∙ c.before.if1.true) _ c.after.ensures
 
 returns-2 : tie.Need-returns-2
-unfolding judgedOf advanceOf
+unfolding judged_of advance_of
 returns-2 c = rw (sym c.before.before.before.before.draw.ensures ∙ c.before.before.next.given.1, c.moved.ensures)
 
 returns-3 : tie.Need-returns-3
@@ -33,7 +33,7 @@ returns-3 c =
     (judged.before.tidy.ensures ∙ ap (add binary32 _) measured.segment-length.ensures) (sym judged.is_finite.ensures ∙ c.if1.false)
 
 returns-4 : tie.Need-returns-4
-unfolding judgedOf advanceOf
+unfolding judged_of advance_of
 returns-4 c = rw (sym c.before.before.draw.ensures ∙ c.enum_told.given.1)
 
 pub advance-spec : {M : Type 1} → statement M

@@ -3,7 +3,7 @@ use borrow.Author.Rules.{rules}
 use mathlib.Core.Path.{◌≡◌, refl}
 use native.Mathlib.Omega.{arith}
 use lib.ListN.{length}
-use Rattle.path_segment.specs.Segments.{fields_of, tableStored}
+use Rattle.path_segment.specs.Segments.{fields_of, table_stored}
 use Rattle.path_segment.proofs.Reading.{fields-most, fields-counted}
 use Rattle.path_segment.proofs.Tables.{table-most, table_counted}
 use Rattle.path_storing.proofs.Judged.{after_is}
@@ -17,7 +17,7 @@ start p = p.before.before.before
 own : (p : tie.After-table-width) → p.before.width.result ≡ length (fields_of (start p).args.segment)
 own p = fields-counted (start p).args.segment p.before.width.ensures p.before.before.kind.ensures
 
-more : (p : tie.After-table-width) → p.table-width.result ≡ length (tableStored (start p).args.segment)
+more : (p : tie.After-table-width) → p.table-width.result ≡ length (table_stored (start p).args.segment)
 more p = table_counted (start p).args.segment p.table-width.ensures p.before.before.kind.ensures
 
 -- ---- the answers

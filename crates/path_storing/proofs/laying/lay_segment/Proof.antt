@@ -10,7 +10,7 @@ store-segment-requires c κs = room-counts c.before.before.before.before.before.
 after-requires : tie.Need-after-requires
 after-requires c κs =
     let stored = c.before.before.before.before.before.before.before.before.before.before in
-    (stored.before.before.before.before.before.before.before.before.before.before.before.requires.0, stored.store-segment.ensures.lengthTold)
+    (stored.before.before.before.before.before.before.before.before.before.before.before.requires.0, stored.store-segment.ensures.length_told)
 
 returns : tie.Need-returns
 returns c = stored-laid c.after.ensures c.before.before.before.before.before.before.before.before.before.before.before.store-segment.ensures

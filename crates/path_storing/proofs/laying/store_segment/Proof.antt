@@ -2,7 +2,7 @@
 use borrow.Author.Rules.{rules}
 use mathlib.Core.Path.{◌≡◌, ap, ◌∙◌}
 use lib.Ieee.{binary32, add}
-use Rattle.path_drawing.specs.Building.{lengthAfter}
+use Rattle.path_drawing.specs.Building.{length_after}
 use Rattle.path_storing.proofs.Judged.{kind_fits, fields_fit, table_fits, length-fits, command-fits, segment-stored}
 use Rattle.path_storing.proofs.laying.store_segment.Statement.{statement}
 use Rattle.path_storing.proofs.laying.store_segment.Tie as tie
@@ -18,8 +18,8 @@ abbrev table : tie.After-tidy → tie.After-store-table
 table p = p.before.before.before
 
 -- the running length that is stored
-running : (p : tie.After-tidy) → let a = (start (put (table p))).args in p.tidy.result ≡ lengthAfter a.passed a.segment
-running p = p.tidy.ensures ∙ ap (add binary32 _) (table p).store-table.ensures.lengthTold
+running : (p : tie.After-tidy) → let a = (start (put (table p))).args in p.tidy.result ≡ length_after a.passed a.segment
+running p = p.tidy.ensures ∙ ap (add binary32 _) (table p).store-table.ensures.length_told
 
 -- ---- the answers
 slice-write-kinds : tie.Need-slice-write-kinds
@@ -41,7 +41,7 @@ returns : tie.Need-returns
 returns c =
     let t = table c in
     let p = put t in
-    segment-stored p.before.before.kind.ensures p.put-segment.ensures t.store-table.ensures.tablesAfter (running c)
+    segment-stored p.before.before.kind.ensures p.put-segment.ensures t.store-table.ensures.tables_after (running c)
 
 pub store-segment-spec : {M : Type 1} → statement M
 store-segment-spec =

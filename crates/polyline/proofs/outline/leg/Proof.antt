@@ -2,12 +2,12 @@
 use borrow.Author.Rules.{rules}
 use mathlib.Core.Path.{ap, ◌∙◌}
 use native.Mathlib.Numerals.{add-one}
-use Rattle.polyline.specs.Lengths.{legOf}
+use Rattle.polyline.specs.Lengths.{leg_of}
 use Rattle.polyline.proofs.outline.leg.Statement.{statement}
 use Rattle.polyline.proofs.outline.leg.Tie as tie
 
 returns : tie.Need-returns
-unfolding legOf
+unfolding leg_of
 returns c = rw (c.distance.ensures, c.before.point-at2.ensures, c.before.before.point_at.ensures, add-one)
 
 pub leg-spec : {M : Type 1} → statement M

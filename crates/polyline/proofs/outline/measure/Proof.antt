@@ -4,7 +4,7 @@ use mathlib.Core.Path.{refl, sym, ap, ◌∙◌}
 use Prim.Native.Nat.{◌-◌}
 use native.Mathlib.Omega.{arith}
 use Rattle.polyline.specs.Points.{count_of}
-use Rattle.floats.specs.Floats.{zeroF}
+use Rattle.floats.specs.Floats.{zero_f}
 use Rattle.polyline.proofs.Measuring.{Measuring, measuring-start, measuring-more, measuring-stop, measuring-done}
 use Rattle.polyline.proofs.outline.measure.Statement.{statement}
 use Rattle.polyline.proofs.outline.measure.Tie as tie
@@ -16,7 +16,7 @@ abbrev decreases-loop : tie.decreases-loop
 decreases-loop points count total₀ i₀ total i = count_of points - i
 
 loop-holds : tie.Need-loop-init invariant-loop decreases-loop
-unfolding zeroF
+unfolding zero_f
 loop-holds c = measuring-start _ _ refl
 
 loop-again : tie.Need-loop-preserved invariant-loop decreases-loop

@@ -1,12 +1,12 @@
 -- Two numbers beside each other. Assumes nothing.
 use borrow.Author.Rules.{rules}
 use mathlib.Core.Path.{refl}
-use Rattle.polyline.specs.Points.{pointAt}
+use Rattle.polyline.specs.Points.{point_at}
 use Rattle.polyline.proofs.outline.point_at.Statement.{statement}
 use Rattle.polyline.proofs.outline.point_at.Tie as tie
 
 returns : tie.Need-returns
-unfolding pointAt
+unfolding point_at
 returns c = refl
 
 pub point-at-spec : {M : Type 1} → statement M

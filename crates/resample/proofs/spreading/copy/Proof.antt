@@ -4,13 +4,13 @@ use mathlib.Core.Path.{◌≡◌, refl, sym, ap, ◌∙◌}
 use Prim.Native.Nat.{◌+◌, ◌-◌, ◌*◌, ◌≤◌}
 use native.Mathlib.Omega.{arith}
 use Rattle.answers.specs.Report.{written}
-use Rattle.polyline.specs.Points.{pointAt, rows_of}
+use Rattle.polyline.specs.Points.{point_at, rows_of}
 use Rattle.polyline.proofs.Rows.{rows_none, rows_more, rows-size, rows_all}
 use Rattle.resample.proofs.spreading.copy.Statement.{statement}
 use Rattle.resample.proofs.spreading.copy.Tie as tie
 
 abbrev invariant-loop : tie.invariant-loop
-invariant-loop points count out₀ first i₀ out i = (i ≤ count) × (out ≡ written (rows_of (λ i. pointAt points 0) i) out₀)
+invariant-loop points count out₀ first i₀ out i = (i ≤ count) × (out ≡ written (rows_of (λ i. point_at points 0) i) out₀)
 
 abbrev decreases-loop : tie.decreases-loop
 decreases-loop points count out₀ first i₀ out i = count - i

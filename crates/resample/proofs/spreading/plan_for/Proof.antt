@@ -1,7 +1,7 @@
 -- Each way out is a case of the definition. Assumes nothing.
 use borrow.Author.Rules.{rules}
 use mathlib.Core.Path.{sym, ◌∙◌}
-use Rattle.floats.specs.Floats.{epsilonF}
+use Rattle.floats.specs.Floats.{epsilon_f}
 use Rattle.resample.proofs.Plans.{plan-no-points, plan-no-count, plan-one-point, plan-one-count, plan-broken, plan-short, plan-spread}
 use Rattle.resample.proofs.spreading.plan_for.Statement.{statement}
 use Rattle.resample.proofs.spreading.plan_for.Tie as tie
@@ -28,7 +28,7 @@ returns-5 c =
     plan-broken _ _ at-if1.if1.false at-if2.if2.false at-if3.if3.false at-if4.if4.false _ (sym at-measure.measure.ensures ∙ c.before.number.given.1)
 
 returns-6 : tie.Need-returns-6
-unfolding epsilonF
+unfolding epsilon_f
 returns-6 c =
     let at-total = c.before.before in
     let at-measure = at-total.before.before in
@@ -39,7 +39,7 @@ returns-6 c =
     plan-short _ _ at-if1.if1.false at-if2.if2.false at-if3.if3.false at-if4.if4.false _ (sym at-measure.measure.ensures ∙ at-total.total.given.1) c.if5.true
 
 returns-7 : tie.Need-returns-7
-unfolding epsilonF
+unfolding epsilon_f
 returns-7 c =
     let at-total = c.before.before in
     let at-measure = at-total.before.before in

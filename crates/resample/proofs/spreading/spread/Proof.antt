@@ -5,7 +5,7 @@ use Rattle.resample.proofs.Stretches.{Spreading, spreading-start, first-hidden, 
 use mathlib.Core.Path.{refl, sym, ap, ◌∙◌}
 use Prim.Native.Nat.{◌-◌, ◌*◌}
 use native.Mathlib.Omega.{arith}
-use Rattle.floats.specs.Floats.{zeroF}
+use Rattle.floats.specs.Floats.{zero_f}
 use Rattle.resample.proofs.spreading.spread.Statement.{statement}
 use Rattle.resample.proofs.spreading.spread.Tie as tie
 
@@ -25,7 +25,7 @@ sub-last : tie.Need-overflow-sub-last invariant-loop decreases-loop
 sub-last c = omega (arith, c.before.before.before.before.before.before.before.requires.more)
 
 loop-holds : tie.Need-loop-init invariant-loop decreases-loop
-unfolding zeroF
+unfolding zero_f
 loop-holds c =
     let at-put-point = c.before.before in
     let at-point-at = at-put-point.before in

@@ -5,7 +5,7 @@ use Prim.Native.Nat.{◌^◌}
 use native.Mathlib.Omega.{arith}
 use lib.Dec.{le→leb}
 use lib.Ieee.{in_float}
-use Rattle.resample.specs.Spacing.{targetAt}
+use Rattle.resample.specs.Spacing.{target_at}
 use Rattle.resample.proofs.walking.target_at.Statement.{statement}
 use Rattle.resample.proofs.walking.target_at.Tie as tie
 
@@ -18,7 +18,7 @@ unfolding in_float
 int-to-float-result-2 c = le→leb c.before.before.args.last (2 ^ 24) (omega (arith, c.before.before.requires.few))
 
 returns : tie.Need-returns
-unfolding targetAt
+unfolding target_at
 returns c = refl
 
 pub target-at-spec : {M : Type 1} → statement M

@@ -1,14 +1,14 @@
 -- `scan::is_exponent_mark` meets its contract: its test and its class agree on each of the 256 bytes, as antt computes. Assumes nothing.
 use mathlib.Core.Bool.{◌||◌}
 use lib.Dec.{eqb}
-use Rattle.scan.specs.Bytes.{among, exponentMarks}
+use Rattle.scan.specs.Bytes.{among, exponent_marks}
 use Rattle.scan.proofs.ByteLaws.{agree}
 use Rattle.scan.proofs.bytes.is_exponent_mark.Statement.{statement}
 use Rattle.scan.proofs.bytes.is_exponent_mark.Tie as tie
 
 returns : tie.Need-returns
 unfolding among
-returns c = agree (λ x. eqb x 101 || eqb x 69) (λ x. among x exponentMarks) tt c.args.byte c.ranges.byte.fits
+returns c = agree (λ x. eqb x 101 || eqb x 69) (λ x. among x exponent_marks) tt c.args.byte c.ranges.byte.fits
 
 pub is-exponent-mark-spec : {M : Type 1} → statement M
 is-exponent-mark-spec = tie.close (tie.spec returns)

@@ -6,13 +6,13 @@ use native.Mathlib.Omega.{arith}
 use borrow.Author.Rules.{rules}
 use lib.ListN.{length}
 use Rattle.scan.specs.Bytes.{digits}
-use Rattle.scan.specs.Runs.{pastDigitsOf}
+use Rattle.scan.specs.Runs.{past_digits_of}
 use Rattle.scan.proofs.RunLaws.{all_pass, all-stop, all_end}
 use Rattle.scan.proofs.runs.past_digits.Statement.{statement}
 use Rattle.scan.proofs.runs.past_digits.Tie as tie
 
 abbrev invariant-loop : tie.invariant-loop
-invariant-loop text at i₀ i = pastDigitsOf text i ≡ pastDigitsOf text at
+invariant-loop text at i₀ i = past_digits_of text i ≡ past_digits_of text at
 
 abbrev decreases-loop : tie.decreases-loop
 decreases-loop text at i₀ i = length text - i

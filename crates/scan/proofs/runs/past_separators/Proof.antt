@@ -6,13 +6,13 @@ use native.Mathlib.Omega.{arith}
 use borrow.Author.Rules.{rules}
 use lib.ListN.{length}
 use Rattle.scan.specs.Bytes.{separators}
-use Rattle.scan.specs.Runs.{pastSeparatorsOf}
+use Rattle.scan.specs.Runs.{past_separators_of}
 use Rattle.scan.proofs.RunLaws.{all_pass, all-stop, all_end}
 use Rattle.scan.proofs.runs.past_separators.Statement.{statement}
 use Rattle.scan.proofs.runs.past_separators.Tie as tie
 
 abbrev invariant-loop : tie.invariant-loop
-invariant-loop text at i₀ i = pastSeparatorsOf text i ≡ pastSeparatorsOf text at
+invariant-loop text at i₀ i = past_separators_of text i ≡ past_separators_of text at
 
 abbrev decreases-loop : tie.decreases-loop
 decreases-loop text at i₀ i = length text - i

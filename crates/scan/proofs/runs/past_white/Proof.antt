@@ -5,14 +5,14 @@ use Prim.Native.Nat.{◌-◌}
 use native.Mathlib.Omega.{arith}
 use borrow.Author.Rules.{rules}
 use lib.ListN.{length}
-use Rattle.scan.specs.Bytes.{whiteSpace}
-use Rattle.scan.specs.Runs.{pastWhiteOf}
+use Rattle.scan.specs.Bytes.{white_space}
+use Rattle.scan.specs.Runs.{past_white_of}
 use Rattle.scan.proofs.RunLaws.{all_pass, all-stop, all_end}
 use Rattle.scan.proofs.runs.past_white.Statement.{statement}
 use Rattle.scan.proofs.runs.past_white.Tie as tie
 
 abbrev invariant-loop : tie.invariant-loop
-invariant-loop text at i₀ i = pastWhiteOf text i ≡ pastWhiteOf text at
+invariant-loop text at i₀ i = past_white_of text i ≡ past_white_of text at
 
 abbrev decreases-loop : tie.decreases-loop
 decreases-loop text at i₀ i = length text - i
@@ -26,15 +26,15 @@ loop-less c = omega arith
 loop-again : tie.Need-loop-preserved invariant-loop decreases-loop
 loop-again c =
     let at-loop = c.before.before.before.before in
-    all_pass whiteSpace _ _ (search rules) (sym c.before.is_white.ensures ∙ c.if1.true) ∙ at-loop.loop.invariant
+    all_pass white_space _ _ (search rules) (sym c.before.is_white.ensures ∙ c.if1.true) ∙ at-loop.loop.invariant
 
 returns : tie.Need-returns invariant-loop decreases-loop
-returns c = sym (all_end whiteSpace _ _ (search rules)) ∙ c.before.loop.invariant
+returns c = sym (all_end white_space _ _ (search rules)) ∙ c.before.loop.invariant
 
 returns-2 : tie.Need-returns-2 invariant-loop decreases-loop
 returns-2 c =
     let at-loop = c.before.before.before.before in
-    sym (all-stop whiteSpace _ _ (search rules) (sym c.before.is_white.ensures ∙ c.if1.false)) ∙ at-loop.loop.invariant
+    sym (all-stop white_space _ _ (search rules) (sym c.before.is_white.ensures ∙ c.if1.false)) ∙ at-loop.loop.invariant
 
 pub past-white-spec : {M : Type 1} → statement M
 past-white-spec =

@@ -1,11 +1,11 @@
 -- The body is the definition, operation by operation. Assumes nothing.
 use Rattle.std.proofs.Common.{refl, rules}
-use Rattle.spline.specs.Formula.{halfF, twoF, threeF, fourF, fiveF, blend_of}
+use Rattle.spline.specs.Formula.{half_f, two_f, three_f, four_f, five_f, blend_of}
 use Rattle.spline.proofs.formula.blend.Statement.{statement}
 use Rattle.spline.proofs.formula.blend.Tie as tie
 
 returns : tie.Need-returns
-unfolding blend_of halfF twoF threeF fourF fiveF
+unfolding blend_of half_f two_f three_f four_f five_f
 returns c = refl
 
 pub blend-spec : {M : Type 1} → statement M

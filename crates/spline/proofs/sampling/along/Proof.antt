@@ -1,7 +1,7 @@
 -- The four points around the span are put in by their definitions. Assumes nothing.
 use Rattle.std.proofs.Common.{◌^◌, arith, le→leb, rules}
 use lib.Ieee.{in_float}
-use Rattle.spline.specs.Formula.{alongOf}
+use Rattle.spline.specs.Formula.{along_of}
 use Rattle.spline.proofs.sampling.along.Statement.{statement}
 use Rattle.spline.proofs.sampling.along.Tie as tie
 
@@ -10,7 +10,7 @@ unfolding in_float
 int-to-float-t c = le→leb c.before.before.args.index (2 ^ 24) (omega arith)
 
 returns : tie.Need-returns
-unfolding alongOf
+unfolding along_of
 returns c = cc
 
 pub along-spec : {M : Type 1} → statement M

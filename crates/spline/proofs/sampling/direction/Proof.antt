@@ -1,12 +1,12 @@
 -- By the number of points. Assumes nothing.
 use Rattle.std.proofs.Common.{sym, ◌∙◌, arith, rules}
-use Rattle.math.specs.Math.{originF}
+use Rattle.math.specs.Math.{origin_f}
 use Rattle.spline.proofs.Counts.{direction-few, direction-two, direction-more}
 use Rattle.spline.proofs.sampling.direction.Statement.{statement}
 use Rattle.spline.proofs.sampling.direction.Tie as tie
 
 returns : tie.Need-returns
-unfolding originF
+unfolding origin_f
 returns c = sym (direction-few _ _ c.if1.true)
 
 returns-2 : tie.Need-returns-2

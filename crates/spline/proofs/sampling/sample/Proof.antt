@@ -1,12 +1,12 @@
 -- By the number of points. Assumes nothing.
 use Rattle.std.proofs.Common.{sym, ◌∙◌, arith, rules}
-use Rattle.math.specs.Math.{originF}
+use Rattle.math.specs.Math.{origin_f}
 use Rattle.spline.proofs.Counts.{sample-none, sample-one, sample-two, sample-more}
 use Rattle.spline.proofs.sampling.sample.Statement.{statement}
 use Rattle.spline.proofs.sampling.sample.Tie as tie
 
 returns : tie.Need-returns
-unfolding originF
+unfolding origin_f
 returns c = sym (sample-none _ _ c.if1.true)
 
 returns-2 : tie.Need-returns-2

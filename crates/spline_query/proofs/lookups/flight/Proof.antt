@@ -6,8 +6,8 @@ use Rattle.math.specs.declared.points.Point.{Point}
 use Rattle.table.specs.declared.quantities.RawParameter.{RawParameter}
 use Rattle.flight.specs.declared.Found.{Found}
 use Rattle.flight.specs.declared.Flight.{Flight}
-use Rattle.spline.specs.Formula.{splineSampleOf, splineDirectionOf}
-use Rattle.spline_query.specs.Queries.{splineFlightOf}
+use Rattle.spline.specs.Formula.{spline_sample_of, spline_direction_of}
+use Rattle.spline_query.specs.Queries.{spline_flight_of}
 use Rattle.spline_query.proofs.lookups.flight.Statement.{statement}
 use Rattle.spline_query.proofs.lookups.flight.Tie as tie
 
@@ -16,13 +16,13 @@ same : {p q t u : Point} {s : Found} (r : RawParameter) {x : Float} → p ≡ q 
 same {p} {q} {t} {u} {s} r e f g = rw (e, f) (ap (λ (v : Float). record { position = q; tangent = u; segment = s; raw = record { value = v } }) g)
 
 returns : tie.Need-returns
-unfolding splineFlightOf
+unfolding spline_flight_of
 returns c =
     let heading = c.before in
     let placed = heading.before in
     let raw = placed.before.before.raw in
-    same _ (placed.tidy-point.ensures ∙ placed.before.sample.ensures ∙ ap (splineSampleOf _) raw.ensures)
-    (c.tidy-point2.ensures ∙ heading.direction.ensures ∙ ap (splineDirectionOf _) raw.ensures) raw.ensures
+    same _ (placed.tidy-point.ensures ∙ placed.before.sample.ensures ∙ ap (spline_sample_of _) raw.ensures)
+    (c.tidy-point2.ensures ∙ heading.direction.ensures ∙ ap (spline_direction_of _) raw.ensures) raw.ensures
 
 pub flight-spec : {M : Type 1} → statement M
 flight-spec =

@@ -4,26 +4,26 @@ use mathlib.Core.Path.{◌≡◌, refl, ap, ◌∙◌}
 use Prim.Native.Nat.{◌*◌, ◌-◌, ◌/◌}
 use native.Mathlib.Omega.{arith}
 use lib.ListN.{length-set}
-use Rattle.floats.specs.Floats.{zeroF}
-use Rattle.table_samples.specs.Samples.{sampleAt}
-use Rattle.spline.specs.Formula.{splineSampleOf}
+use Rattle.floats.specs.Floats.{zero_f}
+use Rattle.table_samples.specs.Samples.{sample_at}
+use Rattle.spline.specs.Formula.{spline_sample_of}
 use Rattle.spline_table.proofs.Passing.{walking_start}
 use Rattle.spline_table.proofs.Filling.{Filling, filling-start, filling-row, filling-length, filling-done}
 use Rattle.spline_table.proofs.entries.fill.Statement.{statement}
 use Rattle.spline_table.proofs.entries.fill.Tie as tie
 
 abbrev invariant-loop : tie.invariant-loop
-invariant-loop points last table₀ walk₀ k₀ table walk k = Filling (splineSampleOf points) last table₀ table walk.previous walk.total k × (k ≡ 16 * (k / 16))
+invariant-loop points last table₀ walk₀ k₀ table walk k = Filling (spline_sample_of points) last table₀ table walk.previous walk.total k × (k ≡ 16 * (k / 16))
 
 abbrev decreases-loop : tie.decreases-loop
 decreases-loop points last table₀ walk₀ k₀ table walk k = last - k
 
 loop-holds : tie.Need-loop-init invariant-loop decreases-loop
-unfolding sampleAt zeroF
+unfolding sample_at zero_f
 loop-holds c =
     let start = c.before.before.before.before in (
-      filling-start {formula = splineSampleOf start.args.points.now}
-          (walking_start _ (c.sample.ensures ∙ ap (splineSampleOf _) c.before.mark.ensures)) start.requires.room,
+      filling-start {formula = spline_sample_of start.args.points.now}
+          (walking_start _ (c.sample.ensures ∙ ap (spline_sample_of _) c.before.mark.ensures)) start.requires.room,
       refl,
     )
 

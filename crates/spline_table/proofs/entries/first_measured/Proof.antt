@@ -3,9 +3,9 @@ use borrow.Author.Rules.{rules}
 use mathlib.Core.Path.{sym, ap, ◌∙◌}
 use Prim.Native.Nat.{◌+◌, ◌-◌}
 use lib.Ieee.{binary32, add}
-use Rattle.floats.specs.Floats.{zeroF}
-use Rattle.table_samples.specs.Samples.{sampleAt}
-use Rattle.spline.specs.Formula.{splineSampleOf}
+use Rattle.floats.specs.Floats.{zero_f}
+use Rattle.table_samples.specs.Samples.{sample_at}
+use Rattle.spline.specs.Formula.{spline_sample_of}
 use Rattle.spline_table.specs.Rows.{walk_of, Walking}
 use Rattle.spline_table.proofs.Passing.{walking_start, walking-more}
 use Rattle.spline_table.proofs.Finding.{Finding, finding-start, finding-more, finding-ends, finding-none}
@@ -13,7 +13,7 @@ use Rattle.spline_table.proofs.entries.first_measured.Statement.{statement}
 use Rattle.spline_table.proofs.entries.first_measured.Tie as tie
 
 abbrev invariant-loop : tie.invariant-loop
-invariant-loop points last previous₀ total₀ k₀ previous total k = Finding (splineSampleOf points) last previous total k
+invariant-loop points last previous₀ total₀ k₀ previous total k = Finding (spline_sample_of points) last previous total k
 
 abbrev decreases-loop : tie.decreases-loop
 decreases-loop points last previous₀ total₀ k₀ previous total k = last - k
@@ -27,16 +27,16 @@ start l = l.before.before.before.before
 
 -- the next sample and the length up to it
 walked : (p : tie.After-distance invariant-loop decreases-loop) → let l = (loop p).loop in let a = (start (loop p)).args in
-    Walking (splineSampleOf a.points.now) a.last (walk_of p.before.sample2.result (add binary32 l.total p.distance.result)) (l.k + 1)
-unfolding sampleAt
+    Walking (spline_sample_of a.points.now) a.last (walk_of p.before.sample2.result (add binary32 l.total p.distance.result)) (l.k + 1)
+unfolding sample_at
 walked p =
     let sampled = p.before in
-    walking-more (loop p).loop.invariant.walking sampled.before.before.loop-test.true _ _ (sampled.sample2.ensures ∙ ap (splineSampleOf _) sampled.before.mark2.ensures) p.distance.ensures
+    walking-more (loop p).loop.invariant.walking sampled.before.before.loop-test.true _ _ (sampled.sample2.ensures ∙ ap (spline_sample_of _) sampled.before.mark2.ensures) p.distance.ensures
 
 -- ---- the answers
 loop-holds : tie.Need-loop-init invariant-loop decreases-loop
-unfolding sampleAt zeroF
-loop-holds c = finding-start {formula = splineSampleOf c.before.before.before.args.points.now} (walking_start _ (c.sample.ensures ∙ ap (splineSampleOf _) c.before.mark.ensures))
+unfolding sample_at zero_f
+loop-holds c = finding-start {formula = spline_sample_of c.before.before.before.args.points.now} (walking_start _ (c.sample.ensures ∙ ap (spline_sample_of _) c.before.mark.ensures))
 
 loop-again : tie.Need-loop-preserved invariant-loop decreases-loop
 loop-again c = let p = c.before.before in finding-more (loop p).loop.invariant (walked p) (sym c.before.is_finite.ensures ∙ c.if1.true)

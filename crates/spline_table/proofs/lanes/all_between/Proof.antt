@@ -4,13 +4,13 @@ use mathlib.Core.Path.{◌≡◌, refl, sym, ◌∙◌}
 use mathlib.Core.Bool.{◌&&◌}
 use Prim.Native.Nat.{◌-◌}
 use lib.ListN.{length, drop}
-use Rattle.spline_table.specs.Near.{every, isBetween}
+use Rattle.spline_table.specs.Near.{every, is_between}
 use Rattle.spline_table.proofs.Near.{every-next, every-end}
 use Rattle.spline_table.proofs.lanes.all_between.Statement.{statement}
 use Rattle.spline_table.proofs.lanes.all_between.Tie as tie
 
 abbrev invariant-loop : tie.invariant-loop
-invariant-loop numbers low high all₀ i₀ all i = every (isBetween low high) numbers ≡ (all && every (isBetween low high) (drop i numbers))
+invariant-loop numbers low high all₀ i₀ all i = every (is_between low high) numbers ≡ (all && every (is_between low high) (drop i numbers))
 
 abbrev decreases-loop : tie.decreases-loop
 decreases-loop numbers low high all₀ i₀ all i = length numbers - i
@@ -21,10 +21,10 @@ loop-holds c = refl
 loop-again : tie.Need-loop-preserved invariant-loop decreases-loop
 loop-again c =
     let at-loop = c.before.before.loop in
-    at-loop.invariant ∙ every-next (isBetween _ _) c.before.before.before.args.numbers.now at-loop.i at-loop.all c.before.loop-test.true
+    at-loop.invariant ∙ every-next (is_between _ _) c.before.before.before.args.numbers.now at-loop.i at-loop.all c.before.loop-test.true
 
 returns : tie.Need-returns invariant-loop decreases-loop
-returns c = every-end (isBetween _ _) c.before.before.args.numbers.now c.before.loop.i c.before.loop.all c.loop-test.false ∙ sym c.before.loop.invariant
+returns c = every-end (is_between _ _) c.before.before.args.numbers.now c.before.loop.i c.before.loop.all c.loop-test.false ∙ sym c.before.loop.invariant
 
 pub all-between-spec : {M : Type 1} → statement M
 all-between-spec =

@@ -5,12 +5,12 @@ use mathlib.Core.Path.{◌≡◌, refl}
 use Prim.Native.Nat.{ℕ, ◌+◌, ◌-◌}
 use lib.Ieee.{Float}
 use Rattle.lengths.proofs.Lists.{Passing, passing-start, passing-more}
-use Rattle.spline_table.specs.Rows.{clampedMarkOf}
+use Rattle.spline_table.specs.Rows.{clamped_mark_of}
 use Rattle.spline_table.proofs.lanes.clamped_marks.Statement.{statement}
 use Rattle.spline_table.proofs.lanes.clamped_marks.Tie as tie
 
 abbrev invariant-loop : tie.invariant-loop
-invariant-loop last k r₀ i₀ r i = Passing (λ (j : ℕ) (v : Float). v ≡ clampedMarkOf last (k + j)) r 16 i
+invariant-loop last k r₀ i₀ r i = Passing (λ (j : ℕ) (v : Float). v ≡ clamped_mark_of last (k + j)) r 16 i
 
 abbrev decreases-loop : tie.decreases-loop
 decreases-loop last k r₀ i₀ r i = 16 - i

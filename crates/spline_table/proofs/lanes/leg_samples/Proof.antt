@@ -3,13 +3,13 @@ use borrow.Author.Rules.{rules}
 use mathlib.Core.Path.{refl}
 use Prim.Native.Nat.{◌-◌}
 use Rattle.lengths.proofs.Lists.{passing-start}
-use Rattle.math.specs.Math.{lerpOf}
+use Rattle.math.specs.Math.{lerp_of}
 use Rattle.spline_table.proofs.Laying.{Laying, laying-more, laying-done}
 use Rattle.spline_table.proofs.lanes.leg_samples.Statement.{statement}
 use Rattle.spline_table.proofs.lanes.leg_samples.Tie as tie
 
 abbrev invariant-loop : tie.invariant-loop
-invariant-loop a b first next own r₀ i₀ r i = Laying (lerpOf a b) own next r i
+invariant-loop a b first next own r₀ i₀ r i = Laying (lerp_of a b) own next r i
 
 abbrev decreases-loop : tie.decreases-loop
 decreases-loop a b first next own r₀ i₀ r i = 16 - i

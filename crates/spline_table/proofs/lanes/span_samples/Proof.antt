@@ -3,13 +3,13 @@ use borrow.Author.Rules.{rules}
 use mathlib.Core.Path.{refl}
 use Prim.Native.Nat.{◌-◌}
 use Rattle.lengths.proofs.Lists.{passing-start}
-use Rattle.spline_table.specs.Rows.{blendAt}
+use Rattle.spline_table.specs.Rows.{blend_at}
 use Rattle.spline_table.proofs.Laying.{Laying, laying-more, laying-done}
 use Rattle.spline_table.proofs.lanes.span_samples.Statement.{statement}
 use Rattle.spline_table.proofs.lanes.span_samples.Tie as tie
 
 abbrev invariant-loop : tie.invariant-loop
-invariant-loop p0 p1 p2 p3 low first next own r₀ i₀ r i = Laying (blendAt p0 p1 p2 p3 low) own next r i
+invariant-loop p0 p1 p2 p3 low first next own r₀ i₀ r i = Laying (blend_at p0 p1 p2 p3 low) own next r i
 
 abbrev decreases-loop : tie.decreases-loop
 decreases-loop p0 p1 p2 p3 low first next own r₀ i₀ r i = 16 - i

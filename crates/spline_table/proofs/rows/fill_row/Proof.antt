@@ -1,13 +1,13 @@
 -- The invariant: the entries of the row before i are stored (`Storing`). The measure is the entries left. Assumes nothing.
 use borrow.Author.Rules.{rules}
 use Prim.Native.Nat.{◌-◌}
-use Rattle.spline.specs.Formula.{splineSampleOf}
+use Rattle.spline.specs.Formula.{spline_sample_of}
 use Rattle.spline_table.proofs.RowLaws.{Storing, row_step, storing-start, storing-more, storing-ends}
 use Rattle.spline_table.proofs.rows.fill_row.Statement.{statement}
 use Rattle.spline_table.proofs.rows.fill_row.Tie as tie
 
 abbrev invariant-loop : tie.invariant-loop
-invariant-loop points last k table₀ previous steps total₀ i₀ table total i = Storing (splineSampleOf points) last k table₀ total table i
+invariant-loop points last k table₀ previous steps total₀ i₀ table total i = Storing (spline_sample_of points) last k table₀ total table i
 
 abbrev decreases-loop : tie.decreases-loop
 decreases-loop points last k table₀ previous steps total₀ i₀ table total i = 16 - i

@@ -10,11 +10,11 @@ use lib.Ieee.{Float, binary32, mul, of_int}
 use Rattle.table.specs.Lookup.{at}
 use Rattle.polyline.specs.Points.{count_of}
 use Rattle.math.specs.declared.points.Point.{Point}
-use Rattle.table_samples.specs.Samples.{sampleAt}
-use Rattle.spline.specs.Formula.{splineSampleOf}
+use Rattle.table_samples.specs.Samples.{sample_at}
+use Rattle.spline.specs.Formula.{spline_sample_of}
 use Rattle.floats.proofs.Tests.{passed}
-use Rattle.spline_table.specs.Near.{isBetween}
-use Rattle.spline_table.specs.Rows.{clampedMarkOf}
+use Rattle.spline_table.specs.Near.{is_between}
+use Rattle.spline_table.specs.Rows.{clamped_mark_of}
 use Rattle.spline_table.proofs.Near.{every-at}
 use Rattle.spline_table.proofs.Laying.{drawn, drawn-row}
 use Rattle.spline_table.proofs.Formulas.{span-across, span-along}
@@ -28,9 +28,9 @@ after-span-requires c κs =
 
 -- the sample after the row
 next-is : (c : tie.After-sample) → let start = c.before.before.before.before.before.before.before.before.before.before.before in
-    c.sample.result ≡ sampleAt (splineSampleOf start.args.points.now) start.args.last (start.args.k + 16)
-unfolding sampleAt
-next-is c = c.sample.ensures ∙ ap (splineSampleOf _) c.before.mark.ensures
+    c.sample.result ≡ sample_at (spline_sample_of start.args.points.now) start.args.last (start.args.k + 16)
+unfolding sample_at
+next-is c = c.sample.ensures ∙ ap (spline_sample_of _) c.before.mark.ensures
 
 returns-2 : tie.Need-returns-2
 returns-2 c =
@@ -48,15 +48,15 @@ returns-2 c =
     let ahead = start.requires.0 in
     let own = at_Scaled.scaled.result in
     let inside : k / 16 + 1 < count_of points = omega (arith, ahead.whole, ahead.sampled.counted) in
-    let own_is : (i : ℕ) → 0 < i → i < 16 → at own i ≡ mul binary32 (clampedMarkOf last (k + i)) (of_int binary32 (pos (count_of points - 1))) = λ i some less.
+    let own_is : (i : ℕ) → 0 < i → i < 16 → at own i ≡ mul binary32 (clamped_mark_of last (k + i)) (of_int binary32 (pos (count_of points - 1))) = λ i some less.
     at_Scaled.scaled.ensures.each i some less ∙ ap (λ (z : Float). mul binary32 z (of_int binary32 (pos (count_of points - 1)))) (at-marks.clamped-marks.ensures i less) in
-    let between : (i : ℕ) → i < 16 → T (isBetween (of_int binary32 (pos (k / 16))) (of_int binary32 (pos (k / 16 + 1))) (at own i)) = λ i less.
-    every-at (isBetween (of_int binary32 (pos (k / 16))) (of_int binary32 (pos (k / 16 + 1)))) own (passed (sym tested.before.all-between.ensures ∙ not-false _ tested.if1.false)) i (omega (arith, at_Scaled.scaled.ensures.size)) in
-    drawn-row (splineSampleOf points) last k drawn-x.span-samples.result drawn-y.span-samples2.result _ _ _
-    (drawn (λ (p : Point). p.x) (splineSampleOf points) last k drawn-x.span-samples.ensures (ap (λ (p : Point). p.x) ahead.here) (ap (λ (p : Point). p.x) (next-is sampled))
+    let between : (i : ℕ) → i < 16 → T (is_between (of_int binary32 (pos (k / 16))) (of_int binary32 (pos (k / 16 + 1))) (at own i)) = λ i less.
+    every-at (is_between (of_int binary32 (pos (k / 16))) (of_int binary32 (pos (k / 16 + 1)))) own (passed (sym tested.before.all-between.ensures ∙ not-false _ tested.if1.false)) i (omega (arith, at_Scaled.scaled.ensures.size)) in
+    drawn-row (spline_sample_of points) last k drawn-x.span-samples.result drawn-y.span-samples2.result _ _ _
+    (drawn (λ (p : Point). p.x) (spline_sample_of points) last k drawn-x.span-samples.ensures (ap (λ (p : Point). p.x) ahead.here) (ap (λ (p : Point). p.x) (next-is sampled))
     (λ i some less. span-across points last (k + i) start.requires.1 ahead.sampled.few (k / 16) inside _ _ _ _ around.before.before.before.before-span.ensures
     around.before.before.point_at.ensures around.before.point-at2.ensures around.after-span.ensures (at own i) (own_is i some less) (between i less)))
-    (drawn (λ (p : Point). p.y) (splineSampleOf points) last k drawn-y.span-samples2.ensures (ap (λ (p : Point). p.y) ahead.here) (ap (λ (p : Point). p.y) (next-is sampled))
+    (drawn (λ (p : Point). p.y) (spline_sample_of points) last k drawn-y.span-samples2.ensures (ap (λ (p : Point). p.y) ahead.here) (ap (λ (p : Point). p.y) (next-is sampled))
     (λ i some less. span-along points last (k + i) start.requires.1 ahead.sampled.few (k / 16) inside _ _ _ _ around.before.before.before.before-span.ensures
     around.before.before.point_at.ensures around.before.point-at2.ensures around.after-span.ensures (at own i) (own_is i some less) (between i less)))
     c.before.before.differences-of.ensures c.differences-of2.ensures (next-is sampled)

@@ -3,7 +3,7 @@ use borrow.Author.Rules.{rules}
 use mathlib.Core.Path.{refl, ap}
 use native.Mathlib.Omega.{arith}
 use Rattle.station_lines.proofs.Putting.{put_same, within-as, within-then, one_byte}
-use Rattle.station_lines.specs.Lines.{valueFields, carriedFields}
+use Rattle.station_lines.specs.Lines.{value_fields, carried_fields}
 use Rattle.answers.specs.Answers.{listed}
 use Rattle.answers.specs.declared.refusals.Values.{Values}
 use Rattle.station_lines.proofs.Fields.{carried_other}
@@ -11,7 +11,7 @@ use Rattle.station_lines.proofs.lines.put_carried.Statement.{statement}
 use Rattle.station_lines.proofs.lines.put_carried.Tie as tie
 
 returns : tie.Need-returns
-unfolding carriedFields
+unfolding carried_fields
 returns c =
     let at-put-number = c.before.before in
     let at-put-byte2 = at-put-number.before.before.before.before in
@@ -25,7 +25,7 @@ returns-2 c =
     let at-put-values = c.before.before in
     let at_carried = at-put-values.before in
     let at-match = at_carried.before.before in
-    within-as 105 _ (put_same at-put-values.put-values.ensures.put _ (ap (λ (v : Values). valueFields (listed v)) at_carried.carried.ensures))
+    within-as 105 _ (put_same at-put-values.put-values.ensures.put _ (ap (λ (v : Values). value_fields (listed v)) at_carried.carried.ensures))
     (carried_other _ at-match.match.keys2) (omega arith)
 
 pub put-carried-spec : {M : Type 1} → statement M

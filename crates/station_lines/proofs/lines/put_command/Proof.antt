@@ -5,12 +5,12 @@ use mathlib.Core.Path.{refl, ap}
 use mathlib.Core.List.{[], ◌∷◌}
 use native.Mathlib.Omega.{arith}
 use Rattle.station_lines.proofs.Putting.{put_same, within-as, within-then, one_byte}
-use Rattle.station_lines.specs.Lines.{commandLine}
+use Rattle.station_lines.specs.Lines.{command_line}
 use Rattle.station_lines.proofs.lines.put_command.Statement.{statement}
 use Rattle.station_lines.proofs.lines.put_command.Tie as tie
 
 returns : tie.Need-returns
-unfolding commandLine
+unfolding command_line
 returns c =
     let numbers = c.before.before.before.before.before.before.before.before.before.before in
     let letter = numbers.before.before.before.before in

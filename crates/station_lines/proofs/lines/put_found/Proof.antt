@@ -3,7 +3,7 @@ use borrow.Author.Rules.{rules}
 use mathlib.Core.Path.{refl}
 use native.Mathlib.Omega.{arith}
 use Rattle.station_lines.proofs.Putting.{within-as, within-then, one_byte}
-use Rattle.station_lines.specs.Lines.{segmentField}
+use Rattle.station_lines.specs.Lines.{segment_field}
 use Rattle.station_lines.proofs.lines.put_found.Statement.{statement}
 use Rattle.station_lines.proofs.lines.put_found.Tie as tie
 
@@ -11,7 +11,7 @@ put-small-requires : tie.Need-put-small-requires
 put-small-requires c κs = (rw c.before.before.found.given.1 at c.before.before.before.before.before.before.before.before.before.requires.0, omega arith)
 
 returns : tie.Need-returns
-unfolding segmentField
+unfolding segment_field
 returns c =
     let at-put-small = c.before.before in
     let at-found = at-put-small.before.before.before in
@@ -19,7 +19,7 @@ returns c =
     rw at-found.found.given.1 (within-as 4 _ (within-then (one_byte at-put-byte.put_byte.ensures) at-put-small.put_small.ensures).put refl (omega arith))
 
 returns-2 : tie.Need-returns-2
-unfolding segmentField
+unfolding segment_field
 returns-2 c =
     let at-put-byte2 = c.before.before in
     let at-enum-told = at-put-byte2.before.before in

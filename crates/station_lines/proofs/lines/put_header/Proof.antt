@@ -3,12 +3,12 @@ use borrow.Author.Rules.{rules}
 use mathlib.Core.Path.{refl}
 use native.Mathlib.Omega.{arith}
 use Rattle.station_lines.proofs.Putting.{put_then, within-as, within-then, one_byte}
-use Rattle.station_lines.specs.Lines.{headerLine}
+use Rattle.station_lines.specs.Lines.{header_line}
 use Rattle.station_lines.proofs.lines.put_header.Statement.{statement}
 use Rattle.station_lines.proofs.lines.put_header.Tie as tie
 
 returns : tie.Need-returns
-unfolding headerLine
+unfolding header_line
 returns c =
     let at-put-byte = c.before.before in
     let at-put-number = at-put-byte.before.before.before.before in

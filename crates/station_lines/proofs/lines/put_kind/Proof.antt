@@ -4,24 +4,24 @@ use mathlib.Core.Path.{refl}
 use native.Mathlib.Omega.{arith}
 use Rattle.station_lines.proofs.Putting.{within-as}
 use Rattle.station_lines.proofs.Fields.{kind-last}
-use Rattle.station_lines.specs.Lines.{kindName}
+use Rattle.station_lines.specs.Lines.{kind_name}
 use Rattle.station_lines.proofs.lines.put_kind.Statement.{statement}
 use Rattle.station_lines.proofs.lines.put_kind.Tie as tie
 
 returns : tie.Need-returns
-unfolding kindName
+unfolding kind_name
 returns c = rw c.before.before.before.before.before.if1.true (within-as 8 _ c.before.before.put_word.ensures refl (omega (arith, c.before.before.put_word.ensures.past)))
 
 returns-2 : tie.Need-returns-2
-unfolding kindName
+unfolding kind_name
 returns-2 c = rw c.before.before.before.before.before.if2.true (within-as 8 _ c.before.before.put-word2.ensures refl (omega (arith, c.before.before.put-word2.ensures.past)))
 
 returns-3 : tie.Need-returns-3
-unfolding kindName
+unfolding kind_name
 returns-3 c = rw c.before.before.before.before.before.if3.true (within-as 8 _ c.before.before.put-word3.ensures refl (omega (arith, c.before.before.put-word3.ensures.past)))
 
 returns-4 : tie.Need-returns-4
-unfolding kindName
+unfolding kind_name
 returns-4 c = rw c.before.before.before.before.before.if4.true (within-as 8 _ c.before.before.put-word4.ensures refl (omega (arith, c.before.before.put-word4.ensures.past)))
 
 returns-5 : tie.Need-returns-5

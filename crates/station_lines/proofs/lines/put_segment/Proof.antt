@@ -3,13 +3,13 @@ use borrow.Author.Rules.{rules}
 use mathlib.Core.Path.{refl}
 use native.Mathlib.Omega.{arith}
 use Rattle.station_lines.proofs.Putting.{within-as, within-then, one_byte}
-use Rattle.station_lines.specs.Numbers.{numberField}
-use Rattle.station_lines.specs.Lines.{segmentLine}
+use Rattle.station_lines.specs.Numbers.{number_field}
+use Rattle.station_lines.specs.Lines.{segment_line}
 use Rattle.station_lines.proofs.lines.put_segment.Statement.{statement}
 use Rattle.station_lines.proofs.lines.put_segment.Tie as tie
 
 returns : tie.Need-returns
-unfolding segmentLine numberField
+unfolding segment_line number_field
 returns c =
     let small = c.before.before.before.before.before.before in
     let space = small.before.before.before.before in

@@ -3,12 +3,12 @@ use borrow.Author.Rules.{rules}
 use mathlib.Core.Path.{refl}
 use native.Mathlib.Omega.{arith}
 use Rattle.station_lines.proofs.Putting.{within-as, within-then, one_byte}
-use Rattle.station_lines.specs.Lines.{stationLine}
+use Rattle.station_lines.specs.Lines.{station_line}
 use Rattle.station_lines.proofs.lines.put_station.Statement.{statement}
 use Rattle.station_lines.proofs.lines.put_station.Tie as tie
 
 returns : tie.Need-returns
-unfolding stationLine
+unfolding station_line
 returns c =
     let at-put-byte = c.before.before in
     let at-put-point2 = at-put-byte.before.before.before.before in

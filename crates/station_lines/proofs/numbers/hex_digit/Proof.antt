@@ -1,16 +1,16 @@
 -- `station_lines::numbers::hex_digit` meets its contract. Assumes nothing.
 use borrow.Author.Rules.{rules}
 use borrow.Author.Tests.{lt-ltb, le-ltb}
-use Rattle.station_lines.specs.Numbers.{hexDigit}
+use Rattle.station_lines.specs.Numbers.{hex_digit}
 use Rattle.station_lines.proofs.numbers.hex_digit.Statement.{statement}
 use Rattle.station_lines.proofs.numbers.hex_digit.Tie as tie
 
 returns : tie.Need-returns
-unfolding hexDigit
+unfolding hex_digit
 returns c = rw (lt-ltb _ 10 c.if1.true)
 
 returns-2 : tie.Need-returns-2
-unfolding hexDigit
+unfolding hex_digit
 returns-2 c = rw (le-ltb _ 10 c.if1.false)
 
 pub hex-digit-spec : {M : Type 1} → statement M

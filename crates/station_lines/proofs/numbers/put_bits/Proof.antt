@@ -4,16 +4,16 @@ use Prim.Native.Nat.{ℕ}
 use mathlib.Core.Path.{ap}
 use native.Mathlib.Omega.{arith}
 use Rattle.floats.specs.Floats.{bits_of}
-use Rattle.station_lines.specs.Numbers.{hexDigits, bitsField}
+use Rattle.station_lines.specs.Numbers.{hex_digits, bits_field}
 use Rattle.station_lines.proofs.Putting.{put_then, put_same}
 use Rattle.station_lines.proofs.Digits.{hex-length}
 use Rattle.station_lines.proofs.numbers.put_bits.Statement.{statement}
 use Rattle.station_lines.proofs.numbers.put_bits.Tie as tie
 
 returns : tie.Need-returns
-unfolding bitsField
+unfolding bits_field
 returns c =
-    let p = put_then c.before.before.before.before.before.before.before.put_byte.ensures (put_same c.before.before.put-hex.ensures _ (ap (λ (n : ℕ). hexDigits 8 n) c.before.before.before.bits.ensures)) in
+    let p = put_then c.before.before.before.before.before.before.before.put_byte.ensures (put_same c.before.before.put-hex.ensures _ (ap (λ (n : ℕ). hex_digits 8 n) c.before.before.before.bits.ensures)) in
     record { put = p; within = omega (arith, p.past, hex-length 8 (bits_of c.before.before.before.before.before.before.before.before.before.before.args.value)) }
 
 pub put-bits-spec : {M : Type 1} → statement M

@@ -4,7 +4,7 @@ use Prim.Native.Nat.{ℕ}
 use mathlib.Core.List.{List}
 use native.Mathlib.Omega.{arith}
 use lib.ListN.{drop}
-use Rattle.svg.specs.Texts.{commandsOf, offsetsOf}
+use Rattle.svg.specs.Texts.{commands_of, offsets_of}
 use Rattle.station_listing.proofs.Printing.{few-commands, listed-within, printed}
 use Rattle.station_listing.proofs.flights.print.Statement.{statement}
 use Rattle.station_listing.proofs.flights.print.Tie as tie
@@ -38,20 +38,20 @@ list-requires c κs =
 put-header-requires-2 : tie.Need-put-header-requires-2
 put-header-requires-2 c κs =
     let l = c.before.before.before.before in
-    omega (arith, listed-within (offsetsOf (text l)) (commandsOf (text l)) _ _ _ _ l.list.ensures, (header l).put-header.ensures.within)
+    omega (arith, listed-within (offsets_of (text l)) (commands_of (text l)) _ _ _ _ l.list.ensures, (header l).put-header.ensures.within)
 
 put-segments-requires : tie.Need-put-segments-requires
 put-segments-requires c κs =
     let h = c.before.before.before in
     let l = lines h in
-    ((start (header l)).requires.1.tellable, omega (arith, listed-within (offsetsOf (text l)) (commandsOf (text l)) _ _ _ _ l.list.ensures, h.put-header2.ensures.within, (header l).put-header.ensures.within))
+    ((start (header l)).requires.1.tellable, omega (arith, listed-within (offsets_of (text l)) (commands_of (text l)) _ _ _ _ l.list.ensures, h.put-header2.ensures.within, (header l).put-header.ensures.within))
 
 put-header-requires-3 : tie.Need-put-header-requires-3
 put-header-requires-3 c κs =
     let s = c.before.before.before.before in
     let h = header-2 s in
     let l = lines h in
-    omega (arith, listed-within (offsetsOf (text l)) (commandsOf (text l)) _ _ _ _ l.list.ensures, s.put-segments.ensures.within, h.put-header2.ensures.within, (header l).put-header.ensures.within)
+    omega (arith, listed-within (offsets_of (text l)) (commands_of (text l)) _ _ _ _ l.list.ensures, s.put-segments.ensures.within, h.put-header2.ensures.within, (header l).put-header.ensures.within)
 
 put-stations-requires : tie.Need-put-stations-requires
 put-stations-requires c κs =
@@ -59,7 +59,7 @@ put-stations-requires c κs =
     let s = segments h3 in
     let h = header-2 s in
     let l = lines h in
-    let within = listed-within (offsetsOf (text l)) (commandsOf (text l)) _ _ _ _ l.list.ensures in
+    let within = listed-within (offsets_of (text l)) (commands_of (text l)) _ _ _ _ l.list.ensures in
     ((start (header l)).requires.1, omega (arith, within, h3.put-header3.ensures.within, s.put-segments.ensures.within, h.put-header2.ensures.within, (header l).put-header.ensures.within))
 
 returns : tie.Need-returns

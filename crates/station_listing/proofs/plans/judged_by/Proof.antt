@@ -46,7 +46,7 @@ use denote.Triple.Walked.{says, needs, Stays, stay_none, gave_slice, walk_of, Go
 use denote.Exit.{yes}
 use denote.Triple.Clauses.{ensured, lasts}
 use Rattle.station_lines.specs.Put.{PutWithin}
-use Rattle.station_listing.specs.Stations.{LineRead, stationsOf}
+use Rattle.station_listing.specs.Stations.{LineRead, stations_of}
 use Rattle.text_reader.specs.declared.reader.TextReader.{TextReader}
 use Rattle.text_reader.specs.declared.line.FirstLine.{FirstLine}
 use Rattle.text_reader.specs.contracts.reader.TextReader as T
@@ -104,7 +104,7 @@ module _ {M : Type 1} {𝓤 : Ura M} (𝓛 : Logic 𝓤) (mem : Memory → SProp
   a = (d, (l, (x, tt)))
 
   abbrev Told : ℕ → List ℕ → Type 0
-  Told r zs = PutWithin 69632 (stationsOf d.text.now) 0 ys zs r
+  Told r zs = PutWithin 69632 (stations_of d.text.now) 0 ys zs r
 
   abbrev Post : Val → SProp 𝓤
   Post = (walk_of 𝓛 judged-by.ended stayed (judged-by.clauses 𝓛 mem run)).post (((κ, (κ', tt)), (q, (q', tt)), tt, a, at), tt)

@@ -43,11 +43,11 @@ use denote.Triple.Table.{entered, cited}
 use denote.Triple.Walked.{says, Stays, stay_none_slice, gave_slice, walk_of, Goes-none_slice, Goes-gave_slice, Walks, ends_at, walked, walk_Meets}
 use denote.Exit.{yes}
 use denote.Triple.Clauses.{ensured, lasts}
-use Rattle.text_reader.specs.Plans.{firstLineOf, past_of}
+use Rattle.text_reader.specs.Plans.{first_line_of, past_of}
 use Rattle.text_reader.specs.declared.reader.TextReader.{TextReader}
 use Rattle.text_reader.specs.declared.line.FirstLine.{FirstLine}
 use Rattle.station_lines.specs.Put.{PutWithin}
-use Rattle.station_listing.specs.Stations.{LineRead, stationsOf}
+use Rattle.station_listing.specs.Stations.{LineRead, stations_of}
 use Rattle.text_reader.specs.contracts.reader.TextReader as T
 use Rattle.text_reader.proofs.reader.TextReader.TheLaws as T'
 use Rattle.text_reader.specs.contracts.line.FirstLine as F
@@ -101,8 +101,8 @@ module _ {M : Type 1} {𝓤 : Ura M} (𝓛 : Logic 𝓤) (mem : Memory → SProp
   new-of : (κ : Lft) (s : Bor (List ℕ)) (r : TextReader) → ent 𝓤 (ensured 𝓛 new.ended (new.clauses 𝓛 mem run) (κ, tt) (s, (0, tt)) tt r) (fact 𝓤 ((r.text ≡ s) × (r.at ≡ 0)))
   new-of κ s r = ex_e 𝓤 _ (λ ws. snd∗ 𝓤 (sem 𝓛 (lasts new.ended (κ, tt) (s, (0, tt)) ws)) (fact 𝓤 ((r.text ≡ s) × (r.at ≡ 0))))
 
-  line_of : (κ : Lft) (h : TextReader) (l : FirstLine) → ent 𝓤 (ensured 𝓛 line.ended (line.clauses 𝓛 mem run) (κ, tt) (h, tt) tt l) (fact 𝓤 (l ≡ firstLineOf h.text.now h.at))
-  line_of κ h l = ex_e 𝓤 _ (λ ws. snd∗ 𝓤 (sem 𝓛 (lasts line.ended (κ, tt) (h, tt) ws)) (fact 𝓤 (l ≡ firstLineOf h.text.now h.at)))
+  line_of : (κ : Lft) (h : TextReader) (l : FirstLine) → ent 𝓤 (ensured 𝓛 line.ended (line.clauses 𝓛 mem run) (κ, tt) (h, tt) tt l) (fact 𝓤 (l ≡ first_line_of h.text.now h.at))
+  line_of κ h l = ex_e 𝓤 _ (λ ws. snd∗ 𝓤 (sem 𝓛 (lasts line.ended (κ, tt) (h, tt) ws)) (fact 𝓤 (l ≡ first_line_of h.text.now h.at)))
 
   past-of : (l : FirstLine) (n : ℕ) → ent 𝓤 (ensured 𝓛 past.ended (past.clauses 𝓛 mem run) tt (l, (0, tt)) tt n) (fact 𝓤 (n ≡ past_of l 0))
   past-of l n = ex_e 𝓤 _ (λ ws. snd∗ 𝓤 (sem 𝓛 (lasts past.ended tt (l, (0, tt)) ws)) (fact 𝓤 (n ≡ past_of l 0)))
@@ -143,7 +143,7 @@ module _ {M : Type 1} {𝓤 : Ura M} (𝓛 : Logic 𝓤) (mem : Memory → SProp
   at = (so ∷ [], (v ∷ [], tt))
 
   abbrev Told : ℕ → List ℕ → Type 0
-  Told r zs = PutWithin 69632 (stationsOf s.now) 0 ys zs r
+  Told r zs = PutWithin 69632 (stations_of s.now) 0 ys zs r
 
   abbrev Post : Val → SProp 𝓤
   Post = (walk_of 𝓛 tell.ended stayed (tell.clauses 𝓛 mem run)).post (((κ, (κ', tt)), (q, (q', tt)), tt, a, at), tt)
@@ -242,7 +242,7 @@ module _ {M : Type 1} {𝓤 : Ura M} (𝓛 : Logic 𝓤) (mem : Memory → SProp
         calls_at ! fm (Line 𝓛 mem run) known-line (to-line u₀) (and_then ! (load ! (from ! (stop !)) (look ! 15 refl)) (no_more !)) (λ u₁.
         use1 𝓛 (later (some (λ (l : FirstLine). ((‵ (flft κ' q') ⊛ ‵ ftrue) ⊛ ‵ ((F.the_row).own_val l (u₁ ∷ []))) ⊛ raw (ensured 𝓛 line.ended (line.clauses 𝓛 mem run) (κ', tt) (there 0, tt) tt l)))) (id⊢ 𝓤 _) $ await ! tt $
         pick ! (λ l.
-        split ! $ move ! (1 ∷ []) $ use1 𝓛 (raw (fact 𝓤 (l ≡ firstLineOf s.now 0))) (line_of 𝓛 mem run κ' (there 0) l) $ heard ! (l ≡ firstLineOf s.now 0) (λ e₁.
+        split ! $ move ! (1 ∷ []) $ use1 𝓛 (raw (fact 𝓤 (l ≡ first_line_of s.now 0))) (line_of 𝓛 mem run κ' (there 0) l) $ heard ! (l ≡ first_line_of s.now 0) (λ e₁.
         split ! $ move ! (1 ∷ []) $ peeks ! F.the_row (Is F.the_row) (shows 𝓛 F.the_row) l (u₁ ∷ []) (λ is₁.
         land ! (from ! (stop !)) (init ! 18 refl ((EL.lawful F.the_type F'.the_laws 𝓛 tt).typed l _ is₁).0) $ drop ! $
         -- [κ''s token; what the reader owns; κ's token; what the input owns; what the output owns; _10; …]

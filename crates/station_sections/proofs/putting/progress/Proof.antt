@@ -4,7 +4,7 @@ use Prim.Native.Nat.{◌-◌, ◌^◌}
 use mathlib.Core.Path.{refl}
 use lib.Dec.{le→leb}
 use lib.Ieee.{in_float}
-use Rattle.station_sections.specs.Sections.{progressOf}
+use Rattle.station_sections.specs.Sections.{progress_of}
 use Rattle.station_sections.proofs.putting.progress.Statement.{statement}
 use Rattle.station_sections.proofs.putting.progress.Tie as tie
 
@@ -17,7 +17,7 @@ unfolding in_float
 int-to-float-t5 c = le→leb (c.before.before.args.count - 1) (2 ^ 24) (search rules)
 
 returns : tie.Need-returns
-unfolding progressOf
+unfolding progress_of
 returns c = refl
 
 pub progress-spec : {M : Type 1} → statement M

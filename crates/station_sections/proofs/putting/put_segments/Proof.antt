@@ -4,14 +4,14 @@ use Prim.Native.Nat.{◌-◌, ◌≤◌}
 use native.Mathlib.Omega.{arith}
 use lib.Ieee.{nan}
 use lib.ListN.{length, get_or}
-use Rattle.station_lines.specs.Lines.{segmentLine}
-use Rattle.station_sections.specs.Sections.{segmentLines}
+use Rattle.station_lines.specs.Lines.{segment_line}
+use Rattle.station_sections.specs.Sections.{segment_lines}
 use Rattle.station_sections.proofs.LinesTo.{PutTo, to_none, to-length, to-more, to-all}
 use Rattle.station_sections.proofs.putting.put_segments.Statement.{statement}
 use Rattle.station_sections.proofs.putting.put_segments.Tie as tie
 
 abbrev invariant-loop : tie.invariant-loop
-invariant-loop out₀ from kinds lengths commands at₀ k₀ out at k = (k ≤ length kinds) × PutTo (λ k. segmentLine (get_or kinds k 0) (get_or lengths k nan) (get_or commands k 0)) 22 k from out₀ out at
+invariant-loop out₀ from kinds lengths commands at₀ k₀ out at k = (k ≤ length kinds) × PutTo (λ k. segment_line (get_or kinds k 0) (get_or lengths k nan) (get_or commands k 0)) 22 k from out₀ out at
 
 abbrev decreases-loop : tie.decreases-loop
 decreases-loop out₀ from kinds lengths commands at₀ k₀ out at k = length kinds - k
@@ -37,7 +37,7 @@ same_length : tie.Need-same-length invariant-loop decreases-loop
 same_length c = to-length _ _ _ _ _ _ _ c.before.loop.invariant.1
 
 returns : tie.Need-returns invariant-loop decreases-loop
-unfolding segmentLines
+unfolding segment_lines
 returns c =
     let inv = c.before.loop.invariant in
     let start = c.before.before.before.before.before.before in

@@ -3,13 +3,13 @@ use borrow.Author.Rules.{rules}
 use Prim.Native.Nat.{◌-◌, ◌≤◌}
 use native.Mathlib.Omega.{arith}
 use Rattle.path_stored.specs.Buffers.{buffers}
-use Rattle.station_sections.specs.Sections.{stationOf, stationLines}
+use Rattle.station_sections.specs.Sections.{station_of, station_lines}
 use Rattle.station_sections.proofs.LinesTo.{PutTo, to_none, to-length, to-more, to-all}
 use Rattle.station_sections.proofs.putting.put_stations.Statement.{statement}
 use Rattle.station_sections.proofs.putting.put_stations.Tie as tie
 
 abbrev invariant-loop : tie.invariant-loop
-invariant-loop out₀ from count kinds fields tables lengths commands at₀ number₀ out at number = (number ≤ count) × PutTo (λ k. stationOf (buffers kinds fields tables lengths commands) count k) 44 number from out₀ out at
+invariant-loop out₀ from count kinds fields tables lengths commands at₀ number₀ out at number = (number ≤ count) × PutTo (λ k. station_of (buffers kinds fields tables lengths commands) count k) 44 number from out₀ out at
 
 abbrev decreases-loop : tie.decreases-loop
 decreases-loop out₀ from count kinds fields tables lengths commands at₀ number₀ out at number = count - number
@@ -30,7 +30,7 @@ same_length : tie.Need-same-length invariant-loop decreases-loop
 same_length c = to-length _ _ _ _ _ _ _ c.before.loop.invariant.1
 
 returns : tie.Need-returns invariant-loop decreases-loop
-unfolding stationLines
+unfolding station_lines
 returns c =
     let inv = c.before.loop.invariant in
     let start = c.before.before.before.before.before.before.before.before in

@@ -3,7 +3,7 @@ use mathlib.Core.Path.{subst}
 use native.Mathlib.Omega.{arith}
 use borrow.Author.Rules.{rules}
 use Rattle.scan.proofs.RunLaws.{stands-within}
-use Rattle.strict.specs.Commands.{moveLetters, closeLetters, lettersOf, LetterAt}
+use Rattle.strict.specs.Commands.{move_letters, close_letters, letters_of, LetterAt}
 use Rattle.strict.proofs.CommandLaws.{moves, closes, closes-not-begun, takes, takes-not-begun, no-letter}
 use Rattle.strict.proofs.commands.read_command.Statement.{statement}
 use Rattle.strict.proofs.commands.read_command.Tie as tie
@@ -12,13 +12,13 @@ add-read-arguments : tie.Need-overflow-add-read-arguments
 add-read-arguments c =
     let found = c.before.before in
     let a = found.before.before.args in
-    omega (arith, stands-within moveLetters a.text.now a.at (subst (LetterAt a.text.now a.at) c.enum_told.given.1 found.letter_at.ensures))
+    omega (arith, stands-within move_letters a.text.now a.at (subst (LetterAt a.text.now a.at) c.enum_told.given.1 found.letter_at.ensures))
 
 add-result : tie.Need-overflow-add-result
 add-result c =
     let found = c.before.before.before in
     let a = found.before.before.args in
-    omega (arith, stands-within closeLetters a.text.now a.at (subst (LetterAt a.text.now a.at) c.before.enum-told2.given.1 found.letter_at.ensures))
+    omega (arith, stands-within close_letters a.text.now a.at (subst (LetterAt a.text.now a.at) c.before.enum-told2.given.1 found.letter_at.ensures))
 
 returns : tie.Need-returns
 returns c =
@@ -30,7 +30,7 @@ add-read-arguments-2 : tie.Need-overflow-add-read-arguments-2
 add-read-arguments-2 c =
     let found = c.before.before.before.before in
     let a = found.before.before.args in
-    omega (arith, stands-within (lettersOf c.before.before.kind.given.0.0) a.text.now a.at (subst (LetterAt a.text.now a.at) c.before.before.kind.given.1 found.letter_at.ensures))
+    omega (arith, stands-within (letters_of c.before.before.kind.given.0.0) a.text.now a.at (subst (LetterAt a.text.now a.at) c.before.before.kind.given.1 found.letter_at.ensures))
 
 returns-2 : tie.Need-returns-2
 returns-2 c =

@@ -2,12 +2,12 @@
 use mathlib.Core.Path.{refl}
 use borrow.Author.Rules.{rules}
 use Rattle.scan.proofs.ByteLaws.{clash}
-use Rattle.strict.specs.Verdicts.{yes, no, tooLong}
+use Rattle.strict.specs.Verdicts.{yes, no, too_long}
 use Rattle.strict.proofs.texts.judge.Statement.{statement}
 use Rattle.strict.proofs.texts.judge.Tie as tie
 
 returns : tie.Need-returns
-returns c = tooLong c.if1.true refl
+returns c = too_long c.if1.true refl
 
 returns-2 : tie.Need-returns-2
 returns-2 c = yes c.before.before.if1.false (c.before.matches.ensures.0 c.if2.true) refl

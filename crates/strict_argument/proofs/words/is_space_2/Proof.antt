@@ -3,9 +3,9 @@ use mathlib.Core.Path.{ap, ◌∙◌}
 use mathlib.Core.Bool.{Bool, ◌||◌}
 use borrow.Author.Rules.{rules}
 use lib.Dec.{eqb}
-use Rattle.scan.specs.Bytes.{among, whiteSpace}
+use Rattle.scan.specs.Bytes.{among, white_space}
 use Rattle.scan.proofs.ByteLaws.{agree}
-use Rattle.strict_grammar.specs.Grammar.{whiteOf}
+use Rattle.strict_grammar.specs.Grammar.{white_of}
 use Rattle.strict_grammar.specs.declared.Edition.TheVariants.{Svg2}
 use Rattle.strict_argument.proofs.words.is_space_2.Statement.{statement}
 use Rattle.strict_argument.proofs.words.is_space_2.Tie as tie
@@ -15,7 +15,7 @@ unfolding among
 returns c =
     let a = c.before in
     ap (λ (t : Bool). t || eqb a.args.byte 12) c.is_white.ensures
-    ∙ agree (λ x. among x whiteSpace || eqb x 12) (λ x. among x (whiteOf Svg2)) tt a.args.byte a.ranges.byte.fits
+    ∙ agree (λ x. among x white_space || eqb x 12) (λ x. among x (white_of Svg2)) tt a.args.byte a.ranges.byte.fits
 
 pub is-space-2-spec : {M : Type 1} → statement M
 is-space-2-spec = tie.close (tie.spec (λ c κs. search rules) returns)

@@ -6,14 +6,14 @@ use native.Mathlib.Omega.{arith}
 use borrow.Author.Rules.{rules}
 use lib.ListN.{length}
 use Rattle.scan.proofs.RunLaws.{all_pass, all-stop, all_end}
-use Rattle.strict_grammar.specs.Grammar.{whiteOf}
-use Rattle.strict_grammar.specs.Words.{pastWhiteIn}
+use Rattle.strict_grammar.specs.Grammar.{white_of}
+use Rattle.strict_grammar.specs.Words.{past_white_in}
 use Rattle.strict_grammar.specs.declared.Edition.TheVariants.{Svg2}
 use Rattle.strict_argument.proofs.words.past_space_2.Statement.{statement}
 use Rattle.strict_argument.proofs.words.past_space_2.Tie as tie
 
 abbrev invariant-loop : tie.invariant-loop
-invariant-loop text at i₀ i = pastWhiteIn Svg2 text i ≡ pastWhiteIn Svg2 text at
+invariant-loop text at i₀ i = past_white_in Svg2 text i ≡ past_white_in Svg2 text at
 
 abbrev decreases-loop : tie.decreases-loop
 decreases-loop text at i₀ i = length text - i
@@ -27,15 +27,15 @@ loop-less c = omega arith
 loop-again : tie.Need-loop-preserved invariant-loop decreases-loop
 loop-again c =
     let at-loop = c.before.before.before.before in
-    all_pass (whiteOf Svg2) _ _ (search rules) (sym c.before.is-space-2.ensures ∙ c.if1.true) ∙ at-loop.loop.invariant
+    all_pass (white_of Svg2) _ _ (search rules) (sym c.before.is-space-2.ensures ∙ c.if1.true) ∙ at-loop.loop.invariant
 
 returns : tie.Need-returns invariant-loop decreases-loop
-returns c = sym (all_end (whiteOf Svg2) _ _ (search rules)) ∙ c.before.loop.invariant
+returns c = sym (all_end (white_of Svg2) _ _ (search rules)) ∙ c.before.loop.invariant
 
 returns-2 : tie.Need-returns-2 invariant-loop decreases-loop
 returns-2 c =
     let at-loop = c.before.before.before.before in
-    sym (all-stop (whiteOf Svg2) _ _ (search rules) (sym c.before.is-space-2.ensures ∙ c.if1.false)) ∙ at-loop.loop.invariant
+    sym (all-stop (white_of Svg2) _ _ (search rules) (sym c.before.is-space-2.ensures ∙ c.if1.false)) ∙ at-loop.loop.invariant
 
 pub past-space-2-spec : {M : Type 1} → statement M
 past-space-2-spec =

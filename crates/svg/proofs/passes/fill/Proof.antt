@@ -6,7 +6,7 @@ use mathlib.Core.Path.{sym, ◌∙◌}
 use Prim.Native.Nat.{◌-◌}
 use lib.ListN.{length}
 use Rattle.svg_step.proofs.Ahead.{step-ahead}
-use Rattle.svg.specs.Lists.{commandList}
+use Rattle.svg.specs.Lists.{command_list}
 use Rattle.svg.specs.Texts.{Holding}
 use Rattle.svg.proofs.Holding.{held-letters, held-numbers, held-offsets, held-within, held_whole, held-refused, held-offset, held_small}
 use Rattle.svg.proofs.Holding.{full-of-letters, full-of-numbers, full-of-offsets, holding-more}
@@ -15,7 +15,7 @@ use Rattle.svg.proofs.passes.fill.Tie as tie
 
 abbrev invariant-loop : tie.invariant-loop
 invariant-loop text first start letters₀ numbers₀ offsets₀ reader₀ letter-at₀ at₀ letters numbers offsets reader letter_at at =
-    Holding text (commandList letters₀ numbers₀ offsets₀) (commandList letters numbers offsets) reader letter_at at
+    Holding text (command_list letters₀ numbers₀ offsets₀) (command_list letters numbers offsets) reader letter_at at
 
 abbrev decreases-loop : tie.decreases-loop
 decreases-loop text first start letters₀ numbers₀ offsets₀ reader₀ letter-at₀ at₀ letters numbers offsets reader letter_at at = length text - reader.at

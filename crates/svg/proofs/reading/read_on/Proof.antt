@@ -3,8 +3,8 @@ use borrow.Author.Rules.{rules}
 use mathlib.Core.Path.{◌≡◌, sym, ◌∙◌}
 use Prim.Native.Nat.{◌≤◌}
 use lib.ListN.{length}
-use Rattle.svg.specs.Lists.{commandList, lent}
-use Rattle.svg.specs.Texts.{commandsOf, offsetsOf, measureOf, Roomed}
+use Rattle.svg.specs.Lists.{command_list, lent}
+use Rattle.svg.specs.Texts.{commands_of, offsets_of, measure_of, Roomed}
 use Rattle.svg.specs.declared.passes.Size.TheVariants.{Counted}
 use Rattle.svg.proofs.Answering.{unread, no-letters, no-numbers, no-offsets, has_room, read_whole}
 use Rattle.svg.proofs.Holding.{begun-counting, begun-room, begun-holding, begun-filled}
@@ -30,7 +30,7 @@ marked c = c.before.before.before.before.before.before
 -- ---- what they find there
 room :
     (c : tie.After-copy-letters-arg)
-    → let a = (start (judged c)).args in Roomed (offsetsOf a.text.now) (commandsOf a.text.now) (lent a.letters a.numbers a.offsets)
+    → let a = (start (judged c)).args in Roomed (offsets_of a.text.now) (commands_of a.text.now) (lent a.letters a.numbers a.offsets)
 room c =
     let t = judged c in
     let a = (start t).args in

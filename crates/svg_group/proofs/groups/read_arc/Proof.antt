@@ -2,23 +2,23 @@
 use borrow.Author.Rules.{rules}
 use mathlib.Core.Path.{sym, ap, ◌∙◌}
 use Rattle.svg_group.specs.Numbers.{pair_of}
-use Rattle.svg_group.specs.Groups.{readArcOf}
+use Rattle.svg_group.specs.Groups.{read_arc_of}
 use Rattle.svg_group.proofs.groups.read_arc.Statement.{statement}
 use Rattle.svg_group.proofs.groups.read_arc.Tie as tie
 
 returns : tie.Need-returns
-unfolding readArcOf
+unfolding read_arc_of
 returns c = rw (sym c.before.before.before.read-pair.ensures ∙ ap pair_of c.before.refusal.given.1)
 
 returns-2 : tie.Need-returns-2
-unfolding readArcOf
+unfolding read_arc_of
 returns-2 c =
     let second = c.before.before.before in
     let first = second.before.before.before.before in
     rw (sym first.read-pair.ensures ∙ ap pair_of second.before.before.radii-x.given.1, sym second.read_number.ensures ∙ c.before.refusal2.given.1)
 
 returns-3 : tie.Need-returns-3
-unfolding readArcOf
+unfolding read_arc_of
 returns-3 c =
     let third = c.before.before.before in
     let second = third.before.before.before.before in
@@ -29,7 +29,7 @@ returns-3 c =
     rw (one, two, three)
 
 returns-4 : tie.Need-returns-4
-unfolding readArcOf
+unfolding read_arc_of
 returns-4 c =
     let fourth = c.before.before.before in
     let third = fourth.before.before.before.before in
@@ -42,7 +42,7 @@ returns-4 c =
     rw (one, two, three, four)
 
 returns-5 : tie.Need-returns-5
-unfolding readArcOf
+unfolding read_arc_of
 returns-5 c =
     let fourth = c.before.before.before in
     let third = fourth.before.before.before.before in

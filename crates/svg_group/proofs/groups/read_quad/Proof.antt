@@ -2,23 +2,23 @@
 use borrow.Author.Rules.{rules}
 use mathlib.Core.Path.{sym, ap, ◌∙◌}
 use Rattle.svg_group.specs.Numbers.{pair_of}
-use Rattle.svg_group.specs.Groups.{readQuadOf}
+use Rattle.svg_group.specs.Groups.{read_quad_of}
 use Rattle.svg_group.proofs.groups.read_quad.Statement.{statement}
 use Rattle.svg_group.proofs.groups.read_quad.Tie as tie
 
 returns : tie.Need-returns
-unfolding readQuadOf
+unfolding read_quad_of
 returns c = rw (sym c.before.before.before.read-pair.ensures ∙ ap pair_of c.before.refusal.given.1)
 
 returns-2 : tie.Need-returns-2
-unfolding readQuadOf
+unfolding read_quad_of
 returns-2 c =
     let second = c.before.before.before in
     let first = second.before.before.before.before in
     rw (sym first.read-pair.ensures ∙ ap pair_of second.before.before.x.given.1, sym second.read-pair2.ensures ∙ ap pair_of c.before.refusal2.given.1)
 
 returns-3 : tie.Need-returns-3
-unfolding readQuadOf
+unfolding read_quad_of
 returns-3 c =
     let second = c.before.before.before in
     let first = second.before.before.before.before in

@@ -6,7 +6,7 @@ use mathlib.Core.Bool.{false}
 use mathlib.Core.List.{[], ◌∷◌}
 use borrow.Author.Tests.{ne_eqb}
 use Rattle.scan.specs.Bytes.{among}
-use Rattle.svg_group.specs.Letters.{meaningOf}
+use Rattle.svg_group.specs.Letters.{meaning_of}
 use Rattle.svg_group.proofs.letters.meaning.Statement.{statement}
 use Rattle.svg_group.proofs.letters.meaning.Tie as tie
 
@@ -15,47 +15,47 @@ unfolding among
 neither x a b n = simp (ne_eqb x a (λ e. n (inl e)), ne_eqb x b (λ e. n (inr e)))
 
 returns : tie.Need-returns
-unfolding meaningOf among
+unfolding meaning_of among
 returns c = ⊎_elim (λ e. rw e) (λ e. rw e) c.match.keys1
 
 returns-2 : tie.Need-returns-2
-unfolding meaningOf among
+unfolding meaning_of among
 returns-2 c = ⊎_elim (λ e. rw e) (λ e. rw e) c.match.keys2
 
 returns-3 : tie.Need-returns-3
-unfolding meaningOf among
+unfolding meaning_of among
 returns-3 c = ⊎_elim (λ e. rw e) (λ e. rw e) c.match.keys3
 
 returns-4 : tie.Need-returns-4
-unfolding meaningOf among
+unfolding meaning_of among
 returns-4 c = ⊎_elim (λ e. rw e) (λ e. rw e) c.match.keys4
 
 returns-5 : tie.Need-returns-5
-unfolding meaningOf among
+unfolding meaning_of among
 returns-5 c = ⊎_elim (λ e. rw e) (λ e. rw e) c.match.keys5
 
 returns-6 : tie.Need-returns-6
-unfolding meaningOf among
+unfolding meaning_of among
 returns-6 c = ⊎_elim (λ e. rw e) (λ e. rw e) c.match.keys6
 
 returns-7 : tie.Need-returns-7
-unfolding meaningOf among
+unfolding meaning_of among
 returns-7 c = ⊎_elim (λ e. rw e) (λ e. rw e) c.match.keys7
 
 returns-8 : tie.Need-returns-8
-unfolding meaningOf among
+unfolding meaning_of among
 returns-8 c = ⊎_elim (λ e. rw e) (λ e. rw e) c.match.keys8
 
 returns-9 : tie.Need-returns-9
-unfolding meaningOf among
+unfolding meaning_of among
 returns-9 c = ⊎_elim (λ e. rw e) (λ e. rw e) c.match.keys9
 
 returns-10 : tie.Need-returns-10
-unfolding meaningOf among
+unfolding meaning_of among
 returns-10 c = ⊎_elim (λ e. rw e) (λ e. rw e) c.match.keys10
 
 returns-11 : tie.Need-returns-11
-unfolding meaningOf
+unfolding meaning_of
 returns-11 c =
     let r = c.match.rest in
     simp (

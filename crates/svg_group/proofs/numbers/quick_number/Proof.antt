@@ -6,17 +6,17 @@ use native.Mathlib.Omega.{arith}
 use borrow.Author.Rules.{rules}
 use borrow.Author.Tests.{lt-ltb}
 use lib.ListN.{length}
-use Rattle.scan.specs.Runs.{pastSeparatorsOf}
+use Rattle.scan.specs.Runs.{past_separators_of}
 use Rattle.decimal.specs.Decimal.{number_of}
-use Rattle.svg_group.specs.Numbers.{readNumberOf}
+use Rattle.svg_group.specs.Numbers.{read_number_of}
 use Rattle.svg_group.proofs.numbers.quick_number.Statement.{statement}
 use Rattle.svg_group.proofs.numbers.quick_number.Tie as tie
 
 returns : tie.Need-returns
 returns c h = absurd (omega (arith, h))
 
-due : (text : List ℕ) (at start : ℕ) → start ≡ pastSeparatorsOf text at → start < length text → readNumberOf text at ≡ number_of text start
-unfolding readNumberOf
+due : (text : List ℕ) (at start : ℕ) → start ≡ past_separators_of text at → start < length text → read_number_of text at ≡ number_of text start
+unfolding read_number_of
 due text at start e inside = simp (sym e, lt-ltb _ _ inside)
 
 returns-2 : tie.Need-returns-2

@@ -1,23 +1,23 @@
 -- `svg_group::numbers::read_flags` meets its contract: each way out is a case of its definition. Assumes nothing.
 use borrow.Author.Rules.{rules}
 use mathlib.Core.Path.{sym, ◌∙◌}
-use Rattle.svg_group.specs.Numbers.{readFlagsOf}
+use Rattle.svg_group.specs.Numbers.{read_flags_of}
 use Rattle.svg_group.proofs.numbers.read_flags.Statement.{statement}
 use Rattle.svg_group.proofs.numbers.read_flags.Tie as tie
 
 returns : tie.Need-returns
-unfolding readFlagsOf
+unfolding read_flags_of
 returns c = rw (sym c.before.before.before.read-flag.ensures ∙ c.before.refusal.given.1)
 
 returns-2 : tie.Need-returns-2
-unfolding readFlagsOf
+unfolding read_flags_of
 returns-2 c =
     let second = c.before.before.before in
     let first = second.before.before.before.before in
     rw (sym first.read-flag.ensures ∙ second.before.before.set.given.1, sym second.read-flag2.ensures ∙ c.before.refusal2.given.1)
 
 returns-3 : tie.Need-returns-3
-unfolding readFlagsOf
+unfolding read_flags_of
 returns-3 c =
     let second = c.before.before.before in
     let first = second.before.before.before.before in

@@ -1,23 +1,23 @@
 -- `svg_group::numbers::read_pair` meets its contract: each way out is a case of its definition. Assumes nothing.
 use borrow.Author.Rules.{rules}
 use mathlib.Core.Path.{sym, ◌∙◌}
-use Rattle.svg_group.specs.Numbers.{readPairOf}
+use Rattle.svg_group.specs.Numbers.{read_pair_of}
 use Rattle.svg_group.proofs.numbers.read_pair.Statement.{statement}
 use Rattle.svg_group.proofs.numbers.read_pair.Tie as tie
 
 returns : tie.Need-returns
-unfolding readPairOf
+unfolding read_pair_of
 returns c = rw (sym c.before.before.before.read_number.ensures ∙ c.before.refusal.given.1)
 
 returns-2 : tie.Need-returns-2
-unfolding readPairOf
+unfolding read_pair_of
 returns-2 c =
     let second = c.before.before.before in
     let first = second.before.before.before.before in
     rw (sym first.read_number.ensures ∙ second.before.before.x.given.1, sym second.read-number2.ensures ∙ c.before.refusal2.given.1)
 
 returns-3 : tie.Need-returns-3
-unfolding readPairOf
+unfolding read_pair_of
 returns-3 c =
     let second = c.before.before.before.before in
     let first = second.before.before.before.before in

@@ -1,23 +1,23 @@
 -- `svg_group::passing::pass_arc` meets its contract: each way out is a case of its definition. Assumes nothing.
 use borrow.Author.Rules.{rules}
 use mathlib.Core.Path.{sym, ◌∙◌}
-use Rattle.svg_group.specs.Passing.{passArcOf}
+use Rattle.svg_group.specs.Passing.{pass_arc_of}
 use Rattle.svg_group.proofs.passing.pass_arc.Statement.{statement}
 use Rattle.svg_group.proofs.passing.pass_arc.Tie as tie
 
 returns : tie.Need-returns
-unfolding passArcOf
+unfolding pass_arc_of
 returns c = rw (sym c.before.before.before.pass-pair.ensures ∙ c.before.refusal.given.1)
 
 returns-2 : tie.Need-returns-2
-unfolding passArcOf
+unfolding pass_arc_of
 returns-2 c =
     let second = c.before.before.before in
     let first = second.before.before.before.before in
     rw (sym first.pass-pair.ensures ∙ second.before.before.second.given.1, sym second.pass-number.ensures ∙ c.before.refusal2.given.1)
 
 returns-3 : tie.Need-returns-3
-unfolding passArcOf
+unfolding pass_arc_of
 returns-3 c =
     let third = c.before.before.before in
     let second = third.before.before.before.before in
@@ -28,7 +28,7 @@ returns-3 c =
     rw (one, two, three)
 
 returns-4 : tie.Need-returns-4
-unfolding passArcOf
+unfolding pass_arc_of
 returns-4 c =
     let third = c.before.before.before.before in
     let second = third.before.before.before.before in

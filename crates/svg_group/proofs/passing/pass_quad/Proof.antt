@@ -1,16 +1,16 @@
 -- `svg_group::passing::pass_quad` meets its contract: each way out is a case of its definition. Assumes nothing.
 use borrow.Author.Rules.{rules}
 use mathlib.Core.Path.{sym, ◌∙◌}
-use Rattle.svg_group.specs.Passing.{passQuadOf}
+use Rattle.svg_group.specs.Passing.{pass_quad_of}
 use Rattle.svg_group.proofs.passing.pass_quad.Statement.{statement}
 use Rattle.svg_group.proofs.passing.pass_quad.Tie as tie
 
 returns : tie.Need-returns
-unfolding passQuadOf
+unfolding pass_quad_of
 returns c = rw (sym c.before.before.before.pass-pair.ensures ∙ c.before.refusal.given.1)
 
 returns-2 : tie.Need-returns-2
-unfolding passQuadOf
+unfolding pass_quad_of
 returns-2 c = rw (sym c.before.before.before.before.pass-pair.ensures ∙ c.before.before.next.given.1) c.pass-pair2.ensures
 
 pub pass-quad-spec : {M : Type 1} → statement M

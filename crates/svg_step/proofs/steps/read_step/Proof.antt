@@ -1,24 +1,24 @@
 -- `svg_step::read_step` meets its contract: each way out is a case of its definition. Assumes nothing.
 use borrow.Author.Rules.{rules}
 use mathlib.Core.Path.{sym, ◌∙◌}
-use Rattle.svg_step.specs.Steps.{nextDueOf, readStepOf}
+use Rattle.svg_step.specs.Steps.{next_due_of, read_step_of}
 use Rattle.svg_step.proofs.steps.read_step.Statement.{statement}
 use Rattle.svg_step.proofs.steps.read_step.Tie as tie
 
 returns : tie.Need-returns
-unfolding readStepOf nextDueOf
+unfolding read_step_of next_due_of
 returns c =
     let at-due = c.before.before in
     rw (← at-due.before.before.past-separators.ensures, sym at-due.due-at.ensures ∙ c.enum_told.given.1)
 
 returns-2 : tie.Need-returns-2
-unfolding readStepOf nextDueOf
+unfolding read_step_of next_due_of
 returns-2 c =
     let at-due = c.before.before.before in
     rw (← at-due.before.before.past-separators.ensures, sym at-due.due-at.ensures ∙ c.before.refusal.given.1)
 
 returns-3 : tie.Need-returns-3
-unfolding readStepOf nextDueOf
+unfolding read_step_of next_due_of
 returns-3 c =
     let at-due = c.before.before.before.before in
     rw (
@@ -29,7 +29,7 @@ returns-3 c =
     )
 
 returns-4 : tie.Need-returns-4
-unfolding readStepOf nextDueOf
+unfolding read_step_of next_due_of
 returns-4 c =
     let at-group = c.before.before.before in
     let at-control = at-group.before in
@@ -45,7 +45,7 @@ returns-4 c =
     )
 
 returns-5 : tie.Need-returns-5
-unfolding readStepOf nextDueOf
+unfolding read_step_of next_due_of
 returns-5 c =
     let at-group = c.before.before.before.before in
     let at-control = at-group.before in

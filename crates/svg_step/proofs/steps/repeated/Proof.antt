@@ -1,43 +1,43 @@
 -- `svg_step::steps::repeated` meets its contract: each way out is a case of its definition. Assumes nothing.
 use borrow.Author.Rules.{rules}
-use Rattle.svg_step.specs.Steps.{repeatedOf}
+use Rattle.svg_step.specs.Steps.{repeated_of}
 use Rattle.svg_step.proofs.steps.repeated.Statement.{statement}
 use Rattle.svg_step.proofs.steps.repeated.Tie as tie
 
 returns : tie.Need-returns
-unfolding repeatedOf
+unfolding repeated_of
 returns c = rw c.enum_told.given.1
 
 returns-2 : tie.Need-returns-2
-unfolding repeatedOf
+unfolding repeated_of
 returns-2 c = rw c.enum-told2.given.1
 
 returns-3 : tie.Need-returns-3
-unfolding repeatedOf
+unfolding repeated_of
 returns-3 c = rw c.enum-told3.given.1
 
 returns-4 : tie.Need-returns-4
-unfolding repeatedOf
+unfolding repeated_of
 returns-4 c = rw c.enum-told4.given.1
 
 returns-5 : tie.Need-returns-5
-unfolding repeatedOf
+unfolding repeated_of
 returns-5 c = rw c.enum-told5.given.1
 
 returns-6 : tie.Need-returns-6
-unfolding repeatedOf
+unfolding repeated_of
 returns-6 c = rw c.enum-told6.given.1
 
 returns-7 : tie.Need-returns-7
-unfolding repeatedOf
+unfolding repeated_of
 returns-7 c = rw c.enum-told7.given.1
 
 returns-8 : tie.Need-returns-8
-unfolding repeatedOf
+unfolding repeated_of
 returns-8 c = rw c.enum-told8.given.1
 
 returns-9 : tie.Need-returns-9
-unfolding repeatedOf
+unfolding repeated_of
 returns-9 c = rw c.enum-told9.given.1
 
 pub repeated-spec : {M : Type 1} → statement M

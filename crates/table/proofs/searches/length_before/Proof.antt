@@ -1,12 +1,12 @@
 -- `table::searches::length_before` meets its contract: 0 stands before the first, and the length before a later one is at the place before. Assumes nothing.
 use borrow.Author.Rules.{rules}
-use Rattle.floats.specs.Floats.{zeroF}
+use Rattle.floats.specs.Floats.{zero_f}
 use Rattle.table.proofs.Before.{before-first, before-later}
 use Rattle.table.proofs.searches.length_before.Statement.{statement}
 use Rattle.table.proofs.searches.length_before.Tie as tie
 
 returns : tie.Need-returns
-unfolding zeroF
+unfolding zero_f
 returns c = before-first c.before.args.lengths.now c.before.args.segment (search rules)
 
 returns-2 : tie.Need-returns-2

@@ -4,7 +4,7 @@ use Prim.Native.Nat.{ℕ, ◌+◌, ◌-◌, ◌*◌, ◌/◌, ◌≤◌}
 use mathlib.Core.Path.{◌≡◌, refl, ap, subst, ◌∙◌}
 use native.Mathlib.Omega.{arith}
 use lib.ListN.{length, length-take}
-use Rattle.table.specs.Lookup.{firstNotBelow}
+use Rattle.table.specs.Lookup.{first_not_below}
 use Rattle.table.proofs.Search.{Bracket, bracket-start, first-upto}
 use Rattle.table.proofs.Quarters.{Quarter, at_most_one, quartered, part_sound, bracket-counted}
 use borrow.Author.Rules.{rules}
@@ -46,7 +46,7 @@ count-below-requires c κs =
 
 -- it passes over all of them
 exact : (c : tie.After-count-below invariant-loop decreases-loop) → let l = c.before.before.before.loop in let start = c.before.before.before.before.before in
-    l.base + c.count-below.result ≡ firstNotBelow start.args.target start.args.lengths.now
+    l.base + c.count-below.result ≡ first_not_below start.args.target start.args.lengths.now
 exact c =
     let l = c.before.before.before.loop in
     ap (λ (n : ℕ). l.base + n) c.count-below.ensures ∙ bracket-counted l.base (l.base + l.size) (l.base + l.size - l.base) l.invariant refl

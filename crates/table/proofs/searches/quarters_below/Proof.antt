@@ -4,7 +4,7 @@ use Prim.Native.Nat.{ℕ, ◌+◌, ◌*◌, ◌≤◌}
 use native.Mathlib.Omega.{arith}
 use mathlib.Core.Bool.{Bool}
 use lib.Ieee.{lt}
-use Rattle.table.specs.Lookup.{at, quartersBelow}
+use Rattle.table.specs.Lookup.{at, quarters_below}
 use Rattle.table.proofs.Quarters.{at_most_one}
 use Rattle.table.proofs.searches.quarters_below.Statement.{statement}
 use Rattle.table.proofs.searches.quarters_below.Tie as tie
@@ -26,7 +26,7 @@ add-result-2 : tie.Need-overflow-add-result-2
 add-result-2 c = omega (arith, (ones c).0, (ones c).1, (ones c).2)
 
 returns : tie.Need-returns
-unfolding quartersBelow
+unfolding quarters_below
 returns c = rw (c.before.before.before.before.step-below.ensures, c.before.before.step-below2.ensures, c.step-below3.ensures)
 
 pub quarters-below-spec : {M : Type 1} → statement M

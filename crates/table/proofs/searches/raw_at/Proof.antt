@@ -5,20 +5,20 @@ use Prim.Native.Nat.{◌-◌, ◌^◌}
 use lib.Dec.{le→leb}
 use lib.ListN.{length}
 use lib.Ieee.{in_float}
-use Rattle.floats.specs.Floats.{zeroF, oneF}
+use Rattle.floats.specs.Floats.{zero_f, one_f}
 use Rattle.floats.proofs.Tests.{failed}
-use Rattle.table.specs.Lookup.{last_of, rawAt, rawInPart}
+use Rattle.table.specs.Lookup.{last_of, raw_at, raw_in_part}
 use Rattle.table.proofs.Lengths.{table-lengths}
 use Rattle.table.proofs.Enclosure.{Encloses, table-encloses}
 use Rattle.table.proofs.searches.raw_at.Statement.{statement}
 use Rattle.table.proofs.searches.raw_at.Tie as tie
 
 returns : tie.Need-returns
-unfolding rawAt zeroF
+unfolding raw_at zero_f
 returns c = rw c.if1.true
 
 returns-2 : tie.Need-returns-2
-unfolding rawAt zeroF oneF
+unfolding raw_at zero_f one_f
 returns-2 c = rw (c.before.if1.false, c.if2.true)
 
 first-not-below-requires : tie.Need-first-not-below-requires
@@ -32,7 +32,7 @@ Found c =
     Encloses (last_of start.args.entries.now) start.args.entries.now start.args.target c.first-not-below.result
 
 found : (c : tie.After-first-not-below) → Found c
-unfolding zeroF
+unfolding zero_f
 found c =
     let start = c.before.before.before.before in
     rw c.first-not-below.ensures
@@ -70,7 +70,7 @@ int-to-float-parts c =
     le→leb (length start.args.entries.now - 1) (2 ^ 24) (search rules)
 
 returns-3 : tie.Need-returns-3
-unfolding rawAt rawInPart zeroF oneF
+unfolding raw_at raw_in_part zero_f one_f
 returns-3 c =
     let searched = c.before.before.before.before.before in
     rw (c.before.before.share.ensures, searched.before.before.if1.false, searched.before.if2.false, ← searched.first-not-below.ensures)

@@ -1,20 +1,20 @@
 -- `table::searches::spot_at` meets its contract: each way out rewrites with the tests that led there. Past both tests the running lengths enclose the target, so the segment is one of
 -- the path's. Assumes nothing.
 use borrow.Author.Rules.{rules}
-use Rattle.floats.specs.Floats.{zeroF, oneF}
+use Rattle.floats.specs.Floats.{zero_f, one_f}
 use Rattle.floats.proofs.Tests.{failed}
-use Rattle.table.specs.Spots.{spotAt}
+use Rattle.table.specs.Spots.{spot_at}
 use Rattle.table.proofs.Before.{path-total}
 use Rattle.table.proofs.Enclosure.{Within, path-within}
 use Rattle.table.proofs.searches.spot_at.Statement.{statement}
 use Rattle.table.proofs.searches.spot_at.Tie as tie
 
 returns : tie.Need-returns
-unfolding spotAt zeroF
+unfolding spot_at zero_f
 returns c = rw c.if1.true
 
 returns-2 : tie.Need-returns-2
-unfolding spotAt zeroF oneF
+unfolding spot_at zero_f one_f
 returns-2 c =
     let start = c.before.before.before.before in
     let past = rw (path-total start.args.lengths.now start.requires.0.some) at c.if2.true in
@@ -24,7 +24,7 @@ first-from-requires : tie.Need-first-from-requires
 first-from-requires c κs = c.before.before.before.before.requires.0.sound
 
 found : (c : tie.After-first-from) → Within c.before.before.before.before.before.args.lengths.now c.before.before.before.before.before.args.target c.first-from.result
-unfolding zeroF
+unfolding zero_f
 found c =
     let start = c.before.before.before.before.before in
     rw c.first-from.ensures
@@ -41,7 +41,7 @@ shared-slice-read-own : tie.Need-shared-slice-read-own
 shared-slice-read-own c = let w = found c.before.before in search rules
 
 returns-3 : tie.Need-returns-3
-unfolding spotAt zeroF
+unfolding spot_at zero_f
 returns-3 c =
     let searched = c.before.before.before in
     let start = searched.before.before.before.before.before in

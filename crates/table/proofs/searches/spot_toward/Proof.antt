@@ -1,18 +1,18 @@
 -- `table::searches::spot_toward` meets its contract: a short path gives its last segment's end, and `spot_at` any other. Assumes nothing.
 use borrow.Author.Rules.{rules}
-use Rattle.floats.specs.Floats.{oneF, epsilonF}
+use Rattle.floats.specs.Floats.{one_f, epsilon_f}
 use Rattle.table.proofs.Before.{path-total}
 use Rattle.table.proofs.searches.spot_toward.Statement.{statement}
 use Rattle.table.proofs.searches.spot_toward.Tie as tie
 
 returns : tie.Need-returns
-unfolding epsilonF oneF
+unfolding epsilon_f one_f
 returns c =
     let start = c.before.before.before in
     rw (rw (path-total start.args.lengths.now start.requires.0.some) at c.if1.true)
 
 returns-2 : tie.Need-returns-2
-unfolding epsilonF
+unfolding epsilon_f
 returns-2 c =
     let start = c.before.before.before.before in
     let total = path-total start.args.lengths.now start.requires.0.some in

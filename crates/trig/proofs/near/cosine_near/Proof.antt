@@ -1,12 +1,12 @@
 -- The two sides are those of the definition. Assumes nothing.
 use Rattle.std.proofs.Common.{◌≡◌, ℕ, ◌+◌, ◌*◌, ◌^◌, ap, ◌∙◌, rules}
 use lib.Ieee.{Float, binary32, of_bits}
-use Rattle.trig_rule.specs.Steps.{gap_of, overOf, packOf}
+use Rattle.trig_rule.specs.Steps.{gap_of, over_of, pack_of}
 use Rattle.trig.proofs.near.cosine_near.Statement.{statement}
 use Rattle.trig.proofs.near.cosine_near.Tie as tie
 
 abbrev answer : ℕ → ℕ → Float
-answer a t = of_bits binary32 (overOf a t * 2 ^ 31 + packOf (gap_of a t) 58)
+answer a t = of_bits binary32 (over_of a t * 2 ^ 31 + pack_of (gap_of a t) 58)
 
 returns : tie.Need-returns
 returns c =

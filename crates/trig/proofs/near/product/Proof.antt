@@ -1,8 +1,8 @@
 -- The head and the difference are numbers, and the product's pattern packs the sine away from the middles: `product-stands`. Assumes nothing.
 use Rattle.std.proofs.Common.{◌≡◌, ℕ, ◌/◌, ◌%◌, ◌^◌, sym, subst, arith, le→leb, rules}
 use lib.Ieee.{in_float}
-use Rattle.floats.specs.Patterns.{narrowStep, narrowHalf}
-use Rattle.trig_single.specs.Single.{Stands, sineFrom}
+use Rattle.floats.specs.Patterns.{narrow_step, narrow_half}
+use Rattle.trig_single.specs.Single.{Stands, sine_from}
 use Rattle.trig_single.proofs.Finite.{finite-bits}
 use Rattle.trig_single.proofs.Sine.{whole-number, head, product-number, product-stands}
 use Rattle.trig.proofs.near.product.Statement.{statement}
@@ -33,7 +33,7 @@ returns : tie.Need-returns
 returns c =
     let start = c.before.before.before.before in
     let given = start.args in
-    subst (λ (w : ℕ). (w % narrowStep ≡ narrowHalf → ⊥) → Stands w (sineFrom given.turned given.r given.sides.plus given.sides.minus)) (sym c.wrapping-add-u64.ensures)
+    subst (λ (w : ℕ). (w % narrow_step ≡ narrow_half → ⊥) → Stands w (sine_from given.turned given.r given.sides.plus given.sides.minus)) (sym c.wrapping-add-u64.ensures)
     (product-stands given.r given.sides.plus given.sides.minus start.requires.0 start.requires.1 start.requires.2 start.requires.3 given.turned)
 
 pub product-spec : {M : Type 1} → statement M

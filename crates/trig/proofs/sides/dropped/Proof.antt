@@ -1,26 +1,26 @@
 -- r has 64 digits less its leading zeros, and what is dropped leaves 31 of them at most. Assumes nothing.
 use Rattle.std.proofs.Common.{◌≡◌, ℕ, ◌+◌, ◌/◌, ◌^◌, ◌<◌, ◌≤◌, sym, refl, subst, lt_of_lt_of_le, arith, pow_mono, shr_lt, rules}
 use lib.Count.{count_leading_zeros, leading_length}
-use Rattle.trig_rule.specs.Steps.{dropOf}
+use Rattle.trig_rule.specs.Steps.{drop_of}
 use Rattle.trig.proofs.sides.dropped.Statement.{statement}
 use Rattle.trig.proofs.sides.dropped.Tie as tie
 
-kept : (r : ℕ) → r < 2 ^ 64 → r / 2 ^ dropOf r < 2 ^ 31
+kept : (r : ℕ) → r < 2 ^ 64 → r / 2 ^ drop_of r < 2 ^ 31
 kept r h =
     let l = leading_length 64 r h in
     let e = l.1 in
-    let m : l.0 ≤ 31 + dropOf r = omega arith in
-    shr_lt 31 (dropOf r) (lt_of_lt_of_le l.2 (pow_mono m))
+    let m : l.0 ≤ 31 + drop_of r = omega arith in
+    shr_lt 31 (drop_of r) (lt_of_lt_of_le l.2 (pow_mono m))
 
 returns : tie.Need-returns
 returns c = (refl, omega arith, kept c.before.args.r c.before.ranges.r.fits)
 
 returns-2 : tie.Need-returns-2
 returns-2 c =
-    let z : 0 ≡ dropOf c.before.args.r = none c.before.args.r c.if1.false in
+    let z : 0 ≡ drop_of c.before.args.r = none c.before.args.r c.if1.false in
     (z, omega arith, subst (λ (k : ℕ). c.before.args.r / 2 ^ k < 2 ^ 31) (sym z) (kept c.before.args.r c.before.ranges.r.fits))
   where
-    none : (r : ℕ) → 33 ≤ count_leading_zeros 64 r → 0 ≡ dropOf r
+    none : (r : ℕ) → 33 ≤ count_leading_zeros 64 r → 0 ≡ drop_of r
     none r h = omega arith
 
 pub dropped-spec : {M : Type 1} → statement M

@@ -2,14 +2,14 @@
 use borrow.Author.Rules.{rules}
 use native.Mathlib.Omega.{arith}
 use Prim.Native.Nat.{◌-◌, ◌≤◌}
-use Rattle.trig_rule.specs.Steps.{cosineOf}
+use Rattle.trig_rule.specs.Steps.{cosine_of}
 use Rattle.trig_all.specs.Rows.{Run}
 use Rattle.trig_all.proofs.Rows.{run-start, run_more, run-whole}
 use Rattle.trig_all.proofs.passes.put_cosines.Statement.{statement}
 use Rattle.trig_all.proofs.passes.put_cosines.Tie as tie
 
 abbrev invariant-loop : tie.invariant-loop
-invariant-loop x plus minus at n y₀ i₀ y i = Run cosineOf at i x y₀ y × (i ≤ n)
+invariant-loop x plus minus at n y₀ i₀ y i = Run cosine_of at i x y₀ y × (i ≤ n)
 
 abbrev decreases-loop : tie.decreases-loop
 decreases-loop x plus minus at n y₀ i₀ y i = n - i

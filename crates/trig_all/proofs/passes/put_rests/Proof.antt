@@ -3,14 +3,14 @@ use borrow.Author.Rules.{rules}
 use native.Mathlib.Omega.{arith}
 use mathlib.Core.Path.{ap, ◌∙◌}
 use Prim.Native.Nat.{ℕ, ◌-◌, ◌<◌}
-use Rattle.trig_rule.specs.Steps.{fixed_of, rest_of, flipOf}
-use Rattle.trig_all.specs.Rows.{Row, rest_at, flipAt}
+use Rattle.trig_rule.specs.Steps.{fixed_of, rest_of, flip_of}
+use Rattle.trig_all.specs.Rows.{Row, rest_at, flip_at}
 use Rattle.trig_all.proofs.Rows.{row_more, row-whole}
 use Rattle.trig_all.proofs.passes.put_rests.Statement.{statement}
 use Rattle.trig_all.proofs.passes.put_rests.Tie as tie
 
 abbrev invariant-loop : tie.invariant-loop
-invariant-loop x at n r₀ flip₀ i₀ r flip i = Row (rest_at x at) i r × Row (flipAt x at) i flip
+invariant-loop x at n r₀ flip₀ i₀ r flip i = Row (rest_at x at) i r × Row (flip_at x at) i flip
 
 abbrev decreases-loop : tie.decreases-loop
 decreases-loop x at n r₀ flip₀ i₀ r flip i = n - i
@@ -22,7 +22,7 @@ loop-again c =
     let reduced = c.before.reduce.ensures in
     let bits = c.before.before.fixed.ensures.0 ∙ ap fixed_of c.before.before.before.stepped-bits.ensures.0 in
     let l : in-loop.before.loop.i < 8 = omega (arith, in-loop.loop-test.true, in-loop.before.before.requires.0) in
-    (row_more inv.0 l _ (reduced.0 ∙ ap rest_of bits), row_more inv.1 l _ (reduced.1 ∙ ap flipOf bits))
+    (row_more inv.0 l _ (reduced.0 ∙ ap rest_of bits), row_more inv.1 l _ (reduced.1 ∙ ap flip_of bits))
 
 returns : tie.Need-returns invariant-loop decreases-loop
 returns c = let inv = c.before.loop.invariant in (row-whole inv.0 c.loop-test.false, row-whole inv.1 c.loop-test.false)

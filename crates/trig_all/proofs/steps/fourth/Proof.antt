@@ -4,7 +4,7 @@ use native.Mathlib.Omega.{arith}
 use native.Mathlib.Nat.{mod-eq_of_lt}
 use Prim.Native.Nat.{ℕ, ◌*◌, ◌/◌, ◌%◌, ◌^◌, ◌<◌}
 use mathlib.Core.Path.{◌≡◌, ap, ◌∙◌}
-use Rattle.trig_rule.specs.Steps.{squareOf}
+use Rattle.trig_rule.specs.Steps.{square_of}
 use Rattle.trig_all.proofs.Sizes.{square_le, fourth-lt}
 use Rattle.trig_all.proofs.steps.fourth.Statement.{statement}
 use Rattle.trig_all.proofs.steps.fourth.Tie as tie

@@ -6,11 +6,11 @@ use Prim.Native.Nat.{ℕ, ◌+◌, ◌*◌, ◌%◌, ◌≤◌}
 use mathlib.Core.Path.{◌≡◌, sym, ap, ◌∙◌}
 use mathlib.Core.Bool.{true}
 use lib.Ieee.{Float, binary32, of_bits}
-use Rattle.trig_rule.specs.Rule.{inReach}
-use Rattle.trig_rule.specs.Steps.{fixed_of, flipOf, rest_of, sign_bit, sineAt}
+use Rattle.trig_rule.specs.Rule.{in_the_reach}
+use Rattle.trig_rule.specs.Steps.{fixed_of, flip_of, rest_of, sign_bit, sine_at}
 use Rattle.trig_rule.proofs.Ruled.{sine-far, sine-tiny, sine-main}
 use Rattle.trig.proofs.Frame.{none, outside, inside, number, sign_le, number-bits}
-use Rattle.trig_all.specs.Rows.{restFor, flipFor}
+use Rattle.trig_all.specs.Rows.{rest_for, flip_for}
 use Rattle.trig_all.proofs.Stepped.{stepped-main}
 use Rattle.trig_all.proofs.steps.sine_from.Statement.{statement}
 use Rattle.trig_all.proofs.steps.sine_from.Tie as tie
@@ -46,9 +46,9 @@ returns-3 c =
     let start = tests.before.before.before in
     let given = start.requires in
     let x = start.args.x in
-    let near : inReach x ≡ true = inside _ _ tests.before.before.in_reach.ensures tests.before.if1.false in
-    let bits : (sign_bit x + start.args.flip + c.over.result) % 2 * 2147483648 + c.before.pack.result ≡ sineAt (sign_bit x + flipFor x) (restFor x) = cc in
-    ap (of_bits binary32) bits ∙ ap (λ (b : ℕ). of_bits binary32 (sineAt (sign_bit x + flipOf (fixed_of b)) (rest_of (fixed_of b)))) (stepped-main x near tests.if2.false) ∙ sym (sine-main x near tests.if2.false)
+    let near : in_the_reach x ≡ true = inside _ _ tests.before.before.in_reach.ensures tests.before.if1.false in
+    let bits : (sign_bit x + start.args.flip + c.over.result) % 2 * 2147483648 + c.before.pack.result ≡ sine_at (sign_bit x + flip_for x) (rest_for x) = cc in
+    ap (of_bits binary32) bits ∙ ap (λ (b : ℕ). of_bits binary32 (sine_at (sign_bit x + flip_of (fixed_of b)) (rest_of (fixed_of b)))) (stepped-main x near tests.if2.false) ∙ sym (sine-main x near tests.if2.false)
 
 pub sine-from-spec : {M : Type 1} → statement M
 sine-from-spec =

@@ -1,7 +1,7 @@
 -- The passes give the ladders of the definition (`plus-row`, `minus-row`). Assumes nothing.
 use borrow.Author.Rules.{rules}
 use native.Mathlib.Omega.{arith}
-use Rattle.trig_rule.specs.Steps.{cosinePlus, cosineMinus}
+use Rattle.trig_rule.specs.Steps.{cosine_plus, cosine_minus}
 use Rattle.trig_all.proofs.Sizes.{fourths-below, rungs-below}
 use Rattle.trig_all.proofs.Sides.{cosine-plus, cosine-minus, plus-row, minus-row}
 use Rattle.trig_all.proofs.sums.cosine_sums.Statement.{statement}
@@ -30,8 +30,8 @@ returns c =
     let start = first.before.before in
     let fourths = start.requires.4 in
     let r = start.args.r.now in (
-      plus-row 268435456 2863311530 436314138 9402055 55103 cosinePlus r fourths first.ladder.ensures cosine-plus,
-      minus-row 2147483648 1527099483 77566957 826554 2881 cosineMinus r fourths second.ladder2.ensures c.times-squares.ensures cosine-minus,
+      plus-row 268435456 2863311530 436314138 9402055 55103 cosine_plus r fourths first.ladder.ensures cosine-plus,
+      minus-row 2147483648 1527099483 77566957 826554 2881 cosine_minus r fourths second.ladder2.ensures c.times-squares.ensures cosine-minus,
     )
 
 pub cosine-sums-spec : {M : Type 1} → statement M

@@ -3,14 +3,14 @@ use borrow.Author.Rules.{rules}
 use native.Mathlib.Omega.{arith}
 use Prim.Native.Nat.{ℕ, ◌-◌}
 use lib.ListN.{get_or}
-use Rattle.trig_rule.specs.Steps.{fourthOf}
+use Rattle.trig_rule.specs.Steps.{fourth_of}
 use Rattle.trig_all.specs.Rows.{Row}
 use Rattle.trig_all.proofs.Rows.{row_more, row-whole}
 use Rattle.trig_all.proofs.sums.put_fourths.Statement.{statement}
 use Rattle.trig_all.proofs.sums.put_fourths.Tie as tie
 
 abbrev invariant-loop : tie.invariant-loop
-invariant-loop r n v₀ i₀ v i = Row (λ (k : ℕ). fourthOf (get_or r k 0)) i v
+invariant-loop r n v₀ i₀ v i = Row (λ (k : ℕ). fourth_of (get_or r k 0)) i v
 
 abbrev decreases-loop : tie.decreases-loop
 decreases-loop r n v₀ i₀ v i = n - i

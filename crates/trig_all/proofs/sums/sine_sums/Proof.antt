@@ -1,7 +1,7 @@
 -- The passes give the ladders of the definition (`plus-row`, `minus-row`). Assumes nothing.
 use borrow.Author.Rules.{rules}
 use native.Mathlib.Omega.{arith}
-use Rattle.trig_rule.specs.Steps.{sinePlus, sineMinus}
+use Rattle.trig_rule.specs.Steps.{sine_plus, sine_minus}
 use Rattle.trig_all.proofs.Sizes.{fourths-below, rungs-below}
 use Rattle.trig_all.proofs.Sides.{sine-plus, sine-minus, plus-row, minus-row}
 use Rattle.trig_all.proofs.sums.sine_sums.Statement.{statement}
@@ -30,8 +30,8 @@ returns c =
     let start = first.before.before in
     let fourths = start.requires.4 in
     let r = start.args.r.now in (
-      plus-row 1073741824 2290649224 193917394 2892940 12965 sinePlus r fourths first.ladder.ensures sine-plus,
-      minus-row 2863311530 872628276 28206166 220414 0 sineMinus r fourths second.ladder2.ensures c.times-squares.ensures sine-minus,
+      plus-row 1073741824 2290649224 193917394 2892940 12965 sine_plus r fourths first.ladder.ensures sine-plus,
+      minus-row 2863311530 872628276 28206166 220414 0 sine_minus r fourths second.ladder2.ensures c.times-squares.ensures sine-minus,
     )
 
 pub sine-sums-spec : {M : Type 1} → statement M

@@ -4,7 +4,7 @@ use native.Mathlib.Omega.{arith}
 use mathlib.Core.Path.{◌≡◌, ap, ◌∙◌}
 use Prim.Native.Nat.{ℕ, ◌-◌}
 use lib.ListN.{get_or}
-use Rattle.trig_rule.specs.Steps.{squareOf, risen}
+use Rattle.trig_rule.specs.Steps.{square_of, risen}
 use Rattle.trig_all.proofs.Rows.{row-whole, Replacing, replacing-here, replacing-more}
 use Rattle.trig_all.proofs.sums.times_squares.Statement.{statement}
 use Rattle.trig_all.proofs.sums.times_squares.Tie as tie
@@ -14,7 +14,7 @@ raised : {r q g h k : ℕ} → r ≡ risen 0 q h → q ≡ g → h ≡ k → r �
 raised {r} {q} {g} {h} e a b = e ∙ ap (λ (z : ℕ). risen 0 z h) a ∙ ap (risen 0 g) b
 
 abbrev invariant-loop : tie.invariant-loop
-invariant-loop r n row₀ i₀ row i = Replacing (λ (k : ℕ). risen 0 (squareOf (get_or r k 0)) (get_or row₀ k 0)) row₀ row i
+invariant-loop r n row₀ i₀ row i = Replacing (λ (k : ℕ). risen 0 (square_of (get_or r k 0)) (get_or row₀ k 0)) row₀ row i
 
 abbrev decreases-loop : tie.decreases-loop
 decreases-loop r n row₀ i₀ row i = n - i

@@ -43,7 +43,7 @@ use denote.Triple.Table.{entered, cited}
 use denote.Triple.Walked.{says, Stays, stay_none, walk_of, Goes-none, Walks, ends_at, walked, walk_Meets}
 use denote.Exit.{yes}
 use denote.Triple.Clauses.{ensured, lasts}
-use Rattle.text_reader.specs.Plans.{firstLineOf}
+use Rattle.text_reader.specs.Plans.{first_line_of}
 use Rattle.text_reader.specs.declared.reader.TextReader.{TextReader}
 use Rattle.text_reader.specs.declared.line.FirstLine.{FirstLine}
 use Rattle.text_reader.specs.contracts.reader.TextReader as T
@@ -82,7 +82,7 @@ module _ {M : Type 1} {𝓤 : Ura M} (𝓛 : Logic 𝓤) (mem : Memory → SProp
   v = slice_val d.text.ref_ptr (length d.text.now)
 
   abbrev found : FirstLine
-  found = firstLineOf d.text.now d.at
+  found = first_line_of d.text.now d.at
 
   abbrev Post : Val → SProp 𝓤
   Post = (walk_of 𝓛 line.ended stayed (line.clauses 𝓛 mem run)).post (((κ, tt), (q, tt), tt, (d, tt), (mach ∷ [], tt)), tt)
