@@ -19,7 +19,7 @@ use table::{Progress, RawParameter, Table, table_is_sound, table_of};
 use trig::SinCos;
 
 // An arc, with its running lengths unless it is a line fallback. `arc` makes one whose table is sound.
-#[derive(Drop)]
+#[derive(Clone, Copy)]
 pub struct EllipticalArc {
     pub shape: Arc,
     pub line_fallback: bool,
@@ -28,7 +28,7 @@ pub struct EllipticalArc {
 
 // What making an arc answers: the arc, and whether it is accepted. The arc of a refusal is a line fallback, or has a table that
 // every query refuses.
-#[derive(Drop)]
+#[derive(Clone, Copy)]
 pub struct MadeArc {
     pub verdict: Verdict,
     pub arc: EllipticalArc,

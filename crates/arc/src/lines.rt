@@ -11,14 +11,14 @@ use table::inner::raw_parameter_in;
 use table::{Progress, RawParameter, number_of};
 
 // From `start` to `end`.
-#[derive(Drop)]
+#[derive(Clone, Copy)]
 pub struct LineSegment {
     pub start: Point,
     pub end: Point,
 }
 
 // What making a line answers: the line, and whether it is accepted.
-#[derive(Drop)]
+#[derive(Clone, Copy)]
 pub struct MadeLine {
     pub verdict: Verdict,
     pub line: LineSegment,

@@ -6,7 +6,7 @@ ghost use Rattle.atan2_rule.specs.Steps.{ahead, behind, ahead_at, miss_at, climb
 use crate::test::{both, fixed, side, sides};
 
 // u·cos - x·sin at the angle with the bits b: what it adds and what it takes away.
-#[derive(Drop)]
+#[derive(Clone, Copy)]
 pub struct Weighed {
     pub ahead: u64,
     pub behind: u64,

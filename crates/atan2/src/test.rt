@@ -9,7 +9,7 @@ ghost use Rattle.atan2.specs.Sums.{SumsAt, Bounded, judged_of};
 use trig::inner::{cosine_sides, sine_sides};
 
 // What cosine and sine add and take away.
-#[derive(Drop)]
+#[derive(Clone, Copy)]
 pub struct Sums {
     pub cosine_up: u64,
     pub cosine_down: u64,

@@ -15,7 +15,7 @@ use math::{Point, add, clamp01, lerp_point, scale, sub, tidy_point};
 use table::{Progress, RawParameter, Table, number_of, table_is_sound, table_of};
 
 // From `start` to `end`, drawn towards its two controls, with its running lengths. `cubic` makes one whose table is sound.
-#[derive(Drop)]
+#[derive(Clone, Copy)]
 pub struct CubicBezierCurve {
     pub start: Point,
     pub control1: Point,
@@ -80,7 +80,7 @@ pub fn cubic_table(start: Point, control1: Point, control2: Point, end: Point) -
 }
 
 // What making a cubic answers: the curve, and whether it is accepted. The curve of a refusal has a table that every query refuses.
-#[derive(Drop)]
+#[derive(Clone, Copy)]
 pub struct MadeCubic {
     pub verdict: Verdict,
     pub curve: CubicBezierCurve,

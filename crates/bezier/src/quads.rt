@@ -15,7 +15,7 @@ use math::{Point, add, clamp01, lerp_point, scale, sub, tidy_point};
 use table::{Progress, RawParameter, Table, number_of, table_is_sound, table_of};
 
 // From `start` to `end`, drawn towards `control`, with its running lengths. `quad` makes one whose table is sound.
-#[derive(Drop)]
+#[derive(Clone, Copy)]
 pub struct QuadBezier {
     pub start: Point,
     pub control: Point,
@@ -73,7 +73,7 @@ pub fn quad_table(start: Point, control: Point, end: Point) -> Table
 }
 
 // What making a quad answers: the curve, and whether it is accepted. The curve of a refusal has a table that every query refuses.
-#[derive(Drop)]
+#[derive(Clone, Copy)]
 pub struct MadeQuad {
     pub verdict: Verdict,
     pub curve: QuadBezier,

@@ -6,7 +6,7 @@ use crate::command::width;
 use crate::encoding::{Decoded, decode};
 use answers::Refusal;
 
-#[derive(Drop)]
+#[derive(Clone, Copy)]
 pub enum Checked {
     WellFormed,
     // `Range` or `BadList`.

@@ -5,7 +5,7 @@ ghost use Rattle.commands.specs.Stored.{letter_of, arguments_of};
 use math::Point;
 
 // One of six cases with their numbers, in path units; the rotation is in degrees.
-#[derive(Drop)]
+#[derive(Clone, Copy)]
 pub enum PathCommand {
     MoveTo(Point),
     LineTo(Point),

@@ -112,7 +112,7 @@ fn is_set(bits: u32) -> bool
 }
 
 // What a letter and the numbers that follow are.
-#[derive(Drop)]
+#[derive(Clone, Copy)]
 pub enum Decoded {
     Command(PathCommand),
     // An unknown letter, a missing number or another flag.

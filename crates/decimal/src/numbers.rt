@@ -9,7 +9,7 @@ use decimal_digits::inner::{exponent, gather, gather_many};
 use scan::{Places, byte_at, is_exponent_mark, past_point, past_sign};
 
 // What stands where a number is due.
-#[derive(Drop)]
+#[derive(Clone, Copy)]
 pub enum Read {
     // The number's value, and the place past it.
     Value(f32, usize),
@@ -18,7 +18,7 @@ pub enum Read {
 
 // A number's places, and what its value is worked out from: the number of its leading digits, the
 // count of those after them, and by how many places its exponent moves the point right or left.
-#[derive(Drop)]
+#[derive(Clone, Copy)]
 pub struct Parts {
     pub places: Places,
     pub w: u64,
@@ -27,7 +27,7 @@ pub struct Parts {
     pub fall: u64,
 }
 
-#[derive(Drop)]
+#[derive(Clone, Copy)]
 pub enum Found {
     Number(Parts),
     Nothing(Refusal),

@@ -11,7 +11,7 @@ use decimal_digits::inner::{fraction_digits, whole_digits};
 use scan::{byte_at, is_exponent_mark, is_sign};
 
 // Where a number's digits start, and the byte there.
-#[derive(Drop)]
+#[derive(Clone, Copy)]
 pub struct Front {
     pub at: usize,
     pub byte: u8,

@@ -16,7 +16,7 @@ pub fn digit(byte: u8) -> u64
 }
 
 // A number's digits so far: the first of them as a number, and how many more there were.
-#[derive(Drop)]
+#[derive(Clone, Copy)]
 pub struct Leading {
     // The place past the digits.
     pub at: usize,
@@ -25,7 +25,7 @@ pub struct Leading {
 }
 
 // Digits taken into a number.
-#[derive(Drop)]
+#[derive(Clone, Copy)]
 pub struct Taken {
     // The place past them.
     pub at: usize,
@@ -167,7 +167,7 @@ pub fn fraction_digits(text: &[u8], from: usize, w: u64, within: bool) -> Taken
 }
 
 // An exponent: the place past its digits, and their number, or 93 * 10^17 where they are more.
-#[derive(Drop)]
+#[derive(Clone, Copy)]
 pub struct Power {
     pub at: usize,
     pub size: u64,

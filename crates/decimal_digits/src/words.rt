@@ -56,7 +56,7 @@ fn eight(x: u64) -> u64
 }
 
 // The digits that eight bytes begin with.
-#[derive(Drop)]
+#[derive(Clone, Copy)]
 pub(crate) struct Run {
     pub count: u64,
     pub value: u64,

@@ -9,7 +9,7 @@ use decimal_digits::inner::digit;
 use scan::is_digit;
 
 // a * 2^100 + b * 2^50 + c.
-#[derive(Drop)]
+#[derive(Clone, Copy)]
 pub struct Wide {
     pub a: u64,
     pub b: u64,
@@ -17,13 +17,13 @@ pub struct Wide {
 }
 
 // A number of four words: the first, and the three after it.
-#[derive(Drop)]
+#[derive(Clone, Copy)]
 pub struct Tenfold {
     pub out: u64,
     pub rest: Wide,
 }
 
-#[derive(Drop)]
+#[derive(Clone, Copy)]
 pub enum Order {
     Less,
     Equal,
@@ -101,7 +101,7 @@ fn compare_rest(part: &[u8], from: usize, f: Wide) -> Order
     compare_wide(Wide { a: 0, b: 0, c: 0 }, w)
 }
 
-#[derive(Drop)]
+#[derive(Clone, Copy)]
 pub struct Taken {
     pub digit: u64,
     pub at: usize,
@@ -124,7 +124,7 @@ fn take(part: &[u8], from: usize) -> Taken
     Taken { digit: 0, at: i }
 }
 
-#[derive(Drop)]
+#[derive(Clone, Copy)]
 pub enum Whole {
     // 2^150 or more.
     Beyond,
@@ -153,7 +153,7 @@ fn whole_digits(part: &[u8], count: u64) -> Whole
     Whole::Is(w, at)
 }
 
-#[derive(Drop)]
+#[derive(Clone, Copy)]
 pub enum Lowered {
     // 2^150 or more.
     Beyond,
@@ -180,7 +180,7 @@ fn lower(f: Wide, zeros: u64) -> Lowered
 }
 
 // A number in halves of 2^-149: what is whole of it, and the fraction over 2^150.
-#[derive(Drop)]
+#[derive(Clone, Copy)]
 pub struct Six {
     pub whole: Wide,
     pub fraction: Wide,

@@ -8,7 +8,7 @@ use math::Point;
 use trig::SinCos;
 
 // What the text of an arc gives: its ends, its radii as written, its rotation in degrees, its flags.
-#[derive(Drop)]
+#[derive(Clone, Copy)]
 pub struct Chord {
     pub start: Point,
     pub radii: Point,
@@ -20,7 +20,7 @@ pub struct Chord {
 
 // An arc by its ellipse: the fields of the Rust's EllipticalArc. The angles are where it starts and
 // how far it turns, its sign the direction.
-#[derive(Drop)]
+#[derive(Clone, Copy)]
 pub struct Arc {
     pub start: Point,
     pub end: Point,
@@ -32,7 +32,7 @@ pub struct Arc {
 }
 
 // What is worked out of an arc before its angles.
-#[derive(Drop)]
+#[derive(Clone, Copy)]
 pub struct Way {
     // Sine and cosine of the rotation.
     pub turn: SinCos,

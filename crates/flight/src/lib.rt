@@ -8,14 +8,14 @@ pub use single::{Placed, Turned, Verdict};
 use table::RawParameter;
 
 // The segment on which a progress lies, counted from 0. A path without segments has none.
-#[derive(Drop)]
+#[derive(Clone, Copy)]
 pub enum Found {
     Segment(usize),
     Nothing,
 }
 
 // The position in path units; the tangent with the length 1, or (0, 0) where nothing tells; the pair at which both were taken.
-#[derive(Drop)]
+#[derive(Clone, Copy)]
 pub struct Flight {
     pub position: Point,
     pub tangent: Point,
@@ -23,7 +23,7 @@ pub struct Flight {
     pub raw: RawParameter,
 }
 
-#[derive(Drop)]
+#[derive(Clone, Copy)]
 pub enum Flown {
     At(Flight),
     Refused(Refusal),

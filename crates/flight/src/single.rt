@@ -4,21 +4,21 @@ use answers::Refusal;
 use math::Point;
 
 // A place or a direction, or why there is none.
-#[derive(Drop)]
+#[derive(Clone, Copy)]
 pub enum Placed {
     At(Point),
     Refused(Refusal),
 }
 
 // A heading in degrees, or why there is none.
-#[derive(Drop)]
+#[derive(Clone, Copy)]
 pub enum Turned {
     Degrees(f32),
     Refused(Refusal),
 }
 
 // Whether a curve can be had.
-#[derive(Drop)]
+#[derive(Clone, Copy)]
 pub enum Verdict {
     Accepted,
     Refused(Refusal),

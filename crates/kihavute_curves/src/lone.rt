@@ -12,7 +12,7 @@ use table::{Progress, RawParameter, number_of};
 
 // The position and the length in path units; the tangent with the length 1, or (0, 0) where nothing tells; the raw parameter at which
 // position and tangent are taken.
-#[derive(Drop)]
+#[derive(Clone, Copy)]
 pub struct Lone {
     pub position: Point,
     pub tangent: Point,

@@ -4,7 +4,7 @@ ghost use Rattle.math.specs.Math.{add_of, sub_of, scale_of, dot_of, length_of, d
 
 use crate::numbers::lerp;
 
-#[derive(Drop)]
+#[derive(Clone, Copy)]
 pub struct Point {
     pub x: f32,
     pub y: f32,

@@ -10,7 +10,7 @@ use math::Point;
 use polyline::{Judged, judge_two};
 
 // The smallest and the largest of each coordinate, in path units.
-#[derive(Drop)]
+#[derive(Clone, Copy)]
 pub struct Bounds {
     pub min_x: f32,
     pub min_y: f32,
@@ -18,7 +18,7 @@ pub struct Bounds {
     pub max_y: f32,
 }
 
-#[derive(Drop)]
+#[derive(Clone, Copy)]
 pub enum Bounded {
     Within(Bounds),
     Refused(Refusal),

@@ -11,7 +11,7 @@ use floats::tidy;
 use math::lerp;
 use polyline::{Judged, judge_two};
 
-#[derive(Drop)]
+#[derive(Clone, Copy)]
 pub enum Evaluated {
     // The points are put into this many places of the output, two for each.
     Numbers(usize),

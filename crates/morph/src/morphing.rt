@@ -6,7 +6,7 @@ use answers::{Refusal, Values};
 use polyline::{Judged, judge_two};
 use resample::inner::{Plan, Way, fill, needed, plan_for};
 
-#[derive(Drop)]
+#[derive(Clone, Copy)]
 pub enum Morphed {
     // The shapes are put into this many places of each output, two for each point.
     Numbers { from: usize, to: usize },
@@ -14,7 +14,7 @@ pub enum Morphed {
 }
 
 // What each output gets.
-#[derive(Drop)]
+#[derive(Clone, Copy)]
 pub enum Plans {
     Both(Way, Way),
     Broken(Refusal),

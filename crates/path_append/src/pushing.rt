@@ -12,7 +12,7 @@ use path_segment::{PathSegment, kind, segment_length, table_width, width};
 use table::inner::length_before;
 
 // What appending answers.
-#[derive(Drop)]
+#[derive(Clone, Copy)]
 pub enum Appended {
     // How many places of each buffer are in use now: kinds, numbers, tables, lengths, commands.
     Added(Values),

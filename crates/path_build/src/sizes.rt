@@ -4,7 +4,7 @@ ghost use Rattle.path_build.specs.Answers.{is_short, building_of};
 
 use answers::{Refusal, Values};
 
-#[derive(Drop)]
+#[derive(Clone, Copy)]
 pub enum Building {
     // The path is stored: this many segments, each with a kind, a running length and a command number, this many fields of theirs, and this
     // many numbers of their tables.
@@ -17,7 +17,7 @@ pub enum Building {
 }
 
 // The places that a path needs in each buffer; kinds, running lengths and command numbers are one a segment.
-#[derive(Drop)]
+#[derive(Clone, Copy)]
 pub enum Size {
     Counted {
         segments: usize,
@@ -28,7 +28,7 @@ pub enum Size {
 }
 
 // Five counts of places, of kinds, fields, tables, lengths and commands.
-#[derive(Drop)]
+#[derive(Clone, Copy)]
 pub struct Counts {
     pub kinds: usize,
     pub fields: usize,

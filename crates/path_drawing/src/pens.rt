@@ -4,7 +4,7 @@ ghost use Rattle.path_drawing.specs.Drawing.{fresh_of, moved_of, drawn_of};
 
 use math::Point;
 
-#[derive(Drop)]
+#[derive(Clone, Copy)]
 pub struct Pen {
     // The current point, which there is where `placed` is true.
     pub current: Point,

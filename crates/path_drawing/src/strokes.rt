@@ -10,7 +10,7 @@ use floats::is_finite;
 use math::Point;
 use path_segment::PathSegment;
 
-#[derive(Drop)]
+#[derive(Clone, Copy)]
 pub enum Drawn {
     // No segment: the pen goes on from another place.
     Moved(Pen),

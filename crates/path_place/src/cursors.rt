@@ -7,7 +7,7 @@ use path_segment::{table_width, width};
 use path_stored::inner::{fields_before, tables_before};
 
 // A segment, counted from 0, and how many numbers the segments before it have in each buffer.
-#[derive(Drop)]
+#[derive(Clone, Copy)]
 pub struct Cursor {
     pub segment: usize,
     pub fields: usize,

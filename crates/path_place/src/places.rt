@@ -2,7 +2,7 @@
 use table::RawParameter;
 
 // The segment, counted from 0, and its own parameter.
-#[derive(Drop)]
+#[derive(Clone, Copy)]
 pub struct Place {
     pub segment: usize,
     pub raw: RawParameter,

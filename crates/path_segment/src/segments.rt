@@ -12,7 +12,7 @@ use table::Table;
 
 // A segment with the Rust's fields without `length` and `line_fallback`, in path units; angles are in radians but for the rotation.
 // Its table stands beside it.
-#[derive(Drop)]
+#[derive(Clone, Copy)]
 pub enum PathSegment {
     Line(LineSegment),
     Quad {

@@ -12,13 +12,13 @@ use path_segment::PathSegment;
 use table::Table;
 
 // How many segments a path has.
-#[derive(Drop)]
+#[derive(Clone, Copy)]
 pub enum Counted {
     Segments(usize),
     Refused(Refusal),
 }
 
-#[derive(Drop)]
+#[derive(Clone, Copy)]
 pub enum Emptiness {
     Empty,
     NotEmpty,
@@ -26,14 +26,14 @@ pub enum Emptiness {
 }
 
 // How long a path is, in path units.
-#[derive(Drop)]
+#[derive(Clone, Copy)]
 pub enum Measured {
     Length(f32),
     Refused(Refusal),
 }
 
 // A segment, or none where the path has fewer.
-#[derive(Drop)]
+#[derive(Clone, Copy)]
 pub enum Found {
     Segment(PathSegment),
     NoSegment,
@@ -41,7 +41,7 @@ pub enum Found {
 }
 
 // A segment and its table. The table is not sound where the segment stores none, and where there is no segment.
-#[derive(Drop)]
+#[derive(Clone, Copy)]
 pub struct Part {
     pub found: Found,
     pub table: Table,

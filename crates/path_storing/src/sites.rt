@@ -5,7 +5,7 @@ ghost use Rattle.path_storing.specs.Sites.{start_of};
 use answers::Refusal;
 use path_drawing::{Pen, fresh};
 
-#[derive(Drop)]
+#[derive(Clone, Copy)]
 pub struct Site {
     pub pen: Pen,
     // The running length so far, finite, in path units.
@@ -17,7 +17,7 @@ pub struct Site {
 }
 
 // What a command comes to.
-#[derive(Drop)]
+#[derive(Clone, Copy)]
 pub enum Advanced {
     To(Site),
     // `RotationRange` or `NotFinite`.

@@ -14,7 +14,7 @@ use path_drawing::{Drawn, Pen, draw, drawn, fresh, moved};
 use path_segment::{PathSegment, kind, table_width, width};
 
 // A site without its running length.
-#[derive(Drop)]
+#[derive(Clone, Copy)]
 pub struct Tally {
     pub pen: Pen,
     // How many segments there are so far, how many fields they have, and how many numbers their tables.
@@ -24,7 +24,7 @@ pub struct Tally {
 }
 
 // What a command comes to.
-#[derive(Drop)]
+#[derive(Clone, Copy)]
 pub enum Tallied {
     To(Tally),
     // A point is far away, or an arc is large or refused: only measuring tells.
@@ -32,7 +32,7 @@ pub enum Tallied {
 }
 
 // What all commands come to.
-#[derive(Drop)]
+#[derive(Clone, Copy)]
 pub enum Outlook {
     // They build, and need these places: one kind and one running length a segment.
     Counted {

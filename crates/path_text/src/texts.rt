@@ -13,7 +13,7 @@ use path_storing::{Advanced, Outlook, Tallied, opening, start};
 use svg_step::{Step, fresh, read_step};
 
 // What the first pass finds.
-#[derive(Drop)]
+#[derive(Clone, Copy)]
 pub enum Found {
     // The places needed: one kind, one running length and one command number a segment.
     Counted {

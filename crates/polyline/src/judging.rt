@@ -4,7 +4,7 @@ ghost use Rattle.polyline.specs.Judging.{is_odd, is_long, judge_of, judge_two_of
 
 use answers::Refusal;
 
-#[derive(Drop)]
+#[derive(Clone, Copy)]
 pub enum Judged {
     Fine,
     Refused(Refusal),

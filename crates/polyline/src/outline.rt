@@ -37,7 +37,7 @@ pub fn leg(points: &[f32], i: usize) -> f32
 
 // The length of a line through points: the sum of its legs, or the first point at which a running
 // length is not finite.
-#[derive(Drop)]
+#[derive(Clone, Copy)]
 pub enum Measured {
     Total(f32),
     NotFinite(usize),

@@ -39,7 +39,7 @@ fn replay_block(count: Count, text: &[u8]) -> Count {
 }
 
 // What making a table answered, and the places it was lent a part of, zeros where nothing was stored.
-#[derive(Drop)]
+#[derive(Clone, Copy)]
 struct Made {
     answer: Tabled,
     table: [f32; 64],

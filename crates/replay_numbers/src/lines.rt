@@ -5,7 +5,7 @@ use replay_records::{float, pattern};
 
 const RECORD: usize = 65;
 
-#[derive(Drop)]
+#[derive(Clone, Copy)]
 pub struct Line {
     // 0, which no function has, where the record is cut short.
     pub letter: u8,

@@ -6,7 +6,7 @@ ghost use Rattle.replay_records.specs.Counts.{none_yet, seen_as};
 use std::num::wrapping_add_u32;
 
 // How many answers of a kind were replayed, and how many of them differ: modulo 2^32, which no list reaches.
-#[derive(Drop)]
+#[derive(Clone, Copy)]
 pub struct Count {
     pub replayed: u32,
     pub different: u32,

@@ -6,7 +6,7 @@ use crate::spreading::{Plan, fill, needed, plan_for};
 use answers::{Refusal, Values};
 use polyline::{Judged, judge};
 
-#[derive(Drop)]
+#[derive(Clone, Copy)]
 pub enum Resampled {
     // The points are put into this many places of the output, two for each.
     Numbers(usize),

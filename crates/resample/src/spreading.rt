@@ -12,14 +12,14 @@ use polyline::inner::{Measured, measure, point_at, put_point};
 
 // What the output gets: no points, the first point each time, or points evenly spaced along a line
 // of this length.
-#[derive(Drop)]
+#[derive(Clone, Copy)]
 pub enum Way {
     Nothing,
     Copies,
     Spread(f32),
 }
 
-#[derive(Drop)]
+#[derive(Clone, Copy)]
 pub enum Plan {
     Go(Way),
     Refused(Refusal),

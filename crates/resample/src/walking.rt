@@ -10,7 +10,7 @@ use table::inner::share;
 
 // The leg that ends at the point number `upper`, and the running lengths at its two ends. At the
 // first point no leg ends: both lengths are 0.
-#[derive(Drop)]
+#[derive(Clone, Copy)]
 pub struct Stretch {
     pub upper: usize,
     pub low: f32,

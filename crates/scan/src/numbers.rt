@@ -10,7 +10,7 @@ use crate::runs::{past_digits, past_point, past_sign};
 // digits stand from `whole` up to `point` and from `fraction` up to `mark`, and there is at least
 // one; those of its exponent from `exponent` up to `end`, and there is none exactly where it has no
 // exponent.
-#[derive(Drop)]
+#[derive(Clone, Copy)]
 pub struct Places {
     // Where the sign stands, if there is one.
     pub start: usize,
@@ -25,7 +25,7 @@ pub struct Places {
 }
 
 // What stands where a number is due.
-#[derive(Drop)]
+#[derive(Clone, Copy)]
 pub enum Number {
     Scanned(Places),
     // No digit before or after the point; carries the place where the number is due.

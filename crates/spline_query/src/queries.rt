@@ -12,7 +12,7 @@ use floats::tidy;
 use table::Progress;
 
 // A length in path units, or why there is none.
-#[derive(Drop)]
+#[derive(Clone, Copy)]
 pub enum Measured {
     Length(f32),
     Refused(Refusal),

@@ -13,7 +13,7 @@ use spline::inner::{after_span, before_span, sample};
 use table::inner::mark;
 
 // How far a pass has come: the sample made last, and the running length at it.
-#[derive(Drop)]
+#[derive(Clone, Copy)]
 pub(crate) struct Walk {
     pub previous: Point,
     pub total: f32,
@@ -21,7 +21,7 @@ pub(crate) struct Walk {
 
 // The differences of both coordinates from each of 16 samples to the next, and the sample after them. Nothing reads the other half
 // of a row.
-#[derive(Drop)]
+#[derive(Clone, Copy)]
 struct Row {
     x: [f32; 32],
     y: [f32; 32],

@@ -4,7 +4,7 @@ ghost use Rattle.spline_table.specs.Tables.{SplineTable};
 use crate::entries::{fill, first_not_finite, last_entry};
 use answers::{Refusal, Values};
 
-#[derive(Drop)]
+#[derive(Clone, Copy)]
 pub enum Tabled {
     // This many entries are stored; the last of them is the spline's length.
     Stored(usize),

@@ -6,7 +6,7 @@ use strict_argument::{Kind, NOWHERE, past_separator, past_space, read_argument};
 use strict_grammar::Edition;
 
 // What a byte begins where a command is due.
-#[derive(Drop)]
+#[derive(Clone, Copy)]
 enum Letter {
     Moves,
     Closes,

@@ -10,7 +10,7 @@ use strict_argument::{NOWHERE, past_gap, past_space};
 use strict_grammar::Edition;
 
 // The answer of strict reading.
-#[derive(Drop)]
+#[derive(Clone, Copy)]
 pub enum Verdict {
     Yes,
     No,

@@ -6,7 +6,7 @@ use crate::words::{past_separator, read_flag, read_number, read_radius, read_rot
 use strict_grammar::Edition;
 
 // What a command's sequence of arguments is made of.
-#[derive(Drop)]
+#[derive(Clone, Copy)]
 pub enum Kind {
     Coordinate,
     Pair,

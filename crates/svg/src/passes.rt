@@ -10,7 +10,7 @@ use commands::width;
 use svg_step::{Pass, Reader, Step, pass_step, read_step};
 
 // The places that a text's commands need in each buffer.
-#[derive(Drop)]
+#[derive(Clone, Copy)]
 pub enum Size {
     Counted { letters: usize, numbers: usize },
     Refused(Refusal),
@@ -54,7 +54,7 @@ pub(crate) fn measure_on(text: &[u8], reader: Reader, letters: usize, numbers: u
 }
 
 // How far a text is stored.
-#[derive(Drop)]
+#[derive(Clone, Copy)]
 pub enum Stored {
     // All of it, in so many places of each buffer.
     Whole {

@@ -10,7 +10,7 @@ use crate::passes::{Size, Stored, copy_letters, copy_numbers, copy_offsets, fill
 use answers::{Refusal, Values};
 use svg_step::{Reader, fresh};
 
-#[derive(Drop)]
+#[derive(Clone, Copy)]
 pub enum Reading {
     // The text is read, and stored in this many places of each buffer; of offsets there are as many
     // as of letters.

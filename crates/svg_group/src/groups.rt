@@ -10,7 +10,7 @@ use decimal::Read;
 use math::Point;
 
 // The command and the place past its group.
-#[derive(Drop)]
+#[derive(Clone, Copy)]
 pub enum Group {
     Taken { command: PathCommand, next: usize },
     Refused(Refusal),

@@ -3,7 +3,7 @@ ghost use Rattle.std.specs.Prelude.{◌≡◌};
 ghost use Rattle.svg_group.specs.Letters.{is_letter_of, meaning_of, width_of};
 
 // What the groups of a letter are.
-#[derive(Drop)]
+#[derive(Clone, Copy)]
 pub enum Kind {
     Move,
     Line,
@@ -16,7 +16,7 @@ pub enum Kind {
     Arc,
 }
 
-#[derive(Drop)]
+#[derive(Clone, Copy)]
 pub enum Letter {
     Draws(Kind),
     Closes,

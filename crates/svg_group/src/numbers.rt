@@ -9,14 +9,14 @@ use decimal::inner::quick;
 use math::Point;
 
 // The value and the place past it, here and below.
-#[derive(Drop)]
+#[derive(Clone, Copy)]
 pub enum Flag {
     Taken { set: bool, next: usize },
     Refused(Refusal),
 }
 
 // The two flags of an arc.
-#[derive(Drop)]
+#[derive(Clone, Copy)]
 pub enum Flags {
     Taken {
         large: bool,
@@ -28,7 +28,7 @@ pub enum Flags {
 
 // A point by its coordinates: kept as one value it is written in two parts and read back as one, which
 // waits for both.
-#[derive(Drop)]
+#[derive(Clone, Copy)]
 pub enum Coordinates {
     Taken { x: f32, y: f32, next: usize },
     Refused(Refusal),

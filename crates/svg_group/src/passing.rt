@@ -9,7 +9,7 @@ use answers::Refusal;
 use scan::Number;
 
 // The place past what was due.
-#[derive(Drop)]
+#[derive(Clone, Copy)]
 pub enum Passed {
     To(usize),
     Refused(Refusal),

@@ -10,7 +10,7 @@ use math::Point;
 use svg_group::{Group, Kind, Letter, Passed};
 
 // The reader's state between two commands.
-#[derive(Drop)]
+#[derive(Clone, Copy)]
 pub struct Reader {
     // The place in the text up to which it is read.
     pub at: usize,
@@ -26,7 +26,7 @@ pub struct Reader {
     pub offset: usize,
 }
 
-#[derive(Drop)]
+#[derive(Clone, Copy)]
 pub enum Step {
     Command { command: PathCommand, next: Reader },
     Done,
@@ -171,7 +171,7 @@ fn after(command: PathCommand, next: usize, letter: u8, offset: usize, start: Po
 }
 
 // What is due at a place of the text.
-#[derive(Drop)]
+#[derive(Clone, Copy)]
 pub enum Due {
     // The text is at its end.
     Done,
@@ -298,7 +298,7 @@ pub fn read_step(text: &[u8], reader: Reader) -> Step
 }
 
 // A command that is passed without its values.
-#[derive(Drop)]
+#[derive(Clone, Copy)]
 pub enum Pass {
     // How many numbers it stores, the place past it and the letter that is remembered.
     Command {

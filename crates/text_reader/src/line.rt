@@ -4,7 +4,7 @@ ghost use Rattle.text_reader.specs.Plans.{first_line_of, judged, past_of};
 
 use answers::Refusal;
 
-#[derive(Drop)]
+#[derive(Clone, Copy)]
 pub enum FirstLine {
     // 2 to 1,000 stations, and the place past the line's LF.
     Stations { count: usize, next: usize },

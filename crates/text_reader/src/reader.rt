@@ -4,7 +4,7 @@ ghost use Rattle.text_reader.specs.Plans.{first_line_of};
 
 use crate::line::{FirstLine, line_at};
 
-#[derive(Drop)]
+#[derive(Clone, Copy)]
 pub struct TextReader<'a> {
     pub text: &'a [u8],
     pub at: usize,

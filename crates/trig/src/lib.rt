@@ -11,7 +11,7 @@ ghost use Rattle.trig_rule.specs.Steps.{sine_of, cosine_of};
 use crate::near::{cosine_near, sine_near};
 use crate::sides::{fixed, reduce, sine_sides};
 
-#[derive(Drop)]
+#[derive(Clone, Copy)]
 pub struct SinCos {
     pub sin: f32,
     pub cos: f32,

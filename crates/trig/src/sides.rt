@@ -13,7 +13,7 @@ pub fn fixed(a: u32) -> u64
     m << (a / 0x80_0000 - 94)
 }
 
-#[derive(Drop)]
+#[derive(Clone, Copy)]
 pub struct Rest {
     pub size: u64,
     pub flip: u32,
@@ -65,7 +65,7 @@ pub fn fourth(r: u64) -> u64
 }
 
 // What a sum adds, and what it takes away.
-#[derive(Drop)]
+#[derive(Clone, Copy)]
 pub struct Sides {
     pub plus: u64,
     pub minus: u64,
