@@ -1,0 +1,13 @@
+-- The rows go from angles to sines, points and differences, whose lengths are the steps (`rows-steps`). Assumes nothing.
+use borrow.Author.Rules.{rules}
+use mathlib.Core.Path.{refl}
+use Rattle.arc.proofs.Rows.{rows-steps}
+use Rattle.arc.proofs.arcs.arc_steps.Goals as goal
+
+pub put_points-requires : goal.put_points-requires
+put_points-requires c = let sines = c.put_sines.ensures in (sines.0.size, sines.1.size)
+
+pub returns : goal.returns
+returns c =
+    rows-steps _ _ c.put_angles.ensures c.put_sines.ensures.0 c.put_sines.ensures.1 c.put_points.ensures.0 c.put_points.ensures.1
+    c.put_differences.ensures c.put_differences-2.ensures _ c.lengths.ensures

@@ -1,0 +1,21 @@
+-- Below half a turn the rest is the angle itself. Assumes nothing.
+use borrow.Author.Rules.{rules}
+use native.Mathlib.Nat.{le_trans, le_of_eq}
+use lib.Dec.{eqb}
+use mathlib.Core.Path.{◌∙◌, ap}
+use Rattle.atan2_rule.specs.Steps.{ahead, behind}
+use Rattle.atan2_rule.proofs.Fixed.{under-half}
+use Rattle.atan2.proofs.Weighed.{ahead-is, behind-is}
+use Rattle.atan2.proofs.search.balance.Goals as goal
+
+pub sides-s-requires : goal.sides-s-requires
+sides-s-requires c = le_trans (le_of_eq c.fixed.ensures.0) (under-half c.args.b c.requires.2 c.requires.3)
+
+pub returns : goal.returns
+returns c =
+    let at = c.args in
+    let fixed = c.fixed.ensures.0 in
+    let right = eqb at.left 0 in (
+      ahead-is c.sides-s.ensures at.u at.v right c.side.ensures.0 c.both-to.ensures.0 ∙ ap (ahead at.u at.v right) fixed,
+      behind-is c.sides-s.ensures at.u at.v right c.side-2.ensures.0 c.both-from.ensures.0 ∙ ap (behind at.u at.v right) fixed,
+    )

@@ -1,0 +1,47 @@
+-- The climb from t by k strides ends where the whole climb does; k falls. Assumes nothing.
+use borrow.Author.Rules.{rules}
+use native.Mathlib.Omega.{arith}
+use Prim.Native.Nat.{ℕ, suc, ◌+◌, ◌-◌, ◌^◌, ◌≤◌, ◌<◌}
+use mathlib.Core.Path.{◌≡◌, refl, sym, ap, ◌∙◌}
+use mathlib.Core.Bool.{Bool, cond, ◌&&◌}
+use lib.Dec.{ltb}
+use Rattle.atan2_rule.specs.Steps.{ahead_at, climb}
+use Rattle.atan2.proofs.search.climb.Goals as goal
+
+-- no stride, and one stride, of the definition
+none : (test : ℕ → Bool) (to t : ℕ) → climb test to 0 t ≡ t
+unfolding climb
+none test to t = refl
+
+step : (test : ℕ → Bool) (to n t : ℕ) → climb test to (suc n) t ≡ climb test to n (cond (ltb (t + 2 ^ n) to && test (t + 2 ^ n)) (t + 2 ^ n) t)
+unfolding climb
+step test to n t = refl
+
+climb-step : (test : ℕ → Bool) (to k t : ℕ) → 0 < k → climb test to k t ≡ climb test to (k - 1) (cond (ltb (t + 2 ^ (k - 1)) to && test (t + 2 ^ (k - 1))) (t + 2 ^ (k - 1)) t)
+climb-step test to k t h = ap (λ (n : ℕ). climb test to n t) back ∙ at (k - 1)
+  where
+    back : k ≡ suc (k - 1)
+    back = omega arith
+
+    at : (n : ℕ) → climb test to (suc n) t ≡ climb test to n (cond (ltb (t + 2 ^ n) to && test (t + 2 ^ n)) (t + 2 ^ n) t)
+    at n = step test to n t
+
+pub loop-k-init : goal.loop-k-init
+loop-k-init c = (refl, omega arith, omega arith, omega arith)
+
+pub loop-k-preserved : goal.loop-k-preserved
+loop-k-preserved c =
+    let at = c.args in
+    let l = c.loop-k in
+    let test = ahead_at at.u at.v at.left in
+    (ap (climb test at.to (l.k - 1)) c.stride-t.ensures.0 ∙ sym (climb-step test at.to l.k l.t c.loop-k-test.true) ∙ l.invariant.0, c.stride-t.ensures.1, c.stride-t.ensures.2, omega arith)
+
+at_none : (test : ℕ → Bool) (to t k : ℕ) → k ≡ 0 → climb test to k t ≡ t
+at_none test to t k e = ap (λ (n : ℕ). climb test to n t) e ∙ none test to t
+
+pub returns : goal.returns
+returns c =
+    let at = c.args in
+    let l = c.loop-k in
+    let e : l.k ≡ 0 = omega arith in
+    (sym (at_none (ahead_at at.u at.v at.left) at.to l.t l.k e) ∙ l.invariant.0, l.invariant.1, l.invariant.2)

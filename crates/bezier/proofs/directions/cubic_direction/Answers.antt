@@ -1,0 +1,31 @@
+-- The derivative's direction, or where it is (0, 0), that of two samples (`tried-second`). Assumes nothing.
+use borrow.Author.Rules.{rules}
+use mathlib.Core.Path.{◌≡◌, ap, ◌∙◌}
+use lib.Ieee.{Float}
+use Rattle.math.specs.declared.points.Point.{Point}
+use Rattle.math.specs.Math.{normalize_of, sub_of}
+use Rattle.table.specs.Lookup.{raw_of}
+use Rattle.bezier.specs.Curves.{is_nothing}
+use Rattle.bezier.specs.Cubics.{cubic_derivative_of, cubic_sample_of, cubic_direction}
+use Rattle.bezier.proofs.Queries.{tried-first, tried-second}
+use Rattle.bezier.proofs.directions.cubic_direction.Goals as goal
+
+-- the first direction, by its definition
+first : (c : goal.After-normalize-first) → let a = c.args in c.normalize-first.result ≡ normalize_of (cubic_derivative_of a.start a.control1 a.control2 a.end a.raw.value)
+first c = c.normalize-first.ensures ∙ ap normalize_of c.cubic_derivative.ensures
+
+pub returns-then-is_nothing : goal.returns-then-is_nothing
+unfolding cubic_direction
+returns-then-is_nothing c =
+    let a = c.args in
+    let further = c.raw_parameter_in-further.ensures ∙ ap (raw_of a.entries.now a.total) c.ahead.ensures in
+    let there = c.cubic_sample-there.ensures ∙ ap (cubic_sample_of a.start a.control1 a.control2 a.end) further in
+    let apart = c.sub.ensures ∙ ap (λ (p : Point). sub_of p c.cubic_sample-here.result) there ∙ ap (sub_of _) c.cubic_sample-here.ensures in
+    c.normalize.ensures ∙ ap normalize_of apart
+    ∙ tried-second _ _ _ (c.is_nothing.ensures ∙ ap is_nothing (first c.before.before.before.before.before.before.before.before)) c.if-is_nothing.true
+
+pub returns : goal.returns
+unfolding cubic_direction
+returns c =
+    let is = first c.before.before in
+    is ∙ tried-first _ _ _ (c.is_nothing.ensures ∙ ap is_nothing is) c.if-is_nothing.false

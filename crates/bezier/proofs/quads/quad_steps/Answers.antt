@@ -1,0 +1,45 @@
+-- The invariant: in both rows the differences before k are in (`Difference`). Their lengths are the steps (`steps-are`). The measure is
+-- the places left. Assumes nothing.
+use borrow.Author.Rules.{rules}
+use native.Mathlib.Omega.{arith}
+use mathlib.Core.Path.{refl, ap, ◌∙◌}
+use Prim.Native.Nat.{◌-◌}
+use mathlib.Core.List.{List}
+use lib.ListN.{length, get_or}
+use lib.Ieee.{Float, nan}
+use Rattle.lengths.proofs.Lists.{lengths-count, lengths-at, Passing, passing-start}
+use Rattle.math.specs.Math.{lerp_point_of}
+use Rattle.table_samples.specs.Samples.{sample_at}
+use Rattle.table_samples.proofs.Steps.{steps-are}
+use Rattle.bezier.specs.Quads.{quad_sample_of}
+use Rattle.bezier.specs.Rows.{quad_coordinate}
+use Rattle.bezier.proofs.Differences.{Difference, row_more}
+use Rattle.bezier.proofs.quads.quad_steps.Goals as goal
+
+pub loop-k-init : goal.loop-k-init
+loop-k-init c = (passing-start refl, passing-start refl)
+
+pub loop-k-preserved : goal.loop-k-preserved
+loop-k-preserved c =
+    let t = c.loop-k-test.true in
+    let i = c.loop-k.invariant in
+    let here = c.sample_mark-here.ensures in
+    let next = c.sample_mark-next.ensures in (
+      row_more (quad_coordinate _ _ _) i.0 t _ _
+          (c.quad_coordinate.ensures ∙ ap (quad_coordinate _ _ _) next)
+          (c.quad_coordinate-in-loop-k.ensures ∙ ap (quad_coordinate _ _ _) here),
+      row_more (quad_coordinate _ _ _) i.1 t _ _
+          (c.quad_coordinate-in-loop-k-2.ensures ∙ ap (quad_coordinate _ _ _) next)
+          (c.quad_coordinate-in-loop-k-3.ensures ∙ ap (quad_coordinate _ _ _) here),
+    )
+
+pub returns : goal.returns
+unfolding sample_at quad_sample_of lerp_point_of
+returns c =
+    let left = c.loop-k-test.false in
+    let rows = c.loop-k in
+    let i = rows.invariant in
+    let e = c.lengths.ensures in
+    steps-are (quad_sample_of _ _ _) rows.x-1 rows.y-1 _ 31 (ap length e ∙ lengths-count 31 _ _)
+    (λ k h. i.0.done k (omega (arith, h, left))) (λ k h. i.1.done k (omega (arith, h, left)))
+    (λ k h. ap (λ (z : List Float). get_or z k nan) e ∙ lengths-at 31 _ _ k h)

@@ -1,0 +1,64 @@
+-- `commands::encoding::decode` meets its contract: each way out is a case of `command_of`, and the numbers from `at` on are those that `drop` leaves.
+-- Assumes nothing.
+use borrow.Author.Rules.{rules}
+use Prim.Native.Nat.{ℕ, ◌+◌}
+use mathlib.Core.Path.{◌≡◌, ◌∙◌}
+use mathlib.Core.List.{List}
+use native.Mathlib.Omega.{arith}
+use lib.Ieee.{Float}
+use lib.ListN.{drop, length-drop}
+use Rattle.math.specs.declared.points.Point.{Point}
+use Rattle.commands.specs.Listed.{point_at}
+use Rattle.commands.proofs.Decoding.{point-first, point-later, is_move, is-line, is-quad, is-cubic, is-arc, is-close, short-move, short-line, short-quad, short-cubic, short-arc, unknown}
+use Rattle.commands.proofs.encoding.decode.Goals as goal
+
+-- the numbers of a letter's command: those from `at` on
+abbrev left : goal.Start → List Float
+left s = drop s.args.at s.args.numbers.now
+
+abbrev first : (s : goal.Start) {p : Point} → p ≡ point_at s.args.numbers.now s.args.at → p ≡ point_at (left s) 0
+first s e = point-first s.args.numbers.now s.args.at e
+
+abbrev later : (s : goal.Start) (i : ℕ) {p : Point} → p ≡ point_at s.args.numbers.now (s.args.at + i) → p ≡ point_at (left s) i
+later s i e = point-later s.args.numbers.now s.args.at i e
+
+pub returns-then-left-lt2 : goal.returns-then-left-lt2
+returns-then-left-lt2 c = short-move _ (left c.before.before.before) c.in-77.is (simp length-drop (omega arith))
+
+pub returns-then-left-lt2-2 : goal.returns-then-left-lt2-2
+returns-then-left-lt2-2 c = short-line _ (left c.before.before.before) c.in-76.is (simp length-drop (omega arith))
+
+pub returns-then-left-lt4 : goal.returns-then-left-lt4
+returns-then-left-lt4 c = short-quad _ (left c.before.before.before) c.in-81.is (simp length-drop (omega arith))
+
+pub returns-then-left-lt6 : goal.returns-then-left-lt6
+returns-then-left-lt6 c = short-cubic _ (left c.before.before.before) c.in-67.is (simp length-drop (omega arith))
+
+pub returns-then-left-lt7 : goal.returns-then-left-lt7
+returns-then-left-lt7 c = short-arc _ (left c.before.before.before) c.in-65.is (simp length-drop (omega arith))
+
+pub returns-else-left-lt2 : goal.returns-else-left-lt2
+returns-else-left-lt2 c =
+    is_move _ (left c.before.before.before.before) _ (first c.before.before.before.before c.point_at.ensures) c.in-77.is (simp length-drop (omega arith))
+
+pub returns-else-left-lt2-2 : goal.returns-else-left-lt2-2
+returns-else-left-lt2-2 c =
+    is-line _ (left c.before.before.before.before) _ (first c.before.before.before.before c.point_at-in-76.ensures) c.in-76.is (simp length-drop (omega arith))
+
+pub returns-else-left-lt4 : goal.returns-else-left-lt4
+returns-else-left-lt4 c =
+    is-quad _ (left c.before.before.before.before.before) _ _ (first c.before.before.before.before.before c.point_at-in-81.ensures) (later c.before.before.before.before.before 2 c.point_at-in-81-2.ensures) c.in-81.is (simp length-drop (omega arith))
+
+pub returns-else-left-lt6 : goal.returns-else-left-lt6
+returns-else-left-lt6 c =
+    is-cubic _ (left c.before.before.before.before.before.before) _ _ _ (first c.before.before.before.before.before.before c.point_at-in-67.ensures) (later c.before.before.before.before.before.before 2 c.point_at-in-67-2.ensures) (later c.before.before.before.before.before.before 4 c.point_at-in-67-3.ensures)
+    c.in-67.is (simp length-drop (omega arith))
+
+pub returns-else-left-lt7 : goal.returns-else-left-lt7
+returns-else-left-lt7 c = c.arc_at.ensures ∙ is-arc _ (left c.before.before.before.before) c.in-65.is (simp length-drop (omega arith))
+
+pub returns-in-90 : goal.returns-in-90
+returns-in-90 c = is-close _ _ c.in-90.is
+
+pub returns-in_default : goal.returns-in_default
+returns-in_default c = let r = c.in_default.in_default-own.rest in unknown _ _ r.0.0.0.0.0.1 r.0.0.0.0.1 r.0.0.0.1 r.0.0.1 r.0.1 r.1

@@ -1,0 +1,9 @@
+-- `commands::encoding::put_quad` meets its contract: two runs of numbers, one after the other. Assumes nothing.
+use borrow.Author.Rules.{rules}
+use Rattle.commands.proofs.Storing.{four-put}
+use Rattle.commands.proofs.encoding.put_quad.Goals as goal
+
+pub returns : goal.returns
+returns c =
+    let a = c.args in
+    four-put a.numbers-1.now a.at a.control.x a.control.y a.end.x a.end.y c.put_two.new.0 _ c.put_two.ensures c.put_two-2.ensures

@@ -1,0 +1,13 @@
+-- `commands::encoding::store` meets its contract. Assumes nothing.
+use borrow.Author.Rules.{rules}
+use mathlib.Core.Path.{ap}
+use lib.ListN.{set}
+use Rattle.commands.proofs.encoding.store.Goals as goal
+
+pub returns : goal.returns
+returns c =
+    let a = c.args in
+    record {
+      letter = ap (set a.letters.now a.letter_at) c.letter.ensures;
+      arguments = c.store_arguments.ensures;
+    }

@@ -1,0 +1,108 @@
+-- `decimal::magnitudes::magnitude` meets its contract. Capped exponents give the exact place among the powers of ten where it is in their table, and the right end of
+-- the floats where it is not. Assumes nothing.
+use mathlib.Core.Path.{◌≡◌, refl, ap, sym, ◌∙◌, subst}
+use mathlib.Core.Logic.{◌⊎◌, inl, inr, ⊎_elim}
+use Prim.Native.Nat.{ℕ, ◌+◌, ◌-◌, ◌*◌, ◌^◌, ◌≤◌, ◌<◌}
+use native.Mathlib.Omega.{arith}
+use Rattle.decimal_digits.specs.Digits.{digits_among, val}
+use Rattle.decimal_digits.specs.Leading.{Leads}
+use Rattle.decimal_digits.specs.Exponent.{capped}
+use Rattle.decimal_digits.proofs.Values.{ten-pos}
+use Rattle.decimal_product.specs.Near.{Leading, Cell}
+use Rattle.decimal.specs.Bits.{Nearest}
+use Rattle.decimal.proofs.Capped.{Apart, under, past, near, capped-self}
+use Rattle.decimal.proofs.Scaled.{none-nearest, sized, placed, too-low, too-high, product-bits, product-between}
+use borrow.Author.Rules.{rules}
+use Rattle.decimal.proofs.magnitudes.magnitude.Goals as goal
+
+low-dropped : (c : goal.Start) → c.args.dropped + 64 < 2 ^ 63 + 64
+low-dropped c = omega (arith, c.requires.few-dropped)
+
+low-places : (c : goal.Start) → c.args.places < 2 ^ 63
+low-places c = omega (arith, c.requires.few)
+
+-- the place among the powers of ten, for any exponents that are capped so
+module _ (c : goal.After-nearest) (up down : ℕ) (e : c.args.rise ≡ capped up) (f : c.args.fall ≡ capped down)
+    (one : (up ≡ 0) ⊎ (down ≡ 0)) where
+  abbrev start : goal.Start
+  start = c.before.before.before.before.before.before.before
+
+  abbrev place : ℕ
+  place = c.sum-up.result - c.sum-down.result
+
+  apart : Apart (start.args.dropped + 64) up start.args.places down place
+  apart =
+      let x = c.sum-up.ensures up e in
+      let y = c.sum-down.ensures down f in
+      subst (λ (i : ℕ). Apart (start.args.dropped + 64) up start.args.places down i) (sym (ap (λ (i : ℕ). i - c.sum-down.result) x ∙ ap (λ (i : ℕ). capped (start.args.dropped + 64 + up) - i) y))
+      (near (start.args.dropped + 64) up start.args.places down (low-dropped start) (low-places start) one
+      (subst (λ (i : ℕ). capped (start.args.places + down) ≤ i) x (subst (λ (i : ℕ). i ≤ c.sum-up.result) y c.if-up-down.false))
+      (subst (λ (i : ℕ). i - capped (start.args.places + down) ≤ 102) x (subst (λ (i : ℕ). c.sum-up.result - i ≤ 102) y c.if-up-down-gt102.false)))
+
+  leading : Leading start.args.w place (val (digits_among start.args.part.now) * 10 ^ up) (10 ^ (start.args.places + down))
+  leading = placed start.args.w (start.args.dropped + 64 + up) _ (start.args.places + down) (sized _ _ _ up start.pre.leads) place apart.at-or-past
+
+pub returns-then-w-eq0 : goal.returns-then-w-eq0
+returns-then-w-eq0 c =
+    let a = c.args in
+    record {
+      bits = λ up down e f one. none-nearest _ a.dropped up (a.places + down) (subst (λ (w : ℕ). Leads (digits_among a.part.now) w a.dropped) c.if-w-eq0.true c.requires.leads);
+    }
+
+pub returns-then-up-down : goal.returns-then-up-down
+returns-then-up-down c =
+    let a = c.args in
+    record {
+      bits = λ up down e f one.
+          let x = c.sum-up.ensures up e in
+          let y = c.sum-down.ensures down f in
+          too-low a.w (a.dropped + 64 + up) _ (a.places + down) (sized _ _ _ up c.requires.leads) c.ranges.w.fits
+          (under (a.dropped + 64) up a.places down (low-dropped c.before.before.before.before.before) (low-places c.before.before.before.before.before) one (subst (λ (i : ℕ). i < capped (a.places + down)) x (subst (λ (i : ℕ). c.sum-up.result < i) y c.if-up-down.true)));
+    }
+
+pub returns-then-up-down-gt102 : goal.returns-then-up-down-gt102
+returns-then-up-down-gt102 c =
+    let a = c.args in
+    record {
+      bits = λ up down e f one.
+          let x = c.sum-up.ensures up e in
+          let y = c.sum-down.ensures down f in
+          too-high a.w (a.dropped + 64 + up) _ (a.places + down) (sized _ _ _ up c.requires.leads) (omega (arith, c.if-w-eq0.false))
+          (past (a.dropped + 64) up a.places down (low-dropped c.before.before.before.before.before.before) (low-places c.before.before.before.before.before.before) one
+          (subst (λ (i : ℕ). capped (a.places + down) ≤ i) x (subst (λ (i : ℕ). i ≤ c.sum-up.result) y c.if-up-down.false))
+          (subst (λ (i : ℕ). 102 < i - capped (a.places + down)) x (subst (λ (i : ℕ). 102 < c.sum-up.result - i) y c.if-up-down-gt102.true)));
+    }
+
+pub nearest-requires : goal.nearest-requires
+nearest-requires c = (omega (arith, c.if-w-eq0.false), omega (arith, c.if-up-down-gt102.false))
+
+pub between-requires : goal.between-requires
+between-requires c =
+    let pre = c.requires in
+    let rise = capped-self _ pre.rise-le in
+    let fall = capped-self _ pre.fall-le in
+    let cell = product-between c.nearest.ensures _ _ (ten-pos _) (leading c.before.before.before _ _ rise fall pre.one_way) c.in-Between.is in
+    let at = (apart c.before.before.before _ _ rise fall pre.one_way).at-or-past in
+    (cell.few, cell.low, ⊎_elim (λ h. omega (arith, pre.few)) (λ h. omega (arith, pre.few, at, c.if-up-down-gt102.false)) pre.one_way)
+
+pub returns-in-Bits : goal.returns-in-Bits
+returns-in-Bits c =
+    record { bits = λ up down e f one. product-bits c.nearest.ensures _ _ (ten-pos _) (leading c.before.before.before up down e f one) c.in-Bits.is }
+
+pub returns-in-Between : goal.returns-in-Between
+returns-in-Between c =
+    let a = c.args in
+    let ds = digits_among a.part.now in
+    let m = c.in-Between.m in
+    let k = c.in-Between.k in
+    record {
+      bits = λ up down e f one.
+          let at = apart c.before.before.before.before up down e f one in
+          let rises = e ∙ at.up-exact in
+          let falls = f ∙ at.down-exact in
+          let cell = product-between c.nearest.ensures _ _ (ten-pos _) (leading c.before.before.before.before up down e f one) c.in-Between.is in
+          subst (λ (u : ℕ). Nearest (val ds * 10 ^ u) (10 ^ (a.places + down)) c.between.result) rises
+          (subst (λ (d : ℕ). Nearest (val ds * 10 ^ a.rise) (10 ^ (a.places + d)) c.between.result) falls
+          (c.between.ensures.bits a.places c.requires.in_all
+          (subst (λ (u : ℕ). Cell m k (val ds * 10 ^ u) (10 ^ (a.places + a.fall))) (sym rises) (subst (λ (d : ℕ). Cell m k (val ds * 10 ^ up) (10 ^ (a.places + d))) (sym falls) cell))));
+    }

@@ -1,0 +1,54 @@
+-- `decimal_digits::gathering::fraction_digits` meets its contract: the digits that eight bytes begin with, and the others one by one. Assumes nothing.
+use Rattle.std.proofs.Common.{ℕ, ◌+◌, ◌-◌, ◌*◌, ◌<◌, ◌≤◌, length, sym, refl, subst, arith, rules}
+use Rattle.decimal_digits.specs.Leading.{Takes}
+use Rattle.decimal_digits.proofs.Taking.{takes-on, takes_run, run-ended, run-bounds, Bounds}
+use Rattle.decimal_digits.proofs.gathering.fraction_digits.Goals as goal
+
+pub run_at-run-requires : goal.run_at-run-requires
+run_at-run-requires c = c.has.ensures c.if-has.true
+
+inside : (c : goal.After-run_at-run) → c.args.from + 8 ≤ length c.args.text.now
+inside c = c.has.ensures c.if-has.true
+
+few : (c : goal.After-run_at-run) → c.run_at-run.result.count ≤ 8
+few c = (run-bounds c.args.text.now c.args.from 0 _ _ _ c.run_at-run.ensures.count c.run_at-run.ensures.value refl).few
+
+pub overflow_add-at : goal.overflow_add-at
+overflow_add-at c = record { fits = omega (arith, few c, inside c, c.well_formed) }
+
+pub power-requires : goal.power-requires
+power-requires c = few c
+
+bounds : (c : goal.After-power)
+    → Bounds c.args.w c.run_at-run.result.count c.power.result c.run_at-run.result.value
+bounds c =
+    let run = c.run_at-run in
+    run-bounds c.args.text.now c.args.from _ _ _ _ run.ensures.count run.ensures.value c.power.ensures
+
+pub overflow_mul-held : goal.overflow_mul-held
+overflow_mul-held c = record { fits = let b = bounds c in omega (arith, b.product, c.if-w-lt100000000000.true) }
+
+pub overflow_add-held : goal.overflow_add-held
+overflow_add-held c = record { fits = let b = bounds c.before in omega (arith, b.product, b.value, c.if-w-lt100000000000.true) }
+
+-- with the run's digits
+taken : (c : goal.After-power)
+    → Takes c.args.text.now c.args.from
+    c.args.w
+    (c.args.from + c.run_at-run.result.count)
+    (c.args.w * c.power.result + c.run_at-run.result.value)
+taken c =
+    let run = c.run_at-run in
+    let text = c.args.text.now in
+    let from = c.args.from in
+    let w = c.args.w in
+    subst (λ (p : ℕ). Takes text from w (from + run.result.count) (w * p + run.result.value)) (sym c.power.ensures)
+    (takes_run text from (inside c.before) run.result.count run.ensures.count w run.result.value c.if-w-lt100000000000.true run.ensures.value)
+
+pub returns-then-count-lt8 : goal.returns-then-count-lt8
+returns-then-count-lt8 c =
+    record { takes = taken c.before.before; ended = λ small. run-ended _ _ (inside c.before.before.before) c.run_at-run.result.count c.run_at-run.ensures.count c.if-count-lt8.true }
+
+pub returns-then-has : goal.returns-then-has
+returns-then-has c =
+    record { takes = takes-on _ _ _ _ _ _ _ (taken c.before.before.before) c.fill.ensures.takes; ended = c.fill.ensures.ended }

@@ -1,0 +1,67 @@
+-- `decimal_digits::gathering::gather_many` meets its contract. The invariant: the digits up to `at` are taken into `held`. The measure is what is left of the text.
+-- Assumes nothing.
+use Rattle.std.proofs.Common.{ℕ, ◌+◌, ◌-◌, ◌*◌, length, sym, refl, subst, le_trans, arith, rules}
+use borrow.Author.Tests.{not-false}
+use Rattle.decimal_digits.specs.Leading.{Takes}
+use Rattle.decimal_digits.proofs.Taking.{takes_none, takes-on, takes_run, run-ended, run-bounds, Bounds, gathers-on, gathers-none}
+use Rattle.decimal_digits.proofs.gathering.gather_many.Goals as goal
+
+bounds : (c : goal.After-power) → Bounds c.loop-held.held c.run_at-run.result.count c.power.result c.run_at-run.result.value
+bounds c =
+    run-bounds c.args.text.now c.loop-held.at _ _ _ _
+    c.run_at-run.ensures.count c.run_at-run.ensures.value c.power.ensures
+
+-- with the run's digits
+taken : (c : goal.After-power)
+    → Takes c.args.text.now c.args.from
+    c.args.w
+    (c.loop-held.at + c.run_at-run.result.count)
+    (c.loop-held.held * c.power.result + c.run_at-run.result.value)
+taken c =
+    let text = c.args.text.now in
+    let at = c.loop-held.at in
+    let held = c.loop-held.held in
+    let run = c.run_at-run in
+    let inside = c.has.ensures (not-false _ c.if-not-has.false) in
+    takes-on text _ _ at held _ _ c.loop-held.invariant
+    (subst (λ (p : ℕ). Takes text at held (at + run.result.count) (held * p + run.result.value)) (sym c.power.ensures)
+    (takes_run text at inside run.result.count run.ensures.count held run.result.value c.loop-held-test.true run.ensures.value))
+
+pub loop-held-init : goal.loop-held-init
+loop-held-init c = takes_none _ _ _
+
+pub run_at-run-requires : goal.run_at-run-requires
+run_at-run-requires c = c.has.ensures (not-false _ c.if-not-has.false)
+
+pub power-requires : goal.power-requires
+power-requires c = (run-bounds c.args.text.now c.loop-held.at 0 _ _ _ c.run_at-run.ensures.count c.run_at-run.ensures.value refl).few
+
+pub overflow_mul-held : goal.overflow_mul-held
+overflow_mul-held c = record { fits = let b = bounds c in omega (arith, b.product, c.loop-held-test.true) }
+
+pub overflow_add-held : goal.overflow_add-held
+overflow_add-held c = record { fits = let b = bounds c.before in omega (arith, b.product, b.value, c.loop-held-test.true) }
+
+pub overflow_add-at : goal.overflow_add-at
+overflow_add-at c = let b = bounds c.before in omega (arith, b.few, c.has.ensures (not-false _ c.if-not-has.false))
+
+pub returns-then-count-lt8 : goal.returns-then-count-lt8
+returns-then-count-lt8 c =
+    let n = c.run_at-run.result.count in
+    let at = c.loop-held.at in
+    let text = c.args.text.now in
+    let inside = c.has.ensures (not-false _ c.if-not-has.false) in
+    let t = taken c.before.before in
+    gathers-on text _ _ _ _ _ _ t (gathers-none text _ _ _ (run-ended text at inside n c.run_at-run.ensures.count c.if-count-lt8.true) (le_trans c.requires t.onward))
+
+pub loop-held-smaller : goal.loop-held-smaller
+loop-held-smaller c = omega (arith, c.if-count-lt8.false, c.has.ensures (not-false _ c.if-not-has.false))
+
+pub loop-held-preserved : goal.loop-held-preserved
+loop-held-preserved c = taken c.before.before
+
+pub pass_rest-requires : goal.pass_rest-requires
+pass_rest-requires c = (le_trans c.requires (le_trans c.loop-held.invariant.onward c.fill-taken.ensures.takes.onward), c.fill-taken.ensures.ended)
+
+pub returns : goal.returns
+returns c = gathers-on _ _ _ _ _ _ _ (takes-on _ _ _ _ _ _ _ c.loop-held.invariant c.fill-taken.ensures.takes) c.pass_rest.ensures

@@ -1,0 +1,13 @@
+-- `decimal_digits::gathering::gather_many` meets its contract. The invariant: the digits up to `at` are taken into `held`. The measure is what is left of the text.
+-- Assumes nothing.
+use Rattle.std.proofs.Common.{ℕ, ◌+◌, ◌-◌, ◌*◌, length, sym, refl, subst, le_trans, arith, rules}
+use borrow.Author.Tests.{not-false}
+use Rattle.decimal_digits.specs.Leading.{Takes}
+use Rattle.decimal_digits.proofs.Taking.{takes_none, takes-on, takes_run, run-ended, run-bounds, Bounds, gathers-on, gathers-none}
+use Rattle.decimal_digits.proofs.gathering.gather_many.Given as goal
+
+abbrev pub invariant-loop-held : goal.invariant-loop-held
+invariant-loop-held l = Takes l.text l.from l.w l.at l.held
+
+abbrev pub decreases-loop-held : goal.decreases-loop-held
+decreases-loop-held l = length l.text - l.at

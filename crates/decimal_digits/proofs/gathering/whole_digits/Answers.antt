@@ -1,0 +1,38 @@
+-- `decimal_digits::gathering::whole_digits` meets its contract: the first digit is known, and the rest are taken after it. Assumes nothing.
+use Rattle.std.proofs.Common.{◌≡◌, ℕ, ◌+◌, ◌-◌, ◌*◌, ◌<◌, true, false, length, get_or, sym, refl, ap, ◌∙◌, subst, zero-add, arith, lit<, rules}
+use Rattle.scan.specs.Bytes.{among, digits}
+use Rattle.scan.proofs.ByteLaws.{digit-range}
+use Rattle.scan.proofs.RunLaws.{byte_inside, all_none}
+use Rattle.decimal_digits.specs.Leading.{Takes}
+use Rattle.decimal_digits.proofs.Taking.{takes_none, takes-on, takes-digit}
+use Rattle.decimal_digits.proofs.gathering.whole_digits.Goals as goal
+
+no_zero : among 0 digits ≡ false
+unfolding among
+no_zero = refl
+
+-- the byte at the place is a digit
+is_one : (c : goal.Then-is_digit) → among (get_or c.args.text.now c.args.from 0) digits ≡ true
+is_one c = ap (λ (b : ℕ). among b digits) (sym c.requires) ∙ sym c.is_digit.ensures ∙ c.if-is_digit.true
+
+inside : (c : goal.Then-is_digit) → c.args.from < length c.args.text.now
+inside c = byte_inside digits c.args.text.now _ no_zero (is_one c)
+
+pub overflow_add-from : goal.overflow_add-from
+overflow_add-from c = record { fits = omega (arith, inside c, c.well_formed) }
+
+pub digit-requires : goal.digit-requires
+digit-requires c = digit-range _ (sym c.is_digit.ensures ∙ c.if-is_digit.true)
+
+pub returns-then-is_digit : goal.returns-then-is_digit
+returns-then-is_digit c =
+    let text = c.args.text.now in
+    let from = c.args.from in
+    let value : 0 * 10 + (get_or text from 0 - 48) ≡ c.digit.result = zero-add _ ∙ ap (λ (b : ℕ). b - 48) (sym c.requires) ∙ sym c.digit.ensures in
+    let first = subst (λ (w : ℕ). Takes text from 0 (from + 1) w) value (takes-digit text from 0 (inside c.before.before) (is_one c.before.before) (lit< tt)) in
+    record { takes = takes-on text _ _ _ _ _ _ first c.fill.ensures.takes; ended = c.fill.ensures.ended }
+
+pub returns : goal.returns
+returns c =
+    let isnt = ap (λ (b : ℕ). among b digits) (sym c.requires) ∙ sym c.is_digit.ensures ∙ c.if-is_digit.false in
+    record { takes = takes_none _ _ _; ended = λ few. all_none digits c.args.text.now _ isnt }

@@ -1,0 +1,45 @@
+-- `decimal_digits::words::run_at` meets its contract: the lowest mark tells the first lane that is no digit, and what is below it is moved up. Assumes nothing.
+use Rattle.std.proofs.Common.{◌≡◌, ℕ, ◌+◌, ◌-◌, ◌*◌, ◌/◌, ◌<◌, length, sym, refl, ap, ◌∙◌, le_of_lt, arith, rules}
+use lib.Bits.{bit_xor}
+use lib.Count.{count_trailing_zeros, trailing_le}
+use Rattle.decimal_digits.specs.Words.{laid, eight_of, begun, each, Below}
+use Rattle.decimal_digits.proofs.Lanes.{eight-below, none_other, some-other, whole-value, part-value}
+use Rattle.decimal_digits.proofs.words.run_at.Goals as goal
+
+bytes : (c : goal.After-shared_slice_known-1) → Below 256 (eight_of c.args.text.now c.args.at)
+bytes c = eight-below c.args.text.now c.args.at (λ i. omega (arith, c.shared_slice_known-1.given i))
+
+lanes-are : (c : goal.After-values-x) → c.values-x.result ≡ bit_xor (laid 8 (eight_of c.args.text.now c.args.at)) (each 48 8)
+lanes-are c = c.values-x.ensures ∙ ap (λ (z : ℕ). bit_xor z (each 48 8)) c.word_at.ensures
+
+abbrev count_of : goal.Start → ℕ
+count_of c = length (begun (eight_of c.args.text.now c.args.at))
+
+-- the lowest mark
+first : (c : goal.Else-marks-eq0)
+    → (count_trailing_zeros 64 c.others-marks.result ≡ 8 * count_of c.before.before.before.before.before + 7) × (count_of c.before.before.before.before.before < 8)
+first c =
+    let marks = c.others-marks.ensures in
+    let s = some-other _ refl (bytes c.before.before.before.before) _ (lanes-are c.before.before) (λ z. c.if-marks-eq0.false (marks ∙ z)) in
+    (ap (count_trailing_zeros 64) marks ∙ s.0, s.1)
+
+pub returns-then-marks-eq0 : goal.returns-then-marks-eq0
+returns-then-marks-eq0 c =
+    let all = none_other _ refl (bytes c.before.before.before.before.before) _ (lanes-are c.before.before.before) (sym c.others-marks.ensures ∙ c.if-marks-eq0.true) in
+    record { count = sym all; value = whole-value _ refl (bytes c.before.before.before.before.before) _ (lanes-are c.before.before.before) _ all c.eight.ensures }
+
+pub overflow_cast-count : goal.overflow_cast-count
+overflow_cast-count c = record { fits = omega (arith, trailing_le 64 c.others-marks.result) }
+
+pub overflow_sub-up : goal.overflow_sub-up
+overflow_sub-up c = omega (arith, trailing_le 64 c.others-marks.result)
+
+pub returns : goal.returns
+returns c =
+    let s = first c.before in
+    let up = 4 * (8 - count_trailing_zeros 64 c.others-marks.result / 8) in
+    let moved : up ≡ 4 * (8 - count_of c.before.before.before.before.before.before) = omega (arith, s.0) in
+    record {
+      count = omega (arith, s.0);
+      value = part-value (eight_of c.args.text.now c.args.at) refl (bytes c.before.before.before.before.before) _ (lanes-are c.before.before.before) _ _ up (le_of_lt s.1) moved refl c.eight-2.ensures;
+    }

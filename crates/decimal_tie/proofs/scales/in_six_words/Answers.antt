@@ -1,0 +1,39 @@
+-- `decimal_tie::scales::in_six_words` meets its contract: `TwoWords` has the two words, and each arm is a law of their place. Assumes nothing.
+use mathlib.Core.Path.{◌≡◌, refl, ap, sym, ◌∙◌, subst}
+use Prim.Native.Nat.{ℕ, ◌+◌, ◌-◌, ◌*◌, ◌/◌, ◌%◌, ◌^◌, ◌<◌, ◌≤◌}
+use native.Mathlib.Omega.{arith}
+use borrow.Author.Rules.{rules}
+use Rattle.decimal_tie.proofs.Sixes.{TwoWords, two-words, six-0, six-1, six-2, six-3, six-4, six-5}
+use Rattle.decimal_tie.proofs.scales.in_six_words.Goals as goal
+
+known : (c : goal.Start) → TwoWords c.args.odd c.args.k
+known c = two-words c.args.odd c.args.k c.requires.0
+
+pub overflow_sub-low-2 : goal.overflow_sub-low-2
+overflow_sub-low-2 c = let k = known c in omega (arith, k.back, k.under)
+
+pub returns-in-0 : goal.returns-in-0
+returns-in-0 c = let k = known c.before in rw (k.back, k.kept) (six-0 c.args.odd c.args.k k c.in-0.is)
+
+pub returns-in-1 : goal.returns-in-1
+returns-in-1 c = let k = known c.before in rw (k.back, k.kept) (six-1 c.args.odd c.args.k k c.in-1.is)
+
+pub returns-in-2 : goal.returns-in-2
+returns-in-2 c = let k = known c.before in rw (k.back, k.kept) (six-2 c.args.odd c.args.k k c.in-2.is)
+
+pub returns-in-3 : goal.returns-in-3
+returns-in-3 c = let k = known c.before in rw (k.back, k.kept) (six-3 c.args.odd c.args.k k c.in-3.is)
+
+pub returns-in-4 : goal.returns-in-4
+returns-in-4 c = let k = known c.before in rw (k.back, k.kept) (six-4 c.args.odd c.args.k k c.in-4.is)
+
+pub returns-in_default : goal.returns-in_default
+returns-in_default c =
+    let k = known c.before in
+    let r = c.in_default.in_default-own.rest in
+    let a = r.1 in
+    let b = r.0.1 in
+    let d = r.0.0.1 in
+    let e = r.0.0.0.1 in
+    let f = r.0.0.0.0.1 in
+    rw (k.back, k.kept) (six-5 c.args.odd c.args.k k c.requires.0 (omega (arith, c.requires.1)) c.requires.1)

@@ -1,0 +1,7 @@
+-- `ellipse::sizes` meets its contract: what each call ensures. Assumes nothing.
+use borrow.Author.Rules.{rules}
+use Rattle.math.proofs.Pointwise.{both}
+use Rattle.ellipse.proofs.ends.sizes.Goals as goal
+
+pub returns : goal.returns
+returns c = both c.size.ensures c.size-2.ensures

@@ -1,0 +1,16 @@
+-- `is_segment` meets its contract: the kind is judged first, then the count of its numbers. Assumes nothing.
+use borrow.Author.Rules.{rules}
+use mathlib.Core.Path.{ap}
+use Prim.Native.Nat.{ℕ}
+use lib.Dec.{eqb}
+use lib.ListN.{length}
+use Rattle.kihavute_appending.proofs.AppendingGiven.{known-kind, unknown-kind}
+use Rattle.kihavute_appending.proofs.appending.is_segment.Goals as goal
+
+pub returns-then-kind-lt5 : goal.returns-then-kind-lt5
+returns-then-kind-lt5 c =
+    let a = c.args in
+    known-kind a.kind a.numbers.now _ c.if-kind-lt5.true (ap (λ (n : ℕ). eqb (length a.numbers.now) n) c.width.ensures)
+
+pub returns : goal.returns
+returns c = let a = c.args in unknown-kind a.kind a.numbers.now c.if-kind-lt5.false

@@ -1,0 +1,24 @@
+-- A fallback answers as its line; else point and direction are taken at what the lookup gives. Assumes nothing.
+use borrow.Author.Rules.{rules}
+use mathlib.Core.Path.{sym, ap, ◌∙◌}
+use Rattle.ellipse.specs.Shape.{point_on, direction_on}
+use Rattle.arc.specs.declared.lines.LineSegment.{LineSegment}
+use Rattle.arc.proofs.Cases.{length-of-table}
+use Rattle.kihavute_curves.specs.Lone.{line_lone}
+use Rattle.kihavute_curves.proofs.LoneGiven.{lone_is, alone-on-line, alone-on-arc}
+use Rattle.kihavute_curves.proofs.lone.arc_lone.Goals as goal
+
+pub returns-then-arc : goal.returns-then-arc
+returns-then-arc c =
+    c.line_lone.ensures ∙ ap (λ (l : LineSegment). line_lone l c.args.progress.value) c.chord_line.ensures ∙ alone-on-line _ _ c.if-arc.true
+
+pub raw_parameter-raw-requires : goal.raw_parameter-raw-requires
+raw_parameter-raw-requires c = c.requires c.if-arc.false
+
+pub returns : goal.returns
+returns c =
+    let raw = c.raw_parameter-raw in
+    let curved = c.if-arc.false in
+    lone_is raw.result (c.arc_sample-position.ensures ∙ ap (point_on _) raw.ensures) (c.arc_heading-tangent.ensures ∙ ap (direction_on _) raw.ensures) raw.ensures
+    (c.arc_length-length.ensures ∙ sym (length-of-table _ curved))
+    ∙ alone-on-arc _ _ curved

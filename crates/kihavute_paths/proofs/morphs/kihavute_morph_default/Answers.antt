@@ -1,0 +1,17 @@
+-- A short answer leaves all as it was; any other gives what the entry below gave, and both shapes stand on their lines in order. Assumes nothing.
+use borrow.Author.Rules.{rules}
+use native.Mathlib.Omega.{arith}
+use Rattle.kihavute_paths.proofs.Putting.{put-two-short, put-morphed}
+use Rattle.kihavute_paths.proofs.Standing.{morphed-stands}
+use Rattle.kihavute_paths.proofs.morphs.kihavute_morph_default.Goals as goal
+
+pub returns-then-answer-lt8 : goal.returns-then-answer-lt8
+returns-then-answer-lt8 c = (put-two-short _ _ _ _ c.if-answer-lt8.true, (λ zero. absurd (omega (arith, zero)), λ zero. absurd (omega (arith, zero))))
+
+pub returns : goal.returns
+returns c =
+    let call = c.morph_default-morphed.ensures in
+    let given = c.give_morphed.ensures in (
+      put-morphed c.args.answer.now _ _ c.if-answer-lt8.false _ _ _ c.args.out-from.now c.args.out-to.now _ _ _ call given,
+      morphed-stands _ _ _ c.args.out-from.now c.args.out-to.now _ _ _ call given,
+    )

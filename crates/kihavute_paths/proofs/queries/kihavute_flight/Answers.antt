@@ -1,0 +1,12 @@
+-- `kihavute_flight` meets its contract: what the entry below answers is given, and what it shows holds of the places of `answer`. Assumes nothing.
+use borrow.Author.Rules.{rules}
+use mathlib.Core.Path.{ap}
+use Rattle.flight.specs.Flights.{flight_given}
+use Rattle.c_answer.proofs.Giving.{given-same}
+use Rattle.kihavute_paths.proofs.Receiving.{received}
+use Rattle.kihavute_paths.proofs.queries.kihavute_flight.Goals as goal
+
+pub returns : goal.returns
+returns c =
+    let flown = c.flight-flown.ensures in
+    (given-same _ _ (ap flight_given flown.0) c.give_flight.ensures, received _ _ _ flown.0 flown.1 c.give_flight.ensures)

@@ -1,0 +1,16 @@
+-- `kihavute_read_lean` meets its contract: the answer's length is judged first, then the reader's own promise is reported, and what it stores are the text's commands. Assumes nothing.
+use borrow.Author.Rules.{rules}
+use native.Mathlib.Omega.{arith}
+use Rattle.kihavute_reading.proofs.ReadingGiven.{not-read, read-reported}
+use Rattle.kihavute_reading.proofs.Keeping.{read_kept}
+use Rattle.kihavute_reading.proofs.lean.kihavute_read_lean.Goals as goal
+
+pub returns-then-answer-lt8 : goal.returns-then-answer-lt8
+returns-then-answer-lt8 c = (not-read _ _ _ c.if-answer-lt8.true, λ zero. absurd (omega (arith, zero)))
+
+pub returns : goal.returns
+returns c =
+    (
+      read-reported _ _ _ _ c.if-answer-lt8.false c.read_lean-reading.ensures c.give_reading.ensures,
+      read_kept _ _ _ _ c.read_lean-reading.ensures c.give_reading.ensures,
+    )

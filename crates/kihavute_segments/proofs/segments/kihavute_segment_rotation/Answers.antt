@@ -1,0 +1,37 @@
+-- `kihavute_segment_rotation` meets its contract: each case of what was found is given as the definition says. Assumes nothing.
+use borrow.Author.Rules.{rules}
+use mathlib.Core.Path.{ap, ◌∙◌}
+use Rattle.path_segment.specs.declared.segments.PathSegment.{PathSegment}
+use Rattle.path_stored.specs.declared.queries.Part.{Part}
+use Rattle.path_part.specs.Parts.{rotation_of}
+use Rattle.c_answer.specs.Places.{turn_given}
+use Rattle.c_answer.proofs.Giving.{given-same}
+use Rattle.kihavute_segments.specs.Segments.{rotation_given}
+use Rattle.kihavute_segments.proofs.SegmentsGiven.{found-given, found_none, found-refused}
+use Rattle.kihavute_segments.proofs.segments.kihavute_segment_rotation.Goals as goal
+
+pub returns-in-Segment : goal.returns-in-Segment
+returns-in-Segment c =
+    let part = c.segment-part.result in
+    let along = c.args.along in
+    given-same _ _
+    (ap turn_given c.rotation_deg-to.ensures
+    ∙ found-given (λ (s : PathSegment). turn_given (rotation_of s part.table along)) part.found-1 _ c.in-Segment.is
+    ∙ ap (λ (p : Part). rotation_given p along) c.segment-part.ensures)
+    c.give_turn.ensures
+
+pub returns-in-NoSegment : goal.returns-in-NoSegment
+returns-in-NoSegment c =
+    let part = c.segment-part.result in
+    let along = c.args.along in
+    given-same _ _
+    (found_none (λ (s : PathSegment). turn_given (rotation_of s part.table along)) part.found-1 c.in-NoSegment.is ∙ ap (λ (p : Part). rotation_given p along) c.segment-part.ensures)
+    c.accept.ensures
+
+pub returns-in-Refused : goal.returns-in-Refused
+returns-in-Refused c =
+    let part = c.segment-part.result in
+    let along = c.args.along in
+    given-same _ _
+    (found-refused (λ (s : PathSegment). turn_given (rotation_of s part.table along)) part.found-1 _ c.in-Refused.is ∙ ap (λ (p : Part). rotation_given p along) c.segment-part.ensures)
+    c.refuse.ensures

@@ -1,0 +1,23 @@
+-- `legs::copy` meets its contract. The loop keeps that the numbers before its place are stored; the measure is what is left of them. Assumes nothing.
+use borrow.Author.Rules.{rules}
+use Prim.Native.Nat.{◌-◌, ◌≤◌}
+use mathlib.Core.Path.{◌≡◌, refl, ap, ◌∙◌}
+use native.Mathlib.Nat.{zero-add}
+use native.Mathlib.Omega.{arith}
+use lib.ListN.{length, take}
+use lib.Seq.{sets, length-sets}
+use Rattle.path_segment.proofs.Runs.{put_next}
+use Rattle.legs.proofs.flattening.copy.Goals as goal
+
+pub loop-k-init : goal.loop-k-init
+loop-k-init c = (omega arith, (refl, refl))
+
+pub loop-k-preserved : goal.loop-k-preserved
+loop-k-preserved c =
+    let l = c.loop-k in
+    let a = c.args in
+    let e = rw (zero-add l.k) at (put_next a.from.now a.out.now 0 l.k l.out _ (omega arith) l.invariant.1.1 refl) in
+    (omega arith, (ap length e ∙ simp length-sets, e))
+
+pub returns : goal.returns
+returns c = let l = c.loop-k in let z : l.k ≡ c.args.count = omega arith in rw z at l.invariant.1.1

@@ -1,0 +1,74 @@
+-- The invariants: each place before i has its sum, before j anything, before k its length or 0 (`Passing`). The measures are the places
+-- left. Assumes nothing.
+use borrow.Author.Rules.{rules}
+use native.Mathlib.Omega.{arith}
+use mathlib.Core.Path.{◌≡◌, refl}
+use Prim.Native.Nat.{ℕ, ◌+◌, ◌-◌}
+use mathlib.Core.List.{List}
+use lib.ListN.{get_or}
+use lib.Ieee.{Float, nan}
+use Rattle.lengths.specs.Length.{Summed, Judged}
+use Rattle.lengths.proofs.Far.{judged-at}
+use Rattle.lengths.proofs.Lists.{Passing, passing-start, passing-more}
+use Rattle.lengths.proofs.passes.judged_run.Invariants.{Root, Anything, Sum}
+use Rattle.lengths.proofs.passes.judged_run.Goals as goal
+
+pub loop-i-init : goal.loop-i-init
+loop-i-init c = passing-start refl
+
+element-copy-out-square-sum :
+    goal.bounds-x-at
+element-copy-out-square-sum c = search rules
+
+element-copy-out-square-sum-2 :
+    goal.bounds-y-at
+element-copy-out-square-sum-2 c = search rules
+
+square-sum-requires :
+    goal.square_sum-requires
+square-sum-requires c κs = search rules
+
+pub loop-i-preserved : goal.loop-i-preserved
+loop-i-preserved c =
+    passing-more c.loop-i.invariant c.loop-i-test.true _ c.square_sum.ensures
+
+pub loop-j-init : goal.loop-j-init
+loop-j-init c = passing-start refl
+
+pub guess-requires : goal.guess-requires
+guess-requires c = (c.loop-i.invariant.done c.loop-j.j (omega (arith, c.loop-j-test.true, c.loop-i-test.false))).0
+
+array-write-guesses :
+    goal.bounds-guesses-j
+array-write-guesses c = search rules
+
+pub loop-j-preserved : goal.loop-j-preserved
+loop-j-preserved c = passing-more c.loop-j.invariant c.loop-j-test.true _ refl
+
+pub loop-k-init : goal.loop-k-init
+loop-k-init c = passing-start refl
+
+array-read-root-or-zero :
+    goal.bounds-sums-k
+array-read-root-or-zero c = search rules
+
+mul-root-or-zero-2 :
+    goal.offset_bounds-guesses-k
+mul-root-or-zero-2 c = search rules
+
+array-read-root-or-zero-2 :
+    goal.bounds-guesses-k
+array-read-root-or-zero-2 c = search rules
+
+root-or-zero-requires :
+    goal.root_or_zero-requires
+root-or-zero-requires c κs = (c.loop-i.invariant.done c.loop-k.k (omega (arith, c.loop-k-test.true, c.loop-i-test.false))).0
+
+pub loop-k-preserved : goal.loop-k-preserved
+loop-k-preserved c =
+    let t = c.loop-k-test.true in
+    passing-more c.loop-k.invariant t _
+    (judged-at _ _ _ _ (c.loop-i.invariant.done c.loop-k.k (omega (arith, t, c.loop-i-test.false))) c.root_or_zero.ensures)
+
+pub returns : goal.returns
+returns c = λ k h. c.loop-k.invariant.done k (omega (arith, h, c.loop-k-test.false))

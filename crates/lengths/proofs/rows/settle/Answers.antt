@@ -1,0 +1,21 @@
+-- The invariant: before j each place has its length, and every place its length or 0 (`Settling`). The measure is the places left. Assumes
+-- nothing.
+use borrow.Author.Rules.{rules}
+use mathlib.Core.Logic.{⊎_elim}
+use Prim.Native.Nat.{◌-◌}
+use Rattle.floats.specs.Floats.{zero_f}
+use Rattle.lengths.proofs.Lists.{measured, Settling, settling-start, settling-put, settling-keep}
+use Rattle.lengths.proofs.rows.settle.Goals as goal
+
+pub loop-j-init : goal.loop-j-init
+loop-j-init c = settling-start c.requires
+
+pub loop-j-preserved : goal.loop-j-preserved
+unfolding zero_f
+loop-j-preserved c =
+    let i = c.loop-j.invariant in
+    let t = c.loop-j-test.true in
+    ⊎_elim (λ w. settling-put i t _ w.3.ensures w.4) (λ w. settling-keep i t w.0.left w.1) c.if-out-j.branch
+
+pub returns : goal.returns
+returns c = measured _ _ c.loop-j.invariant.measured c.loop-j-test.false

@@ -1,0 +1,17 @@
+-- `path_append::numbers_used` meets its contract: the count is the same in the part. Assumes nothing.
+use Rattle.path_append.proofs.InUse.{before-take}
+use Rattle.path_segment.specs.Segments.{width_of}
+use lib.Seq.{length-take-le}
+use native.Mathlib.Omega.{arith}
+use mathlib.Core.Path.{sym, ◌∙◌}
+use borrow.Author.Rules.{rules}
+use Rattle.path_append.proofs.used.numbers_used.Goals as goal
+
+pub slice_bounds-fields_before-end : goal.slice_bounds-fields_before-end
+slice_bounds-fields_before-end c = sym (length-take-le _ _ c.requires.0)
+
+pub fields_before-requires : goal.fields_before-requires
+fields_before-requires c = let a = c.args in let h = c.requires in let e = length-take-le a.count a.kinds.now h.0 in (omega arith, omega arith)
+
+pub returns : goal.returns
+returns c = let a = c.args in c.fields_before.ensures ∙ before-take width_of a.kinds.now a.count

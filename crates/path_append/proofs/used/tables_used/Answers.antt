@@ -1,0 +1,23 @@
+-- `path_append::tables_used` meets its contract: the count is the same in the part. Assumes nothing.
+use Rattle.path_append.proofs.InUse.{before-take}
+use Rattle.path_stored.proofs.Counting.{tables-at-most}
+use Rattle.path_segment.specs.Segments.{tables_of}
+use lib.Seq.{length-take-le}
+use lib.ListN.{take}
+use native.Mathlib.Omega.{arith}
+use mathlib.Core.Path.{sym, ap, ◌∙◌}
+use Prim.Native.Nat.{◌*◌}
+use borrow.Author.Rules.{rules}
+use Rattle.path_append.proofs.used.tables_used.Goals as goal
+
+pub slice_bounds-tables_before-end : goal.slice_bounds-tables_before-end
+slice_bounds-tables_before-end c = sym (length-take-le _ _ c.requires.0)
+
+pub tables_before-requires : goal.tables_before-requires
+tables_before-requires c = let a = c.args in let h = c.requires in let e = length-take-le a.count a.kinds.now h.0 in (omega arith, omega arith)
+
+pub overflow_mul-result : goal.overflow_mul-result
+overflow_mul-result c = let a = c.args in omega (arith, tables-at-most (take a.count a.kinds.now) a.count, c.tables_before.ensures, c.requires.1)
+
+pub returns : goal.returns
+returns c = let a = c.args in ap (λ n. 33 * n) (c.tables_before.ensures ∙ before-take tables_of a.kinds.now a.count)

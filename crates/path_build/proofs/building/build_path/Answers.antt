@@ -1,0 +1,25 @@
+-- `path_build::build_path` meets its contract: the first pass tells what is built, the second stores it. Assumes nothing.
+use borrow.Author.Rules.{rules}
+use mathlib.Core.Path.{sym, ◌∙◌}
+use Rattle.path_stored.specs.Buffers.{lent}
+use Rattle.path_build.proofs.Answering.{ended-refused, ended-holding, ended-built}
+use Rattle.path_build.proofs.building.build_path.Goals as goal
+
+-- ---- the points
+abbrev answered : goal.In-Built-2 → goal.After-room
+answered t = t.before.before
+
+-- ---- the answers
+pub returns-in-Refused : goal.returns-in-Refused
+returns-in-Refused c = ended-refused _ _ c.sized.ensures (sym c.room.ensures ∙ c.in-Refused.is)
+
+pub fill-requires : goal.fill-requires
+fill-requires c =
+    let r = answered c.before.before.before.before.before.before in
+    let a = r.args in
+    ended-holding (lent a.kinds-1 a.fields-1 a.tables-1 a.lengths-1 a.commands-1) _ r.sized.ensures (sym r.room.ensures ∙ c.in-Built.is)
+
+pub returns-in-Built : goal.returns-in-Built
+returns-in-Built c =
+    let r = answered c.before.before.before.before.before.before.before.before.before.before.before.before.before.before.before.before.before in
+    ended-built _ _ r.sized.ensures (sym r.room.ensures ∙ c.in-Built.is) c.fill.ensures

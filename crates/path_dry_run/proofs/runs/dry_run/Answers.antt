@@ -1,0 +1,87 @@
+-- `path_dry_run::dry_run` meets its contract: each way out is a case of `dry_run_of`, and the buffers lent are f32 values, so that `seconds-in-order` shows the order. Assumes nothing.
+use borrow.Author.Rules.{rules}
+use Prim.Native.Nat.{◌≤◌}
+use mathlib.Core.Path.{◌≡◌, sym, ◌∙◌}
+use mathlib.Core.Bool.{true}
+use native.Mathlib.Omega.{arith}
+use lib.ListN.{length}
+use Rattle.floats.proofs.Tests.{passed}
+use Rattle.path_stored.specs.Buffers.{Buffers, buffers}
+use Rattle.path_stored.specs.Stored.{is_stored}
+use Rattle.path_stored.proofs.Rule.{stored-rule}
+use Rattle.path_query.proofs.Seats.{a-flight}
+use Rattle.path_dry_run.specs.Seconds.{fast_of, Recorded}
+use Rattle.path_dry_run.proofs.Sums.{slow-all}
+use Rattle.path_dry_run.proofs.Seconds.{filled_none, seconds-in-order}
+use Rattle.path_dry_run.proofs.Answering.{run-bad, run_long, run-fast, run-short-segments, run-short-raws, run-filled}
+use Rattle.path_dry_run.proofs.runs.dry_run.Goals as goal
+
+-- ---- past the speeds
+abbrev checked : goal.Else-fast-gt100000 → goal.After-check_path
+checked e = e.before.before.before.before
+
+abbrev start : goal.After-check_path → goal.Start
+start c = c.before.before.before.before.before.before.before.before.before
+
+abbrev path : goal.After-check_path → Buffers
+path c = let a = (start c).args in buffers a.kinds.now a.fields.now a.tables.now a.lengths.now a.commands.now
+
+stored : (e : goal.Else-fast-gt100000) → is_stored (path (checked e)) ≡ true
+stored e = sym e.check_path.ensures ∙ e.if-check_path.true
+
+few : (e : goal.Else-fast-gt100000) → length (start (checked e)).args.speeds.now ≤ 36000
+few e = e.if-count-gt36000.false
+
+slow : (e : goal.Else-fast-gt100000) → fast_of (start (checked e)).args.speeds.now ≤ 100000
+slow e = omega (arith, e.first_fast-fast.ensures, e.if-fast-gt100000.false)
+
+recorded : (e : goal.Else-fast-gt100000) → Recorded (start (checked e)).args.speeds.now
+recorded e = record { few = few e; slow = slow-all (start (checked e)).args.speeds.now (slow e) }
+
+-- ---- the answers
+pub returns-then-count-gt36000 : goal.returns-then-count-gt36000
+returns-then-count-gt36000 c = (run_long _ _ _ _ (sym c.check_path.ensures ∙ c.if-check_path.true) c.if-count-gt36000.true, tt)
+
+pub returns-then-fast-gt100000 : goal.returns-then-fast-gt100000
+returns-then-fast-gt100000 c =
+    (run-fast _ _ _ _ (sym c.check_path.ensures ∙ c.if-check_path.true) c.if-count-gt36000.false _ c.first_fast-fast.ensures c.if-fast-gt100000.true, tt)
+
+pub returns-then-segments-count : goal.returns-then-segments-count
+returns-then-segments-count c = (run-short-segments _ _ _ _ (stored c.before) (few c.before) (slow c.before) c.if-segments-count.true, tt)
+
+pub returns-then-raws-count : goal.returns-then-raws-count
+returns-then-raws-count c = (run-short-raws _ _ _ _ (stored c.before.before) (few c.before.before) (slow c.before.before) c.if-segments-count.false c.if-raws-count.true, tt)
+
+pub returns-then-kinds-eq0 : goal.returns-then-kinds-eq0
+returns-then-kinds-eq0 c =
+    (
+      run-filled _ _ _ _ (stored c.before.before.before.before.before.before.before.before.before.before.before) (few c.before.before.before.before.before.before.before.before.before.before.before) (slow c.before.before.before.before.before.before.before.before.before.before.before) _ _ c.if-segments-count.false c.if-raws-count.false (filled_none _ _ c.if-kinds-eq0.true _ _ _ _ c.fill_none.ensures c.fill_zeros.ensures),
+      λ some. absurd (omega (arith, c.if-kinds-eq0.true, some)),
+    )
+
+pub fill_seconds-requires : goal.fill_seconds-requires
+fill_seconds-requires c =
+    record {
+      path = a-flight (stored-rule _ (passed (stored c.before.before.before.before.before))) (omega (arith, c.if-kinds-eq0.false));
+      recorded = recorded c.before.before.before.before.before;
+      segments_room = c.if-segments-count.false;
+      raws_room = c.if-raws-count.false;
+    }
+
+pub returns-then-check_path : goal.returns-then-check_path
+returns-then-check_path c =
+    let check = checked c.before.before.before.before.before.before.before.before.before.before in
+    let filled = c.fill_seconds.ensures in (
+      run-filled _ _ _ _ (stored c.before.before.before.before.before.before.before.before.before.before) (few c.before.before.before.before.before.before.before.before.before.before) (slow c.before.before.before.before.before.before.before.before.before.before) _ _ c.if-segments-count.false c.if-raws-count.false filled,
+      λ some.
+          seconds-in-order filled some
+          (record {
+            stored = stored-rule _ (passed (stored c.before.before.before.before.before.before.before.before.before.before));
+            table_values = check.shared_slice_known-3-1.given;
+            length_values = check.shared_slice_known-4-1.given;
+          })
+          (recorded c.before.before.before.before.before.before.before.before.before.before),
+    )
+
+pub returns : goal.returns
+returns c = (run-bad _ _ _ _ (sym c.check_path.ensures ∙ c.if-check_path.false), tt)

@@ -1,0 +1,29 @@
+-- `path_part::tangent` meets its contract: in each arm the segment that was matched is the arm's, and the entry of its kind answers. Assumes nothing.
+use borrow.Author.Rules.{rules}
+use mathlib.Core.Path.{ap, ◌∙◌}
+use Rattle.flight.specs.declared.single.Placed.TheVariants as Placed
+use Rattle.arc.specs.Lines.{line_tangent_of}
+use Rattle.path_part.specs.Parts.{tangent_of}
+use Rattle.path_part.proofs.queries.tangent.Goals as goal
+
+pub returns-in-Line : goal.returns-in-Line
+unfolding tangent_of
+returns-in-Line c = rw c.in-Line.is (ap Placed.At c.line_tangent.ensures)
+
+pub returns-in-Quad : goal.returns-in-Quad
+unfolding tangent_of
+returns-in-Quad c = rw c.in-Quad.is c.quad_tangent.ensures
+
+pub returns-in-Cubic : goal.returns-in-Cubic
+unfolding tangent_of
+returns-in-Cubic c = rw c.in-Cubic.is c.cubic_tangent.ensures
+
+pub returns-in-Arc : goal.returns-in-Arc
+unfolding tangent_of
+returns-in-Arc c = rw c.in-Arc.is c.arc_tangent.ensures
+
+pub returns-in-Fallback : goal.returns-in-Fallback
+unfolding tangent_of
+returns-in-Fallback c =
+    let line = c.chord_line.ensures in
+    rw c.in-Fallback.is (ap Placed.At (c.line_tangent-in-Fallback.ensures ∙ ap line_tangent_of line))

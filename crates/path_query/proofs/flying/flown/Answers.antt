@@ -1,0 +1,30 @@
+-- `path_query::flying::flown` meets its contract: the cursor is that of the spot's segment (`flight-is`). Assumes nothing.
+use borrow.Author.Rules.{rules}
+use mathlib.Core.Path.{◌≡◌, ◌∙◌}
+use Prim.Native.Nat.{◌<◌}
+use native.Mathlib.Omega.{arith}
+use lib.ListN.{length}
+use Rattle.table.specs.declared.tables.Spot.{Spot}
+use Rattle.table.specs.Spots.{spot_of}
+use Rattle.path_place.proofs.Standing.{spot-among}
+use Rattle.path_query.proofs.Seats.{some-place, seated, flight-is}
+use Rattle.path_query.proofs.flying.flown.Goals as goal
+
+-- the spot's segment is one of the path's
+inside : (start : goal.Start) {spot : Spot} → spot ≡ spot_of start.args.lengths.now start.args.progress.value → spot.segment < length start.args.kinds.now
+inside start {spot} e = rw e (spot-among (some-place start.requires) start.args.progress.value)
+
+pub cursor_at-at-requires : goal.cursor_at-at-requires
+cursor_at-at-requires c =
+    let among = inside c.before.before.before.before.before.before.before c.spot-found.ensures in
+    let few = c.requires.path.few in
+    (omega arith, omega arith)
+
+pub flown_within-requires : goal.flown_within-requires
+flown_within-requires c =
+    seated c.requires c.cursor_at-at.ensures (inside c.before.before.before.before.before.before.before.before c.spot-found.ensures)
+
+pub returns : goal.returns
+returns c =
+    let spot = c.spot-found in
+    c.flown_within.ensures ∙ flight-is _ _ spot.result c.cursor_at-at.result spot.ensures c.cursor_at-at.ensures

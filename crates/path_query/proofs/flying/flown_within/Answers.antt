@@ -1,0 +1,15 @@
+-- `path_query::flying::flown_within` meets its contract: the segment and its raw parameter are the definition's, and so is what they give, tidied (`flown-is`). Assumes nothing.
+use borrow.Author.Rules.{rules}
+use mathlib.Core.Path.{◌∙◌}
+use Rattle.path_query.proofs.Seats.{seated-table, flown-is}
+use Rattle.path_query.proofs.flying.flown_within.Goals as goal
+
+pub heading-requires : goal.heading-requires
+heading-requires c =
+    seated-table c.requires c.segment_here-segment.result c.segment_here-segment.ensures
+
+pub returns : goal.returns
+returns c =
+    let a = c.args in
+    flown-is a.kinds.now a.fields.now a.tables.now a.at a.along.value _ _ _ _ c.requires.standing.is c.segment_here-segment.ensures
+    c.raw_within-raw.ensures (c.tidy_point-position.ensures ∙ c.sample.ensures) (c.tidy_point-tangent.ensures ∙ c.heading.ensures)

@@ -1,0 +1,13 @@
+-- `path_segment::fields::put_cubic` meets its contract: two runs of numbers, one after the other. Assumes nothing.
+use Rattle.path_segment.specs.Segments.{xy}
+use Rattle.commands.proofs.Storing.{then-put}
+use mathlib.Core.List.{[]}
+use mathlib.Core.Path.{refl}
+use Prim.Native.Nat.{◌+◌}
+use borrow.Author.Rules.{rules}
+use Rattle.path_segment.proofs.fields.put_cubic.Goals as goal
+
+pub returns : goal.returns
+returns c =
+    let a = c.args in
+    then-put a.fields-1.now a.at (xy a.start (xy a.control1 [])) (xy a.control2 (xy a.end [])) c.put_pair.ensures refl c.put_pair-2.ensures

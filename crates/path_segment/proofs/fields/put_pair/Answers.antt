@@ -1,0 +1,9 @@
+-- `path_segment::fields::put_pair` meets its contract: two runs of numbers, one after the other. Assumes nothing.
+use Rattle.commands.proofs.Storing.{four-put}
+use borrow.Author.Rules.{rules}
+use Rattle.path_segment.proofs.fields.put_pair.Goals as goal
+
+pub returns : goal.returns
+returns c =
+    let a = c.args in
+    four-put a.fields-1.now a.at a.p.x a.p.y a.q.x a.q.y c.put_two.new.0 _ c.put_two.ensures c.put_two-2.ensures

@@ -1,0 +1,33 @@
+-- `path_stored::counts::tables_of_few` meets its contract. The invariant: the sum is of the segments before j. The measure is the segments left. Assumes nothing.
+use borrow.Author.Rules.{rules}
+use mathlib.Core.Path.{◌≡◌, subst}
+use Prim.Native.Nat.{ℕ, ◌+◌, ◌-◌, ◌≤◌}
+use native.Mathlib.Omega.{arith}
+use Rattle.path_segment.specs.Segments.{tables_of}
+use Rattle.path_stored.specs.Counts.{Adds}
+use Rattle.path_stored.proofs.Spans.{Tabling, tabling-start, tabling-more}
+use Rattle.path_stored.proofs.counts.tables_of_few.Goals as goal
+
+pub loop-j-init : goal.loop-j-init
+loop-j-init c = (omega arith, c.requires.span.order, tabling-start c.args.kinds.now c.args.from)
+
+-- the next sum, of which 128 are the most
+more : (c : goal.After-one_table-sum) → let l = c.loop-j in Tabling c.args.kinds.now c.args.from (l.j + 1) (l.sum + c.one_table-sum.result)
+more c =
+    let l = c.loop-j in
+    let c.before.before.before.before.before = c.before.before.before.before.before in
+    tabling-more c.one_table-sum.result l.invariant.2 l.invariant.0 (omega (arith, c.requires.span.inside)) c.one_table-sum.ensures
+
+pub overflow_add-sum : goal.overflow_add-sum
+overflow_add-sum c = omega (arith, (more c).few, c.requires.short)
+
+pub loop-j-preserved : goal.loop-j-preserved
+loop-j-preserved c = let l = c.loop-j in (omega arith, omega arith, more c)
+
+pub returns : goal.returns
+returns c =
+    let l = c.loop-j in
+    let e : l.j ≡ c.args.to = omega arith in
+    let s : l.sum ≡ c.wide.result = omega arith in
+    subst (λ (k : ℕ). Adds tables_of c.args.kinds.now c.args.from k c.wide.result) e
+    (subst (λ (n : ℕ). Adds tables_of c.args.kinds.now c.args.from l.j n) s l.invariant.2.adds)

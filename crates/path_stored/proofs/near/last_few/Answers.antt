@@ -1,0 +1,10 @@
+-- `path_stored::near::last_few` meets its contract: what is shifted out are the lanes before the last few. Assumes nothing.
+use mathlib.Core.Path.{refl}
+use borrow.Author.Rules.{rules}
+use Rattle.path_stored.proofs.Lanes.{last-lanes}
+use Rattle.path_stored.proofs.near.last_few.Goals as goal
+
+pub returns : goal.returns
+returns c =
+    let pre = c.requires in
+    last-lanes c.args.kinds.now pre.known c.args.end c.args.few _ _ pre.word.enough pre.word.inside pre.short refl c.word_before.ensures

@@ -1,0 +1,37 @@
+-- `path_stored::near::tables_near` meets its contract: the last eight, or all, and those before them. Assumes nothing.
+use Prim.Native.Nat.{◌-◌}
+use native.Mathlib.Omega.{arith}
+use borrow.Author.Rules.{rules}
+use Rattle.path_segment.specs.Segments.{tables_of}
+use Rattle.path_stored.proofs.Lanes.{Halves, halves, lanes-most, joined, tables-few}
+use Rattle.path_stored.proofs.near.tables_near.Goals as goal
+
+parts : (c : goal.After-at_most_eight-last) → let a = c.args in Halves (a.to - a.from) c.at_most_eight-last.result
+parts c = let pre = c.requires in halves _ _ c.at_most_eight-last.ensures (omega arith)
+
+pub tables_of_last-high-requires : goal.tables_of_last-high-requires
+tables_of_last-high-requires c =
+    let pre = c.requires in
+    record { word = record { enough = omega arith; inside = pre.inside }; short = (parts c).short; known = pre.known }
+
+pub overflow_sub-few-2 : goal.overflow_sub-few-2
+overflow_sub-few-2 c = let h = parts c.before in omega arith
+
+pub tables_of_last-low-requires : goal.tables_of_last-low-requires
+tables_of_last-low-requires c =
+    let pre = c.requires in
+    record { word = record { enough = omega arith; inside = omega arith }; short = (parts c.before).rest; known = pre.known }
+
+-- no number of eight lanes is large
+pub overflow_add-result : goal.overflow_add-result
+overflow_add-result c =
+    let pre = c.requires in
+    let h = parts c.before.before in
+    let high = lanes-most tables_of tables-few c.args.kinds.now pre.known _ _ _ h.short (omega arith) c.tables_of_last-high.ensures in
+    let low = lanes-most tables_of tables-few c.args.kinds.now pre.known _ _ _ h.rest (omega arith) c.tables_of_last-low.ensures in
+    record { fits = omega arith }
+
+pub returns : goal.returns
+returns c =
+    let a = c.args in
+    joined a.kinds.now c.requires.known tables_of tables-few a.from a.to _ _ _ c.requires c.at_most_eight-last.ensures c.tables_of_last-high.ensures c.tables_of_last-low.ensures

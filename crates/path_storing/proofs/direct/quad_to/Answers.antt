@@ -1,0 +1,31 @@
+-- `path_storing::direct::quad_to` meets its contract: a quad with a current point, else the point alone. Assumes nothing.
+use borrow.Author.Rules.{rules}
+use native.Mathlib.Omega.{arith}
+use Rattle.path_storing.proofs.Judged.{quad-drawn, quad-undrawn, quad-laid, moved-laid, room_at, room-counts, laid-at}
+use Rattle.path_storing.proofs.direct.quad_to.Goals as goal
+
+-- ---- the points
+abbrev start : goal.After-store_segment-length → goal.Start
+start p = p.before.before.before.before.before.before.before.before.before.before.before.before.before.before
+
+-- ---- the answers
+pub store_segment-length-requires : goal.store_segment-length-requires
+store_segment-length-requires c =
+    room-counts (room_at (quad-drawn _ c.if-pen.true _ _) c.requires.1)
+
+pub overflow_add-result : goal.overflow_add-result
+overflow_add-result c = omega (arith, (start c.before.before.before.before.before.before.before.before.before.before.before.before).requires.0.segments)
+
+pub overflow_add-result-then-pen : goal.overflow_add-result-then-pen
+overflow_add-result-then-pen c = let few = (start c.before.before.before.before.before.before.before.before.before.before.before.before.before).requires.0 in omega (arith, few.segments, few.fields-1)
+
+pub overflow_add-result-then-pen-2 : goal.overflow_add-result-then-pen-2
+overflow_add-result-then-pen-2 c = let few = (start c.before.before.before.before.before.before.before.before.before.before.before.before.before.before).requires.0 in omega (arith, few.segments, few.tables-1)
+
+pub returns-then-pen : goal.returns-then-pen
+returns-then-pen c =
+    laid-at (quad-drawn _ c.if-pen.true _ _)
+    (quad-laid _ c.drawn.ensures _ _ c.store_segment-length.ensures)
+
+pub returns : goal.returns
+returns c = moved-laid (quad-undrawn _ _ c.if-pen.false _ _ c.drawn-2.ensures) c.moved.ensures

@@ -1,0 +1,10 @@
+-- The invariant: no more blocks are read than there may be. The measure is what is left of them. Assumes nothing.
+use borrow.Author.Rules.{rules}
+use Prim.Native.Nat.{◌-◌, ◌≤◌}
+use Rattle.replay_curves.proofs.main.Given as goal
+
+abbrev pub invariant-loop : goal.invariant-loop
+invariant-loop l = counter ≤ 2048
+
+abbrev pub decreases-loop : goal.decreases-loop
+decreases-loop l = 2048 - counter

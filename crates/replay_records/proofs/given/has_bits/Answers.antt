@@ -1,0 +1,6 @@
+-- The bits that are compared are those of the definition. Assumes nothing.
+use Rattle.std.proofs.Common.{rules}
+use Rattle.replay_records.proofs.given.has_bits.Goals as goal
+
+pub returns : goal.returns
+returns c = cc

@@ -1,0 +1,10 @@
+-- `scan::is_flag` meets its contract: its test and its class agree on each of the 256 bytes, as antt computes. Assumes nothing.
+use mathlib.Core.Bool.{◌||◌}
+use lib.Dec.{eqb}
+use Rattle.scan.specs.Bytes.{among, flags}
+use Rattle.scan.proofs.ByteLaws.{agree}
+use Rattle.scan.proofs.bytes.is_flag.Goals as goal
+
+pub returns : goal.returns
+unfolding among
+returns c = agree (λ x. eqb x 48 || eqb x 49) (λ x. among x flags) tt c.args.byte c.ranges.byte.fits

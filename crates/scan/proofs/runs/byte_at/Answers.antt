@@ -1,0 +1,8 @@
+-- `scan::byte_at` meets its contract: past the text the byte is the default. Assumes nothing.
+use mathlib.Core.Path.{sym}
+use borrow.Author.Rules.{rules}
+use lib.ListN.{get_or-eq_default}
+use Rattle.scan.proofs.runs.byte_at.Goals as goal
+
+pub returns-else-at-text : goal.returns-else-at-text
+returns-else-at-text c = sym (get_or-eq_default c.args.text.now 0 c.if-at-text.false)

@@ -1,0 +1,88 @@
+-- `season_plan::judge` meets its contract: what reading answers, then what building does. Assumes nothing.
+use borrow.Author.Rules.{rules}
+use Prim.Native.Nat.{ℕ, ◌<◌}
+use mathlib.Core.Path.{◌≡◌, sym, ap, ◌∙◌, subst}
+use native.Mathlib.Omega.{arith}
+use lib.ListN.{length}
+use lib.Seq.{length-take-le}
+use Rattle.station_listing.proofs.Texts.{spare, not-read, letters-most, numbers-most, held}
+use Rattle.season_plan.proofs.Marks.{marked-length, roomy-less}
+use Rattle.season_plan.proofs.Reading.{number-row, number-tallied, unread-counted}
+use Rattle.season_plan.proofs.plans.judge.Goals as goal
+
+abbrev start : goal.After-read_lean → goal.Start
+start p = p.before.before.before.before.before.before
+
+-- ---- the buffers
+pub slice_bounds-read_lean-end : goal.slice_bounds-read_lean-end
+slice_bounds-read_lean-end c = search rules
+
+pub slice_bounds-read_lean-end-2 : goal.slice_bounds-read_lean-end-2
+slice_bounds-read_lean-end-2 c = search rules
+
+pub slice_bounds-read_lean-end-3 : goal.slice_bounds-read_lean-end-3
+slice_bounds-read_lean-end-3 c = search rules
+
+-- ---- a refusal
+pub bump-requires : goal.bump-requires
+bump-requires c =
+    let s = start c.before.before.before.before.before.before.before.before in
+    let h : c.number.result < 25 = subst (λ (n : ℕ). n < 25) (sym c.number.ensures) (number-row c.in-Refused.refusal) in
+    (omega (arith, h, s.pre.0), roomy-less s.pre.1 (omega arith))
+
+pub shape_of-counts-in-Refused : goal.shape_of-counts-in-Refused
+shape_of-counts-in-Refused c = ap length c.bump.ensures ∙ marked-length _ _
+
+pub returns-in-Refused : goal.returns-in-Refused
+returns-in-Refused c =
+    number-tallied
+    (unread-counted _ (start c.before.before.before.before.before.before.before.before.before.before.before).requires.2
+    (not-read _ (start c.before.before.before.before.before.before.before.before.before.before.before).requires.2 c.read_lean.ensures
+    (spare (letters-long c.before.before.before.before.before.before.before.before.before.before.before.before.before.before) (numbers-long c.before.before.before.before.before.before.before.before.before.before.before.before.before) (offsets-long c.before.before.before.before.before.before.before.before.before.before.before.before))
+    c.in-Refused.is))
+    c.number.ensures c.bump.ensures
+
+-- ---- a list
+pub slice_bounds-letters-end : goal.slice_bounds-letters-end
+slice_bounds-letters-end c =
+    let most = letters-most _ (start c.before.before.before.before.before.before).requires.2 c.read_lean.ensures (spare (letters-long c.before.before.before.before.before.before.before.before.before) (numbers-long c.before.before.before.before.before.before.before.before) (offsets-long c.before.before.before.before.before.before.before)) c.in-Read.is in
+    omega (arith, most)
+
+pub slice_bounds-fly-end : goal.slice_bounds-fly-end
+slice_bounds-fly-end c = sym (length-take-le _ _ (letters-few c.before))
+
+pub slice_bounds-numbers-end : goal.slice_bounds-numbers-end
+slice_bounds-numbers-end c =
+    let most = numbers-most _ (start c.before.before.before.before.before.before.before).requires.2 c.read_lean.ensures (spare (letters-long c.before.before.before.before.before.before.before.before.before.before) (numbers-long c.before.before.before.before.before.before.before.before.before) (offsets-long c.before.before.before.before.before.before.before.before)) c.in-Read.is in
+    omega (arith, most)
+
+pub slice_bounds-fly-end-in-Read : goal.slice_bounds-fly-end-in-Read
+slice_bounds-fly-end-in-Read c = sym (length-take-le _ _ (numbers-few c.before))
+
+pub fly-requires : goal.fly-requires
+fly-requires c =
+    (
+      (start c.before.before.before.before.before.before.before.before.before).requires.0,
+      (start c.before.before.before.before.before.before.before.before.before).requires.1,
+      record {
+        text = (start c.before.before.before.before.before.before.before.before.before).args.text.now;
+        is = held _ (start c.before.before.before.before.before.before.before.before.before).requires.2 c.read_lean.ensures
+            (spare (letters-long c.before.before.before.before.before.before.before.before.before.before.before.before) (numbers-long c.before.before.before.before.before.before.before.before.before.before.before) (offsets-long c.before.before.before.before.before.before.before.before.before.before))
+            c.in-Read.is;
+      },
+    )
+
+pub shape_of-counts-in-Read : goal.shape_of-counts-in-Read
+shape_of-counts-in-Read c =
+    ap length
+    (c.fly.ensures _
+    (held _ (start c.before.before.before.before.before.before.before.before.before.before.before.before).requires.2 c.read_lean.ensures
+    (spare (letters-long c.before.before.before.before.before.before.before.before.before.before.before.before.before.before.before) (numbers-long c.before.before.before.before.before.before.before.before.before.before.before.before.before.before) (offsets-long c.before.before.before.before.before.before.before.before.before.before.before.before.before))
+    c.in-Read.is)).counts ∙ marked-length _ _
+
+pub returns-in-Read : goal.returns-in-Read
+returns-in-Read c =
+    c.fly.ensures _
+    (held _ (start c.before.before.before.before.before.before.before.before.before.before.before.before).requires.2 c.read_lean.ensures
+    (spare (letters-long c.before.before.before.before.before.before.before.before.before.before.before.before.before.before.before) (numbers-long c.before.before.before.before.before.before.before.before.before.before.before.before.before.before) (offsets-long c.before.before.before.before.before.before.before.before.before.before.before.before.before))
+    c.in-Read.is)

@@ -1,0 +1,33 @@
+-- `season_sheet::lines::put_rows` meets its contract. The loop keeps that the lines of the rows before k are put; the measure is what is left of them. Assumes nothing.
+use borrow.Author.Rules.{rules}
+use Prim.Native.Nat.{◌+◌, ◌-◌, ◌≤◌}
+use mathlib.Core.Path.{◌≡◌}
+use mathlib.Core.Logic.{⊎_elim}
+use native.Mathlib.Omega.{arith}
+use Rattle.station_sections.proofs.LinesTo.{PutTo, to_none, to-length, to-more, to-all}
+use Rattle.season_sheet.specs.Sheet.{row_line, row_lines}
+use Rattle.season_sheet.proofs.Rows.{row-some, row-none}
+use Rattle.season_sheet.proofs.lines.put_rows.Goals as goal
+
+pub loop-k-init : goal.loop-k-init
+loop-k-init c = (omega arith, to_none _ _ _ _)
+
+pub put_row-at-requires : goal.put_row-at-requires
+put_row-at-requires c =
+    (omega arith, omega arith, omega (arith, c.loop-k.invariant.1.within))
+
+pub loop-k-preserved : goal.loop-k-preserved
+loop-k-preserved c =
+    ⊎_elim
+    (λ w. (omega arith, rw (w.5, w.6) (to-more _ 40 _ _ _ _ _ c.loop-k.invariant.1 _ _ (row-some _ _ _ w.0.taken w.2.ensures))))
+    (λ w. (omega arith, rw (w.1, w.2) (to-more _ 40 _ _ _ _ _ c.loop-k.invariant.1 _ _ (row-none _ _ _ _ w.0.left))))
+    c.if-count-ne0.branch
+
+pub shape_of-out : goal.shape_of-out
+shape_of-out c = to-length _ _ _ _ _ _ _ c.loop-k.invariant.1
+
+pub returns : goal.returns
+unfolding row_lines
+returns c =
+    let inv = c.loop-k.invariant in
+    to-all _ _ _ _ _ _ _ _ inv.1 c.args.many (omega (arith, inv.0, c.loop-k-test.false)) (omega (arith, c.requires.1, c.requires.2, inv.0))

@@ -1,0 +1,26 @@
+-- `season_sheet::lines::used` meets its contract. The loop keeps the count of the rows before k; the measure is what is left of them. Assumes nothing.
+use borrow.Author.Rules.{rules}
+use Prim.Native.Nat.{◌-◌, ◌≤◌}
+use mathlib.Core.Path.{◌≡◌, ap, ◌∙◌}
+use mathlib.Core.Logic.{⊎_elim}
+use native.Mathlib.Omega.{arith}
+use lib.ListN.{length}
+use Rattle.season_sheet.specs.Sheet.{used_in}
+use Rattle.season_sheet.proofs.Rows.{used-none, used-more, used-same}
+use Rattle.season_sheet.proofs.lines.used.Goals as goal
+
+pub loop-k-init : goal.loop-k-init
+loop-k-init c = (omega arith, used-none _ _, omega arith)
+
+pub loop-k-preserved : goal.loop-k-preserved
+loop-k-preserved c =
+    ⊎_elim
+    (λ w. (omega arith, w.1 ∙ used-more _ _ _ _ c.loop-k.invariant.1 w.0.taken, omega (arith, w.1, c.loop-k.invariant.2)))
+    (λ w. (omega arith, w.1 ∙ used-same _ _ _ _ c.loop-k.invariant.1 w.0.left, omega (arith, w.1, c.loop-k.invariant.2)))
+    c.if-counts-from-ne0.branch
+
+pub returns : goal.returns
+returns c =
+    let inv = c.loop-k.invariant in
+    let e : c.loop-k.k ≡ c.args.many = omega (arith, inv.0, c.loop-k-test.false) in
+    (inv.1 ∙ ap (used_in _ _) e, omega (arith, inv.2, e))

@@ -1,0 +1,27 @@
+-- Each sample is on the only leg (`leg-across`, `leg-along`). Assumes nothing.
+use borrow.Author.Rules.{rules}
+use mathlib.Core.Path.{◌≡◌, sym, ap, ◌∙◌}
+use Prim.Native.Nat.{◌+◌}
+use Rattle.math.specs.declared.points.Point.{Point}
+use Rattle.table_samples.specs.Samples.{sample_at}
+use Rattle.spline.specs.Formula.{spline_sample_of}
+use Rattle.spline_table.proofs.Laying.{drawn, drawn-row}
+use Rattle.spline_table.proofs.Formulas.{leg-across, leg-along}
+use Rattle.spline_table.proofs.rows.leg_row.Goals as goal
+
+-- the sample after the row
+next-is : (c : goal.After-sample-next) → c.sample-next.result ≡ sample_at (spline_sample_of c.args.points.now) c.args.last (c.args.k + 16)
+unfolding sample_at
+next-is c = c.sample-next.ensures ∙ ap (spline_sample_of _) c.mark.ensures
+
+pub returns : goal.returns
+returns c =
+    let points = c.args.points.now in
+    let last = c.args.last in
+    let k = c.args.k in
+    drawn-row (spline_sample_of points) last k c.leg_samples-across.result c.leg_samples-along.result _ _ _
+    (drawn (λ (p : Point). p.x) (spline_sample_of points) last k c.leg_samples-across.ensures (ap (λ (p : Point). p.x) c.requires.0.here) (ap (λ (p : Point). p.x) (next-is c.before.before.before.before.before.before.before.before.before.before.before))
+    (λ i some less. leg-across points last (k + i) c.requires.1 _ _ c.point_at-a.ensures c.point_at-b.ensures _ (c.clamped_marks-own.ensures i less)))
+    (drawn (λ (p : Point). p.y) (spline_sample_of points) last k c.leg_samples-along.ensures (ap (λ (p : Point). p.y) c.requires.0.here) (ap (λ (p : Point). p.y) (next-is c.before.before.before.before.before.before.before.before.before.before.before))
+    (λ i some less. leg-along points last (k + i) c.requires.1 _ _ c.point_at-a.ensures c.point_at-b.ensures _ (c.clamped_marks-own.ensures i less)))
+    c.differences_of-x.ensures c.differences_of-y.ensures (next-is c.before.before.before.before.before.before.before.before.before.before.before)

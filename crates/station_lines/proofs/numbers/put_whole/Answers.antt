@@ -1,0 +1,11 @@
+-- `station_lines::numbers::put_whole` meets its contract. Assumes nothing.
+use borrow.Author.Rules.{rules}
+use native.Mathlib.Omega.{arith}
+use Rattle.station_lines.proofs.Digits.{decimal-short}
+use Rattle.station_lines.proofs.numbers.put_whole.Goals as goal
+
+pub put_decimal-requires : goal.put_decimal-requires
+put_decimal-requires c = omega (arith, decimal-short 19 c.args.value (omega arith))
+
+pub returns : goal.returns
+returns c = record { put = c.put_decimal.ensures; within = omega (arith, c.put_decimal.ensures.past, decimal-short 19 c.args.value (omega arith)) }

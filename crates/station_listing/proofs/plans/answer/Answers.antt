@@ -1,0 +1,78 @@
+-- `station_listing::plans::answer` meets its contract: the text's length, then what reading answers. Assumes nothing.
+use borrow.Author.Rules.{rules}
+use mathlib.Core.Path.{sym}
+use native.Mathlib.Omega.{arith}
+use lib.Seq.{length-take-le}
+use Rattle.station_listing.proofs.Telling.{too_long, not-read, letters-most, numbers-most, held}
+use Rattle.station_listing.proofs.Texts.{spare}
+use Rattle.station_listing.proofs.plans.answer.Goals as goal
+
+-- ---- the points
+abbrev start : goal.After-read_lean → goal.Start
+start p = p.before.before.before.before.before.before.before.before
+
+-- the list is to be flown
+abbrev read : goal.After-fly-arg-1 → goal.After-read_lean
+read p = p.before.before.before.before.before.before.before
+
+-- ---- the buffers
+pub slice_bounds-read_lean-end-2 : goal.slice_bounds-read_lean-end-2
+slice_bounds-read_lean-end-2 c = search rules
+
+pub slice_bounds-read_lean-end-3 : goal.slice_bounds-read_lean-end-3
+slice_bounds-read_lean-end-3 c = search rules
+
+pub slice_bounds-read_lean-end-4 : goal.slice_bounds-read_lean-end-4
+slice_bounds-read_lean-end-4 c = search rules
+
+-- ---- the answers
+pub returns-then-input-start-gt4096 : goal.returns-then-input-start-gt4096
+returns-then-input-start-gt4096 c =
+    let a = c.args in
+    too_long a.input.now a.start _ c.if-input-start-gt4096.true c.put_refusal.ensures
+
+pub returns-in-Refused : goal.returns-in-Refused
+returns-in-Refused c =
+    let a = (start c.before.before.before.before.before.before.before.before.before.before).args in
+    not-read a.input.now a.start c.if-input-start-gt4096.false c.read_lean.ensures
+    (spare (letters-long c.before.before.before.before.before.before.before.before.before.before.before.before.before) (numbers-long c.before.before.before.before.before.before.before.before.before.before.before.before) (offsets-long c.before.before.before.before.before.before.before.before.before.before.before))
+    _ c.in-Refused.is c.put_refusal-in-Refused.ensures
+
+pub slice_bounds-letters-end : goal.slice_bounds-letters-end
+slice_bounds-letters-end c =
+    let p = read c in
+    let a = (start p).args in
+    let most = letters-most a.input.now a.start p.if-input-start-gt4096.left p.read_lean.ensures
+    (spare (letters-long p.before.before.before) (numbers-long p.before.before) (offsets-long p.before))
+    c.in-Read.is in
+    omega (arith, most)
+
+pub slice_bounds-fly-end : goal.slice_bounds-fly-end
+slice_bounds-fly-end c = sym (length-take-le _ _ (letters-few c.before))
+
+pub slice_bounds-numbers-end : goal.slice_bounds-numbers-end
+slice_bounds-numbers-end c =
+    let p = read c.before in
+    let a = (start p).args in
+    let most = numbers-most a.input.now a.start p.if-input-start-gt4096.left p.read_lean.ensures
+    (spare (letters-long p.before.before.before) (numbers-long p.before.before) (offsets-long p.before))
+    c.in-Read.is in
+    omega (arith, most)
+
+pub slice_bounds-fly-end-in-Read : goal.slice_bounds-fly-end-in-Read
+slice_bounds-fly-end-in-Read c = sym (length-take-le _ _ (numbers-few c.before))
+
+pub fly-requires : goal.fly-requires
+fly-requires c =
+    let p = read c.before.before in
+    let a = (start p).args in
+    let pre = (start p).pre in (
+      held a.input.now a.start p.if-input-start-gt4096.left p.read_lean.ensures
+          (spare (letters-long p.before.before.before) (numbers-long p.before.before) (offsets-long p.before))
+          c.in-Read.is,
+      pre.1,
+      pre.2,
+    )
+
+pub returns-in-Read : goal.returns-in-Read
+returns-in-Read c = c.fly.ensures

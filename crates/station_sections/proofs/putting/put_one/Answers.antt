@@ -1,0 +1,19 @@
+-- `station_sections::putting::put_one` meets its contract: what is flown at the station's progress is put. Assumes nothing.
+use borrow.Author.Rules.{rules}
+use native.Mathlib.Omega.{arith}
+use Rattle.station_lines.proofs.Putting.{within-as}
+use Rattle.station_sections.proofs.LinesTo.{segment-few, station-is}
+use Rattle.station_sections.proofs.putting.put_one.Goals as goal
+
+pub flight-there-requires : goal.flight-there-requires
+flight-there-requires c = c.requires.0.stored
+
+pub put_station-requires : goal.put_station-requires
+put_station-requires c =
+    let pre = c.requires in
+    (omega (arith, pre.0.most, pre.1), segment-few pre.0 _ c.flight-there.ensures, omega arith)
+
+pub returns : goal.returns
+returns c =
+    let put = c.put_station.ensures in
+    within-as 44 _ put.put (station-is _ _ _ _ _ c.progress-along.ensures c.flight-there.ensures) put.within

@@ -1,0 +1,31 @@
+-- `strict::past_arguments` meets its contract. The invariant is `Going`: the items from `at` up to `end` are words, and what is left of any others
+-- from `at` is words from `end`, unless they ended where a sequence could go on. The measure is what is left of the text. Assumes nothing.
+use Prim.Native.Nat.{◌-◌}
+use native.Mathlib.Omega.{arith}
+use borrow.Author.Rules.{rules}
+use lib.ListN.{length}
+use Rattle.strict.proofs.Sequences.{Going, set_out, go_on, come-to-end, item, item-ahead, one-item, no_item}
+use Rattle.strict.proofs.commands.past_arguments.Goals as goal
+
+pub loop-kind-init : goal.loop-kind-init
+loop-kind-init c = set_out _ _ _ _
+
+pub returns-then-next : goal.returns-then-next
+returns-then-next c =
+    let a = c.args in
+    let reads = item a.edition a.text.now a.kind _ _ _ c.past_separator-start.ensures c.read_argument-next.ensures in
+    come-to-end a.edition a.text.now a.kind a.at _ c.loop-kind.invariant (no_item a.edition a.text.now a.kind a.at _ _ reads c.if-next.true)
+
+pub loop-kind-smaller : goal.loop-kind-smaller
+loop-kind-smaller c =
+    let a = c.args in
+    let reads = item a.edition a.text.now a.kind _ _ _ c.past_separator-start.ensures c.read_argument-next.ensures in
+    let one = one-item a.edition a.text.now a.kind a.at _ _ reads c.if-next.false in
+    let h = item-ahead a.edition a.text.now a.kind _ _ one.0.0 in
+    omega arith
+
+pub loop-kind-preserved : goal.loop-kind-preserved
+loop-kind-preserved c =
+    let a = c.args in
+    let reads = item a.edition a.text.now a.kind _ _ _ c.past_separator-start.ensures c.read_argument-next.ensures in
+    go_on a.edition a.text.now a.kind a.at _ c.loop-kind.invariant _ (one-item a.edition a.text.now a.kind a.at _ _ reads c.if-next.false)

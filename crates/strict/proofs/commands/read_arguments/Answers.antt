@@ -1,0 +1,15 @@
+-- `strict::read_arguments` meets its contract: a first argument after the white space, and the further ones after it. Assumes nothing.
+use borrow.Author.Rules.{rules}
+use Rattle.strict.proofs.CommandLaws.{arguments-missing, arguments-past}
+use Rattle.strict.proofs.commands.read_arguments.Goals as goal
+
+pub returns-then-end : goal.returns-then-end
+returns-then-end c =
+    let a = c.args in
+    arguments-missing a.edition a.text.now a.kind a.at _ c.past_space.ensures _ c.read_argument-end.ensures c.if-end.true
+
+pub returns : goal.returns
+returns c =
+    let a = c.args in
+    arguments-past a.edition a.text.now a.kind a.at _ c.past_space.ensures _ _ c.read_argument-end.ensures
+    c.if-end.false c.past_arguments.ensures

@@ -1,0 +1,54 @@
+-- `strict::matches` meets its contract. The invariant: the text matches exactly where it can be read to its end from `at`, at which a command is due.
+-- The measure is what is left of the text; a command has a byte, so it falls. Assumes nothing.
+use Prim.Native.Nat.{ℕ, ◌-◌, ◌≤◌, ◌<◌}
+use mathlib.Core.Path.{◌≡◌, refl}
+use native.Mathlib.Omega.{arith}
+use borrow.Author.Rules.{rules}
+use borrow.Author.Tests.{eqb-true, eq-eqb}
+use lib.ListN.{length}
+use Rattle.scan.proofs.ByteLaws.{clash}
+use Rattle.strict_grammar.specs.Grammar.{Matches}
+use Rattle.strict_grammar.specs.Words.{Goes}
+use Rattle.strict.specs.Commands.{Command}
+use Rattle.strict.proofs.CommandLaws.{command-grows, ends-past, missing-lacks}
+use Rattle.strict.proofs.Rests.{Rest, ended, set_out, goes-forth, goes_back, gap-onward, no_second, no_more, at-end}
+use Rattle.strict.proofs.texts.matches.Goals as goal
+
+falls : (n i j k : ℕ) → i < n → i < j → j ≤ k → n - k < n - i
+falls n i j k a b c = omega arith
+
+pub loop-at-init : goal.loop-at-init
+loop-at-init c = set_out _ _ _ _ c.past_space-at.ensures c.stands_alone-alone.ensures
+
+pub returns-then-alone-begun : goal.returns-then-alone-begun
+returns-then-alone-begun c =
+    let a = c.args in
+    (λ z. absurd (clash z refl), λ m. absurd (no_second a.edition a.text.now _ c.loop-at.begun _ c.loop-at-test.true c.if-alone-begun.true (c.loop-at.invariant.0 m)))
+
+pub returns-then-end : goal.returns-then-end
+returns-then-end c =
+    let a = c.args in
+    let none-due = missing-lacks (Command a.edition a.text.now c.loop-at.begun) (Goes a.edition a.text.now) _ _ c.read_command-end.ensures c.if-end.true in
+    (λ z. absurd (clash z refl), λ m. absurd (no_more a.edition a.text.now _ _ _ c.loop-at-test.true none-due (c.loop-at.invariant.0 m)))
+
+pub loop-at-smaller : goal.loop-at-smaller
+loop-at-smaller c =
+    let a = c.args in
+    let one = ends-past (Command a.edition a.text.now c.loop-at.begun) (Goes a.edition a.text.now) _ _ c.read_command-end.ensures c.if-end.false in
+    falls _ _ _ _ c.loop-at-test.true (command-grows a.edition a.text.now c.loop-at.begun _ _ one.0)
+    (gap-onward a.edition a.text.now _ _ c.past_gap-at.ensures)
+
+pub loop-at-preserved : goal.loop-at-preserved
+loop-at-preserved c =
+    let a = c.args in
+    let one = ends-past (Command a.edition a.text.now c.loop-at.begun) (Goes a.edition a.text.now) _ _ c.read_command-end.ensures c.if-end.false in
+    let inv = c.loop-at.invariant in (
+      λ m. goes-forth a.edition a.text.now _ _ _ _ _ c.loop-at-test.true one c.past_gap-at.ensures (inv.0 m),
+      λ r. inv.1 (goes_back a.edition a.text.now _ c.loop-at.begun _ _ _ c.if-alone-begun.false one c.past_gap-at.ensures r),
+    )
+
+pub returns : goal.returns
+returns c =
+    let a = c.args in
+    let inv = c.loop-at.invariant in
+    (λ z. inv.1 (ended (eqb-true _ _ z)), λ m. eq-eqb _ _ (at-end a.edition a.text.now _ _ _ c.loop-at-test.false (inv.0 m)))

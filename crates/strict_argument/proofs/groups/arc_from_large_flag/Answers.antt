@@ -1,0 +1,16 @@
+-- `strict_argument::arc_from_large_flag` meets its contract: a flag and the rest, with a separator or none between them. Assumes nothing.
+use native.Mathlib.Omega.{arith}
+use borrow.Author.Rules.{rules}
+use Rattle.strict_grammar.specs.Grammar.{flag}
+use Rattle.strict_argument.specs.Reading.{arc-from-large-flag, arc-from-sweep-flag}
+use Rattle.strict_argument.proofs.Steps.{step}
+use Rattle.strict_argument.proofs.Starts.{sweep-flag-starts}
+use Rattle.strict_argument.proofs.groups.arc_from_large_flag.Goals as goal
+
+pub returns : goal.returns
+unfolding arc-from-large-flag
+returns c =
+    let edition = c.args.edition in
+    let text = c.args.text.now in
+    step edition text (omega arith) (flag edition text) (arc-from-sweep-flag edition text) (sweep-flag-starts edition text) _ _ _ _
+    c.read_flag-end.ensures c.past_separator.ensures c.arc_from_sweep_flag.ensures

@@ -1,0 +1,16 @@
+-- `strict_argument::arc_from_sweep_flag` meets its contract: a flag and a pair, with a separator or none between them. Assumes nothing.
+use native.Mathlib.Omega.{arith}
+use borrow.Author.Rules.{rules}
+use Rattle.strict_grammar.specs.Grammar.{coordinate-pair, flag}
+use Rattle.strict_argument.specs.Reading.{arc-from-sweep-flag}
+use Rattle.strict_argument.proofs.Steps.{step}
+use Rattle.strict_argument.proofs.Starts.{pair-starts}
+use Rattle.strict_argument.proofs.groups.arc_from_sweep_flag.Goals as goal
+
+pub returns : goal.returns
+unfolding arc-from-sweep-flag
+returns c =
+    let edition = c.args.edition in
+    let text = c.args.text.now in
+    step edition text (omega arith) (flag edition text) (coordinate-pair edition text) (pair-starts edition text) _ _ _ _
+    c.read_flag-end.ensures c.past_separator.ensures c.pair.ensures

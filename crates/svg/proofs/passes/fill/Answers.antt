@@ -1,0 +1,140 @@
+-- `svg::passes::fill` meets its contract. The loop keeps that the commands up to its place are known and stored; the measure is what is left of
+-- the text, of which each step passes a byte. Assumes nothing.
+use borrow.Author.Rules.{rules}
+use native.Mathlib.Omega.{arith}
+use mathlib.Core.Path.{sym, ◌∙◌}
+use Prim.Native.Nat.{◌-◌}
+use lib.ListN.{length}
+use Rattle.svg_step.proofs.Ahead.{step-ahead}
+use Rattle.svg.specs.Lists.{command_list}
+use Rattle.svg.specs.Texts.{Holding}
+use Rattle.svg.proofs.Holding.{held-letters, held-numbers, held-offsets, held-within, held_whole, held-refused, held-offset, held_small}
+use Rattle.svg.proofs.Holding.{full-of-letters, full-of-numbers, full-of-offsets, holding-more}
+use Rattle.svg.proofs.passes.fill.Goals as goal
+
+-- ---- the points of the code that the answers look back to
+abbrev loop-start : goal.At-loop-refusal → goal.Start
+loop-start l = l.before.before.before.before.before
+
+abbrev looped : goal.After-width-more → goal.At-loop-refusal
+looped w = w.before.before.before.before.before
+
+abbrev sized : goal.After-struct_known-1 → goal.After-width-more
+sized c = c.before.before.before.before.before.before.before.before.before.before.before
+
+-- ---- the answers
+pub loop-refusal-init : goal.loop-refusal-init
+loop-refusal-init c = c.requires.1
+
+pub shape_of-letters-in-Done : goal.shape_of-letters-in-Done
+shape_of-letters-in-Done c = held-letters c.loop-refusal.invariant
+
+pub shape_of-numbers-in-Done : goal.shape_of-numbers-in-Done
+shape_of-numbers-in-Done c = held-numbers c.loop-refusal.invariant
+
+pub shape_of-offsets-in-Done : goal.shape_of-offsets-in-Done
+shape_of-offsets-in-Done c = held-offsets c.loop-refusal.invariant
+
+pub returns-in-Done : goal.returns-in-Done
+returns-in-Done c = held_whole c.loop-refusal.invariant (sym c.Read-step.ensures ∙ c.in-Done.is)
+
+pub shape_of-letters-in-Refused : goal.shape_of-letters-in-Refused
+shape_of-letters-in-Refused c = held-letters c.loop-refusal.invariant
+
+pub shape_of-numbers-in-Refused : goal.shape_of-numbers-in-Refused
+shape_of-numbers-in-Refused c = held-numbers c.loop-refusal.invariant
+
+pub shape_of-offsets-in-Refused : goal.shape_of-offsets-in-Refused
+shape_of-offsets-in-Refused c = held-offsets c.loop-refusal.invariant
+
+pub returns-in-Refused : goal.returns-in-Refused
+returns-in-Refused c = held-refused c.loop-refusal.invariant _ (sym c.Read-step.ensures ∙ c.in-Refused.is)
+
+pub shape_of-letters-then-letters-letter_at : goal.shape_of-letters-then-letters-letter_at
+shape_of-letters-then-letters-letter_at c = held-letters (looped c.before).loop.inv
+
+pub shape_of-numbers-then-letters-letter_at : goal.shape_of-numbers-then-letters-letter_at
+shape_of-numbers-then-letters-letter_at c = held-numbers (looped c.before).loop.inv
+
+pub shape_of-offsets-then-letters-letter_at : goal.shape_of-offsets-then-letters-letter_at
+shape_of-offsets-then-letters-letter_at c = held-offsets (looped c.before).loop.inv
+
+pub returns-then-letters-letter_at : goal.returns-then-letters-letter_at
+returns-then-letters-letter_at c =
+    full-of-letters (looped c.before).loop.invariant _ _ (sym c.Read-step.ensures ∙ c.in-Command.is) c.if-letters-letter_at.true
+
+pub overflow_sub-numbers : goal.overflow_sub-numbers
+overflow_sub-numbers c = omega (arith, held-within (looped c.before).loop.inv)
+
+pub shape_of-letters-then-numbers-at : goal.shape_of-letters-then-numbers-at
+shape_of-letters-then-numbers-at c = held-letters (looped c.before.before).loop.inv
+
+pub shape_of-numbers-then-numbers-at : goal.shape_of-numbers-then-numbers-at
+shape_of-numbers-then-numbers-at c = held-numbers (looped c.before.before).loop.inv
+
+pub shape_of-offsets-then-numbers-at : goal.shape_of-offsets-then-numbers-at
+shape_of-offsets-then-numbers-at c = held-offsets (looped c.before.before).loop.inv
+
+pub returns-then-numbers-at : goal.returns-then-numbers-at
+returns-then-numbers-at c =
+    let l = looped c.before.before in
+    full-of-numbers l.loop-refusal.inv _ _ (sym c.Read-step.ensures ∙ c.in-Command.is) _ c.width-more.ensures (omega (arith, c.if-numbers-at.true, held-within l.loop-refusal.inv))
+
+pub shape_of-letters-then-offsets-letter_at : goal.shape_of-letters-then-offsets-letter_at
+shape_of-letters-then-offsets-letter_at c = held-letters (looped c.before.before.before).loop.inv
+
+pub shape_of-numbers-then-offsets-letter_at : goal.shape_of-numbers-then-offsets-letter_at
+shape_of-numbers-then-offsets-letter_at c = held-numbers (looped c.before.before.before).loop.inv
+
+pub shape_of-offsets-then-offsets-letter_at : goal.shape_of-offsets-then-offsets-letter_at
+shape_of-offsets-then-offsets-letter_at c = held-offsets (looped c.before.before.before).loop.inv
+
+pub returns-then-offsets-letter_at : goal.returns-then-offsets-letter_at
+returns-then-offsets-letter_at c =
+    full-of-offsets (looped c.before.before.before).loop.invariant _ _ (sym c.Read-step.ensures ∙ c.in-Command.is) c.if-offsets-letter_at.true
+
+pub store-requires : goal.store-requires
+store-requires c =
+    (
+      omega (arith, c.if-letters-letter_at.false),
+      omega (arith, c.if-numbers-at.false, c.width-more.ensures, held-within (looped c.before.before.before.before.before).loop.invariant),
+    )
+
+pub overflow_cast-offsets : goal.overflow_cast-offsets
+overflow_cast-offsets c =
+    let w = sized c in
+    let l = looped w in
+    omega (arith, held-offset l.loop-refusal.inv _ _ (sym w.Read-step.ensures ∙ w.in-Command.is), (loop-start l).pre.0)
+
+pub offset_bounds-offsets-letter_at : goal.offset_bounds-offsets-letter_at
+offset_bounds-offsets-letter_at c =
+    let w = sized c in
+    let l = looped w in
+    omega (arith, held_small l.loop-refusal.inv _ _ (sym w.Read-step.ensures ∙ w.in-Command.is), (loop-start l).pre.0)
+
+pub bounds-offsets-letter_at : goal.bounds-offsets-letter_at
+bounds-offsets-letter_at c = omega (arith, c.if-offsets-letter_at.false)
+
+pub overflow_add-at : goal.overflow_add-at
+overflow_add-at c =
+    let w = sized c in
+    let l = looped w in
+    omega (arith, held_small l.loop-refusal.inv _ _ (sym w.Read-step.ensures ∙ w.in-Command.is), w.width-more.ensures, (loop-start l).pre.0)
+
+pub overflow_add-letter_at : goal.overflow_add-letter_at
+overflow_add-letter_at c =
+    let w = sized c in
+    let l = looped w in
+    omega (arith, held_small l.loop-refusal.inv _ _ (sym w.Read-step.ensures ∙ w.in-Command.is), (loop-start l).pre.0)
+
+pub loop-refusal-smaller : goal.loop-refusal-smaller
+loop-refusal-smaller c =
+    let w = sized c in
+    omega (arith, step-ahead _ _ _ _ (sym w.Read-step.ensures ∙ w.in-Command.is))
+
+pub loop-refusal-preserved : goal.loop-refusal-preserved
+loop-refusal-preserved c =
+    let w = sized c in
+    let l = looped w in
+    holding-more l.loop-refusal.inv _ _ (sym w.Read-step.ensures ∙ w.in-Command.is) _ w.width-more.ensures
+    (omega (arith, c.if-letters-letter_at.false)) (omega (arith, c.if-numbers-at.false, held-within l.loop-refusal.inv)) (omega (arith, c.if-offsets-letter_at.false)) c.store.ensures

@@ -1,0 +1,31 @@
+-- `svg_group::groups::read_cubic` meets its contract: each way out is a case of its definition. Assumes nothing.
+use borrow.Author.Rules.{rules}
+use mathlib.Core.Path.{sym, ap, ◌∙◌}
+use Rattle.svg_group.specs.Numbers.{pair_of}
+use Rattle.svg_group.specs.Groups.{read_cubic_of}
+use Rattle.svg_group.proofs.groups.read_cubic.Goals as goal
+
+pub returns-in-Refused : goal.returns-in-Refused
+unfolding read_cubic_of
+returns-in-Refused c = rw (sym c.read_pair.ensures ∙ ap pair_of c.in-Refused.is)
+
+pub returns-in-Refused-read_pair : goal.returns-in-Refused-read_pair
+unfolding read_cubic_of
+returns-in-Refused-read_pair c =
+    rw (sym c.read_pair.ensures ∙ ap pair_of c.in-Taken.is, sym c.read_pair-in-Taken.ensures ∙ ap pair_of c.in-Refused-read_pair.is)
+
+pub returns-in-Refused-read_pair-2 : goal.returns-in-Refused-read_pair-2
+unfolding read_cubic_of
+returns-in-Refused-read_pair-2 c =
+    let one = sym c.read_pair.ensures ∙ ap pair_of c.in-Taken.is in
+    let two = sym c.read_pair-in-Taken.ensures ∙ ap pair_of c.in-Taken-read_pair.is in
+    let three = sym c.read_pair-in-Taken-read_pair.ensures ∙ ap pair_of c.in-Refused-read_pair-2.is in
+    rw (one, two, three)
+
+pub returns-in-Taken-read_pair-2 : goal.returns-in-Taken-read_pair-2
+unfolding read_cubic_of
+returns-in-Taken-read_pair-2 c =
+    let one = sym c.read_pair.ensures ∙ ap pair_of c.in-Taken.is in
+    let two = sym c.read_pair-in-Taken.ensures ∙ ap pair_of c.in-Taken-read_pair.is in
+    let three = sym c.read_pair-in-Taken-read_pair.ensures ∙ ap pair_of c.in-Taken-read_pair-2.is in
+    rw (one, two, three)

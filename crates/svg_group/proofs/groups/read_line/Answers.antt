@@ -1,0 +1,14 @@
+-- `svg_group::groups::read_line` meets its contract: each way out is a case of its definition. Assumes nothing.
+use borrow.Author.Rules.{rules}
+use mathlib.Core.Path.{sym, ap, ◌∙◌}
+use Rattle.svg_group.specs.Numbers.{pair_of}
+use Rattle.svg_group.specs.Groups.{read_line_of}
+use Rattle.svg_group.proofs.groups.read_line.Goals as goal
+
+pub returns-in-Refused : goal.returns-in-Refused
+unfolding read_line_of
+returns-in-Refused c = rw (sym c.read_pair.ensures ∙ ap pair_of c.in-Refused.is)
+
+pub returns-in-Taken : goal.returns-in-Taken
+unfolding read_line_of
+returns-in-Taken c = rw (sym c.read_pair.ensures ∙ ap pair_of c.in-Taken.is)

@@ -1,0 +1,29 @@
+-- `table::searches::quarters_below` meets its contract: the sum of three, each at most 1. Assumes nothing.
+use borrow.Author.Rules.{rules}
+use Prim.Native.Nat.{ℕ, ◌+◌, ◌*◌, ◌≤◌}
+use native.Mathlib.Omega.{arith}
+use mathlib.Core.Bool.{Bool}
+use lib.Ieee.{lt}
+use Rattle.table.specs.Lookup.{at, quarters_below}
+use Rattle.table.proofs.Quarters.{at_most_one}
+use Rattle.table.proofs.searches.quarters_below.Goals as goal
+
+-- each is 1 or 0
+ones : (c : goal.After-step_below-third) → (c.step_below-first.result ≤ 1) × (c.step_below-second.result ≤ 1) × (c.step_below-third.result ≤ 1)
+ones c =
+    let a = c.args in
+    let below : ℕ → Bool = λ k. lt (at a.lengths.now k) a.target in (
+      at_most_one (below (a.base + a.part)) _ c.step_below-first.ensures,
+      at_most_one (below (a.base + 2 * a.part)) _ c.step_below-second.ensures,
+      at_most_one (below (a.base + 3 * a.part)) _ c.step_below-third.ensures,
+    )
+
+pub overflow_add-result : goal.overflow_add-result
+overflow_add-result c = omega (arith, (ones c).0, (ones c).1)
+
+pub overflow_add-result-2 : goal.overflow_add-result-2
+overflow_add-result-2 c = omega (arith, (ones c).0, (ones c).1, (ones c).2)
+
+pub returns : goal.returns
+unfolding quarters_below
+returns c = rw (c.step_below-first.ensures, c.step_below-second.ensures, c.step_below-third.ensures)

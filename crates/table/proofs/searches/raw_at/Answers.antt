@@ -1,0 +1,69 @@
+-- `table::searches::raw_at` meets its contract: each way out rewrites with the tests that led there. Past both tests the entries found enclose the target, so both are in the list.
+-- Assumes nothing.
+use borrow.Author.Rules.{rules}
+use Prim.Native.Nat.{◌-◌, ◌^◌}
+use lib.Dec.{le→leb}
+use lib.ListN.{length}
+use lib.Ieee.{in_float}
+use Rattle.floats.specs.Floats.{zero_f, one_f}
+use Rattle.floats.proofs.Tests.{failed}
+use Rattle.table.specs.Lookup.{last_of, raw_at, raw_in_part}
+use Rattle.table.proofs.Lengths.{table-lengths}
+use Rattle.table.proofs.Enclosure.{Encloses, table-encloses}
+use Rattle.table.proofs.searches.raw_at.Goals as goal
+
+pub returns-then-target : goal.returns-then-target
+unfolding raw_at zero_f
+returns-then-target c = rw c.if-target.true
+
+pub returns-then-target-total : goal.returns-then-target-total
+unfolding raw_at zero_f one_f
+returns-then-target-total c = rw (c.if-target.false, c.if-target-total.true)
+
+pub first_not_below-upper-requires : goal.first_not_below-upper-requires
+first_not_below-upper-requires c =
+    table-lengths c.args.entries.now c.args.total c.requires.0.sound
+
+abbrev Found : goal.After-first_not_below-upper → Type 0
+Found c =
+    Encloses (last_of c.args.entries.now) c.args.entries.now c.args.target c.first_not_below-upper.result
+
+found : (c : goal.After-first_not_below-upper) → Found c
+unfolding zero_f
+found c =
+    rw c.first_not_below-upper.ensures
+    (table-encloses c.args.entries.now c.args.total c.args.target c.requires.0.sound c.requires.1 (failed c.if-target.false) (failed c.if-target-total.false))
+
+pub overflow_sub-lower : goal.overflow_sub-lower
+overflow_sub-lower c = let e = found c in search rules
+
+pub offset_bounds-entries-lower : goal.offset_bounds-entries-lower
+offset_bounds-entries-lower c = let e = found c in search rules
+
+pub bounds-entries-lower : goal.bounds-entries-lower
+bounds-entries-lower c = let e = found c.before in search rules
+
+pub offset_bounds-entries-upper : goal.offset_bounds-entries-upper
+offset_bounds-entries-upper c = let e = found c.before in search rules
+
+pub bounds-entries-upper : goal.bounds-entries-upper
+bounds-entries-upper c = let e = found c.before.before in search rules
+
+pub int_to_float-whole : goal.int_to_float-whole
+unfolding in_float
+int_to_float-whole c =
+    let e = found c.before.before.before.before in
+    le→leb (c.first_not_below-upper.result - 1) (2 ^ 24) (search rules)
+
+pub overflow_sub-last : goal.overflow_sub-last
+overflow_sub-last c = let e = found c.before.before.before.before in search rules
+
+pub int_to_float-parts : goal.int_to_float-parts
+unfolding in_float
+int_to_float-parts c =
+    le→leb (length c.args.entries.now - 1) (2 ^ 24) (search rules)
+
+pub returns : goal.returns
+unfolding raw_at raw_in_part zero_f one_f
+returns c =
+    rw (c.share-part.ensures, c.if-target.false, c.if-target-total.false, ← c.first_not_below-upper.ensures)

@@ -1,0 +1,28 @@
+-- `table::lengths_are_sound` meets its contract. The invariant: the lengths before k climb, and the test of the rest decides for all; or one has failed. The measure is what is
+-- left of the lengths. Assumes nothing.
+use borrow.Author.Rules.{rules}
+use Prim.Native.Nat.{◌-◌, ◌≤◌}
+use lib.ListN.{length}
+use Rattle.floats.specs.Floats.{zero_f, largest_f}
+use Rattle.table.specs.Lookup.{at}
+use Rattle.table.proofs.Climbing.{Tested, sound_empty, pairs_start, pairs-more, pairs-done}
+use Rattle.table.proofs.soundness.lengths_are_sound.Goals as goal
+
+pub returns-then-count-eq0 : goal.returns-then-count-eq0
+returns-then-count-eq0 c = sound_empty c.args.lengths.now c.if-count-eq0.true
+
+pub loop-k-init : goal.loop-k-init
+unfolding zero_f
+loop-k-init c = (search rules, search rules, pairs_start c.args.lengths.now (search rules) (c.shared_slice_known-1.given 0))
+
+pub loop-k-preserved : goal.loop-k-preserved
+loop-k-preserved c =
+    let l = c.loop-k in
+    let xs = c.args.lengths.now in
+    (search rules, search rules, pairs-more xs l.k l.climbs l.invariant.2 c.loop-k-test.true (c.shared_slice_known-in-loop-k-2-1.given l.k))
+
+pub returns : goal.returns
+unfolding largest_f
+returns c =
+    let l = c.loop-k in
+    pairs-done c.args.lengths.now l.k l.climbs l.invariant.2 (search rules)

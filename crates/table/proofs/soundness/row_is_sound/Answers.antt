@@ -1,0 +1,16 @@
+-- `table::row_is_sound` meets its contract: the whole row climbs, its first number is 0, and its last is not above the one before. Assumes nothing.
+use borrow.Author.Rules.{rules}
+use mathlib.Core.Path.{ap, ◌∙◌}
+use mathlib.Core.Bool.{Bool, ◌&&◌}
+use Prim.Native.Nat.{◌-◌}
+use lib.Ieee.{eq, le}
+use Rattle.floats.specs.Floats.{zero_f}
+use Rattle.table.specs.Lookup.{at, last_of}
+use Rattle.table.proofs.Rows.{row-sound}
+use Rattle.table.proofs.soundness.row_is_sound.Goals as goal
+
+pub returns : goal.returns
+unfolding zero_f
+returns c =
+    let row = c.args.row.now in
+    ap (λ (b : Bool). b && eq (at row 0) zero_f && le (at row (last_of row)) (at row (last_of row - 1))) c.lengths_are_sound.ensures ∙ row-sound row c.requires

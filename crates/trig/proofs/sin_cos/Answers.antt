@@ -1,0 +1,46 @@
+-- The cases of `sin` and of `cos` side by side, over one reduction. Assumes nothing.
+use Rattle.std.proofs.Common.{◌≡◌, ℕ, ◌+◌, true, sym, ap, ◌∙◌, arith, rules}
+use lib.Ieee.{binary32, of_bits}
+use Rattle.trig_rule.specs.Rule.{in_the_reach}
+use Rattle.trig_rule.specs.Steps.{fixed_of, flip_of, rest_of, plain, sign_bit, cosine_at}
+use Rattle.trig_rule.proofs.Ruled.{sine-far, sine-tiny, sine-main, cosine-far, cosine-tiny, cosine-main}
+use Rattle.trig.proofs.Frame.{none, outside, inside, number, plain-le, sign_le, sine-is}
+use Rattle.trig.proofs.sin_cos.Goals as goal
+
+pub returns-then-not-in_reach : goal.returns-then-not-in_reach
+returns-then-not-in_reach c =
+    let far = outside _ _ c.in_reach.ensures c.if-not-in_reach.true in
+    (none ∙ sym (sine-far c.args.x far), none ∙ sym (cosine-far c.args.x far))
+
+pub float_to_bits-b : goal.float_to_bits-b
+float_to_bits-b c = number _ (inside _ _ c.in_reach.ensures c.if-not-in_reach.false)
+
+pub returns-then-a-lt964689920 : goal.returns-then-a-lt964689920
+returns-then-a-lt964689920 c =
+    let near = inside _ _ c.in_reach.ensures c.if-not-in_reach.false in
+    (sym (sine-tiny _ near c.if-a-lt964689920.true), sym (cosine-tiny _ near c.if-a-lt964689920.true))
+
+pub fixed-requires : goal.fixed-requires
+fixed-requires c =
+    (c.if-a-lt964689920.false, plain-le c.args.x c.well_formed.0.1 (inside _ _ c.in_reach.ensures c.if-not-in_reach.false))
+
+pub overflow_add-b : goal.overflow_add-b
+overflow_add-b c =
+    record { fits = omega (arith, sign_le c.args.x c.well_formed.0.1) }
+
+pub sine_near-s-requires : goal.sine_near-s-requires
+sine_near-s-requires c =
+    let sides = c.sine_sides-sides.ensures in
+    (omega (arith, sign_le c.args.x c.well_formed.0.1), omega arith, sides.2, sides.3)
+
+pub returns : goal.returns
+returns c =
+    let rest = c.reduce-r in
+    let x = c.args.x in
+    let size = fixed_of (plain x) in
+    let near : in_the_reach x ≡ true = inside _ _ c.in_reach.ensures c.if-not-in_reach.false in
+    let turned : sign_bit x + rest.result.flip ≡ sign_bit x + flip_of size = cc in
+    let left : rest.result.size ≡ rest_of size = cc in (
+      c.sine_near-s.ensures ∙ ap (of_bits binary32) (sine-is turned left c.sine_sides-sides.ensures.0 c.sine_sides-sides.ensures.1) ∙ sym (sine-main x near c.if-a-lt964689920.false),
+      c.cosine_near-c.ensures ∙ ap (λ (r : ℕ). of_bits binary32 (cosine_at r)) left ∙ sym (cosine-main x near c.if-a-lt964689920.false),
+    )

@@ -1,0 +1,25 @@
+-- The invariant: the cosines before i are put. The measure is the places left. Assumes nothing.
+use borrow.Author.Rules.{rules}
+use native.Mathlib.Omega.{arith}
+use Prim.Native.Nat.{◌-◌, ◌≤◌}
+use Rattle.trig_rule.specs.Steps.{cosine_of}
+use Rattle.trig_all.specs.Rows.{Run}
+use Rattle.trig_all.proofs.Rows.{run-start, run_more, run-whole}
+use Rattle.trig_all.proofs.passes.put_cosines.Goals as goal
+
+pub loop-i-init : goal.loop-i-init
+loop-i-init c = (run-start c.requires.0.2, omega arith)
+
+pub cosine_from-requires : goal.cosine_from-requires
+cosine_from-requires c =
+    let given = c.requires in
+    (given.1.0.each c.loop-i.i c.loop-i-test.true, given.1.1.each c.loop-i.i c.loop-i-test.true)
+
+pub loop-i-preserved : goal.loop-i-preserved
+loop-i-preserved c =
+    let at = c.loop-i in
+    let l = c.loop-i-test.true in
+    (run_more at.invariant.0 (omega (arith, l, c.requires.0.1)) _ c.cosine_from.ensures, omega (arith, l))
+
+pub returns : goal.returns
+returns c = let inv = c.loop-i.invariant in run-whole inv.0 c.loop-i-test.false inv.1

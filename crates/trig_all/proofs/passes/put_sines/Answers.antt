@@ -1,0 +1,38 @@
+-- The invariant: the sines before i are put, and the other places have their angles. The measure is the places left. Assumes nothing.
+use borrow.Author.Rules.{rules}
+use native.Mathlib.Omega.{arith}
+use mathlib.Core.Path.{◌≡◌, sym, ap, ◌∙◌}
+use Prim.Native.Nat.{ℕ, ◌-◌, ◌≤◌}
+use lib.Ieee.{Float}
+use Rattle.trig_rule.specs.Steps.{sine_plus, sine_minus, sine_of}
+use Rattle.trig_all.specs.Rows.{Run, rest_for, flip_for}
+use Rattle.trig_all.proofs.Rows.{run-start, run-here, run_more, run-whole}
+use Rattle.trig_all.proofs.passes.put_sines.Goals as goal
+
+-- what is known of an angle, of the place that still has it
+of-place : (f : Float → ℕ) {n : ℕ} {x y : Float} → y ≡ x → n ≡ f x → n ≡ f y
+of-place f same e = e ∙ ap f (sym same)
+
+pub loop-i-init : goal.loop-i-init
+loop-i-init c = (run-start c.requires.0.2, omega arith)
+
+pub sine_from-requires : goal.sine_from-requires
+sine_from-requires c =
+    let at = c.loop-i in
+    let l = c.loop-i-test.true in
+    let given = c.requires in
+    let same = run-here at.invariant.0 in (
+      of-place flip_for same (given.1.0.1.each at.i l),
+      of-place rest_for same (given.1.0.0.each at.i l),
+      of-place (λ (x : Float). sine_plus (rest_for x)) same (given.1.1.0.each at.i l),
+      of-place (λ (x : Float). sine_minus (rest_for x)) same (given.1.1.1.each at.i l),
+    )
+
+pub loop-i-preserved : goal.loop-i-preserved
+loop-i-preserved c =
+    let at = c.loop-i in
+    let l = c.loop-i-test.true in
+    (run_more at.invariant.0 (omega (arith, l, c.requires.0.1)) _ (c.sine_from.ensures ∙ ap sine_of (run-here at.invariant.0)), omega (arith, l))
+
+pub returns : goal.returns
+returns c = let inv = c.loop-i.invariant in run-whole inv.0 c.loop-i-test.false inv.1

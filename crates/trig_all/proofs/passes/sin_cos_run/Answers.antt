@@ -1,0 +1,42 @@
+-- Each pass gives what the next asks for; the sums, which speak of rests, are brought to the angles by `row-through`. Assumes nothing.
+use borrow.Author.Rules.{rules}
+use native.Mathlib.Omega.{arith}
+use mathlib.Core.Path.{refl}
+use Prim.Native.Nat.{ℕ}
+use Rattle.trig_rule.specs.Steps.{sine_plus, sine_minus, cosine_plus, cosine_minus}
+use Rattle.trig_all.specs.Rows.{angle_of}
+use Rattle.trig_all.proofs.Rows.{row-through}
+use Rattle.trig_all.proofs.Sizes.{rests-below}
+use Rattle.trig_all.proofs.passes.sin_cos_run.Goals as goal
+
+pub put_fourths-requires : goal.put_fourths-requires
+put_fourths-requires c =
+    (omega (arith, c.requires.3), refl, rests-below (angle_of c.args.x.now c.args.from) c.put_rests.ensures.0)
+
+pub cosine_sums-requires : goal.cosine_sums-requires
+cosine_sums-requires c =
+    (omega (arith, c.requires.3), refl, refl, rests-below (angle_of c.args.x.now c.args.from) c.put_rests.ensures.0, c.put_fourths.ensures)
+
+pub put_cosines-requires : goal.put_cosines-requires
+put_cosines-requires c =
+    let given = c.requires in
+    let rests = c.put_rests.ensures.0 in
+    let sums = c.cosine_sums.ensures in
+    ((omega (arith, given.3), omega (arith, given.2, given.4), given.1), (row-through cosine_plus rests sums.0, row-through cosine_minus rests sums.1))
+
+pub sine_sums-requires : goal.sine_sums-requires
+sine_sums-requires c =
+    let sums = c.cosine_sums.ensures in
+    (omega (arith, c.requires.3), sums.0.size, sums.1.size, rests-below (angle_of c.args.x.now c.args.from) c.put_rests.ensures.0, c.put_fourths.ensures)
+
+pub put_sines-requires : goal.put_sines-requires
+put_sines-requires c =
+    let given = c.requires in
+    let rests = c.put_rests.ensures in
+    let sums = c.sine_sums.ensures in (
+      (omega (arith, given.3), omega (arith, given.2, given.4), given.0),
+      (rests, (row-through sine_plus rests.0 sums.0, row-through sine_minus rests.0 sums.1)),
+    )
+
+pub returns : goal.returns
+returns c = (c.put_sines.ensures, c.put_cosines.ensures)

@@ -1,0 +1,29 @@
+-- The passes give the ladders of the definition (`plus-row`, `minus-row`). Assumes nothing.
+use borrow.Author.Rules.{rules}
+use native.Mathlib.Omega.{arith}
+use Rattle.trig_rule.specs.Steps.{sine_plus, sine_minus}
+use Rattle.trig_all.proofs.Sizes.{fourths-below, rungs-below}
+use Rattle.trig_all.proofs.Sides.{sine-plus, sine-minus, plus-row, minus-row}
+use Rattle.trig_all.proofs.sums.sine_sums.Goals as goal
+
+pub ladder-requires : goal.ladder-requires
+ladder-requires c = let given = c.requires in (given.0, omega arith, given.1, fourths-below c.args.r.now given.3 given.4)
+
+pub ladder-requires-2 : goal.ladder-requires-2
+ladder-requires-2 c =
+    let given = c.requires in
+    (given.0, omega arith, given.2, fourths-below c.args.r.now given.3 given.4)
+
+pub times_squares-requires : goal.times_squares-requires
+times_squares-requires c =
+    let given = c.requires in
+    let minus = c.ladder-2.ensures in
+    (given.0, minus.size, given.3, rungs-below 2863311530 872628276 28206166 220414 0 c.args.v.now (omega arith) (fourths-below c.args.r.now given.3 given.4) minus)
+
+pub returns : goal.returns
+returns c =
+    let fourths = c.requires.4 in
+    let r = c.args.r.now in (
+      plus-row 1073741824 2290649224 193917394 2892940 12965 sine_plus r fourths c.ladder.ensures sine-plus,
+      minus-row 2863311530 872628276 28206166 220414 0 sine_minus r fourths c.ladder-2.ensures c.times_squares.ensures sine-minus,
+    )
