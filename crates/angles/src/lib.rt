@@ -1,4 +1,6 @@
 // The angles of math.rs: the heading of a tangent, and the signed angle from one vector to another.
+#![tactic(auto)]
+
 ghost use Rattle.std.specs.Prelude.{◌≡◌};
 ghost use Rattle.angles.specs.Angles.{rotation_deg_of, cross_of, sign_of, cosine_of_angle, angle_between_of};
 

@@ -1,5 +1,7 @@
 // Lines and elliptical arcs (poly.rs): making one, and its position and direction at a progress. What stands here asks nothing and
 // refuses; `inner` has an arc's queries for a caller that knows the table to be sound.
+#![tactic(auto)]
+
 mod arcs;
 pub mod inner;
 mod lines;

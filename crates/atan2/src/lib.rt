@@ -1,5 +1,7 @@
 // Atan2 of two f32. It equals its definition by steps in the crate `atan2_rule`, whose laws show that
 // it keeps the rule for every pair.
+#![tactic(auto)]
+
 mod guess;
 mod scale;
 mod search;

@@ -1,5 +1,7 @@
 // Quadratic and cubic curves (bezier.rs): making one with its table of running lengths, and its position and direction at a
 // progress. What stands here asks nothing and refuses; `inner` has the same for a caller that knows the table to be sound.
+#![tactic(auto)]
+
 mod cubics;
 mod curves;
 mod directions;

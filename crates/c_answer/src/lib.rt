@@ -1,4 +1,6 @@
 // How an answer leaves through the C interface: its number is returned, and its values go into the lent answer.
+#![tactic(auto)]
+
 mod flights;
 mod given;
 mod places;

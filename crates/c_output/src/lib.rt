@@ -1,5 +1,7 @@
 // A call that puts numbers into a lent output: what it writes and what it answers, and the numbers of
 // a table and of an arc in their order.
+#![tactic(auto)]
+
 mod listed;
 mod outputs;
 

@@ -1,4 +1,6 @@
 // Path commands: decoded as an enum, stored as letters and numbers, and the check of a stored list.
+#![tactic(auto)]
+
 mod checking;
 mod command;
 mod encoding;

@@ -1,5 +1,7 @@
 // Powers of ten by their leading 60 binary digits, from 10^-64 to 10^38: between them lies every
 // power by which 19 decimal digits can be an f32 other than zero and the infinity.
+#![tactic(auto)]
+
 ghost use Rattle.std.specs.Prelude.{◌≡◌};
 ghost use Rattle.decimal_tens.specs.Tens.{tens_of};
 

@@ -1,5 +1,7 @@
 // The one answer of a path or a spline at a progress: where it is, where it heads, and the pair of segment and raw parameter under
 // which a pulse packet is filed. `path_query` and `spline_query` give it.
+#![tactic(auto)]
+
 mod single;
 
 use answers::Refusal;

@@ -3,6 +3,8 @@
 // returns the refusal's number and gives the rest through its last slice, `answer`.
 // Here are numbers, points and strict reading; crate kihavute_reading has the permissive reader, crate
 // kihavute_curves the curves, crate kihavute_paths the paths and the shapes.
+#![tactic(auto)]
+
 mod decimals;
 mod lookups;
 mod numbers;

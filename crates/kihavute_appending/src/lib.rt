@@ -1,2 +1,4 @@
 // The C interface's sixth part: segments appended to a stored path, one by one.
+#![tactic(auto)]
+
 mod appending;

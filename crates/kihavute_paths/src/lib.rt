@@ -1,4 +1,6 @@
 // The C interface's fourth part: paths, built, stored and asked, the station tool, and shapes.
+#![tactic(auto)]
+
 mod batches;
 mod listings;
 mod morphs;

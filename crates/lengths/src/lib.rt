@@ -1,5 +1,6 @@
 // The length of a vector, and of a row of them at once (`inner`). Each root is guessed and judged by two squares, of a row in passes without
 // a branch, which the compiler lays over two lanes of f64; what is not settled is worked out digit by digit.
+#![tactic(auto)]
 
 mod alone;
 mod exact;

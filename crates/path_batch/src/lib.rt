@@ -1,4 +1,6 @@
 // Many progresses along one stored path, which is checked once: for those who file packets.
+#![tactic(auto)]
+
 mod batches;
 pub mod inner;
 

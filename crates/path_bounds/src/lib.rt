@@ -1,5 +1,7 @@
 // Points so near the origin that no length between them is infinite: whoever counts a path's places need not measure it. The laws in
 // proofs/ say so of lines, quads, cubics, arcs and whole paths.
+#![tactic(auto)]
+
 ghost use Rattle.std.specs.Prelude.{◌≡◌};
 ghost use Rattle.ellipse.specs.Ends.{from_ends_of};
 ghost use Rattle.path_bounds.specs.Calm.{is_near, is_calm, is_narrow, is_calm_arc, is_mild, is_mild_point, is_mild_way};

@@ -1,4 +1,6 @@
 // What a command draws (poly.rs, `from_commands`): the pen between two commands, and the segment that a command makes.
+#![tactic(auto)]
+
 mod pens;
 mod strokes;
 

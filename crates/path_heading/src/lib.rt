@@ -1,4 +1,6 @@
 // Where a segment is and where it heads, at its raw parameter.
+#![tactic(auto)]
+
 mod ahead;
 mod directions;
 pub mod inner;

@@ -1,4 +1,6 @@
 // A place on a path.
+#![tactic(auto)]
+
 mod cursors;
 pub mod inner;
 mod lookups;

@@ -1,5 +1,7 @@
 // The stored path: five buffers that hold the kinds, the fields, the tables, the running lengths and the command numbers of its
 // segments, and their check. What stands here asks nothing and refuses; `inner` has the same for a caller that knows the path to be stored.
+#![tactic(auto)]
+
 mod checking;
 mod counts;
 pub mod inner;

@@ -1,6 +1,8 @@
 // Runs recorded lookups, curves, splines and shapes of the Rust through the proved crates, and prints of each kind how many
 // answers there were and how many differ. `oracle/record curves` writes the records to this crate's stdin, each block after
 // the letter of its kind.
+#![tactic(auto)]
+
 mod curves;
 mod lookups;
 mod segments;

@@ -1,6 +1,8 @@
 // Runs recorded paths through the autopilot's legs and prints how many answers there were and how many differ. The Rust has no
 // flattening: `oracle/record legs` writes what a second implementation of the rule answers to this crate's stdin, each record after
 // the letter l.
+#![tactic(auto)]
+
 mod rows;
 
 use replay_records::{kind, none, tell};

@@ -1,5 +1,7 @@
 // Runs recorded numbers of the Rust through the proved crates, and prints of each kind how many there were and how many
 // differ. `oracle/record numbers` writes the records to this crate's stdin, each after the letter of its kind.
+#![tactic(auto)]
+
 mod decimals;
 mod helpers;
 mod lines;

@@ -1,6 +1,8 @@
 // Runs recorded paths of the Rust through the proved crates, building and queries, and prints of each kind how many answers
 // there were and how many differ. `oracle/record paths` writes the records to this crate's stdin, each after the letter of its
 // kind.
+#![tactic(auto)]
+
 mod buildings;
 mod queries;
 

@@ -1,6 +1,8 @@
 // Runs recorded texts through the proved readers: what permissive reading answers, what strict reading says, what the station
 // tool lists. Prints the listings, and then of the others how many there were and how many differ. `oracle/record reading`
 // writes the texts to this crate's stdin, each after the letter of its kind.
+#![tactic(auto)]
+
 mod plans;
 mod readings;
 mod verdicts;

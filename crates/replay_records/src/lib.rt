@@ -1,6 +1,8 @@
 // What the programs share that replay recorded answers: patterns of eight hexadecimal digits in the
 // records, numbers of few decimal digits, rows of both, how an answer is held against them, and the counts
 // that the programs print.
+#![tactic(auto)]
+
 mod counts;
 mod curves;
 mod decimals;

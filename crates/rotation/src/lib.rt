@@ -1,4 +1,6 @@
 // The rotation of an arc's ellipse in degrees: what is left of its full turns, and that in radians. Any f32 is taken.
+#![tactic(auto)]
+
 ghost use Rattle.std.specs.Prelude.{◌≡◌, false, ◌*◌, ◌^◌, ◌%◌, ◌<◌};
 ghost use Rattle.std.specs.Float.{binary32};
 ghost use Rattle.std.specs.Float.Ieee.{round};

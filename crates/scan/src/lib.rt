@@ -1,6 +1,8 @@
 // Places in a text of path data: which class a byte is of, where a run of bytes ends, and where the
 // parts of a number stand. A place counts bytes from 0, and every function takes every place: past
 // the text there is nothing to pass, and the answer is the place itself.
+#![tactic(auto)]
+
 pub mod bytes;
 pub mod numbers;
 pub mod runs;

@@ -1,4 +1,6 @@
 // The table of running lengths of a Catmull-Rom spline through lent points (bezier.rs, `build_table`), stored in a lent slice.
+#![tactic(auto)]
+
 mod entries;
 pub mod inner;
 mod lanes;

@@ -1,5 +1,7 @@
 // The station tool: a plan on standard input, its listing on standard output. A plan is judged by its first 4,107 bytes: at most 9 digits,
 // a line's end and 4,097 bytes of path text; what stands past them changes nothing.
+#![tactic(auto)]
+
 fn main() {
     let mut plan = [0u8; 4107];
     let size = io::read_full(0, &mut plan);

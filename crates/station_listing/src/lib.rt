@@ -1,4 +1,6 @@
 // The station tool's work: from the bytes of a plan to the bytes of its listing.
+#![tactic(auto)]
+
 mod flights;
 pub mod inner;
 mod plans;

@@ -1,5 +1,7 @@
 // Strict reading of one argument of a path command: where the word of the grammar that starts at a
 // place ends. No function here passes white space or a separator before the word.
+#![tactic(auto)]
+
 mod groups;
 mod words;
 

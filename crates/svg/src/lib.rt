@@ -1,4 +1,6 @@
 // The permissive reader: from a text of path data to a list of commands in three lent buffers.
+#![tactic(auto)]
+
 mod lean;
 mod passes;
 mod reading;

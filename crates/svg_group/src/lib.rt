@@ -1,5 +1,7 @@
 // What stands after a command's letter: one group of numbers and flags, read into a command or only
 // passed.
+#![tactic(auto)]
+
 mod groups;
 mod letters;
 mod numbers;

@@ -1,5 +1,7 @@
 // The station tool's way to its bytes: a reader that keeps the lent text and its place, over proved
 // steps on the text and the place.
+#![tactic(auto)]
+
 mod line;
 mod reader;
 mod steps;

@@ -1,5 +1,7 @@
 // Sine and cosine of an angle in radians. Each equals its definition by steps in the crate `trig_rule`,
 // whose laws show that it keeps the rule.
+#![tactic(auto)]
+
 pub mod inner;
 mod near;
 mod sides;
