@@ -15,10 +15,8 @@ left_out u v left g h = sym (ap (λ (t : Bool). cond t g (fallback_of u v left))
 
 pub returns-then-passes : goal.returns-then-passes
 returns-then-passes c =
-    let at = c.args in
-    (taken at.u at.v at.left at.first (sym c.passes.ensures ∙ c.if-passes.true), omega arith)
+    (taken c.args.u c.args.v c.args.left c.args.first (sym c.passes.ensures ∙ c.if-passes.true), omega arith)
 
 pub returns : goal.returns
 returns c =
-    let at = c.args in
-    (c.fallback.ensures.0 ∙ left_out at.u at.v at.left at.first (sym c.passes.ensures ∙ c.if-passes.false), omega arith)
+    (c.fallback.ensures.0 ∙ left_out c.args.u c.args.v c.args.left c.args.first (sym c.passes.ensures ∙ c.if-passes.false), omega arith)

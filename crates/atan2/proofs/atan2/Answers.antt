@@ -66,14 +66,12 @@ wide-d-requires c = sym c.is_finite-2.ensures ∙ not-false _ c.if-not-is_finite
 
 pub returns-then-a-eq0 : goal.returns-then-a-eq0
 returns-then-a-eq0 c =
-    let at = c.args in
     let fy = sym c.is_finite.ensures ∙ not-false _ c.if-not-is_finite.false in
     let fx = sym c.is_finite-2.ensures ∙ not-false _ c.if-not-is_finite-2.false in
-    c.axis.ensures ∙ on-axis at.y at.x _ _ c.wide-c.ensures.0 c.wide-d.ensures.0 fy fx c.if-a-eq0.true
+    c.axis.ensures ∙ on-axis c.args.y c.args.x _ _ c.wide-c.ensures.0 c.wide-d.ensures.0 fy fx c.if-a-eq0.true
 
 pub returns : goal.returns
 returns c =
-    let at = c.args in
     let fy = sym c.is_finite.ensures ∙ not-false _ c.if-not-is_finite.false in
     let fx = sym c.is_finite-2.ensures ∙ not-false _ c.if-not-is_finite-2.false in
-    c.slant.ensures ∙ off-axis at.y at.x _ _ c.wide-c.ensures.0 c.wide-d.ensures.0 fy fx c.if-a-eq0.false
+    c.slant.ensures ∙ off-axis c.args.y c.args.x _ _ c.wide-c.ensures.0 c.wide-d.ensures.0 fy fx c.if-a-eq0.false

@@ -30,14 +30,12 @@ module _ (y x : Float) (a b s t : ℕ) {top u v : ℕ} (et : top ≡ top_of a b)
 
 pub returns-then-u-left : goal.returns-then-u-left
 returns-then-u-left c =
-    let at = c.args in
-    near at.y at.x at.a at.b at.sign at.left c.larger-top.ensures.0 c.part-u.ensures.0 c.part-v.ensures.0 c.if-u-left.true
+    near c.args.y c.args.x c.args.a c.args.b c.args.sign c.args.left c.larger-top.ensures.0 c.part-u.ensures.0 c.part-v.ensures.0 c.if-u-left.true
 
 pub float_from_bits-result : goal.float_from_bits-result
 float_from_bits-result c = no-nan-bits _ (omega arith)
 
 pub returns : goal.returns
 returns c =
-    let at = c.args in
-    far at.y at.x at.a at.b at.sign at.left c.larger-top.ensures.0 c.part-u.ensures.0 c.part-v.ensures.0
-    c.if-u-left.false (c.angle.ensures.0 ∙ ap (angle_bits c.part-u.result c.part-v.result at.left) c.guess.ensures.0)
+    far c.args.y c.args.x c.args.a c.args.b c.args.sign c.args.left c.larger-top.ensures.0 c.part-u.ensures.0 c.part-v.ensures.0
+    c.if-u-left.false (c.angle.ensures.0 ∙ ap (angle_bits c.part-u.result c.part-v.result c.args.left) c.guess.ensures.0)

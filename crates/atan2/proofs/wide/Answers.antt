@@ -18,10 +18,10 @@ no_nan (inf s) h = tt
 no_nan (fin s m e) h = tt
 
 pub float_to_float-result : goal.float_to_float-result
-float_to_float-result c = let x = c.args.x in and_i (fits binary64 x) (not (is_nan x)) (fits_widens x c.row_known-1.given) (no_nan x c.requires)
+float_to_float-result c = and_i (fits binary64 c.args.x) (not (is_nan c.args.x)) (fits_widens c.args.x c.row_known-1.given) (no_nan c.args.x c.requires)
 
 pub float_to_bits-result : goal.float_to_bits-result
 float_to_bits-result c = no_nan _ c.requires
 
 pub returns : goal.returns
-returns c = let x = c.args.x in (refl, ltb-true (plain x) wide_infinity_bits (bits-finite x c.row_known-1.given ∙ c.requires))
+returns c = (refl, ltb-true (plain c.args.x) wide_infinity_bits (bits-finite c.args.x c.row_known-1.given ∙ c.requires))

@@ -25,7 +25,7 @@ lift c = raised _ (omega (arith, c.if-millimetres-eq0.false)) (omega arith)
 
 -- nothing is lost of the moved count
 abbrev moved : goal.Else-millimetres-eq0 → ℕ
-moved c = let n = c.args.millimetres in n * 2 ^ (count_leading_zeros 64 n - 30)
+moved c = c.args.millimetres * 2 ^ (count_leading_zeros 64 c.args.millimetres - 30)
 
 whole : (c : goal.Else-millimetres-eq0) → moved c % 18446744073709551616 ≡ moved c
 whole c = mod-eq_of_lt (let h = (lift c).ranges in omega arith)
@@ -54,11 +54,10 @@ float_from_bits-result c = no_nan _ c.pattern.ensures.1
 pub returns-then-wide-lt16777216000 : goal.returns-then-wide-lt16777216000
 unfolding metres_of
 returns-then-wide-lt16777216000 c =
-    let n = c.args.millimetres in
-    let z = count_leading_zeros 64 n in
+    let z = count_leading_zeros 64 c.args.millimetres in
     let r = lift c.before.before in
     let sum : z - 30 + (179 - z) ≡ 149 = omega (arith, r.least, r.most) in
-    c.pattern.ensures.0 n (scaled-up n (z - 30) (179 - z) sum ∙ ap (λ (x : ℕ). x * 2 ^ (179 - z)) (sym (whole c.before.before)))
+    c.pattern.ensures.0 c.args.millimetres (scaled-up c.args.millimetres (z - 30) (179 - z) sum ∙ ap (λ (x : ℕ). x * 2 ^ (179 - z)) (sym (whole c.before.before)))
 
 pub pattern-requires-2 : goal.pattern-requires-2
 pattern-requires-2 c = let r = lift c.before in let w = whole c.before in (omega (arith, r.full, w, c.if-wide-lt16777216000.false), omega (arith, r.fits, w), omega (arith, r.least))
@@ -69,9 +68,8 @@ float_from_bits-result-2 c = no_nan _ c.pattern-2.ensures.1
 pub returns : goal.returns
 unfolding metres_of
 returns c =
-    let n = c.args.millimetres in
-    let z = count_leading_zeros 64 n in
+    let z = count_leading_zeros 64 c.args.millimetres in
     let r = lift c.before.before in
     let sum : z - 30 - 1 + (179 - z + 1) ≡ 149 = omega (arith, r.least, r.most) in
-    let half : moved c.before.before % 18446744073709551616 / 2 ≡ n * 2 ^ (z - 30 - 1) = ap (λ (x : ℕ). x / 2) (whole c.before.before) ∙ halved n (z - 30) (omega (arith, r.least)) in
-    c.pattern-2.ensures.0 n (scaled-up n (z - 30 - 1) (179 - z + 1) sum ∙ ap (λ (x : ℕ). x * 2 ^ (179 - z + 1)) (sym half))
+    let half : moved c.before.before % 18446744073709551616 / 2 ≡ c.args.millimetres * 2 ^ (z - 30 - 1) = ap (λ (x : ℕ). x / 2) (whole c.before.before) ∙ halved c.args.millimetres (z - 30) (omega (arith, r.least)) in
+    c.pattern-2.ensures.0 c.args.millimetres (scaled-up c.args.millimetres (z - 30 - 1) (179 - z + 1) sum ∙ ap (λ (x : ℕ). x * 2 ^ (179 - z + 1)) (sym half))

@@ -15,22 +15,16 @@ past a q x = omega arith
 
 pub returns-then-twice-lt1000 : goal.returns-then-twice-lt1000
 returns-then-twice-lt1000 c =
-    let a = c.args in
-    let p = c.requires in
-    (λ n same. pattern-of n a.scaled a.k p.0 p.1 p.2 same (a.scaled / 1000) (sym (ap (nearest _) (compare-lt _ _ c.if-twice-lt1000.true))) (omega arith) (omega arith), omega arith)
+    (λ n same. pattern-of n c.args.scaled c.args.k c.requires.0 c.requires.1 c.requires.2 same (c.args.scaled / 1000) (sym (ap (nearest _) (compare-lt _ _ c.if-twice-lt1000.true))) (omega arith) (omega arith), omega arith)
 
 pub returns-then-twice-eq1000 : goal.returns-then-twice-eq1000
 returns-then-twice-eq1000 c =
-    let a = c.args in
-    let p = c.requires in
-    let q = a.scaled / 1000 in
+    let q = c.args.scaled / 1000 in
     let even = sym (ap (nearest _) (compare-eq _ _ c.if-twice-eq1000.true)) in
-    (λ n same. ap (of_bits binary32) (past (a.k * 8388608) q (q % 2)) ∙ pattern-of n a.scaled a.k p.0 p.1 p.2 same (q + q % 2) even (omega arith) (omega arith), omega arith)
+    (λ n same. ap (of_bits binary32) (past (c.args.k * 8388608) q (q % 2)) ∙ pattern-of n c.args.scaled c.args.k c.requires.0 c.requires.1 c.requires.2 same (q + q % 2) even (omega arith) (omega arith), omega arith)
 
 pub returns : goal.returns
 returns c =
-    let a = c.args in
-    let p = c.requires in
-    let q = a.scaled / 1000 in
+    let q = c.args.scaled / 1000 in
     let above = compare-gt _ _ (lt_of_le-ne c.if-twice-lt1000.false (λ e. c.if-twice-eq1000.false (sym e))) in
-    (λ n same. ap (of_bits binary32) (past (a.k * 8388608) q 1) ∙ pattern-of n a.scaled a.k p.0 p.1 p.2 same (q + 1) (add-one q ∙ sym (ap (nearest _) above)) (omega arith) (omega arith), omega arith)
+    (λ n same. ap (of_bits binary32) (past (c.args.k * 8388608) q 1) ∙ pattern-of n c.args.scaled c.args.k c.requires.0 c.requires.1 c.requires.2 same (q + 1) (add-one q ∙ sym (ap (nearest _) above)) (omega arith) (omega arith), omega arith)

@@ -21,7 +21,6 @@ fixed-requires c =
 
 pub returns : goal.returns
 returns c =
-    let x = c.args.x in
-    let size : c.reduce-r.result.size ≡ rest_of (fixed_of (plain x)) = cc in
+    let size : c.reduce-r.result.size ≡ rest_of (fixed_of (plain c.args.x)) = cc in
     c.cosine_near.ensures ∙ ap (λ (r : ℕ). of_bits binary32 (cosine_at r)) size
-    ∙ sym (cosine-main x (inside _ _ c.in_reach.ensures c.if-not-in_reach.false) c.if-a-lt964689920.false)
+    ∙ sym (cosine-main c.args.x (inside _ _ c.in_reach.ensures c.if-not-in_reach.false) c.if-a-lt964689920.false)

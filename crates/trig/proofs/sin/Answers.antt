@@ -25,15 +25,12 @@ overflow_add-b c =
 
 pub sine_near-requires : goal.sine_near-requires
 sine_near-requires c =
-    let sides = c.sine_sides-sides.ensures in
-    (omega (arith, sign_le c.args.x c.well_formed.0.1), omega arith, sides.2, sides.3)
+    (omega (arith, sign_le c.args.x c.well_formed.0.1), omega arith, c.sine_sides-sides.ensures.2, c.sine_sides-sides.ensures.3)
 
 pub returns : goal.returns
 returns c =
-    let rest = c.reduce-r in
-    let x = c.args.x in
-    let size = fixed_of (plain x) in
-    let turned : sign_bit x + rest.result.flip ≡ sign_bit x + flip_of size = cc in
-    let left : rest.result.size ≡ rest_of size = cc in
+    let size = fixed_of (plain c.args.x) in
+    let turned : sign_bit c.args.x + c.reduce-r.result.flip ≡ sign_bit c.args.x + flip_of size = cc in
+    let left : c.reduce-r.result.size ≡ rest_of size = cc in
     c.sine_near.ensures ∙ ap (of_bits binary32) (sine-is turned left c.sine_sides-sides.ensures.0 c.sine_sides-sides.ensures.1)
-    ∙ sym (sine-main x (inside _ _ c.in_reach.ensures c.if-not-in_reach.false) c.if-a-lt964689920.false)
+    ∙ sym (sine-main c.args.x (inside _ _ c.in_reach.ensures c.if-not-in_reach.false) c.if-a-lt964689920.false)

@@ -30,17 +30,14 @@ overflow_add-b c =
 
 pub sine_near-s-requires : goal.sine_near-s-requires
 sine_near-s-requires c =
-    let sides = c.sine_sides-sides.ensures in
-    (omega (arith, sign_le c.args.x c.well_formed.0.1), omega arith, sides.2, sides.3)
+    (omega (arith, sign_le c.args.x c.well_formed.0.1), omega arith, c.sine_sides-sides.ensures.2, c.sine_sides-sides.ensures.3)
 
 pub returns : goal.returns
 returns c =
-    let rest = c.reduce-r in
-    let x = c.args.x in
-    let size = fixed_of (plain x) in
-    let near : in_the_reach x ≡ true = inside _ _ c.in_reach.ensures c.if-not-in_reach.false in
-    let turned : sign_bit x + rest.result.flip ≡ sign_bit x + flip_of size = cc in
-    let left : rest.result.size ≡ rest_of size = cc in (
-      c.sine_near-s.ensures ∙ ap (of_bits binary32) (sine-is turned left c.sine_sides-sides.ensures.0 c.sine_sides-sides.ensures.1) ∙ sym (sine-main x near c.if-a-lt964689920.false),
-      c.cosine_near-c.ensures ∙ ap (λ (r : ℕ). of_bits binary32 (cosine_at r)) left ∙ sym (cosine-main x near c.if-a-lt964689920.false),
+    let size = fixed_of (plain c.args.x) in
+    let near : in_the_reach c.args.x ≡ true = inside _ _ c.in_reach.ensures c.if-not-in_reach.false in
+    let turned : sign_bit c.args.x + c.reduce-r.result.flip ≡ sign_bit c.args.x + flip_of size = cc in
+    let left : c.reduce-r.result.size ≡ rest_of size = cc in (
+      c.sine_near-s.ensures ∙ ap (of_bits binary32) (sine-is turned left c.sine_sides-sides.ensures.0 c.sine_sides-sides.ensures.1) ∙ sym (sine-main c.args.x near c.if-a-lt964689920.false),
+      c.cosine_near-c.ensures ∙ ap (λ (r : ℕ). of_bits binary32 (cosine_at r)) left ∙ sym (cosine-main c.args.x near c.if-a-lt964689920.false),
     )

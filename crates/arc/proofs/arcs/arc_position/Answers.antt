@@ -11,8 +11,7 @@ use Rattle.arc.proofs.arcs.arc_position.Goals as goal
 
 pub returns-then-arc : goal.returns-then-arc
 returns-then-arc c =
-    let progress = c.args.progress.value in
-    let on-chord = c.line_position.ensures ∙ ap (λ (l : LineSegment). line_position_of l progress) c.chord_line.ensures in
+    let on-chord = c.line_position.ensures ∙ ap (λ (l : LineSegment). line_position_of l c.args.progress.value) c.chord_line.ensures in
     ap Placed.At on-chord ∙ placed-on-line _ _ c.if-arc.true
 
 pub arc_position-requires : goal.arc_position-requires

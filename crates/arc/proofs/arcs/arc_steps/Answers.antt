@@ -5,7 +5,7 @@ use Rattle.arc.proofs.Rows.{rows-steps}
 use Rattle.arc.proofs.arcs.arc_steps.Goals as goal
 
 pub put_points-requires : goal.put_points-requires
-put_points-requires c = let sines = c.put_sines.ensures in (sines.0.size, sines.1.size)
+put_points-requires c = (c.put_sines.ensures.0.size, c.put_sines.ensures.1.size)
 
 pub returns : goal.returns
 returns c =

@@ -12,10 +12,9 @@ loop-i-init c = replacing-start c.requires
 
 pub loop-i-preserved : goal.loop-i-preserved
 loop-i-preserved c =
-    let at = c.loop-i in
-    let here = replacing-here at.invariant in
-    let next = at.invariant.rest (at.i + 1) (omega arith) in
-    replacing-more at.invariant (omega (arith, c.loop-i-test.true)) _ (rw (here, next))
+    let here = replacing-here c.loop-i.invariant in
+    let next = c.loop-i.invariant.rest (c.loop-i.i + 1) (omega arith) in
+    replacing-more c.loop-i.invariant (omega (arith, c.loop-i-test.true)) _ (rw (here, next))
 
 pub returns : goal.returns
 returns c = replacing-row c.loop-i.invariant c.loop-i-test.false

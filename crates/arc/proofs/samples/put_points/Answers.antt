@@ -11,13 +11,11 @@ loop-i-init c = (replacing-start c.requires.0, replacing-start c.requires.1)
 
 pub loop-i-preserved : goal.loop-i-preserved
 loop-i-preserved c =
-    let inv = c.loop-i.invariant in
-    let point = c.on_ellipse-point.ensures in
-    let sine = replacing-here inv.0 in
-    let cosine = replacing-here inv.1 in (
-      replacing-more inv.0 c.loop-i-test.true _ (rw (point, sine, cosine)),
-      replacing-more inv.1 c.loop-i-test.true _ (rw (point, sine, cosine)),
+    let sine = replacing-here c.loop-i.invariant.0 in
+    let cosine = replacing-here c.loop-i.invariant.1 in (
+      replacing-more c.loop-i.invariant.0 c.loop-i-test.true _ (rw (c.on_ellipse-point.ensures, sine, cosine)),
+      replacing-more c.loop-i.invariant.1 c.loop-i-test.true _ (rw (c.on_ellipse-point.ensures, sine, cosine)),
     )
 
 pub returns : goal.returns
-returns c = let inv = c.loop-i.invariant in (replacing-row inv.0 c.loop-i-test.false, replacing-row inv.1 c.loop-i-test.false)
+returns c = (replacing-row c.loop-i.invariant.0 c.loop-i-test.false, replacing-row c.loop-i.invariant.1 c.loop-i-test.false)

@@ -7,26 +7,25 @@ use Rattle.arc.proofs.Rows.{replacing-start, replacing-row, run-after}
 use Rattle.arc.proofs.samples.put_sines.Goals as goal
 
 pub sin_cos_run-requires : goal.sin_cos_run-requires
-sin_cos_run-requires c = let pre = c.requires in (pre.0, pre.1, omega arith, omega arith, omega arith)
+sin_cos_run-requires c = (c.requires.0, c.requires.1, omega arith, omega arith, omega arith)
 
 pub sin_cos_run-requires-2 : goal.sin_cos_run-requires-2
-sin_cos_run-requires-2 c = let run = c.sin_cos_run.ensures in (run.0.size, run.1.size, omega arith, omega arith, omega arith)
+sin_cos_run-requires-2 c = (c.sin_cos_run.ensures.0.size, c.sin_cos_run.ensures.1.size, omega arith, omega arith, omega arith)
 
 pub sin_cos_run-requires-3 : goal.sin_cos_run-requires-3
-sin_cos_run-requires-3 c = let run = c.sin_cos_run-2.ensures in (run.0.size, run.1.size, omega arith, omega arith, omega arith)
+sin_cos_run-requires-3 c = (c.sin_cos_run-2.ensures.0.size, c.sin_cos_run-2.ensures.1.size, omega arith, omega arith, omega arith)
 
 pub sin_cos_run-requires-4 : goal.sin_cos_run-requires-4
-sin_cos_run-requires-4 c = let run = c.sin_cos_run-3.ensures in (run.0.size, run.1.size, omega arith, omega arith, omega arith)
+sin_cos_run-requires-4 c = (c.sin_cos_run-3.ensures.0.size, c.sin_cos_run-3.ensures.1.size, omega arith, omega arith, omega arith)
 
 pub returns : goal.returns
 returns c =
-    let x = c.args.x.now in
-    let s1 = run-after sine_of x (replacing-start c.requires.0) c.sin_cos_run.ensures.0 (λ j l. refl) (omega arith) in
-    let c1 = run-after cosine_of x (replacing-start c.requires.1) c.sin_cos_run.ensures.1 (λ j l. refl) (omega arith) in
-    let s2 = run-after sine_of x s1 c.sin_cos_run-2.ensures.0 s1.rest (omega arith) in
-    let c2 = run-after cosine_of x c1 c.sin_cos_run-2.ensures.1 s1.rest (omega arith) in
-    let s3 = run-after sine_of x s2 c.sin_cos_run-3.ensures.0 s2.rest (omega arith) in
-    let c3 = run-after cosine_of x c2 c.sin_cos_run-3.ensures.1 s2.rest (omega arith) in
-    let s4 = run-after sine_of x s3 c.sin_cos_run-4.ensures.0 s3.rest (omega arith) in
-    let c4 = run-after cosine_of x c3 c.sin_cos_run-4.ensures.1 s3.rest (omega arith) in
+    let s1 = run-after sine_of c.args.x.now (replacing-start c.requires.0) c.sin_cos_run.ensures.0 (λ j l. refl) (omega arith) in
+    let c1 = run-after cosine_of c.args.x.now (replacing-start c.requires.1) c.sin_cos_run.ensures.1 (λ j l. refl) (omega arith) in
+    let s2 = run-after sine_of c.args.x.now s1 c.sin_cos_run-2.ensures.0 s1.rest (omega arith) in
+    let c2 = run-after cosine_of c.args.x.now c1 c.sin_cos_run-2.ensures.1 s1.rest (omega arith) in
+    let s3 = run-after sine_of c.args.x.now s2 c.sin_cos_run-3.ensures.0 s2.rest (omega arith) in
+    let c3 = run-after cosine_of c.args.x.now c2 c.sin_cos_run-3.ensures.1 s2.rest (omega arith) in
+    let s4 = run-after sine_of c.args.x.now s3 c.sin_cos_run-4.ensures.0 s3.rest (omega arith) in
+    let c4 = run-after cosine_of c.args.x.now c3 c.sin_cos_run-4.ensures.1 s3.rest (omega arith) in
     (replacing-row s4 (omega arith), replacing-row c4 (omega arith))

@@ -13,9 +13,7 @@ sides-s-requires c = le_trans (le_of_eq c.fixed.ensures.0) (under-half c.args.b 
 
 pub returns : goal.returns
 returns c =
-    let at = c.args in
-    let fixed = c.fixed.ensures.0 in
-    let right = eqb at.left 0 in (
-      ahead-is c.sides-s.ensures at.u at.v right c.side.ensures.0 c.both-to.ensures.0 ∙ ap (ahead at.u at.v right) fixed,
-      behind-is c.sides-s.ensures at.u at.v right c.side-2.ensures.0 c.both-from.ensures.0 ∙ ap (behind at.u at.v right) fixed,
+    let right = eqb c.args.left 0 in (
+      ahead-is c.sides-s.ensures c.args.u c.args.v right c.side.ensures.0 c.both-to.ensures.0 ∙ ap (ahead c.args.u c.args.v right) c.fixed.ensures.0,
+      behind-is c.sides-s.ensures c.args.u c.args.v right c.side-2.ensures.0 c.both-from.ensures.0 ∙ ap (behind c.args.u c.args.v right) c.fixed.ensures.0,
     )

@@ -27,18 +27,16 @@ module _ (u v left from to : ℕ) where
 
 pub returns-then-not-ahead_at : goal.returns-then-not-ahead_at
 returns-then-not-ahead_at c =
-    let at = c.args in
-    (at_first at.u at.v at.left at.from at.to (sym c.ahead_at.ensures ∙ not-true _ c.if-not-ahead_at.true), omega arith)
+    (at_first c.args.u c.args.v c.args.left c.args.from c.args.to (sym c.ahead_at.ensures ∙ not-true _ c.if-not-ahead_at.true), omega arith)
 
 pub returns-then-ahead_at : goal.returns-then-ahead_at
 returns-then-ahead_at c =
-    let at = c.args in
-    (at_last at.u at.v at.left at.from at.to (sym c.ahead_at.ensures ∙ not-false _ c.if-not-ahead_at.false) (sym c.ahead_at-2.ensures ∙ c.if-ahead_at.true), omega arith)
+    (at_last c.args.u c.args.v c.args.left c.args.from c.args.to (sym c.ahead_at.ensures ∙ not-false _ c.if-not-ahead_at.false) (sym c.ahead_at-2.ensures ∙ c.if-ahead_at.true), omega arith)
 
 pub returns : goal.returns
 returns c =
-    let at = c.args in (
-      c.nearer.ensures.0 ∙ ap (nearer at.u at.v at.left) c.climb.ensures.0
-          ∙ inside at.u at.v at.left at.from at.to (sym c.ahead_at.ensures ∙ not-false _ c.if-not-ahead_at.false) (sym c.ahead_at-2.ensures ∙ c.if-ahead_at.false),
+    (
+      c.nearer.ensures.0 ∙ ap (nearer c.args.u c.args.v c.args.left) c.climb.ensures.0
+          ∙ inside c.args.u c.args.v c.args.left c.args.from c.args.to (sym c.ahead_at.ensures ∙ not-false _ c.if-not-ahead_at.false) (sym c.ahead_at-2.ensures ∙ c.if-ahead_at.false),
       omega arith,
     )

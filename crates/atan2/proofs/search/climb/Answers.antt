@@ -31,17 +31,13 @@ loop-k-init c = (refl, omega arith, omega arith, omega arith)
 
 pub loop-k-preserved : goal.loop-k-preserved
 loop-k-preserved c =
-    let at = c.args in
-    let l = c.loop-k in
-    let test = ahead_at at.u at.v at.left in
-    (ap (climb test at.to (l.k - 1)) c.stride-t.ensures.0 ∙ sym (climb-step test at.to l.k l.t c.loop-k-test.true) ∙ l.invariant.0, c.stride-t.ensures.1, c.stride-t.ensures.2, omega arith)
+    let test = ahead_at c.args.u c.args.v c.args.left in
+    (ap (climb test c.args.to (c.loop-k.k - 1)) c.stride-t.ensures.0 ∙ sym (climb-step test c.args.to c.loop-k.k c.loop-k.t c.loop-k-test.true) ∙ c.loop-k.invariant.0, c.stride-t.ensures.1, c.stride-t.ensures.2, omega arith)
 
 at_none : (test : ℕ → Bool) (to t k : ℕ) → k ≡ 0 → climb test to k t ≡ t
 at_none test to t k e = ap (λ (n : ℕ). climb test to n t) e ∙ none test to t
 
 pub returns : goal.returns
 returns c =
-    let at = c.args in
-    let l = c.loop-k in
-    let e : l.k ≡ 0 = omega arith in
-    (sym (at_none (ahead_at at.u at.v at.left) at.to l.t l.k e) ∙ l.invariant.0, l.invariant.1, l.invariant.2)
+    let e : c.loop-k.k ≡ 0 = omega arith in
+    (sym (at_none (ahead_at c.args.u c.args.v c.args.left) c.args.to c.loop-k.t c.loop-k.k e) ∙ c.loop-k.invariant.0, c.loop-k.invariant.1, c.loop-k.invariant.2)

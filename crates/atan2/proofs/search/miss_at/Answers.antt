@@ -16,11 +16,9 @@ apart-down a b h = sym (ap (λ (t : Bool). cond t (b - a) (a - b)) (lt-leb a b h
 pub returns-then-s : goal.returns-then-s
 unfolding miss_at
 returns-then-s c =
-    let s = c.balance-s in
-    apart-up s.result.behind s.result.ahead c.if-s.true ∙ ap (λ (n : ℕ). apart n s.result.ahead) s.ensures.1 ∙ ap (apart _) s.ensures.0
+    apart-up c.balance-s.result.behind c.balance-s.result.ahead c.if-s.true ∙ ap (λ (n : ℕ). apart n c.balance-s.result.ahead) c.balance-s.ensures.1 ∙ ap (apart _) c.balance-s.ensures.0
 
 pub returns-else-s : goal.returns-else-s
 unfolding miss_at
 returns-else-s c =
-    let s = c.balance-s in
-    apart-down s.result.behind s.result.ahead c.if-s.false ∙ ap (λ (n : ℕ). apart n s.result.ahead) s.ensures.1 ∙ ap (apart _) s.ensures.0
+    apart-down c.balance-s.result.behind c.balance-s.result.ahead c.if-s.false ∙ ap (λ (n : ℕ). apart n c.balance-s.result.ahead) c.balance-s.ensures.1 ∙ ap (apart _) c.balance-s.ensures.0

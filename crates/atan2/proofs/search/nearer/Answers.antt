@@ -16,10 +16,8 @@ second u v left t m n e f h = sym (ap (λ (b : Bool). cond b t (t + 1)) (lt-leb 
 
 pub returns-then-miss_at : goal.returns-then-miss_at
 returns-then-miss_at c =
-    let at = c.args in
-    (first at.u at.v at.left at.t _ _ c.miss_at.ensures c.miss_at-2.ensures c.if-miss_at.true, omega arith)
+    (first c.args.u c.args.v c.args.left c.args.t _ _ c.miss_at.ensures c.miss_at-2.ensures c.if-miss_at.true, omega arith)
 
 pub returns-else-miss_at : goal.returns-else-miss_at
 returns-else-miss_at c =
-    let at = c.args in
-    (second at.u at.v at.left at.t _ _ c.miss_at.ensures c.miss_at-2.ensures c.if-miss_at.false, omega arith)
+    (second c.args.u c.args.v c.args.left c.args.t _ _ c.miss_at.ensures c.miss_at-2.ensures c.if-miss_at.false, omega arith)

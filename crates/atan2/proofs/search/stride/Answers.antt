@@ -41,22 +41,19 @@ kept t m to b e = sym (ap (λ (l : Bool). cond (ltb m to && l) m t) e ∙ none (
 
 pub returns-then-m-to : goal.returns-then-m-to
 returns-then-m-to c =
-    let at = c.args in
-    let s = shifted at.k c.requires.5 in
-    (past at.t (at.t + 2 ^ at.k) at.to _ (subst (λ (n : ℕ). at.to ≤ at.t + n) s c.if-m-to.true), omega arith, omega arith)
+    let s = shifted c.args.k c.requires.5 in
+    (past c.args.t (c.args.t + 2 ^ c.args.k) c.args.to _ (subst (λ (n : ℕ). c.args.to ≤ c.args.t + n) s c.if-m-to.true), omega arith, omega arith)
 
 pub ahead_at-requires : goal.ahead_at-requires
 ahead_at-requires c = let s = shifted c.args.k c.requires.5 in omega arith
 
 pub returns-then-ahead_at : goal.returns-then-ahead_at
 returns-then-ahead_at c =
-    let at = c.args in
-    let s = shifted at.k c.requires.5 in
-    let under : at.t + 2 ^ at.k < at.to = subst (λ (n : ℕ). at.t + n < at.to) s c.if-m-to.false in
-    (ap (λ (n : ℕ). at.t + n) s ∙ reached at.t (at.t + 2 ^ at.k) at.to _ under (sym (ap (λ (n : ℕ). ahead_at at.u at.v at.left (at.t + n)) s) ∙ sym c.ahead_at.ensures ∙ c.if-ahead_at.true), omega arith, omega arith)
+    let s = shifted c.args.k c.requires.5 in
+    let under : c.args.t + 2 ^ c.args.k < c.args.to = subst (λ (n : ℕ). c.args.t + n < c.args.to) s c.if-m-to.false in
+    (ap (λ (n : ℕ). c.args.t + n) s ∙ reached c.args.t (c.args.t + 2 ^ c.args.k) c.args.to _ under (sym (ap (λ (n : ℕ). ahead_at c.args.u c.args.v c.args.left (c.args.t + n)) s) ∙ sym c.ahead_at.ensures ∙ c.if-ahead_at.true), omega arith, omega arith)
 
 pub returns-else-ahead_at : goal.returns-else-ahead_at
 returns-else-ahead_at c =
-    let at = c.args in
-    let s = shifted at.k c.requires.5 in
-    (kept at.t (at.t + 2 ^ at.k) at.to _ (sym (ap (λ (n : ℕ). ahead_at at.u at.v at.left (at.t + n)) s) ∙ sym c.ahead_at.ensures ∙ c.if-ahead_at.false), omega arith, omega arith)
+    let s = shifted c.args.k c.requires.5 in
+    (kept c.args.t (c.args.t + 2 ^ c.args.k) c.args.to _ (sym (ap (λ (n : ℕ). ahead_at c.args.u c.args.v c.args.left (c.args.t + n)) s) ∙ sym c.ahead_at.ensures ∙ c.if-ahead_at.false), omega arith, omega arith)

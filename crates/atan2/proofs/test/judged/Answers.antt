@@ -37,24 +37,16 @@ module _ (u v left flip cu cd su sd A B F G : ℕ) (ea : A ≡ u * cu + v * cond
 
 pub returns-then-near : goal.returns-then-near
 returns-then-near c =
-    let at = c.args in
-    let u = at.u in
-    let v = at.v in
-    let s = at.s in
-    test-taken u v at.left at.flip s.cosine_up s.cosine_down s.sine_up s.sine_down _ _ _ _
-    (picked u _ v _ _ _ c.both-ahead.ensures.0 c.side.ensures.0)
-    (picked u _ v _ _ _ c.both-behind.ensures.0 c.side-2.ensures.0)
-    (both-picked v _ _ u _ _ _ c.both-along.ensures.0 c.side-then-near.ensures.0 c.side-then-near-2.ensures.0)
-    (both-picked v _ _ u _ _ _ c.both-against.ensures.0 c.side-then-near-3.ensures.0 c.side-then-near-4.ensures.0)
+    test-taken c.args.u c.args.v c.args.left c.args.flip c.args.s.cosine_up c.args.s.cosine_down c.args.s.sine_up c.args.s.sine_down _ _ _ _
+    (picked c.args.u _ c.args.v _ _ _ c.both-ahead.ensures.0 c.side.ensures.0)
+    (picked c.args.u _ c.args.v _ _ _ c.both-behind.ensures.0 c.side-2.ensures.0)
+    (both-picked c.args.v _ _ c.args.u _ _ _ c.both-along.ensures.0 c.side-then-near.ensures.0 c.side-then-near-2.ensures.0)
+    (both-picked c.args.v _ _ c.args.u _ _ _ c.both-against.ensures.0 c.side-then-near-3.ensures.0 c.side-then-near-4.ensures.0)
     (sym c.near.ensures ∙ c.if-near.true)
 
 pub returns-else-near : goal.returns-else-near
 returns-else-near c =
-    let at = c.args in
-    let u = at.u in
-    let v = at.v in
-    let s = at.s in
-    test-left u v at.left at.flip s.cosine_up s.cosine_down s.sine_up s.sine_down _ _ 0 0
-    (picked u _ v _ _ _ c.both-ahead.ensures.0 c.side.ensures.0)
-    (picked u _ v _ _ _ c.both-behind.ensures.0 c.side-2.ensures.0)
+    test-left c.args.u c.args.v c.args.left c.args.flip c.args.s.cosine_up c.args.s.cosine_down c.args.s.sine_up c.args.s.sine_down _ _ 0 0
+    (picked c.args.u _ c.args.v _ _ _ c.both-ahead.ensures.0 c.side.ensures.0)
+    (picked c.args.u _ c.args.v _ _ _ c.both-behind.ensures.0 c.side-2.ensures.0)
     (sym c.near.ensures ∙ c.if-near.false)

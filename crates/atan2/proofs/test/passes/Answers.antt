@@ -40,15 +40,12 @@ judged-requires-else-x-le226375608064910088 c = (c.requires.0, c.requires.1, c.p
 
 pub returns-then-x-le226375608064910088 : goal.returns-then-x-le226375608064910088
 returns-then-x-le226375608064910088 c =
-    let at = c.args in
-    let fixed = c.fixed-x.ensures.0 in
-    c.judged.ensures ∙ judged-is c.sides.ensures at.u at.v at.left 0 ∙ ap (passes_at at.u at.v at.left 0) fixed
-    ∙ straight at.u at.v at.left at.b (subst (λ (n : ℕ). n ≤ half) fixed c.if-x-le226375608064910088.true)
+    c.judged.ensures ∙ judged-is c.sides.ensures c.args.u c.args.v c.args.left 0 ∙ ap (passes_at c.args.u c.args.v c.args.left 0) c.fixed-x.ensures.0
+    ∙ straight c.args.u c.args.v c.args.left c.args.b (subst (λ (n : ℕ). n ≤ half) c.fixed-x.ensures.0 c.if-x-le226375608064910088.true)
 
 pub returns-else-x-le226375608064910088 : goal.returns-else-x-le226375608064910088
 returns-else-x-le226375608064910088 c =
-    let at = c.args in
-    let above : half < fixed_of at.b = subst (λ (n : ℕ). half < n) c.fixed-x.ensures.0 c.if-x-le226375608064910088.false in
-    c.judged-else-x-le226375608064910088.ensures ∙ judged-is c.past_pi.ensures at.u at.v at.left 1
-    ∙ ap (λ (n : ℕ). passes_at at.u at.v at.left 1 (turn - fixed_of n)) (sym (only-pi at.b c.requires.2 c.requires.3 above))
-    ∙ flipped at.u at.v at.left at.b above
+    let above : half < fixed_of c.args.b = subst (λ (n : ℕ). half < n) c.fixed-x.ensures.0 c.if-x-le226375608064910088.false in
+    c.judged-else-x-le226375608064910088.ensures ∙ judged-is c.past_pi.ensures c.args.u c.args.v c.args.left 1
+    ∙ ap (λ (n : ℕ). passes_at c.args.u c.args.v c.args.left 1 (turn - fixed_of n)) (sym (only-pi c.args.b c.requires.2 c.requires.3 above))
+    ∙ flipped c.args.u c.args.v c.args.left c.args.b above

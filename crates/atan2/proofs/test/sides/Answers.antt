@@ -47,6 +47,4 @@ overflow_mul-result-4 c = record { fits = omega (arith, cut_product c.args.r c.s
 
 pub returns : goal.returns
 returns c =
-    let k = c.cosine_sides-c in
-    let s = c.sine_sides-s in
-    sums_at c.args.r k.result.plus k.result.minus s.result.plus s.result.minus c.requires k.ensures.0 k.ensures.1 s.ensures.0 s.ensures.1
+    sums_at c.args.r c.cosine_sides-c.result.plus c.cosine_sides-c.result.minus c.sine_sides-s.result.plus c.sine_sides-s.result.minus c.requires c.cosine_sides-c.ensures.0 c.cosine_sides-c.ensures.1 c.sine_sides-s.ensures.0 c.sine_sides-s.ensures.1

@@ -14,8 +14,5 @@ use Rattle.bezier.proofs.cubics.cubic_steps.Goals as goal
 pub returns : goal.returns
 unfolding sample_at cubic_sample_of lerp_point_of
 returns c =
-    let x = c.cubic_differences-x in
-    let y = c.cubic_differences-y in
-    let e = c.lengths.ensures in
-    steps-are (cubic_sample_of _ _ _ _) x.result y.result _ 31 (ap length e ∙ lengths-count 31 _ _) x.ensures y.ensures
-    (λ k h. ap (λ (z : List Float). get_or z k nan) e ∙ lengths-at 31 _ _ k h)
+    steps-are (cubic_sample_of _ _ _ _) c.cubic_differences-x.result c.cubic_differences-y.result _ 31 (ap length c.lengths.ensures ∙ lengths-count 31 _ _) c.cubic_differences-x.ensures c.cubic_differences-y.ensures
+    (λ k h. ap (λ (z : List Float). get_or z k nan) c.lengths.ensures ∙ lengths-at 31 _ _ k h)

@@ -11,15 +11,14 @@ use Rattle.bezier.proofs.Queries.{tried-first, tried-second}
 use Rattle.bezier.proofs.directions.cubic_direction.Goals as goal
 
 -- the first direction, by its definition
-first : (c : goal.After-normalize-first) → let a = c.args in c.normalize-first.result ≡ normalize_of (cubic_derivative_of a.start a.control1 a.control2 a.end a.raw.value)
+first : (c : goal.After-normalize-first) → c.normalize-first.result ≡ normalize_of (cubic_derivative_of c.args.start c.args.control1 c.args.control2 c.args.end c.args.raw.value)
 first c = c.normalize-first.ensures ∙ ap normalize_of c.cubic_derivative.ensures
 
 pub returns-then-is_nothing : goal.returns-then-is_nothing
 unfolding cubic_direction
 returns-then-is_nothing c =
-    let a = c.args in
-    let further = c.raw_parameter_in-further.ensures ∙ ap (raw_of a.entries.now a.total) c.ahead.ensures in
-    let there = c.cubic_sample-there.ensures ∙ ap (cubic_sample_of a.start a.control1 a.control2 a.end) further in
+    let further = c.raw_parameter_in-further.ensures ∙ ap (raw_of c.args.entries.now c.args.total) c.ahead.ensures in
+    let there = c.cubic_sample-there.ensures ∙ ap (cubic_sample_of c.args.start c.args.control1 c.args.control2 c.args.end) further in
     let apart = c.sub.ensures ∙ ap (λ (p : Point). sub_of p c.cubic_sample-here.result) there ∙ ap (sub_of _) c.cubic_sample-here.ensures in
     c.normalize.ensures ∙ ap normalize_of apart
     ∙ tried-second _ _ _ (c.is_nothing.ensures ∙ ap is_nothing (first c.before.before.before.before.before.before.before.before)) c.if-is_nothing.true

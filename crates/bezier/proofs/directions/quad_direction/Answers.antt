@@ -11,15 +11,14 @@ use Rattle.bezier.proofs.Queries.{tried-first, tried-second}
 use Rattle.bezier.proofs.directions.quad_direction.Goals as goal
 
 -- the first direction, by its definition
-first : (c : goal.After-normalize-first) → let a = c.args in c.normalize-first.result ≡ normalize_of (quad_derivative_of a.start a.control a.end a.raw.value)
+first : (c : goal.After-normalize-first) → c.normalize-first.result ≡ normalize_of (quad_derivative_of c.args.start c.args.control c.args.end c.args.raw.value)
 first c = c.normalize-first.ensures ∙ ap normalize_of c.quad_derivative.ensures
 
 pub returns-then-is_nothing : goal.returns-then-is_nothing
 unfolding quad_direction
 returns-then-is_nothing c =
-    let a = c.args in
-    let further = c.raw_parameter_in-further.ensures ∙ ap (raw_of a.entries.now a.total) c.ahead.ensures in
-    let there = c.quad_sample-there.ensures ∙ ap (quad_sample_of a.start a.control a.end) further in
+    let further = c.raw_parameter_in-further.ensures ∙ ap (raw_of c.args.entries.now c.args.total) c.ahead.ensures in
+    let there = c.quad_sample-there.ensures ∙ ap (quad_sample_of c.args.start c.args.control c.args.end) further in
     let apart = c.sub.ensures ∙ ap (λ (p : Point). sub_of p c.quad_sample-here.result) there ∙ ap (sub_of _) c.quad_sample-here.ensures in
     c.normalize.ensures ∙ ap normalize_of apart
     ∙ tried-second _ _ _ (c.is_nothing.ensures ∙ ap is_nothing (first c.before.before.before.before.before.before.before.before)) c.if-is_nothing.true

@@ -21,25 +21,18 @@ loop-k-init c = (passing-start refl, passing-start refl)
 
 pub loop-k-preserved : goal.loop-k-preserved
 loop-k-preserved c =
-    let t = c.loop-k-test.true in
-    let i = c.loop-k.invariant in
-    let here = c.sample_mark-here.ensures in
-    let next = c.sample_mark-next.ensures in (
-      row_more (quad_coordinate _ _ _) i.0 t _ _
-          (c.quad_coordinate.ensures ∙ ap (quad_coordinate _ _ _) next)
-          (c.quad_coordinate-in-loop-k.ensures ∙ ap (quad_coordinate _ _ _) here),
-      row_more (quad_coordinate _ _ _) i.1 t _ _
-          (c.quad_coordinate-in-loop-k-2.ensures ∙ ap (quad_coordinate _ _ _) next)
-          (c.quad_coordinate-in-loop-k-3.ensures ∙ ap (quad_coordinate _ _ _) here),
+    (
+      row_more (quad_coordinate _ _ _) c.loop-k.invariant.0 c.loop-k-test.true _ _
+          (c.quad_coordinate.ensures ∙ ap (quad_coordinate _ _ _) c.sample_mark-next.ensures)
+          (c.quad_coordinate-in-loop-k.ensures ∙ ap (quad_coordinate _ _ _) c.sample_mark-here.ensures),
+      row_more (quad_coordinate _ _ _) c.loop-k.invariant.1 c.loop-k-test.true _ _
+          (c.quad_coordinate-in-loop-k-2.ensures ∙ ap (quad_coordinate _ _ _) c.sample_mark-next.ensures)
+          (c.quad_coordinate-in-loop-k-3.ensures ∙ ap (quad_coordinate _ _ _) c.sample_mark-here.ensures),
     )
 
 pub returns : goal.returns
 unfolding sample_at quad_sample_of lerp_point_of
 returns c =
-    let left = c.loop-k-test.false in
-    let rows = c.loop-k in
-    let i = rows.invariant in
-    let e = c.lengths.ensures in
-    steps-are (quad_sample_of _ _ _) rows.x-1 rows.y-1 _ 31 (ap length e ∙ lengths-count 31 _ _)
-    (λ k h. i.0.done k (omega (arith, h, left))) (λ k h. i.1.done k (omega (arith, h, left)))
-    (λ k h. ap (λ (z : List Float). get_or z k nan) e ∙ lengths-at 31 _ _ k h)
+    steps-are (quad_sample_of _ _ _) c.loop-k.x c.loop-k.y _ 31 (ap length c.lengths.ensures ∙ lengths-count 31 _ _)
+    (λ k h. c.loop-k.invariant.0.done k (omega (arith, h, c.loop-k-test.false))) (λ k h. c.loop-k.invariant.1.done k (omega (arith, h, c.loop-k-test.false)))
+    (λ k h. ap (λ (z : List Float). get_or z k nan) c.lengths.ensures ∙ lengths-at 31 _ _ k h)

@@ -10,16 +10,17 @@ use Rattle.commands.specs.Listed.{command_of, listed}
 use Rattle.commands.specs.Checked.{judged, check_commands_of}
 use Rattle.commands.specs.declared.encoding.Decoded.TheVariants.{Command}
 use Rattle.commands.proofs.Listing.{listed_from, check-few, command-fits, from-bad, from-left-over, from_end, judged-next}
+use Rattle.commands.proofs.checking.check_commands.Tie as tie
 use Rattle.commands.proofs.checking.check_commands.Goals as goal
 
 -- ---- the points
-abbrev start : goal.At-loop-letter_at → goal.Start
+abbrev start : (tie.At-loop goal.the-invariant-loop-letter_at goal.the-decreases-loop-letter_at) → (tie.Start goal.the-invariant-loop-letter_at goal.the-decreases-loop-letter_at)
 start l = l.before.before.before.before
 
-abbrev loop : goal.After-decode → goal.At-loop-letter_at
+abbrev loop : (tie.After-decode goal.the-invariant-loop-letter_at goal.the-decreases-loop-letter_at) → (tie.At-loop goal.the-invariant-loop-letter_at goal.the-decreases-loop-letter_at)
 loop d = d.before.before.before
 
-abbrev decoded : goal.After-width-at → goal.After-decode
+abbrev decoded : goal.After-width-at → (tie.After-decode goal.the-invariant-loop-letter_at goal.the-decreases-loop-letter_at)
 decoded w = w.before.before.before.before
 
 -- the command that is read, and its numbers are there
@@ -61,25 +62,23 @@ loop-letter_at-preserved c =
     let d = decoded c in
     let a = (start (loop d)).args in
     let l = (loop d).loop in
-    let inside = d.loop-letter_at-test.taken in (
-      omega (arith, inside),
+    (
+      omega (arith, d.loop-letter_at-test.taken),
       omega (arith, fits c),
-      judged-next a.letters.now a.numbers.now l.letter_at l.at c.width-at.result _ inside c.width-at.ensures (command c) ∙ l.inv.2,
+      judged-next a.letters.now a.numbers.now l.letter_at l.at c.width-at.result _ d.loop-letter_at-test.taken c.width-at.ensures (command c) ∙ l.inv.2,
     )
 
 pub returns-then-at-numbers : goal.returns-then-at-numbers
 returns-then-at-numbers c =
     let a = (start c.before.before).args in
-    let l = c.loop-letter_at in
-    ap judged (sym (from-left-over a.letters.now a.numbers.now (length a.letters.now) l.at (omega arith) c.if-at-numbers.true))
-    ∙ ap (λ k. judged (listed_from a.letters.now a.numbers.now k l.at)) (let e : length a.letters.now ≡ l.letter_at = omega arith in e)
-    ∙ l.invariant.2
+    ap judged (sym (from-left-over a.letters.now a.numbers.now (length a.letters.now) c.loop-letter_at.at (omega arith) c.if-at-numbers.true))
+    ∙ ap (λ k. judged (listed_from a.letters.now a.numbers.now k c.loop-letter_at.at)) (let e : length a.letters.now ≡ c.loop-letter_at.letter_at = omega arith in e)
+    ∙ c.loop-letter_at.invariant.2
     ∙ sym (check-few a.letters.now a.numbers.now (omega arith))
 
 pub returns : goal.returns
 returns c =
     let a = (start c.before.before).args in
-    let l = c.loop-letter_at in
-    ap judged (sym (from_end a.letters.now a.numbers.now l.letter_at l.at (omega arith) (omega arith)))
-    ∙ l.invariant.2
+    ap judged (sym (from_end a.letters.now a.numbers.now c.loop-letter_at.letter_at c.loop-letter_at.at (omega arith) (omega arith)))
+    ∙ c.loop-letter_at.invariant.2
     ∙ sym (check-few a.letters.now a.numbers.now (omega arith))

@@ -2,10 +2,11 @@
 use borrow.Author.Rules.{rules}
 use mathlib.Core.Path.{sym, ◌∙◌}
 use Rattle.commands.proofs.Decoding.{arc-flagged, arc-large, arc-sweep}
+use Rattle.commands.proofs.encoding.arc_at.Tie as tie
 use Rattle.commands.proofs.encoding.arc_at.Goals as goal
 
 -- ---- the points
-abbrev start : goal.After-bits-sweep → goal.Start
+abbrev start : goal.After-bits-sweep → tie.Start
 start p = p.before.before.before.before.before
 
 abbrev first : goal.After-bits-sweep → goal.After-bits-large

@@ -10,16 +10,17 @@ use lib.ListN.{drop, length-drop}
 use Rattle.math.specs.declared.points.Point.{Point}
 use Rattle.commands.specs.Listed.{point_at}
 use Rattle.commands.proofs.Decoding.{point-first, point-later, is_move, is-line, is-quad, is-cubic, is-arc, is-close, short-move, short-line, short-quad, short-cubic, short-arc, unknown}
+use Rattle.commands.proofs.encoding.decode.Tie as tie
 use Rattle.commands.proofs.encoding.decode.Goals as goal
 
 -- the numbers of a letter's command: those from `at` on
-abbrev left : goal.Start → List Float
+abbrev left : tie.Start → List Float
 left s = drop s.args.at s.args.numbers.now
 
-abbrev first : (s : goal.Start) {p : Point} → p ≡ point_at s.args.numbers.now s.args.at → p ≡ point_at (left s) 0
+abbrev first : (s : tie.Start) {p : Point} → p ≡ point_at s.args.numbers.now s.args.at → p ≡ point_at (left s) 0
 first s e = point-first s.args.numbers.now s.args.at e
 
-abbrev later : (s : goal.Start) (i : ℕ) {p : Point} → p ≡ point_at s.args.numbers.now (s.args.at + i) → p ≡ point_at (left s) i
+abbrev later : (s : tie.Start) (i : ℕ) {p : Point} → p ≡ point_at s.args.numbers.now (s.args.at + i) → p ≡ point_at (left s) i
 later s i e = point-later s.args.numbers.now s.args.at i e
 
 pub returns-then-left-lt2 : goal.returns-then-left-lt2
@@ -61,4 +62,4 @@ pub returns-in-90 : goal.returns-in-90
 returns-in-90 c = is-close _ _ c.in-90.is
 
 pub returns-in_default : goal.returns-in_default
-returns-in_default c = let r = c.in_default.in_default-own.rest in unknown _ _ r.0.0.0.0.0.1 r.0.0.0.0.1 r.0.0.0.1 r.0.0.1 r.0.1 r.1
+returns-in_default c = unknown _ _ c.in_default.in_default-own.rest.0.0.0.0.0.1 c.in_default.in_default-own.rest.0.0.0.0.1 c.in_default.in_default-own.rest.0.0.0.1 c.in_default.in_default-own.rest.0.0.1 c.in_default.in_default-own.rest.0.1 c.in_default.in_default-own.rest.1

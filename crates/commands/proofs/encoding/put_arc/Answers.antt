@@ -3,16 +3,17 @@ use borrow.Author.Rules.{rules}
 use lib.ListN.{length-set}
 use mathlib.Core.Path.{◌∙◌}
 use Rattle.commands.proofs.Storing.{arc-put}
+use Rattle.commands.proofs.encoding.put_arc.Tie as tie
 use Rattle.commands.proofs.encoding.put_arc.Goals as goal
 
 -- ---- the points
-abbrev start : goal.After-put_two → goal.Start
+abbrev start : tie.After-put_two → tie.Start
 start p = p.before.before.before
 
-abbrev first : goal.After-put_two-2 → goal.After-put_two
+abbrev first : tie.After-put_two2 → tie.After-put_two
 first p = p.before.before.before.before.before
 
-abbrev second : goal.After-put_two-3 → goal.After-put_two-2
+abbrev second : tie.After-put_two3 → tie.After-put_two2
 second p = p.before.before.before.before.before
 
 -- ---- the answers

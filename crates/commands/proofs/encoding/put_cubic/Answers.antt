@@ -5,6 +5,5 @@ use Rattle.commands.proofs.encoding.put_cubic.Goals as goal
 
 pub returns : goal.returns
 returns c =
-    let a = c.args in
-    six-put a.numbers-1.now a.at a.control1.x a.control1.y a.control2.x a.control2.y a.end.x a.end.y
+    six-put c.args.numbers.now c.args.at c.args.control1.x c.args.control1.y c.args.control2.x c.args.control2.y c.args.end.x c.args.end.y
     c.put_two.ensures c.put_two-2.ensures c.put_two-3.ensures

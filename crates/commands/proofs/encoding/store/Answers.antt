@@ -6,8 +6,7 @@ use Rattle.commands.proofs.encoding.store.Goals as goal
 
 pub returns : goal.returns
 returns c =
-    let a = c.args in
     record {
-      letter = ap (set a.letters.now a.letter_at) c.letter.ensures;
+      letter = ap (set c.args.letters.now c.args.letter_at) c.letter.ensures;
       arguments = c.store_arguments.ensures;
     }

@@ -13,18 +13,19 @@ use Rattle.decimal.specs.Bits.{Nearest}
 use Rattle.decimal.proofs.Capped.{Apart, under, past, near, capped-self}
 use Rattle.decimal.proofs.Scaled.{none-nearest, sized, placed, too-low, too-high, product-bits, product-between}
 use borrow.Author.Rules.{rules}
+use Rattle.decimal.proofs.magnitudes.magnitude.Tie as tie
 use Rattle.decimal.proofs.magnitudes.magnitude.Goals as goal
 
-low-dropped : (c : goal.Start) → c.args.dropped + 64 < 2 ^ 63 + 64
+low-dropped : (c : tie.Start) → c.args.dropped + 64 < 2 ^ 63 + 64
 low-dropped c = omega (arith, c.requires.few-dropped)
 
-low-places : (c : goal.Start) → c.args.places < 2 ^ 63
+low-places : (c : tie.Start) → c.args.places < 2 ^ 63
 low-places c = omega (arith, c.requires.few)
 
 -- the place among the powers of ten, for any exponents that are capped so
-module _ (c : goal.After-nearest) (up down : ℕ) (e : c.args.rise ≡ capped up) (f : c.args.fall ≡ capped down)
+module _ (c : tie.After-nearest) (up down : ℕ) (e : c.args.rise ≡ capped up) (f : c.args.fall ≡ capped down)
     (one : (up ≡ 0) ⊎ (down ≡ 0)) where
-  abbrev start : goal.Start
+  abbrev start : tie.Start
   start = c.before.before.before.before.before.before.before
 
   abbrev place : ℕ
@@ -44,33 +45,30 @@ module _ (c : goal.After-nearest) (up down : ℕ) (e : c.args.rise ≡ capped up
 
 pub returns-then-w-eq0 : goal.returns-then-w-eq0
 returns-then-w-eq0 c =
-    let a = c.args in
     record {
-      bits = λ up down e f one. none-nearest _ a.dropped up (a.places + down) (subst (λ (w : ℕ). Leads (digits_among a.part.now) w a.dropped) c.if-w-eq0.true c.requires.leads);
+      bits = λ up down e f one. none-nearest _ c.args.dropped up (c.args.places + down) (subst (λ (w : ℕ). Leads (digits_among c.args.part.now) w c.args.dropped) c.if-w-eq0.true c.requires.leads);
     }
 
 pub returns-then-up-down : goal.returns-then-up-down
 returns-then-up-down c =
-    let a = c.args in
     record {
       bits = λ up down e f one.
           let x = c.sum-up.ensures up e in
           let y = c.sum-down.ensures down f in
-          too-low a.w (a.dropped + 64 + up) _ (a.places + down) (sized _ _ _ up c.requires.leads) c.ranges.w.fits
-          (under (a.dropped + 64) up a.places down (low-dropped c.before.before.before.before.before) (low-places c.before.before.before.before.before) one (subst (λ (i : ℕ). i < capped (a.places + down)) x (subst (λ (i : ℕ). c.sum-up.result < i) y c.if-up-down.true)));
+          too-low c.args.w (c.args.dropped + 64 + up) _ (c.args.places + down) (sized _ _ _ up c.requires.leads) c.ranges.w.fits
+          (under (c.args.dropped + 64) up c.args.places down (low-dropped c.before.before.before.before.before) (low-places c.before.before.before.before.before) one (subst (λ (i : ℕ). i < capped (c.args.places + down)) x (subst (λ (i : ℕ). c.sum-up.result < i) y c.if-up-down.true)));
     }
 
 pub returns-then-up-down-gt102 : goal.returns-then-up-down-gt102
 returns-then-up-down-gt102 c =
-    let a = c.args in
     record {
       bits = λ up down e f one.
           let x = c.sum-up.ensures up e in
           let y = c.sum-down.ensures down f in
-          too-high a.w (a.dropped + 64 + up) _ (a.places + down) (sized _ _ _ up c.requires.leads) (omega (arith, c.if-w-eq0.false))
-          (past (a.dropped + 64) up a.places down (low-dropped c.before.before.before.before.before.before) (low-places c.before.before.before.before.before.before) one
-          (subst (λ (i : ℕ). capped (a.places + down) ≤ i) x (subst (λ (i : ℕ). i ≤ c.sum-up.result) y c.if-up-down.false))
-          (subst (λ (i : ℕ). 102 < i - capped (a.places + down)) x (subst (λ (i : ℕ). 102 < c.sum-up.result - i) y c.if-up-down-gt102.true)));
+          too-high c.args.w (c.args.dropped + 64 + up) _ (c.args.places + down) (sized _ _ _ up c.requires.leads) (omega (arith, c.if-w-eq0.false))
+          (past (c.args.dropped + 64) up c.args.places down (low-dropped c.before.before.before.before.before.before) (low-places c.before.before.before.before.before.before) one
+          (subst (λ (i : ℕ). capped (c.args.places + down) ≤ i) x (subst (λ (i : ℕ). i ≤ c.sum-up.result) y c.if-up-down.false))
+          (subst (λ (i : ℕ). 102 < i - capped (c.args.places + down)) x (subst (λ (i : ℕ). 102 < c.sum-up.result - i) y c.if-up-down-gt102.true)));
     }
 
 pub nearest-requires : goal.nearest-requires
@@ -78,12 +76,11 @@ nearest-requires c = (omega (arith, c.if-w-eq0.false), omega (arith, c.if-up-dow
 
 pub between-requires : goal.between-requires
 between-requires c =
-    let pre = c.requires in
-    let rise = capped-self _ pre.rise-le in
-    let fall = capped-self _ pre.fall-le in
-    let cell = product-between c.nearest.ensures _ _ (ten-pos _) (leading c.before.before.before _ _ rise fall pre.one_way) c.in-Between.is in
-    let at = (apart c.before.before.before _ _ rise fall pre.one_way).at-or-past in
-    (cell.few, cell.low, ⊎_elim (λ h. omega (arith, pre.few)) (λ h. omega (arith, pre.few, at, c.if-up-down-gt102.false)) pre.one_way)
+    let rise = capped-self _ c.requires.rise-le in
+    let fall = capped-self _ c.requires.fall-le in
+    let cell = product-between c.nearest.ensures _ _ (ten-pos _) (leading c.before.before.before _ _ rise fall c.requires.one_way) c.in-Between.is in
+    let at = (apart c.before.before.before _ _ rise fall c.requires.one_way).at-or-past in
+    (cell.few, cell.low, ⊎_elim (λ h. omega (arith, c.requires.few)) (λ h. omega (arith, c.requires.few, at, c.if-up-down-gt102.false)) c.requires.one_way)
 
 pub returns-in-Bits : goal.returns-in-Bits
 returns-in-Bits c =
@@ -91,18 +88,15 @@ returns-in-Bits c =
 
 pub returns-in-Between : goal.returns-in-Between
 returns-in-Between c =
-    let a = c.args in
-    let ds = digits_among a.part.now in
-    let m = c.in-Between.m in
-    let k = c.in-Between.k in
+    let ds = digits_among c.args.part.now in
     record {
       bits = λ up down e f one.
           let at = apart c.before.before.before.before up down e f one in
           let rises = e ∙ at.up-exact in
           let falls = f ∙ at.down-exact in
           let cell = product-between c.nearest.ensures _ _ (ten-pos _) (leading c.before.before.before.before up down e f one) c.in-Between.is in
-          subst (λ (u : ℕ). Nearest (val ds * 10 ^ u) (10 ^ (a.places + down)) c.between.result) rises
-          (subst (λ (d : ℕ). Nearest (val ds * 10 ^ a.rise) (10 ^ (a.places + d)) c.between.result) falls
-          (c.between.ensures.bits a.places c.requires.in_all
-          (subst (λ (u : ℕ). Cell m k (val ds * 10 ^ u) (10 ^ (a.places + a.fall))) (sym rises) (subst (λ (d : ℕ). Cell m k (val ds * 10 ^ up) (10 ^ (a.places + d))) (sym falls) cell))));
+          subst (λ (u : ℕ). Nearest (val ds * 10 ^ u) (10 ^ (c.args.places + down)) c.between.result) rises
+          (subst (λ (d : ℕ). Nearest (val ds * 10 ^ c.args.rise) (10 ^ (c.args.places + d)) c.between.result) falls
+          (c.between.ensures.bits c.args.places c.requires.in_all
+          (subst (λ (u : ℕ). Cell c.in-Between.m c.in-Between.k (val ds * 10 ^ u) (10 ^ (c.args.places + c.args.fall))) (sym rises) (subst (λ (d : ℕ). Cell c.in-Between.m c.in-Between.k (val ds * 10 ^ up) (10 ^ (c.args.places + d))) (sym falls) cell))));
     }

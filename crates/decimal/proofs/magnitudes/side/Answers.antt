@@ -11,13 +11,11 @@ weigh-requires c = (omega arith, c.requires.1, inr refl)
 
 pub returns-then-fall-whole : goal.returns-then-fall-whole
 returns-then-fall-whole c =
-    let a = c.args in
-    record { order = λ places e. c.weigh.ensures ∙ weighed-is _ a.count places a.rise a.fall _ _ _ e (omega (arith, c.if-fall-whole.true)) }
+    record { order = λ places e. c.weigh.ensures ∙ weighed-is _ c.args.count places c.args.rise c.args.fall _ _ _ e (omega (arith, c.if-fall-whole.true)) }
 
 pub weigh-requires-2 : goal.weigh-requires-2
 weigh-requires-2 c = (omega arith, c.requires.1, inl refl)
 
 pub returns : goal.returns
 returns c =
-    let a = c.args in
-    record { order = λ places e. c.weigh-2.ensures ∙ weighed-is _ a.count places a.rise a.fall _ _ _ e (omega (arith, c.if-fall-whole.false)) }
+    record { order = λ places e. c.weigh-2.ensures ∙ weighed-is _ c.args.count places c.args.rise c.args.fall _ _ _ e (omega (arith, c.if-fall-whole.false)) }

@@ -28,18 +28,16 @@ gather_many-all-requires c =
 
 pub returns-then-whole-point : goal.returns-then-whole-point
 returns-then-whole-point c =
-    let all = c.gather_many-all.ensures in
-    record { said = number-no-digit _ c.past_sign-whole.ensures c.gather-first.ensures c.past_point-fraction.ensures all c.if-whole-point.true }
+    record { said = number-no-digit _ c.past_sign-whole.ensures c.gather-first.ensures c.past_point-fraction.ensures c.gather_many-all.ensures c.if-whole-point.true }
 
 pub returns-then-not-is_exponent_mark : goal.returns-then-not-is_exponent_mark
 returns-then-not-is_exponent_mark c =
-    let all = c.gather_many-all.ensures in
     let no-mark = ap (λ (x : ℕ). among x exponent_marks) (sym c.byte_at.ensures) ∙ sym c.is_exponent_mark.ensures ∙ not-true _ c.if-not-is_exponent_mark.true in
-    let end = plain_at _ all.passed no-mark in
+    let end = plain_at _ c.gather_many-all.ensures.passed no-mark in
     record {
       said = (
-        scanned _ c.past_sign-whole.ensures c.gather-first.ensures c.past_point-fraction.ensures all c.if-whole-point.false end.x-is end.e-is end.fine,
-        held_plain _ c.past_sign-whole.ensures c.gather-first.ensures c.past_point-fraction.ensures all c.if-whole-point.false end,
+        scanned _ c.past_sign-whole.ensures c.gather-first.ensures c.past_point-fraction.ensures c.gather_many-all.ensures c.if-whole-point.false end.x-is end.e-is end.fine,
+        held_plain _ c.past_sign-whole.ensures c.gather-first.ensures c.past_point-fraction.ensures c.gather_many-all.ensures c.if-whole-point.false end,
       );
     }
 
@@ -48,33 +46,30 @@ overflow_add-mark c = omega (arith, mark-lt c)
 
 pub returns-then-digits-end : goal.returns-then-digits-end
 returns-then-digits-end c =
-    let all = c.gather_many-all.ensures in
     let end = marked-at (is-mark c.before.before.before) c.past_sign-digits.ensures c.exponent-power.ensures in
-    record { said = number-no-exponent _ c.past_sign-whole.ensures c.gather-first.ensures c.past_point-fraction.ensures all c.if-whole-point.false end.x-is end.e-is (end.none c.if-digits-end.true) }
+    record { said = number-no-exponent _ c.past_sign-whole.ensures c.gather-first.ensures c.past_point-fraction.ensures c.gather_many-all.ensures c.if-whole-point.false end.x-is end.e-is (end.none c.if-digits-end.true) }
 
 pub overflow_add-mark-2 : goal.overflow_add-mark-2
 overflow_add-mark-2 c = omega (arith, mark-lt c.before.before.before)
 
 pub returns-then-byte_at-eq45 : goal.returns-then-byte_at-eq45
 returns-then-byte_at-eq45 c =
-    let all = c.gather_many-all.ensures in
     let end = marked-at (is-mark c.before.before.before.before.before) c.past_sign-digits.ensures c.exponent-power.ensures in
     let is-minus = ap (λ (x : ℕ). eqb x minus) (sym c.byte_at-2.ensures) ∙ eq-eqb _ _ c.if-byte_at-eq45.true in
     record {
       said = (
-        scanned _ c.past_sign-whole.ensures c.gather-first.ensures c.past_point-fraction.ensures all c.if-whole-point.false end.x-is end.e-is (end.fine c.if-digits-end.false),
-        held-falling _ c.past_sign-whole.ensures c.gather-first.ensures c.past_point-fraction.ensures all c.if-whole-point.false end c.if-digits-end.false is-minus,
+        scanned _ c.past_sign-whole.ensures c.gather-first.ensures c.past_point-fraction.ensures c.gather_many-all.ensures c.if-whole-point.false end.x-is end.e-is (end.fine c.if-digits-end.false),
+        held-falling _ c.past_sign-whole.ensures c.gather-first.ensures c.past_point-fraction.ensures c.gather_many-all.ensures c.if-whole-point.false end c.if-digits-end.false is-minus,
       );
     }
 
 pub returns : goal.returns
 returns c =
-    let all = c.gather_many-all.ensures in
     let end = marked-at (is-mark c.before.before.before.before.before) c.past_sign-digits.ensures c.exponent-power.ensures in
     let no_minus = ap (λ (x : ℕ). eqb x minus) (sym c.byte_at-2.ensures) ∙ ne_eqb _ _ c.if-byte_at-eq45.false in
     record {
       said = (
-        scanned _ c.past_sign-whole.ensures c.gather-first.ensures c.past_point-fraction.ensures all c.if-whole-point.false end.x-is end.e-is (end.fine c.if-digits-end.false),
-        held-rising _ c.past_sign-whole.ensures c.gather-first.ensures c.past_point-fraction.ensures all c.if-whole-point.false end c.if-digits-end.false no_minus,
+        scanned _ c.past_sign-whole.ensures c.gather-first.ensures c.past_point-fraction.ensures c.gather_many-all.ensures c.if-whole-point.false end.x-is end.e-is (end.fine c.if-digits-end.false),
+        held-rising _ c.past_sign-whole.ensures c.gather-first.ensures c.past_point-fraction.ensures c.gather_many-all.ensures c.if-whole-point.false end c.if-digits-end.false no_minus,
       );
     }

@@ -15,6 +15,7 @@ use Rattle.decimal.specs.Decimal.{minus, numerator, denominator, places_of}
 use Rattle.decimal.specs.Bits.{Nearest}
 use Rattle.decimal.proofs.Ranged.{quotient-tells, quotient-bits}
 use Rattle.decimal.proofs.Valued.{all-four, plain-negative, one_way, gathered, short-is, value-signed}
+use Rattle.decimal.proofs.numbers.value.Tie as tie
 use Rattle.decimal.proofs.numbers.value.Goals as goal
 
 pub pattern-b-requires : goal.pattern-b-requires
@@ -50,10 +51,10 @@ pub magnitude-bits-requires : goal.magnitude-bits-requires
 magnitude-bits-requires c = gathered _ _ _ _ _ _ c.requires (omega (arith, c.well_formed))
 
 -- the bits are those of the number's size
-nearest : (c : goal.After-magnitude-bits)
+nearest : (c : tie.After-magnitude)
     → Nearest (numerator c.args.text.now c.args.parts.places)
     (denominator c.args.text.now c.args.parts.places) c.magnitude-bits.result
-nearest c = let held = c.requires in c.magnitude-bits.ensures.bits _ _ held.rises held.drops (one_way _ _)
+nearest c = c.magnitude-bits.ensures.bits _ _ c.requires.rises c.requires.drops (one_way _ _)
 
 pub overflow_add-result : goal.overflow_add-result
 overflow_add-result c = let m = nearest c.before in record { fits = omega (arith, m.finite_or_infinite) }

@@ -25,19 +25,14 @@ returns-then-whole-point c h = absurd (omega (arith, h))
 -- ---- no point
 pub returns-then-byte-ne46 : goal.returns-then-byte-ne46
 returns-then-byte-ne46 c h =
-    let text = c.args.text.now in
-    let whole = c.lead-led.result.at in
-    let taken = c.whole_digits-first.result in
-    let fills = c.whole_digits-first.ensures in
-    let byte = c.byte_at-byte.ensures in
     let settled = c.settle.ensures h in
-    let ended = fills.ended (omega (arith, settled.few)) in
-    let plain = neither (eqb whole taken.at) _ c.if-whole-point.false in
-    let no-mark = ap (λ (b : ℕ). among b exponent_marks) (sym byte) ∙ sym c.is_exponent_mark.ensures ∙ plain.1 in
+    let ended = c.whole_digits-first.ensures.ended (omega (arith, settled.few)) in
+    let plain = neither (eqb c.lead-led.result.at c.whole_digits-first.result.at) _ c.if-whole-point.false in
+    let no-mark = ap (λ (b : ℕ). among b exponent_marks) (sym c.byte_at-byte.ensures) ∙ sym c.is_exponent_mark.ensures ∙ plain.1 in
     quick-read _ _ settled
-    (quick-number c.args.at c.lead-led.ensures.0 (fills-all text whole 0 taken fills settled.few)
-    (one_none points text taken.at (alone-isnt _ 46 (λ e. c.if-byte-ne46.true (byte ∙ e))))
-    (gathers-none text taken.at taken.w 0 ended (omega arith)) (no_both (eqb whole taken.at) (eqb taken.at taken.at) plain.0) (plain_at taken.at (sym ended) no-mark) settled.few)
+    (quick-number c.args.at c.lead-led.ensures.0 (fills-all c.args.text.now c.lead-led.result.at 0 c.whole_digits-first.result c.whole_digits-first.ensures settled.few)
+    (one_none points c.args.text.now c.whole_digits-first.result.at (alone-isnt _ 46 (λ e. c.if-byte-ne46.true (c.byte_at-byte.ensures ∙ e))))
+    (gathers-none c.args.text.now c.whole_digits-first.result.at c.whole_digits-first.result.w 0 ended (omega arith)) (no_both (eqb c.lead-led.result.at c.whole_digits-first.result.at) (eqb c.whole_digits-first.result.at c.whole_digits-first.result.at) plain.0) (plain_at c.whole_digits-first.result.at (sym ended) no-mark) settled.few)
     (ap (λ (b : ℕ). eqb b minus) (sym c.byte_at-negative.ensures)) (omega arith)
 
 -- ---- a point
@@ -58,16 +53,11 @@ returns-then-is_exponent_mark c h = absurd (omega (arith, h))
 
 pub returns : goal.returns
 returns c h =
-    let text = c.args.text.now in
-    let whole = c.lead-led.result.at in
-    let taken = c.whole_digits-first.result in
-    let all = c.fraction_digits-all.result in
-    let fills = c.fraction_digits-all.ensures in
     let settled = c.settle-2.ensures h in
-    let before-few : taken.w < 2 ^ 53 = omega (arith, fills.takes.grows, settled.few) in
-    let after = fills-all text (taken.at + 1) taken.w all fills settled.few in
+    let before-few : c.whole_digits-first.result.w < 2 ^ 53 = omega (arith, c.fraction_digits-all.ensures.takes.grows, settled.few) in
+    let after = fills-all c.args.text.now (c.whole_digits-first.result.at + 1) c.whole_digits-first.result.w c.fraction_digits-all.result c.fraction_digits-all.ensures settled.few in
     let no-mark = ap (λ (b : ℕ). among b exponent_marks) (sym c.byte_at.ensures) ∙ sym c.is_exponent_mark-2.ensures ∙ c.if-is_exponent_mark.false in
     quick-read _ _ settled
-    (quick-number c.args.at c.lead-led.ensures.0 (fills-all text whole 0 taken c.whole_digits-first.ensures before-few)
-    (one_byte points text taken.at no_zero (alone-is _ 46 (is-point c.before.before.before.before.before.before.before))) after c.if-whole-point-2.false (plain_at (taken.at + 1) after.passed no-mark) settled.few)
+    (quick-number c.args.at c.lead-led.ensures.0 (fills-all c.args.text.now c.lead-led.result.at 0 c.whole_digits-first.result c.whole_digits-first.ensures before-few)
+    (one_byte points c.args.text.now c.whole_digits-first.result.at no_zero (alone-is _ 46 (is-point c.before.before.before.before.before.before.before))) after c.if-whole-point-2.false (plain_at (c.whole_digits-first.result.at + 1) after.passed no-mark) settled.few)
     (ap (λ (b : ℕ). eqb b minus) (sym c.byte_at-negative.ensures)) refl

@@ -23,16 +23,13 @@ longer-size-requires c = subst (λ (d : ℕ). d < 10) (sym c.digit.ensures) (dig
 
 pub loop-at-preserved : goal.loop-at-preserved
 loop-at-preserved c =
-    let text = c.args.text.now in
-    let from = c.args.from in
-    let at = c.loop-at.at in
-    let inside : at < length text = c.loop-at-test.true in
+    let inside : c.loop-at.at < length c.args.text.now = c.loop-at-test.true in
     let is_one = sym c.is_digit.ensures ∙ not-false _ c.if-not-is_digit.false in (
       omega arith,
-      all_pass digits text at inside is_one ∙ c.loop-at.invariant.1,
-      c.longer-size.ensures (val (digits_in text from at)) c.loop-at.invariant.2
-          ∙ ap (λ (d : ℕ). capped (val (digits_in text from at) * 10 + d)) c.digit.ensures
-          ∙ ap capped (size-digit text from at c.loop-at.invariant.0 inside is_one),
+      all_pass digits c.args.text.now c.loop-at.at inside is_one ∙ c.loop-at.invariant.1,
+      c.longer-size.ensures (val (digits_in c.args.text.now c.args.from c.loop-at.at)) c.loop-at.invariant.2
+          ∙ ap (λ (d : ℕ). capped (val (digits_in c.args.text.now c.args.from c.loop-at.at) * 10 + d)) c.digit.ensures
+          ∙ ap capped (size-digit c.args.text.now c.args.from c.loop-at.at c.loop-at.invariant.0 inside is_one),
     )
 
 pub returns-after-loop-at : goal.returns-after-loop-at

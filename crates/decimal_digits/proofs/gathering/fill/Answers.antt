@@ -24,13 +24,10 @@ loop-at-smaller c = omega arith
 
 pub loop-at-preserved : goal.loop-at-preserved
 loop-at-preserved c =
-    let text = c.args.text.now in
-    let at = c.loop-at.at in
-    let held = c.loop-at.held in
     let is_one = sym c.is_digit.ensures ∙ not-false _ c.if-not-is_digit.false in
-    takes-on text _ _ at held _ _ c.loop-at.invariant
-    (subst (λ (d : ℕ). Takes text at held (at + 1) (held * 10 + d)) (sym c.digit.ensures)
-    (takes-digit text at held c.loop-at-test.true is_one c.if-held-ge1000000000000000000.false))
+    takes-on c.args.text.now _ _ c.loop-at.at c.loop-at.held _ _ c.loop-at.invariant
+    (subst (λ (d : ℕ). Takes c.args.text.now c.loop-at.at c.loop-at.held (c.loop-at.at + 1) (c.loop-at.held * 10 + d)) (sym c.digit.ensures)
+    (takes-digit c.args.text.now c.loop-at.at c.loop-at.held c.loop-at-test.true is_one c.if-held-ge1000000000000000000.false))
 
 pub returns-after-loop-at : goal.returns-after-loop-at
 returns-after-loop-at c = record { takes = c.loop-at.invariant; ended = λ few. all_end digits _ _ c.loop-at-test.false }

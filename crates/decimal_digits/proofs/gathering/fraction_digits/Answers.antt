@@ -22,8 +22,7 @@ power-requires c = few c
 bounds : (c : goal.After-power)
     → Bounds c.args.w c.run_at-run.result.count c.power.result c.run_at-run.result.value
 bounds c =
-    let run = c.run_at-run in
-    run-bounds c.args.text.now c.args.from _ _ _ _ run.ensures.count run.ensures.value c.power.ensures
+    run-bounds c.args.text.now c.args.from _ _ _ _ c.run_at-run.ensures.count c.run_at-run.ensures.value c.power.ensures
 
 pub overflow_mul-held : goal.overflow_mul-held
 overflow_mul-held c = record { fits = let b = bounds c in omega (arith, b.product, c.if-w-lt100000000000.true) }
@@ -38,12 +37,8 @@ taken : (c : goal.After-power)
     (c.args.from + c.run_at-run.result.count)
     (c.args.w * c.power.result + c.run_at-run.result.value)
 taken c =
-    let run = c.run_at-run in
-    let text = c.args.text.now in
-    let from = c.args.from in
-    let w = c.args.w in
-    subst (λ (p : ℕ). Takes text from w (from + run.result.count) (w * p + run.result.value)) (sym c.power.ensures)
-    (takes_run text from (inside c.before) run.result.count run.ensures.count w run.result.value c.if-w-lt100000000000.true run.ensures.value)
+    subst (λ (p : ℕ). Takes c.args.text.now c.args.from c.args.w (c.args.from + c.run_at-run.result.count) (c.args.w * p + c.run_at-run.result.value)) (sym c.power.ensures)
+    (takes_run c.args.text.now c.args.from (inside c.before) c.run_at-run.result.count c.run_at-run.ensures.count c.args.w c.run_at-run.result.value c.if-w-lt100000000000.true c.run_at-run.ensures.value)
 
 pub returns-then-count-lt8 : goal.returns-then-count-lt8
 returns-then-count-lt8 c =

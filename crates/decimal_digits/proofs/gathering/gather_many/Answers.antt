@@ -18,14 +18,10 @@ taken : (c : goal.After-power)
     (c.loop-held.at + c.run_at-run.result.count)
     (c.loop-held.held * c.power.result + c.run_at-run.result.value)
 taken c =
-    let text = c.args.text.now in
-    let at = c.loop-held.at in
-    let held = c.loop-held.held in
-    let run = c.run_at-run in
     let inside = c.has.ensures (not-false _ c.if-not-has.false) in
-    takes-on text _ _ at held _ _ c.loop-held.invariant
-    (subst (λ (p : ℕ). Takes text at held (at + run.result.count) (held * p + run.result.value)) (sym c.power.ensures)
-    (takes_run text at inside run.result.count run.ensures.count held run.result.value c.loop-held-test.true run.ensures.value))
+    takes-on c.args.text.now _ _ c.loop-held.at c.loop-held.held _ _ c.loop-held.invariant
+    (subst (λ (p : ℕ). Takes c.args.text.now c.loop-held.at c.loop-held.held (c.loop-held.at + c.run_at-run.result.count) (c.loop-held.held * p + c.run_at-run.result.value)) (sym c.power.ensures)
+    (takes_run c.args.text.now c.loop-held.at inside c.run_at-run.result.count c.run_at-run.ensures.count c.loop-held.held c.run_at-run.result.value c.loop-held-test.true c.run_at-run.ensures.value))
 
 pub loop-held-init : goal.loop-held-init
 loop-held-init c = takes_none _ _ _
@@ -47,12 +43,9 @@ overflow_add-at c = let b = bounds c.before in omega (arith, b.few, c.has.ensure
 
 pub returns-then-count-lt8 : goal.returns-then-count-lt8
 returns-then-count-lt8 c =
-    let n = c.run_at-run.result.count in
-    let at = c.loop-held.at in
-    let text = c.args.text.now in
     let inside = c.has.ensures (not-false _ c.if-not-has.false) in
     let t = taken c.before.before in
-    gathers-on text _ _ _ _ _ _ t (gathers-none text _ _ _ (run-ended text at inside n c.run_at-run.ensures.count c.if-count-lt8.true) (le_trans c.requires t.onward))
+    gathers-on c.args.text.now _ _ _ _ _ _ t (gathers-none c.args.text.now _ _ _ (run-ended c.args.text.now c.loop-held.at inside c.run_at-run.result.count c.run_at-run.ensures.count c.if-count-lt8.true) (le_trans c.requires t.onward))
 
 pub loop-held-smaller : goal.loop-held-smaller
 loop-held-smaller c = omega (arith, c.if-count-lt8.false, c.has.ensures (not-false _ c.if-not-has.false))

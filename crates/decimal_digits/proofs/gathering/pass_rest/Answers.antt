@@ -17,8 +17,5 @@ overflow_add-result c = record { fits = omega (arith, c.requires.0, c.past_many_
 
 pub returns : goal.returns
 returns c =
-    let at = c.args.taken.at in
-    let w = c.args.taken.w in
-    let dropped = c.args.dropped in
-    subst (λ (end : ℕ). Gathers c.args.text.now at w dropped (record { at = end; w = w; dropped = dropped + (end - at) })) (sym c.past_many_digits-end.ensures)
-    (gathers-rest c.args.text.now at w dropped c.if-w-lt1000000000000000000.false c.requires.0)
+    subst (λ (end : ℕ). Gathers c.args.text.now c.args.taken.at c.args.taken.w c.args.dropped (record { c.args.taken.at = end; c.args.taken.w = c.args.taken.w; c.args.dropped = c.args.dropped + (end - c.args.taken.at) })) (sym c.past_many_digits-end.ensures)
+    (gathers-rest c.args.text.now c.args.taken.at c.args.taken.w c.args.dropped c.if-w-lt1000000000000000000.false c.requires.0)

@@ -26,14 +26,12 @@ loop-at-smaller c = omega (arith, c.has.ensures c.loop-at-test.true)
 
 pub loop-at-preserved : goal.loop-at-preserved
 loop-at-preserved c =
-    let text = c.args.text.now in
-    let at = c.loop-at.at in
     let inside = c.has.ensures c.loop-at-test.true in
     let t = both c.all_digits.result c.all_digits-in-loop-at.result c.if-all_digits.true in
-    let on : at + 16 ≡ at + 8 + 8 = omega arith in
-    ap (past_digits_of text) on
-    ∙ run-same text (at + 8) (omega (arith, inside)) 8 (sym (c.all_digits-in-loop-at.ensures t.1))
-    ∙ run-same text at (omega (arith, inside)) 8 (sym (c.all_digits.ensures t.0))
+    let on : c.loop-at.at + 16 ≡ c.loop-at.at + 8 + 8 = omega arith in
+    ap (past_digits_of c.args.text.now) on
+    ∙ run-same c.args.text.now (c.loop-at.at + 8) (omega (arith, inside)) 8 (sym (c.all_digits-in-loop-at.ensures t.1))
+    ∙ run-same c.args.text.now c.loop-at.at (omega (arith, inside)) 8 (sym (c.all_digits.ensures t.0))
     ∙ c.loop-at.invariant
 
 pub returns : goal.returns

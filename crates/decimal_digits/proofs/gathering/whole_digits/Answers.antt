@@ -26,11 +26,9 @@ digit-requires c = digit-range _ (sym c.is_digit.ensures ∙ c.if-is_digit.true)
 
 pub returns-then-is_digit : goal.returns-then-is_digit
 returns-then-is_digit c =
-    let text = c.args.text.now in
-    let from = c.args.from in
-    let value : 0 * 10 + (get_or text from 0 - 48) ≡ c.digit.result = zero-add _ ∙ ap (λ (b : ℕ). b - 48) (sym c.requires) ∙ sym c.digit.ensures in
-    let first = subst (λ (w : ℕ). Takes text from 0 (from + 1) w) value (takes-digit text from 0 (inside c.before.before) (is_one c.before.before) (lit< tt)) in
-    record { takes = takes-on text _ _ _ _ _ _ first c.fill.ensures.takes; ended = c.fill.ensures.ended }
+    let value : 0 * 10 + (get_or c.args.text.now c.args.from 0 - 48) ≡ c.digit.result = zero-add _ ∙ ap (λ (b : ℕ). b - 48) (sym c.requires) ∙ sym c.digit.ensures in
+    let first = subst (λ (w : ℕ). Takes c.args.text.now c.args.from 0 (c.args.from + 1) w) value (takes-digit c.args.text.now c.args.from 0 (inside c.before.before) (is_one c.before.before) (lit< tt)) in
+    record { takes = takes-on c.args.text.now _ _ _ _ _ _ first c.fill.ensures.takes; ended = c.fill.ensures.ended }
 
 pub returns : goal.returns
 returns c =

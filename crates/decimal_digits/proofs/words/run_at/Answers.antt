@@ -4,6 +4,7 @@ use lib.Bits.{bit_xor}
 use lib.Count.{count_trailing_zeros, trailing_le}
 use Rattle.decimal_digits.specs.Words.{laid, eight_of, begun, each, Below}
 use Rattle.decimal_digits.proofs.Lanes.{eight-below, none_other, some-other, whole-value, part-value}
+use Rattle.decimal_digits.proofs.words.run_at.Tie as tie
 use Rattle.decimal_digits.proofs.words.run_at.Goals as goal
 
 bytes : (c : goal.After-shared_slice_known-1) → Below 256 (eight_of c.args.text.now c.args.at)
@@ -12,16 +13,15 @@ bytes c = eight-below c.args.text.now c.args.at (λ i. omega (arith, c.shared_sl
 lanes-are : (c : goal.After-values-x) → c.values-x.result ≡ bit_xor (laid 8 (eight_of c.args.text.now c.args.at)) (each 48 8)
 lanes-are c = c.values-x.ensures ∙ ap (λ (z : ℕ). bit_xor z (each 48 8)) c.word_at.ensures
 
-abbrev count_of : goal.Start → ℕ
+abbrev count_of : tie.Start → ℕ
 count_of c = length (begun (eight_of c.args.text.now c.args.at))
 
 -- the lowest mark
 first : (c : goal.Else-marks-eq0)
     → (count_trailing_zeros 64 c.others-marks.result ≡ 8 * count_of c.before.before.before.before.before + 7) × (count_of c.before.before.before.before.before < 8)
 first c =
-    let marks = c.others-marks.ensures in
-    let s = some-other _ refl (bytes c.before.before.before.before) _ (lanes-are c.before.before) (λ z. c.if-marks-eq0.false (marks ∙ z)) in
-    (ap (count_trailing_zeros 64) marks ∙ s.0, s.1)
+    let s = some-other _ refl (bytes c.before.before.before.before) _ (lanes-are c.before.before) (λ z. c.if-marks-eq0.false (c.others-marks.ensures ∙ z)) in
+    (ap (count_trailing_zeros 64) c.others-marks.ensures ∙ s.0, s.1)
 
 pub returns-then-marks-eq0 : goal.returns-then-marks-eq0
 returns-then-marks-eq0 c =

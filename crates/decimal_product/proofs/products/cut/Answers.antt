@@ -48,16 +48,14 @@ overflow_add-result-2 c = record { fits = omega (arith, (known c.before.before.b
 pub returns : goal.returns
 returns c =
     let p = known c.before.before.before in
-    let first = c.is_above-above.ensures in
-    let second = c.is_above-reaches.ensures in
     record {
       said = λ s num den u g D G e B.
           ⊎_elim
           (λ z. subst (λ (n : ℕ). Says (Bits n) s num den) (omega arith)
           (cut_down c.args.product c.args.dropped c.args.k p c.requires.2 c.requires.4 s num den u g D G e B
-          (omega (arith, z, c.if-above-reaches.false, second.0, second.1, p.back, p.half))))
+          (omega (arith, z, c.if-above-reaches.false, c.is_above-reaches.ensures.0, c.is_above-reaches.ensures.1, p.back, p.half))))
           (λ z. subst (λ (n : ℕ). Says (Bits n) s num den) (omega arith)
           (cut_up c.args.product c.args.dropped c.args.k p c.requires.2 c.requires.4 s num den u g D G e B
-          (omega (arith, z, first.2, p.back, p.half))))
-          (either _ first.0);
+          (omega (arith, z, c.is_above-above.ensures.2, p.back, p.half))))
+          (either _ c.is_above-above.ensures.0);
     }

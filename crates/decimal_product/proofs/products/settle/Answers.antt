@@ -12,15 +12,13 @@ use Rattle.decimal_product.proofs.products.settle.Goals as goal
 
 pub returns-then-k-gt253 : goal.returns-then-k-gt253
 returns-then-k-gt253 c =
-    let a = c.args in
     record {
-      said = λ s num den D B. too_large s num den a.product _ _ D B c.past_24-usual.result c.past_24-usual.ensures.reached (omega arith);
+      said = λ s num den D B. too_large s num den c.args.product _ _ D B c.past_24-usual.result c.past_24-usual.ensures.reached (omega arith);
     }
 
 pub cut-requires : goal.cut-requires
 cut-requires c =
-    let kept = c.past_24-usual.ensures in
-    (omega arith, omega arith, omega arith, kept.under, inl kept.reached)
+    (omega arith, omega arith, omega arith, c.past_24-usual.ensures.under, inl c.past_24-usual.ensures.reached)
 
 pub returns-then-depth-height : goal.returns-then-depth-height
 returns-then-depth-height c =
@@ -30,16 +28,14 @@ returns-then-depth-height c =
 
 pub returns-then-dropped-gt61 : goal.returns-then-dropped-gt61
 returns-then-dropped-gt61 c =
-    let a = c.args in
     record {
-      said = λ s num den D B. too_small s num den a.product _ _ D B c.requires.1 (omega arith);
+      said = λ s num den D B. too_small s num den c.args.product _ _ D B c.requires.1 (omega arith);
     }
 
 pub cut-requires-2 : goal.cut-requires-2
 cut-requires-2 c =
-    let kept = c.past_24-usual.ensures in
     let more : 24 + c.past_24-usual.result ≤ 24 + (c.args.moved + 59 - (6803 * c.args.place + 832) / 2048) = omega arith in
-    (omega arith, omega arith, omega arith, lt_of_lt_of_le kept.under (pow_mono more), inr refl)
+    (omega arith, omega arith, omega arith, lt_of_lt_of_le c.past_24-usual.ensures.under (pow_mono more), inr refl)
 
 pub returns : goal.returns
 returns c =

@@ -36,15 +36,12 @@ times_ten-t-requires c = (c.loop-i.invariant.0, omega arith)
 -- the digit that was read is the first of those from i on
 read_first :
     (c : goal.After-digit-d)
-    → let args = c.args in
-    against (c.digit-d.result ∷ digits_among (drop (c.loop-i.i + 1) args.part.now)) (wide_of c.loop-i.w) ≡ against (digits_among (drop args.from args.part.now)) (wide_of args.f)
+    → against (c.digit-d.result ∷ digits_among (drop (c.loop-i.i + 1) c.args.part.now)) (wide_of c.loop-i.w) ≡ against (digits_among (drop c.args.from c.args.part.now)) (wide_of c.args.f)
 read_first c =
     let c.before.before.before.before.before.before = c.before.before.before.before.before.before in
-    let part = c.args.part.now in
-    let w = c.loop-i.w in
     let is_one = sym c.is_digit.ensures ∙ not-false _ c.if-not-is_digit.false in
-    ap (λ (d : ℕ). against (d ∷ digits_among (drop (c.loop-i.i + 1) part)) (wide_of w)) c.digit-d.ensures
-    ∙ ap (λ (ds : List ℕ). against ds (wide_of w)) (sym (digit-first part c.loop-i.i c.loop-i-test.true is_one))
+    ap (λ (d : ℕ). against (d ∷ digits_among (drop (c.loop-i.i + 1) c.args.part.now)) (wide_of c.loop-i.w)) c.digit-d.ensures
+    ∙ ap (λ (ds : List ℕ). against ds (wide_of c.loop-i.w)) (sym (digit-first c.args.part.now c.loop-i.i c.loop-i-test.true is_one))
     ∙ c.loop-i.invariant.1
 
 pub returns-then-d-t : goal.returns-then-d-t
@@ -55,8 +52,7 @@ returns-then-t-d c = sym (against-gt _ _ _ _ c.times_ten-t.ensures (val-lt _) c.
 
 pub loop-i-preserved : goal.loop-i-preserved
 loop-i-preserved c =
-    let tens = c.times_ten-t.ensures in
-    (tens.small, sym (against-on _ _ _ _ tens (val-lt _) (omega (arith, c.if-t-d.false, c.if-d-t.false))) ∙ read_first c.before.before.before.before.before.before)
+    (c.times_ten-t.ensures.small, sym (against-on _ _ _ _ c.times_ten-t.ensures (val-lt _) (omega (arith, c.if-t-d.false, c.if-d-t.false))) ∙ read_first c.before.before.before.before.before.before)
 
 pub compare_wide-requires : goal.compare_wide-requires
 compare_wide-requires c = (none-small, c.loop-i.invariant.0)

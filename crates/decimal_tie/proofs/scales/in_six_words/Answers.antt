@@ -30,10 +30,4 @@ returns-in-4 c = let k = known c.before in rw (k.back, k.kept) (six-4 c.args.odd
 pub returns-in_default : goal.returns-in_default
 returns-in_default c =
     let k = known c.before in
-    let r = c.in_default.in_default-own.rest in
-    let a = r.1 in
-    let b = r.0.1 in
-    let d = r.0.0.1 in
-    let e = r.0.0.0.1 in
-    let f = r.0.0.0.0.1 in
     rw (k.back, k.kept) (six-5 c.args.odd c.args.k k c.requires.0 (omega (arith, c.requires.1)) c.requires.1)

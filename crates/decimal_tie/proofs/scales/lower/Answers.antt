@@ -18,16 +18,15 @@ times_ten-t-requires c = (c.loop-more.invariant.0, omega arith)
 
 pub returns-then-t-gt0 : goal.returns-then-t-gt0
 returns-then-t-gt0 c =
-    let tens = c.times_ten-t.ensures in
     record {
-      said = λ v l h. c.loop-more.invariant.1 v l h ∙ lower-beyond v l h _ _ _ _ (sym (add-zero _) ∙ tens-wide _ 0 _ tens) c.if-t-gt0.true c.loop-more-test.true;
+      said = λ v l h. c.loop-more.invariant.1 v l h ∙ lower-beyond v l h _ _ _ _ (sym (add-zero _) ∙ tens-wide _ 0 _ c.times_ten-t.ensures) c.if-t-gt0.true c.loop-more-test.true;
     }
 
 pub loop-more-preserved : goal.loop-more-preserved
 loop-more-preserved c =
-    let tens = c.times_ten-t.ensures in (
-      tens.small,
-      λ v l h. c.loop-more.invariant.1 v l h ∙ lower-on v l h _ _ _ (sym (add-zero _) ∙ tens-none _ 0 _ tens c.if-t-gt0.false) c.loop-more-test.true,
+    (
+      c.times_ten-t.ensures.small,
+      λ v l h. c.loop-more.invariant.1 v l h ∙ lower-on v l h _ _ _ (sym (add-zero _) ∙ tens-none _ 0 _ c.times_ten-t.ensures c.if-t-gt0.false) c.loop-more-test.true,
     )
 
 pub returns : goal.returns

@@ -8,10 +8,11 @@ use Rattle.decimal_tie.specs.Weighing.{order_of}
 use Rattle.decimal_tie.proofs.Wides.{wide-lt}
 use Rattle.decimal_tie.proofs.Weighed.{partly-start, partly-lt, partly-gt, partly-eq, six-lt, whole-beyond, whole_is}
 use borrow.Author.Rules.{rules}
+use Rattle.decimal_tie.proofs.scales.weigh_large.Tie as tie
 use Rattle.decimal_tie.proofs.scales.weigh_large.Goals as goal
 
 -- the six words are below 2 ^ 300
-limit : (c : goal.Start) → wide_of c.args.above * 2 ^ 150 + wide_of c.args.fraction < 2 ^ 300
+limit : (c : tie.Start) → wide_of c.args.above * 2 ^ 150 + wide_of c.args.fraction < 2 ^ 300
 limit c = six-lt _ _ (wide-lt _ c.requires.0) (wide-lt _ c.requires.1)
 
 pub compare_wide-requires : goal.compare_wide-requires

@@ -25,25 +25,22 @@ onward :
     → partly 0 (digits_among c.args.part.now) c.args.count s
     ≡ partly (wide_of c.loop-more.w * 10 + c.take-d.result.digit) (digits_among (drop c.take-d.result.at c.args.part.now)) (c.loop-more.more - 1) s
 onward c s =
-    let part = c.args.part.now in
     c.loop-more.invariant.1 s
     ∙ partly-on _ _ _ s c.loop-more-test.true
-    ∙ ap (λ (d : ℕ). partly (wide_of c.loop-more.w * 10 + d) (others (digits_among (drop c.loop-more.at part))) (c.loop-more.more - 1) s) (sym c.take-d.ensures.digit-is)
+    ∙ ap (λ (d : ℕ). partly (wide_of c.loop-more.w * 10 + d) (others (digits_among (drop c.loop-more.at c.args.part.now))) (c.loop-more.more - 1) s) (sym c.take-d.ensures.digit-is)
     ∙ ap (λ (ds : List ℕ). partly (wide_of c.loop-more.w * 10 + c.take-d.result.digit) ds (c.loop-more.more - 1) s) (sym c.take-d.ensures.rest-is)
 
 pub returns-then-t-gt0 : goal.returns-then-t-gt0
 returns-then-t-gt0 c =
-    let tens = c.times_ten-t.ensures in
     record {
-      said = λ s h. onward c.before.before.before s ∙ partly-beyond _ _ _ s (tens-past _ _ _ tens c.if-t-gt0.true) h;
+      said = λ s h. onward c.before.before.before s ∙ partly-beyond _ _ _ s (tens-past _ _ _ c.times_ten-t.ensures c.if-t-gt0.true) h;
     }
 
 pub loop-more-preserved : goal.loop-more-preserved
 loop-more-preserved c =
-    let tens = c.times_ten-t.ensures in
     let rest = digits_among (drop c.take-d.result.at c.args.part.now) in (
-      tens.small,
-      λ s. onward c.before.before.before.before s ∙ ap (λ (w : ℕ). partly w rest (c.loop-more.more - 1) s) (tens-none _ _ _ tens c.if-t-gt0.false),
+      c.times_ten-t.ensures.small,
+      λ s. onward c.before.before.before.before s ∙ ap (λ (w : ℕ). partly w rest (c.loop-more.more - 1) s) (tens-none _ _ _ c.times_ten-t.ensures c.if-t-gt0.false),
     )
 
 pub returns : goal.returns

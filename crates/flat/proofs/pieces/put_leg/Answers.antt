@@ -5,6 +5,5 @@ use Rattle.flat.proofs.pieces.put_leg.Goals as goal
 
 pub returns : goal.returns
 returns c =
-    let a = c.args in
-    leg-put a.out-1.now a.at a.start.x a.start.y a.end.x a.end.y
+    leg-put c.args.out.now c.args.at c.args.start.x c.args.start.y c.args.end.x c.args.end.y
     c.put_number.ensures c.put_number-2.ensures c.put_number-3.ensures c.put_number-4.ensures

@@ -6,12 +6,10 @@ use Rattle.kihavute.proofs.decimals.kihavute_number.Goals as goal
 
 pub returns-then-text-gt65536 : goal.returns-then-text-gt65536
 returns-then-text-gt65536 c =
-    let text = c.args.text.now in
-    let given = given-same _ _ (text-long text c.if-text-gt65536.true) c.refuse.ensures in
-    (given, number-kept text given)
+    let given = given-same _ _ (text-long c.args.text.now c.if-text-gt65536.true) c.refuse.ensures in
+    (given, number-kept c.args.text.now given)
 
 pub returns : goal.returns
 returns c =
-    let text = c.args.text.now in
-    let given = given-same _ _ (text-fits text c.if-text-gt65536.false) c.read.ensures in
-    (given, number-kept text given)
+    let given = given-same _ _ (text-fits c.args.text.now c.if-text-gt65536.false) c.read.ensures in
+    (given, number-kept c.args.text.now given)

@@ -22,29 +22,25 @@ same-report {before = before} number values p =
 
 pub returns-in-Yes : goal.returns-in-Yes
 returns-in-Yes c =
-    let a = c.args in
     record {
       answer = accepted (1 ∷ []);
-      judged = subst (λ (v : Verdict). JudgedBy a.edition a.text.now (answer_of v)) c.in-Yes.is c.strict.ensures;
+      judged = subst (λ (v : Verdict). JudgedBy c.args.edition c.args.text.now (answer_of v)) c.in-Yes.is c.strict.ensures;
       reported = c.report.ensures;
     }
 
 pub returns-in-No : goal.returns-in-No
 returns-in-No c =
-    let a = c.args in
     record {
       answer = accepted (0 ∷ []);
-      judged = subst (λ (v : Verdict). JudgedBy a.edition a.text.now (answer_of v)) c.in-No.is c.strict.ensures;
+      judged = subst (λ (v : Verdict). JudgedBy c.args.edition c.args.text.now (answer_of v)) c.in-No.is c.strict.ensures;
       reported = c.report-in-No.ensures;
     }
 
 pub returns-in-Refused : goal.returns-in-Refused
 returns-in-Refused c =
-    let a = c.args in
-    let refusal = c.refusal-1.given in
     record {
-      answer = refused refusal.0.0;
-      judged = subst (λ (v : Verdict). JudgedBy a.edition a.text.now (answer_of v)) refusal.1 c.strict.ensures;
+      answer = refused c.in-Refused.refusal;
+      judged = subst (λ (v : Verdict). JudgedBy c.args.edition c.args.text.now (answer_of v)) c.in-Refused.is c.strict.ensures;
       reported =
           same-report c.number.ensures c.carried.ensures
           c.report-in-Refused.ensures;

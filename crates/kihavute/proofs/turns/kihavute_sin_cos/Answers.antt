@@ -11,11 +11,9 @@ use Rattle.kihavute.proofs.turns.kihavute_sin_cos.Goals as goal
 
 pub returns : goal.returns
 returns c =
-    let both = c.sin_cos-both.ensures in
-    let angle = c.args.angle in
     let held = passes _ c.well_formed.0.1 in (
       c.pair.ensures
-          ∙ ap (λ (x : Float). pair_of (point_of x c.sin_cos-both.result.sin)) both.1
-          ∙ ap (λ (y : Float). pair_of (point_of (cosine_of angle) y)) both.0,
-      (sine-kept angle held refl, cosine-kept angle held refl),
+          ∙ ap (λ (x : Float). pair_of (point_of x c.sin_cos-both.result.sin)) c.sin_cos-both.ensures.1
+          ∙ ap (λ (y : Float). pair_of (point_of (cosine_of c.args.angle) y)) c.sin_cos-both.ensures.0,
+      (sine-kept c.args.angle held refl, cosine-kept c.args.angle held refl),
     )

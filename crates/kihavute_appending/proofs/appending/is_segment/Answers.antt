@@ -9,8 +9,7 @@ use Rattle.kihavute_appending.proofs.appending.is_segment.Goals as goal
 
 pub returns-then-kind-lt5 : goal.returns-then-kind-lt5
 returns-then-kind-lt5 c =
-    let a = c.args in
-    known-kind a.kind a.numbers.now _ c.if-kind-lt5.true (ap (λ (n : ℕ). eqb (length a.numbers.now) n) c.width.ensures)
+    known-kind c.args.kind c.args.numbers.now _ c.if-kind-lt5.true (ap (λ (n : ℕ). eqb (length c.args.numbers.now) n) c.width.ensures)
 
 pub returns : goal.returns
-returns c = let a = c.args in unknown-kind a.kind a.numbers.now c.if-kind-lt5.false
+returns c = unknown-kind c.args.kind c.args.numbers.now c.if-kind-lt5.false

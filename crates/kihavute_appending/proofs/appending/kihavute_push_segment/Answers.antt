@@ -9,8 +9,7 @@ returns-then-answer-lt8 c = not-appended _ _ _ _ _ _ c.if-answer-lt8.true
 
 pub segment_at-segment-requires : goal.segment_at-segment-requires
 segment_at-segment-requires c =
-    let a = c.args in
-    segment-known a.kind a.numbers.now (sym c.is_segment.ensures ∙ c.if-is_segment.true)
+    segment-known c.args.kind c.args.numbers.now (sym c.is_segment.ensures ∙ c.if-is_segment.true)
 
 pub returns-then-is_segment : goal.returns-then-is_segment
 returns-then-is_segment c =

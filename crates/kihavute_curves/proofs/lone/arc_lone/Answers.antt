@@ -17,8 +17,6 @@ raw_parameter-raw-requires c = c.requires c.if-arc.false
 
 pub returns : goal.returns
 returns c =
-    let raw = c.raw_parameter-raw in
-    let curved = c.if-arc.false in
-    lone_is raw.result (c.arc_sample-position.ensures ∙ ap (point_on _) raw.ensures) (c.arc_heading-tangent.ensures ∙ ap (direction_on _) raw.ensures) raw.ensures
-    (c.arc_length-length.ensures ∙ sym (length-of-table _ curved))
-    ∙ alone-on-arc _ _ curved
+    lone_is c.raw_parameter-raw.result (c.arc_sample-position.ensures ∙ ap (point_on _) c.raw_parameter-raw.ensures) (c.arc_heading-tangent.ensures ∙ ap (direction_on _) c.raw_parameter-raw.ensures) c.raw_parameter-raw.ensures
+    (c.arc_length-length.ensures ∙ sym (length-of-table _ c.if-arc.false))
+    ∙ alone-on-arc _ _ c.if-arc.false

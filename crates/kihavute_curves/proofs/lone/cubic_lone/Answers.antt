@@ -10,6 +10,5 @@ use Rattle.kihavute_curves.proofs.lone.cubic_lone.Goals as goal
 pub returns : goal.returns
 unfolding cubic_lone
 returns c =
-    let raw = c.raw_parameter-raw in
-    lone_is raw.result (c.cubic_sample-position.ensures ∙ ap (cubic_sample_of _ _ _ _) raw.ensures)
-    (c.cubic_tangent_at-tangent.ensures ∙ ap (λ (v : Float). cubic_tangent_at c.args.curve v c.args.progress.value) raw.ensures) raw.ensures c.cubic_length-length.ensures
+    lone_is c.raw_parameter-raw.result (c.cubic_sample-position.ensures ∙ ap (cubic_sample_of _ _ _ _) c.raw_parameter-raw.ensures)
+    (c.cubic_tangent_at-tangent.ensures ∙ ap (λ (v : Float). cubic_tangent_at c.args.curve v c.args.progress.value) c.raw_parameter-raw.ensures) c.raw_parameter-raw.ensures c.cubic_length-length.ensures

@@ -15,6 +15,5 @@ raw_parameter_in-raw-requires c = single-sound
 pub returns : goal.returns
 unfolding line_lone zero_f
 returns c =
-    let raw = c.raw_parameter_in-raw in
-    let clamped = raw.ensures ∙ single-raw _ in
-    lone_is raw.result (c.line_point-position.ensures ∙ ap (line_point_of _) clamped) c.line_tangent-tangent.ensures clamped c.line_length-length.ensures
+    let clamped = c.raw_parameter_in-raw.ensures ∙ single-raw _ in
+    lone_is c.raw_parameter_in-raw.result (c.line_point-position.ensures ∙ ap (line_point_of _) clamped) c.line_tangent-tangent.ensures clamped c.line_length-length.ensures

@@ -10,6 +10,5 @@ use Rattle.kihavute_curves.proofs.lone.quad_lone.Goals as goal
 pub returns : goal.returns
 unfolding quad_lone
 returns c =
-    let raw = c.raw_parameter-raw in
-    lone_is raw.result (c.quad_sample-position.ensures ∙ ap (quad_sample_of _ _ _) raw.ensures)
-    (c.quad_tangent_at-tangent.ensures ∙ ap (λ (v : Float). quad_tangent_at c.args.curve v c.args.progress.value) raw.ensures) raw.ensures c.quad_length-length.ensures
+    lone_is c.raw_parameter-raw.result (c.quad_sample-position.ensures ∙ ap (quad_sample_of _ _ _) c.raw_parameter-raw.ensures)
+    (c.quad_tangent_at-tangent.ensures ∙ ap (λ (v : Float). quad_tangent_at c.args.curve v c.args.progress.value) c.raw_parameter-raw.ensures) c.raw_parameter-raw.ensures c.quad_length-length.ensures

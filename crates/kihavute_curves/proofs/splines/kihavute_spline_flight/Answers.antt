@@ -8,5 +8,4 @@ use Rattle.kihavute_curves.proofs.splines.kihavute_spline_flight.Goals as goal
 
 pub returns : goal.returns
 returns c =
-    let flown = c.spline_flight-flown.ensures in
-    (given-same _ _ (ap flight_given flown.0) c.give_flight.ensures, spline-received _ _ _ _ flown.0 flown.1 c.give_flight.ensures)
+    (given-same _ _ (ap flight_given c.spline_flight-flown.ensures.0) c.give_flight.ensures, spline-received _ _ _ _ c.spline_flight-flown.ensures.0 c.spline_flight-flown.ensures.1 c.give_flight.ensures)

@@ -10,8 +10,7 @@ returns-then-answer-lt8 c = (put-two-short _ _ _ _ c.if-answer-lt8.true, (λ zer
 
 pub returns : goal.returns
 returns c =
-    let call = c.morph-morphed.ensures in
-    let given = c.give_morphed.ensures in (
-      put-morphed c.args.answer.now _ _ c.if-answer-lt8.false _ _ _ c.args.out-from.now c.args.out-to.now _ _ _ call given,
-      morphed-stands _ _ _ c.args.out-from.now c.args.out-to.now _ _ _ call given,
+    (
+      put-morphed c.args.answer.now _ _ c.if-answer-lt8.false _ _ _ c.args.out-from.now c.args.out-to.now _ _ _ c.morph-morphed.ensures c.give_morphed.ensures,
+      morphed-stands _ _ _ c.args.out-from.now c.args.out-to.now _ _ _ c.morph-morphed.ensures c.give_morphed.ensures,
     )

@@ -10,8 +10,7 @@ returns-then-answer-lt8 c = (put-short _ _ _ c.if-answer-lt8.true, λ zero. absu
 
 pub returns : goal.returns
 returns c =
-    let call = c.resample-resampled.ensures in
-    let given = c.give_resampled.ensures in (
-      put-resampled c.args.answer.now _ _ c.if-answer-lt8.false _ _ c.args.out.now _ _ call given,
-      resampled-stands _ _ c.args.out.now _ _ call given,
+    (
+      put-resampled c.args.answer.now _ _ c.if-answer-lt8.false _ _ c.args.out.now _ _ c.resample-resampled.ensures c.give_resampled.ensures,
+      resampled-stands _ _ c.args.out.now _ _ c.resample-resampled.ensures c.give_resampled.ensures,
     )

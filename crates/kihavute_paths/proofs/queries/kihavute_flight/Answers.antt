@@ -8,5 +8,4 @@ use Rattle.kihavute_paths.proofs.queries.kihavute_flight.Goals as goal
 
 pub returns : goal.returns
 returns c =
-    let flown = c.flight-flown.ensures in
-    (given-same _ _ (ap flight_given flown.0) c.give_flight.ensures, received _ _ _ flown.0 flown.1 c.give_flight.ensures)
+    (given-same _ _ (ap flight_given c.flight-flown.ensures.0) c.give_flight.ensures, received _ _ _ c.flight-flown.ensures.0 c.flight-flown.ensures.1 c.give_flight.ensures)

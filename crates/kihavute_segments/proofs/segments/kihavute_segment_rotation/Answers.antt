@@ -12,26 +12,20 @@ use Rattle.kihavute_segments.proofs.segments.kihavute_segment_rotation.Goals as 
 
 pub returns-in-Segment : goal.returns-in-Segment
 returns-in-Segment c =
-    let part = c.segment-part.result in
-    let along = c.args.along in
     given-same _ _
     (ap turn_given c.rotation_deg-to.ensures
-    ∙ found-given (λ (s : PathSegment). turn_given (rotation_of s part.table along)) part.found-1 _ c.in-Segment.is
-    ∙ ap (λ (p : Part). rotation_given p along) c.segment-part.ensures)
+    ∙ found-given (λ (s : PathSegment). turn_given (rotation_of s c.segment-part.result.table c.args.along)) c.segment-part.result.found _ c.in-Segment.is
+    ∙ ap (λ (p : Part). rotation_given p c.args.along) c.segment-part.ensures)
     c.give_turn.ensures
 
 pub returns-in-NoSegment : goal.returns-in-NoSegment
 returns-in-NoSegment c =
-    let part = c.segment-part.result in
-    let along = c.args.along in
     given-same _ _
-    (found_none (λ (s : PathSegment). turn_given (rotation_of s part.table along)) part.found-1 c.in-NoSegment.is ∙ ap (λ (p : Part). rotation_given p along) c.segment-part.ensures)
+    (found_none (λ (s : PathSegment). turn_given (rotation_of s c.segment-part.result.table c.args.along)) c.segment-part.result.found c.in-NoSegment.is ∙ ap (λ (p : Part). rotation_given p c.args.along) c.segment-part.ensures)
     c.accept.ensures
 
 pub returns-in-Refused : goal.returns-in-Refused
 returns-in-Refused c =
-    let part = c.segment-part.result in
-    let along = c.args.along in
     given-same _ _
-    (found-refused (λ (s : PathSegment). turn_given (rotation_of s part.table along)) part.found-1 _ c.in-Refused.is ∙ ap (λ (p : Part). rotation_given p along) c.segment-part.ensures)
+    (found-refused (λ (s : PathSegment). turn_given (rotation_of s c.segment-part.result.table c.args.along)) c.segment-part.result.found _ c.in-Refused.is ∙ ap (λ (p : Part). rotation_given p c.args.along) c.segment-part.ensures)
     c.refuse.ensures

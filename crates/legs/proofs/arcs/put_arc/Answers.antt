@@ -42,11 +42,10 @@ loop-i-smaller c = search rules
 
 pub loop-i-preserved : goal.loop-i-preserved
 loop-i-preserved c =
-    let l = c.loop-i in
-    (omega arith, (c.arc_point-to.ensures, arc-step _ _ _ _ _ _ l.invariant.1.0 c.arc_point-to.ensures l.invariant.1.1 c.put_leg.ensures))
+    (omega arith, (c.arc_point-to.ensures, arc-step _ _ _ _ _ _ c.loop-i.invariant.1.0 c.arc_point-to.ensures c.loop-i.invariant.1.1 c.put_leg.ensures))
 
 pub shape_of-out : goal.shape_of-out
 shape_of-out c = ap length c.loop-i.invariant.1.1 ∙ simp length-sets
 
 pub returns : goal.returns
-returns c = let l = c.loop-i in arc-done _ _ _ _ _ _ l.invariant.0 c.loop-i-test.false l.invariant.1.1
+returns c = arc-done _ _ _ _ _ _ c.loop-i.invariant.0 c.loop-i-test.false c.loop-i.invariant.1.1

@@ -14,10 +14,8 @@ loop-k-init c = (omega arith, (refl, refl))
 
 pub loop-k-preserved : goal.loop-k-preserved
 loop-k-preserved c =
-    let l = c.loop-k in
-    let a = c.args in
-    let e = rw (zero-add l.k) at (put_next a.from.now a.out.now 0 l.k l.out _ (omega arith) l.invariant.1.1 refl) in
+    let e = rw (zero-add c.loop-k.k) at (put_next c.args.from.now c.args.out.now 0 c.loop-k.k c.loop-k.out _ (omega arith) c.loop-k.invariant.1.1 refl) in
     (omega arith, (ap length e ∙ simp length-sets, e))
 
 pub returns : goal.returns
-returns c = let l = c.loop-k in let z : l.k ≡ c.args.count = omega arith in rw z at l.invariant.1.1
+returns c = let z : c.loop-k.k ≡ c.args.count = omega arith in rw z at c.loop-k.invariant.1.1

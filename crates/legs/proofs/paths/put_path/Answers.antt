@@ -15,9 +15,7 @@ loop-i-init c = walked_none _ _ _ _ (before-zero _ _)
 
 pub segment_at-requires : goal.segment_at-requires
 segment_at-requires c =
-    let l = c.loop-i in
-    let pre = c.requires in
-    (pre.known l.i c.loop-i-test.true, omega (arith, segment-fields pre l.i c.loop-i-test.true, l.invariant.here))
+    (c.requires.known c.loop-i.i c.loop-i-test.true, omega (arith, segment-fields c.requires c.loop-i.i c.loop-i-test.true, c.loop-i.invariant.here))
 
 pub overflow_mul-legs : goal.overflow_mul-legs
 overflow_mul-legs c = omega (arith, walked-few c.loop-i.invariant, c.requires.few, c.loop-i-test.true)

@@ -26,8 +26,7 @@ bounds-out-j c = omega (arith, filling-room c.loop-j.invariant c.loop-j-test.tru
 
 pub bounds-out-half : goal.bounds-out-half
 bounds-out-half c =
-    let at-loop = c.loop-j in
-    omega (arith, filling-room at-loop.invariant c.loop-j-test.true, length-set at-loop.out at-loop.j c.lerp-low.result)
+    omega (arith, filling-room c.loop-j.invariant c.loop-j-test.true, length-set c.loop-j.out c.loop-j.j c.lerp-low.result)
 
 pub loop-j-preserved : goal.loop-j-preserved
 loop-j-preserved c = filling-more c.loop-j.invariant c.loop-j-test.true c.lerp-low.ensures c.lerp-high.ensures

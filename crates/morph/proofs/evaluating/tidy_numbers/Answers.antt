@@ -19,8 +19,7 @@ bounds-out-j-in-loop-j c = omega (arith, ap length c.loop-j.invariant)
 
 pub loop-j-preserved : goal.loop-j-preserved
 loop-j-preserved c =
-    let at-loop = c.loop-j in
-    ap (set at-loop.out at-loop.j) c.tidy.ensures ∙ set-get_or at-loop.out at-loop.j nan ∙ at-loop.invariant
+    ap (set c.loop-j.out c.loop-j.j) c.tidy.ensures ∙ set-get_or c.loop-j.out c.loop-j.j nan ∙ c.loop-j.invariant
 
 pub shape_of-out : goal.shape_of-out
 shape_of-out c = ap length c.loop-j.invariant

@@ -4,27 +4,27 @@ use mathlib.Core.Path.{◌≡◌, sym, ◌∙◌}
 use Rattle.polyline.specs.Judging.{judge_two_of}
 use Rattle.polyline.specs.declared.judging.Judged.TheVariants.{Fine}
 use Rattle.morph.proofs.Answers.{at_count, Planning, shapes-refused, count_long, plans-refused, no-first, no_second, room-first, room-second, both-filled}
+use Rattle.morph.proofs.morphing.morph.Tie as tie
 use Rattle.morph.proofs.morphing.morph.Goals as goal
 
 -- ---- the points
-abbrev start : goal.After-at_least_two-count → goal.Start
+abbrev start : tie.After-at_least_two → tie.Start
 start p = p.before.before.before.before.before.before.before.before
 
-abbrev counted : goal.After-needed-others → goal.After-at_least_two-count
+abbrev counted : tie.After-needed2 → tie.After-at_least_two
 counted p = p.before.before.before.before.before.before.before
 
 -- the shapes are fine
-fine : (p : goal.After-at_least_two-count) → judge_two_of (start p).args.from.now (start p).args.to.now ≡ Fine
+fine : (p : tie.After-at_least_two) → judge_two_of (start p).args.from.now (start p).args.to.now ≡ Fine
 fine p = sym p.judge_two.ensures ∙ p.in-Fine.is
 
 -- and both plans are known, with the numbers that they need
-planning : (p : goal.After-needed-others) → let a = (start (counted p)).args in let both = p.first-1.given.0 in
-    Planning a.from.now a.to.now (counted p).at-least-two.result both.0 both.1.0 p.needed-places.result p.needed-others.result
+planning : (p : tie.After-needed2) → let a = (start (counted p)).args in Planning a.from.now a.to.now (counted p).at-least-two.result p.in-Both.first p.in-Both.second p.needed-places.result p.needed-others.result
 planning p =
     record {
       fine = fine (counted p);
       few = p.if-count-gt4096.false;
-      both = sym p.plan_both.ensures ∙ p.in-Both.is;
+      p.first-1.given.0 = sym p.plan_both.ensures ∙ p.in-Both.is;
       need-first = p.needed-places.ensures;
       need-second = p.needed-others.ensures;
     }

@@ -6,10 +6,11 @@ use Rattle.path_segment.proofs.Widths.{width-most, tables-most}
 use native.Mathlib.Omega.{arith}
 use Prim.Native.Nat.{◌+◌}
 use borrow.Author.Rules.{rules}
+use Rattle.path_append.proofs.pushing.fitting.Tie as tie
 use Rattle.path_append.proofs.pushing.fitting.Goals as goal
 
 -- ---- the points, and what is counted there
-abbrev start : goal.After-width → goal.Start
+abbrev start : goal.After-width → tie.Start
 start p = p.before.before.before.before.before.before.before.before
 
 counting : (p : goal.After-table_width)

@@ -12,19 +12,20 @@ use mathlib.Core.Bool.{true}
 use lib.Dec.{ltb}
 use mathlib.Core.Path.{◌≡◌, sym, ap, ◌∙◌}
 use borrow.Author.Rules.{rules}
+use Rattle.path_append.proofs.pushing.judge.Tie as tie
 use Rattle.path_append.proofs.pushing.judge.Goals as goal
 
 -- ---- the points: after each test that passed, and what it showed
-abbrev start : goal.Then-may_follow → goal.Start
+abbrev start : tie.Then1 → tie.Start
 start p = p.before.before.before.before.before.before.before
 
-abbrev path : goal.Then-may_follow → Buffers
+abbrev path : tie.Then1 → Buffers
 path p = let a = (start p).args in lent a.kinds a.numbers a.tables a.lengths a.commands
 
-follows : (p : goal.Then-may_follow) → may_follow (path p) (start p).args.count (start p).args.command ≡ true
+follows : (p : tie.Then1) → may_follow (path p) (start p).args.count (start p).args.command ≡ true
 follows p = sym p.may_follow.ensures ∙ p.if-may_follow.true
 
-whole : (p : goal.Then-may_follow) → Whole (path p) (start p).args.count
+whole : (p : tie.Then1) → Whole (path p) (start p).args.count
 whole p = follow-whole _ _ _ (passed (follows p))
 
 few : (p : goal.Else-count-ge65536) → ltb (start p.before).args.count most_segments ≡ true
@@ -36,11 +37,11 @@ two p = p.before.before
 turns : (p : goal.Then-may_turn) → may_turn (start (two p).before).args.segment ≡ true
 turns p = sym p.may_turn.ensures ∙ p.if-may_turn.true
 
-abbrev three : goal.After-is_finite → goal.Then-may_turn
+abbrev three : tie.After-is_finite → goal.Then-may_turn
 three p = p.before.before.before
 
 -- the running length's test, whichever way it went
-grown : (p : goal.After-is_finite) → let one = (two (three p)).before in finite (grown_of (path one).lengths (start one).args.count (start one).args.segment) ≡ p.is_finite.result
+grown : (p : tie.After-is_finite) → let one = (two (three p)).before in finite (grown_of (path one).lengths (start one).args.count (start one).args.segment) ≡ p.is_finite.result
 grown p =
     let a = (start (two (three p)).before).args in
     ap finite (sym (grown-is a.lengths.now a.count a.segment _ _ p.length_before.ensures p.segment_length.ensures)) ∙ sym p.is_finite.ensures

@@ -5,20 +5,20 @@ use Rattle.path_append.specs.declared.pushing.Appended.{Appended}
 use Rattle.path_append.specs.Appending.{is_added, afterwards}
 use mathlib.Core.Path.{sym, ap, ◌∙◌}
 use borrow.Author.Rules.{rules}
+use Rattle.path_append.proofs.pushing.push_segment.Tie as tie
 use Rattle.path_append.proofs.pushing.push_segment.Goals as goal
 
 -- ---- the points
-abbrev judged : goal.In-Added → goal.After-judge-answer
+abbrev judged : tie.After-enum_told → tie.After-judge
 judged p = p.before.before
 
-abbrev told : goal.After-store → goal.In-Added
+abbrev told : tie.After-store → tie.After-enum_told
 told p = p.before.before.before.before.before.before
 
 -- what is left of the buffers, by the answer
-abbrev left : goal.After-judge-answer → Appended → Buffers
+abbrev left : tie.After-judge → Appended → Buffers
 left p answer =
-    let a = p.args in
-    afterwards answer (lent a.kinds-1 a.numbers-1 a.tables-1 a.lengths-1 a.commands-1) a.count a.command a.segment
+    afterwards answer (lent p.args.kinds p.args.numbers p.args.tables p.args.lengths p.args.commands) p.args.count p.args.command p.args.segment
 
 -- ---- the answers
 pub store-requires : goal.store-requires

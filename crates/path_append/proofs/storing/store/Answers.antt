@@ -9,13 +9,14 @@ use lib.ListN.{set, length-set}
 use native.Mathlib.Omega.{arith}
 use mathlib.Core.Path.{refl, ap, ◌∙◌}
 use borrow.Author.Rules.{rules}
+use Rattle.path_append.proofs.storing.store.Tie as tie
 use Rattle.path_append.proofs.storing.store.Goals as goal
 
 -- ---- the points
-abbrev counted : goal.After-store_table-own → goal.After-numbers_used-n
+abbrev counted : tie.After-store_table → goal.After-numbers_used-n
 counted p = p.before.before.before.before
 
-abbrev start : goal.After-numbers_used-n → goal.Start
+abbrev start : goal.After-numbers_used-n → tie.Start
 start p = p.before.before.before.before.before.before.before
 
 -- ---- the answers

@@ -11,7 +11,7 @@ pub slice_bounds-fields_before-end : goal.slice_bounds-fields_before-end
 slice_bounds-fields_before-end c = sym (length-take-le _ _ c.requires.0)
 
 pub fields_before-requires : goal.fields_before-requires
-fields_before-requires c = let a = c.args in let h = c.requires in let e = length-take-le a.count a.kinds.now h.0 in (omega arith, omega arith)
+fields_before-requires c = let e = length-take-le c.args.count c.args.kinds.now c.requires.0 in (omega arith, omega arith)
 
 pub returns : goal.returns
-returns c = let a = c.args in c.fields_before.ensures ∙ before-take width_of a.kinds.now a.count
+returns c = c.fields_before.ensures ∙ before-take width_of c.args.kinds.now c.args.count

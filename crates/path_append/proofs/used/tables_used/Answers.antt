@@ -14,10 +14,10 @@ pub slice_bounds-tables_before-end : goal.slice_bounds-tables_before-end
 slice_bounds-tables_before-end c = sym (length-take-le _ _ c.requires.0)
 
 pub tables_before-requires : goal.tables_before-requires
-tables_before-requires c = let a = c.args in let h = c.requires in let e = length-take-le a.count a.kinds.now h.0 in (omega arith, omega arith)
+tables_before-requires c = let e = length-take-le c.args.count c.args.kinds.now c.requires.0 in (omega arith, omega arith)
 
 pub overflow_mul-result : goal.overflow_mul-result
-overflow_mul-result c = let a = c.args in omega (arith, tables-at-most (take a.count a.kinds.now) a.count, c.tables_before.ensures, c.requires.1)
+overflow_mul-result c = omega (arith, tables-at-most (take c.args.count c.args.kinds.now) c.args.count, c.tables_before.ensures, c.requires.1)
 
 pub returns : goal.returns
-returns c = let a = c.args in ap (λ n. 33 * n) (c.tables_before.ensures ∙ before-take tables_of a.kinds.now a.count)
+returns c = ap (λ n. 33 * n) (c.tables_before.ensures ∙ before-take tables_of c.args.kinds.now c.args.count)

@@ -12,20 +12,21 @@ use Rattle.table.specs.Spots.{before, path_total}
 use Rattle.table.proofs.Before.{path-total}
 use Rattle.path_place.proofs.Standing.{spot-inside}
 use Rattle.path_batch.proofs.Along.{along-short, along-low, along-high, along-within}
+use Rattle.path_batch.proofs.batches.along.Tie as tie
 use Rattle.path_batch.proofs.batches.along.Goals as goal
 
-inside : (s : goal.Start) → s.args.segment < length s.args.lengths.now
+inside : (s : tie.Start) → s.args.segment < length s.args.lengths.now
 inside s = let h = spot-inside s.args.lengths.now s.requires.0 s.args.progress.value in omega (arith, s.requires.1)
 
 -- ---- what the tests say, of the path's total and the target
-abbrev start : goal.After-clamp01 → goal.Start
+abbrev start : tie.After-clamp01 → tie.Start
 start t = t.before.before.before.before
 
-long : (t : goal.After-clamp01) → le (path_total (start t).args.lengths.now) epsilon_f ≡ false
+long : (t : tie.After-clamp01) → le (path_total (start t).args.lengths.now) epsilon_f ≡ false
 unfolding epsilon_f
 long t = rw (path-total (start t).args.lengths.now (start t).requires.0.some) at t.if-total.false
 
-abbrev aim : goal.After-clamp01 → Float
+abbrev aim : tie.After-clamp01 → Float
 aim t = target_of (path_total (start t).args.lengths.now) (start t).args.progress.value
 
 -- ---- the answers
@@ -34,7 +35,7 @@ unfolding epsilon_f one_f
 returns-then-total c =
     along-short _ _ (rw (path-total c.args.lengths.now c.requires.0.some) at c.if-total.true)
 
-low : (c : goal.Else-target) → le (aim c.before) zero_f ≡ false
+low : (c : tie.Else2) → le (aim c.before) zero_f ≡ false
 unfolding zero_f target_of
 low c = rw (c.clamp01.ensures, path-total (start c.before).args.lengths.now (start c.before).requires.0.some) at c.if-target.false
 

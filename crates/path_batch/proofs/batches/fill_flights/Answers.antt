@@ -25,16 +25,17 @@ use Rattle.path_query.proofs.Seats.{some-place, seated, flight-is}
 use Rattle.path_query.proofs.Answering.{flight-some}
 use Rattle.path_batch.specs.Batches.{each, segments_for, raws_for, found_for, numbers_of, numbers_for}
 use Rattle.path_batch.proofs.Filling.{Looking, looking-first, looking-next, among, looking-moves, looking-leaps, each-size, each_next, each_at, each-filled, each-equal, numbers-size, numbers-next, segment-there}
+use Rattle.path_batch.proofs.batches.fill_flights.Tie as tie
 use Rattle.path_batch.proofs.batches.fill_flights.Goals as goal
 
 -- ---- the points, and what is known there
 abbrev Loop : Type 0
-Loop = goal.At-loop-k
+Loop = (tie.At-loop goal.the-invariant-loop-k goal.the-decreases-loop-k)
 
-abbrev start : Loop → goal.Start
+abbrev start : Loop → (tie.Start goal.the-invariant-loop-k goal.the-decreases-loop-k)
 start l = l.before.before.before.before.before.before.before.before.before.before.before.before.before.before.before
 
-abbrev found : Loop → goal.After-fill_segments
+abbrev found : Loop → (tie.After-fill_segments goal.the-invariant-loop-k goal.the-decreases-loop-k)
 found l = l.before.before.before
 
 abbrev path : Loop → Buffers
@@ -135,19 +136,16 @@ landed-there h = let w = read (started h) in landed h ∙ ap (cursor_of (path (l
 -- ---- the answers
 pub fill_segments-requires : goal.fill_segments-requires
 fill_segments-requires c =
-    let pre = c.requires in
-    let stored = pre.places.path.path in
     record {
-      path = some-path (some-place pre.places.path);
-      few = (let one = stored.one in let most = stored.few in omega arith);
-      segments_room = pre.places.segments_room;
+      path = some-path (some-place c.requires.places.path);
+      few = (omega arith);
+      segments_room = c.requires.places.segments_room;
     }
 
 pub loop-k-init : goal.loop-k-init
 unfolding each numbers_for
 loop-k-init c =
-    let path = c.requires.places.path in
-    (looking-first c.first_cursor-at.ensures path.some, refl, marks-none path.path.few, refl)
+    (looking-first c.first_cursor-at.ensures c.requires.places.path.some, refl, marks-none c.requires.places.path.path.few, refl)
 
 pub offset_bounds-segments-k : goal.offset_bounds-segments-k
 offset_bounds-segments-k c = omega (arith, more c, few c)
@@ -219,13 +217,12 @@ loop-k-preserved c =
     let a = (start t.before).args in
     let pre = (start t.before).pre in
     let p = progress t.before in
-    let here = h.if-is_near.here in
     let flown =
     c.flown_within-there.ensures
-    ∙ ap (flown_within a.kinds.now a.fields.now a.tables.now here.segment) (along-is (started h))
-    ∙ flight-is (path t.before) p (spot_of a.lengths.now p) here refl (landed-there h)
+    ∙ ap (flown_within a.kinds.now a.fields.now a.tables.now h.if-is_near.here.segment) (along-is (started h))
+    ∙ flight-is (path t.before) p (spot_of a.lengths.now p) h.if-is_near.here refl (landed-there h)
     ∙ flight-some (path t.before) p pre.places.path.some in (
-      looking-next here w.wide-segment.result (landed h) (within w) (more t),
+      looking-next h.if-is_near.here w.wide-segment.result (landed h) (within w) (more t),
       each_next (raw_of t.before) a.progresses.now _ t.loop-k.raws t.loop-k.k _ (more t) pre.places.raws_room t.loop-k.inv.1
           (c.tidy.ensures ∙ c.number_of.ensures ∙ ap (λ (flight : Flight). flight.raw-1.value) flown),
       (ready (started h)).1,

@@ -15,25 +15,18 @@ loop-k-init c = (omega arith, refl)
 
 pub bounds-segments-k : goal.bounds-segments-k
 bounds-segments-k c =
-    let l = c.loop-k in
-    let a = c.args in
-    let n : length l.segments ≡ length a.segments.now = rw l.invariant.1 (same_size no_segment a.segments.now l.k (omega arith)) in
+    let n : length c.loop-k.segments ≡ length c.args.segments.now = rw c.loop-k.invariant.1 (same_size no_segment c.args.segments.now c.loop-k.k (omega arith)) in
     omega arith
 
 pub loop-k-preserved : goal.loop-k-preserved
 loop-k-preserved c =
-    let l = c.loop-k in
-    let a = c.args in (omega arith, same_next no_segment a.segments.now l.segments l.k (omega arith) l.invariant.1)
+    (omega arith, same_next no_segment c.args.segments.now c.loop-k.segments c.loop-k.k (omega arith) c.loop-k.invariant.1)
 
 pub shape_of-segments : goal.shape_of-segments
 shape_of-segments c =
-    let l = c.loop-k in
-    let a = c.args in
-    rw l.invariant.1 (same_size no_segment a.segments.now l.k (omega arith))
+    rw c.loop-k.invariant.1 (same_size no_segment c.args.segments.now c.loop-k.k (omega arith))
 
 pub returns : goal.returns
 returns c =
-    let l = c.loop-k in
-    let a = c.args in
-    let all : l.k ≡ a.count = omega arith in
-    l.invariant.1 ∙ ap (λ (k : ℕ). written (replicate k no_segment) a.segments.now) all
+    let all : c.loop-k.k ≡ c.args.count = omega arith in
+    c.loop-k.invariant.1 ∙ ap (λ (k : ℕ). written (replicate k no_segment) c.args.segments.now) all

@@ -24,16 +24,17 @@ use Rattle.path_query.specs.Flights.{flight_of}
 use Rattle.path_query.proofs.Seats.{some-place}
 use Rattle.path_batch.specs.Batches.{each, segments_for, raws_for, found_for}
 use Rattle.path_batch.proofs.Filling.{Looking, looking-first, looking-next, among, looking-moves, looking-leaps, each-size, each_next, each_at, each-filled, each-equal, segment-there, raw-there}
+use Rattle.path_batch.proofs.batches.fill_places.Tie as tie
 use Rattle.path_batch.proofs.batches.fill_places.Goals as goal
 
 -- ---- the points, and what is known there
 abbrev Loop : Type 0
-Loop = goal.At-loop-i
+Loop = (tie.At-loop goal.the-invariant-loop-i goal.the-decreases-loop-i)
 
-abbrev start : Loop → goal.Start
+abbrev start : Loop → (tie.Start goal.the-invariant-loop-i goal.the-decreases-loop-i)
 start l = l.before.before.before.before.before.before.before.before.before.before.before.before.before.before
 
-abbrev found : Loop → goal.After-fill_segments
+abbrev found : Loop → (tie.After-fill_segments goal.the-invariant-loop-i goal.the-decreases-loop-i)
 found l = l.before.before.before
 
 abbrev path : Loop → Buffers
@@ -129,19 +130,16 @@ landed-there h = let w = read (started h) in landed h ∙ ap (cursor_of (path (l
 -- ---- the answers
 pub fill_segments-requires : goal.fill_segments-requires
 fill_segments-requires c =
-    let pre = c.requires in
-    let stored = pre.path.path in
     record {
-      path = some-path (some-place pre.path);
-      few = (let one = stored.one in let most = stored.few in omega arith);
-      segments_room = pre.segments_room;
+      path = some-path (some-place c.requires.path);
+      few = (omega arith);
+      segments_room = c.requires.segments_room;
     }
 
 pub loop-i-init : goal.loop-i-init
 unfolding each
 loop-i-init c =
-    let path = c.requires.path in
-    (looking-first c.first_cursor-at.ensures path.some, refl, marks-none path.path.few)
+    (looking-first c.first_cursor-at.ensures c.requires.path.some, refl, marks-none c.requires.path.path.few)
 
 pub offset_bounds-segments-i : goal.offset_bounds-segments-i
 offset_bounds-segments-i c = omega (arith, more c, few c)
@@ -207,11 +205,9 @@ loop-i-preserved c =
     let a = (start t.before).args in
     let pre = (start t.before).pre in
     let p = progress t.before in
-    let here = h.if-is_near.here in
-    let raw = c.raw_within-raw in
-    let value = raw.ensures ∙ ap (raw_within a.kinds.now a.tables.now here.segment) (along-is (started h)) in
-    let pair = place_is a.kinds.now a.tables.now a.lengths.now p (spot_of a.lengths.now p) here raw.result refl (landed-there h) value in (
-      looking-next here w.wide-segment.result (landed h) (within w) (more t),
+    let value = c.raw_within-raw.ensures ∙ ap (raw_within a.kinds.now a.tables.now h.if-is_near.here.segment) (along-is (started h)) in
+    let pair = place_is a.kinds.now a.tables.now a.lengths.now p (spot_of a.lengths.now p) h.if-is_near.here c.raw_within-raw.result refl (landed-there h) value in (
+      looking-next h.if-is_near.here w.wide-segment.result (landed h) (within w) (more t),
       each_next (raw_of t.before) a.progresses.now _ t.loop-i.raws t.loop-i.i _ (more t) pre.raws_room t.loop-i.inv.1
           (c.tidy.ensures ∙ c.number_of.ensures ∙ raw-there (path t.before) p pre.path.some pair),
       (ready (started h)).1,

@@ -12,13 +12,14 @@ use Rattle.table.specs.Spots.{spot_of}
 use Rattle.path_place.proofs.Standing.{spot-inside}
 use Rattle.path_batch.specs.Batches.{each, found_for}
 use Rattle.path_batch.proofs.Filling.{each-size, each_next}
+use Rattle.path_batch.proofs.batches.fill_segments.Tie as tie
 use Rattle.path_batch.proofs.batches.fill_segments.Goals as goal
 
 -- ---- the points, and what is known there
 abbrev Loop : Type 0
-Loop = goal.At-loop-i
+Loop = (tie.At-loop goal.the-invariant-loop-i goal.the-decreases-loop-i)
 
-abbrev start : Loop → goal.Start
+abbrev start : Loop → (tie.Start goal.the-invariant-loop-i goal.the-decreases-loop-i)
 start l = l.before.before.before.before
 
 segments-size : (l : Loop) → length l.loop-i.segments ≡ length (start l).args.segments.now

@@ -15,26 +15,19 @@ loop-k-init c = (omega arith, refl)
 
 pub bounds-out-k : goal.bounds-out-k
 bounds-out-k c =
-    let l = c.loop-k in
-    let a = c.args in
-    let n : length l.out ≡ length a.out.now = rw l.invariant.1 (same_size zero_f a.out.now l.k (omega arith)) in
+    let n : length c.loop-k.out ≡ length c.args.out.now = rw c.loop-k.invariant.1 (same_size zero_f c.args.out.now c.loop-k.k (omega arith)) in
     omega arith
 
 pub loop-k-preserved : goal.loop-k-preserved
 unfolding zero_f
 loop-k-preserved c =
-    let l = c.loop-k in
-    let a = c.args in (omega arith, same_next zero_f a.out.now l.out l.k (omega arith) l.invariant.1)
+    (omega arith, same_next zero_f c.args.out.now c.loop-k.out c.loop-k.k (omega arith) c.loop-k.invariant.1)
 
 pub shape_of-out : goal.shape_of-out
 shape_of-out c =
-    let l = c.loop-k in
-    let a = c.args in
-    rw l.invariant.1 (same_size zero_f a.out.now l.k (omega arith))
+    rw c.loop-k.invariant.1 (same_size zero_f c.args.out.now c.loop-k.k (omega arith))
 
 pub returns : goal.returns
 returns c =
-    let l = c.loop-k in
-    let a = c.args in
-    let all : l.k ≡ a.count = omega arith in
-    l.invariant.1 ∙ ap (λ (k : ℕ). written (replicate k zero_f) a.out.now) all
+    let all : c.loop-k.k ≡ c.args.count = omega arith in
+    c.loop-k.invariant.1 ∙ ap (λ (k : ℕ). written (replicate k zero_f) c.args.out.now) all

@@ -45,11 +45,11 @@ fill_flights-requires c =
 pub returns-then-check_path : goal.returns-then-check_path
 returns-then-check_path c =
     let stored = sym c.check_path.ensures ∙ c.if-check_path.true in
-    let filled = c.fill_flights.ensures in (
-      flights-filled _ _ _ _ _ stored _ _ _ c.if-segments-count.false c.if-raws-count.false c.if-out-numbers.false filled,
+    (
+      flights-filled _ _ _ _ _ stored _ _ _ c.if-segments-count.false c.if-raws-count.false c.if-out-numbers.false c.fill_flights.ensures,
       λ some.
           ordered-flights _ _ stored some c.shared_slice_known-3-1.given
-          c.shared_slice_known-4-1.given filled,
+          c.shared_slice_known-4-1.given c.fill_flights.ensures,
     )
 
 pub returns : goal.returns

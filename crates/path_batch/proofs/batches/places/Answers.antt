@@ -34,11 +34,11 @@ fill_places-requires c =
 pub returns-then-check_path : goal.returns-then-check_path
 returns-then-check_path c =
     let stored = sym c.check_path.ensures ∙ c.if-check_path.true in
-    let filled = c.fill_places.ensures in (
-      places-filled _ _ _ _ stored _ _ c.if-segments-count.false c.if-raws-count.false filled,
+    (
+      places-filled _ _ _ _ stored _ _ c.if-segments-count.false c.if-raws-count.false c.fill_places.ensures,
       λ some.
           ordered-places _ _ stored some c.shared_slice_known-3-1.given
-          c.shared_slice_known-4-1.given filled,
+          c.shared_slice_known-4-1.given c.fill_places.ensures,
     )
 
 pub returns : goal.returns

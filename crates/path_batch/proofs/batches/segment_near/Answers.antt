@@ -8,20 +8,21 @@ use Rattle.table.specs.Lookup.{target_of}
 use Rattle.table.specs.Spots.{path_total}
 use Rattle.table.proofs.Before.{path-total}
 use Rattle.path_batch.proofs.Along.{segment-short, segment-low, segment-high, segment-within}
+use Rattle.path_batch.proofs.batches.segment_near.Tie as tie
 use Rattle.path_batch.proofs.batches.segment_near.Goals as goal
 
 -- ---- what the tests say, of the path's total and the target
-abbrev start : goal.After-clamp01 → goal.Start
+abbrev start : tie.After-clamp01 → tie.Start
 start t = t.before.before.before.before
 
-long : (t : goal.After-clamp01) → le (path_total (start t).args.lengths.now) epsilon_f ≡ false
+long : (t : tie.After-clamp01) → le (path_total (start t).args.lengths.now) epsilon_f ≡ false
 unfolding epsilon_f
 long t = rw (path-total (start t).args.lengths.now (start t).requires.some) at t.if-total.false
 
-abbrev aim : goal.After-clamp01 → Float
+abbrev aim : tie.After-clamp01 → Float
 aim t = target_of (path_total (start t).args.lengths.now) (start t).args.progress.value
 
-low : (c : goal.Else-target) → le (aim c.before) zero_f ≡ false
+low : (c : tie.Else2) → le (aim c.before) zero_f ≡ false
 unfolding zero_f target_of
 low c = rw (c.clamp01.ensures, path-total (start c.before).args.lengths.now (start c.before).requires.some) at c.if-target.false
 

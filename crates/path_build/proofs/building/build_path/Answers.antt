@@ -3,10 +3,11 @@ use borrow.Author.Rules.{rules}
 use mathlib.Core.Path.{sym, ◌∙◌}
 use Rattle.path_stored.specs.Buffers.{lent}
 use Rattle.path_build.proofs.Answering.{ended-refused, ended-holding, ended-built}
+use Rattle.path_build.proofs.building.build_path.Tie as tie
 use Rattle.path_build.proofs.building.build_path.Goals as goal
 
 -- ---- the points
-abbrev answered : goal.In-Built-2 → goal.After-room
+abbrev answered : tie.After-segments → tie.After-room
 answered t = t.before.before
 
 -- ---- the answers
@@ -16,8 +17,7 @@ returns-in-Refused c = ended-refused _ _ c.sized.ensures (sym c.room.ensures ∙
 pub fill-requires : goal.fill-requires
 fill-requires c =
     let r = answered c.before.before.before.before.before.before in
-    let a = r.args in
-    ended-holding (lent a.kinds-1 a.fields-1 a.tables-1 a.lengths-1 a.commands-1) _ r.sized.ensures (sym r.room.ensures ∙ c.in-Built.is)
+    ended-holding (lent r.args.kinds r.args.fields r.args.tables r.args.lengths r.args.commands) _ r.sized.ensures (sym r.room.ensures ∙ c.in-Built.is)
 
 pub returns-in-Built : goal.returns-in-Built
 returns-in-Built c =

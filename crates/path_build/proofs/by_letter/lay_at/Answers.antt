@@ -12,8 +12,7 @@ point_at-end-requires c = line-wide c.args.letter c.args.numbers.now c.args.at c
 
 pub line_to-requires : goal.line_to-requires
 line_to-requires c =
-    let pre = c.requires in
-    (pre.1, room_at (line_at _ _ _ pre.0 _ c.in-76.is _ c.point_at-end.ensures) pre.2)
+    (c.requires.1, room_at (line_at _ _ _ c.requires.0 _ c.in-76.is _ c.point_at-end.ensures) c.requires.2)
 
 pub returns-in-76 : goal.returns-in-76
 returns-in-76 c =
@@ -31,8 +30,7 @@ point_at-end-requires-in-81 c = omega (arith, quad-wide c.args.letter c.args.num
 
 pub quad_to-requires : goal.quad_to-requires
 quad_to-requires c =
-    let pre = c.requires in
-    (pre.1, room_at (quad_at _ _ _ pre.0 _ c.in-81.is _ _ c.point_at-control.ensures c.point_at-end-in-81.ensures) pre.2)
+    (c.requires.1, room_at (quad_at _ _ _ c.requires.0 _ c.in-81.is _ _ c.point_at-control.ensures c.point_at-end-in-81.ensures) c.requires.2)
 
 pub returns-in-81 : goal.returns-in-81
 returns-in-81 c =
@@ -56,9 +54,9 @@ point_at-end-requires-in-67 c = omega (arith, cubic-wide c.args.letter c.args.nu
 
 pub cubic_to-requires : goal.cubic_to-requires
 cubic_to-requires c =
-    let pre = c.requires in (
-      pre.1,
-      room_at (cubic-at _ _ _ pre.0 _ c.in-67.is _ _ _ c.point_at-control1.ensures c.point_at-control2.ensures c.point_at-end-in-67.ensures) pre.2,
+    (
+      c.requires.1,
+      room_at (cubic-at _ _ _ c.requires.0 _ c.in-67.is _ _ _ c.point_at-control1.ensures c.point_at-control2.ensures c.point_at-end-in-67.ensures) c.requires.2,
     )
 
 pub returns-in-67 : goal.returns-in-67
@@ -76,8 +74,7 @@ returns-in-Bad c = turned-laid (drawn-bad _ (sym c.decode.ensures ∙ c.in-Bad.i
 
 pub lay_any-requires : goal.lay_any-requires
 lay_any-requires c =
-    let pre = c.requires in
-    (pre.1, room_at (drawn-command _ (sym c.decode.ensures ∙ c.in-Command.is)) pre.2)
+    (c.requires.1, room_at (drawn-command _ (sym c.decode.ensures ∙ c.in-Command.is)) c.requires.2)
 
 pub returns-in-Command : goal.returns-in-Command
 returns-in-Command c =

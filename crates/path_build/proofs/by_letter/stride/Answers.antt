@@ -26,6 +26,4 @@ returns-in-65 c = rw c.in-65.is
 pub returns-in_default : goal.returns-in_default
 unfolding stride_of
 returns-in_default c =
-    let a = c.args.letter in
-    let no = c.in_default.in_default-own.rest in
-    simp (ne_eqb a 77 no.0.0.0.0.1, ne_eqb a 76 no.0.0.0.1, ne_eqb a 81 no.0.0.1, ne_eqb a 67 no.0.1, ne_eqb a 65 no.1)
+    simp (ne_eqb c.args.letter 77 c.in_default.in_default-own.rest.0.0.0.0.1, ne_eqb c.args.letter 76 c.in_default.in_default-own.rest.0.0.0.1, ne_eqb c.args.letter 81 c.in_default.in_default-own.rest.0.0.1, ne_eqb c.args.letter 67 c.in_default.in_default-own.rest.0.1, ne_eqb c.args.letter 65 c.in_default.in_default-own.rest.1)

@@ -8,10 +8,11 @@ use Rattle.path_stored.specs.Buffers.{buffers}
 use Rattle.path_build.specs.Lists.{stored_list}
 use Rattle.path_build.proofs.Along.{Storing, storing-none, stored-kinds, stored-fields, stored-tables, stored-lengths}
 use Rattle.path_build.proofs.Along.{stored-commands, stored-all, storing-number, storing-asks, storing-next}
+use Rattle.path_build.proofs.passes.fill.Tie as tie
 use Rattle.path_build.proofs.passes.fill.Goals as goal
 
 -- ---- the points of the code that the answers look back to
-abbrev start : goal.At-loop-letter_at → goal.Start
+abbrev start : (tie.At-loop goal.the-invariant-loop-letter_at goal.the-decreases-loop-letter_at) → (tie.Start goal.the-invariant-loop-letter_at goal.the-decreases-loop-letter_at)
 start l = l.before.before.before.before.before.before.before.before.before
 
 abbrev asked : goal.After-lay_at-arg-in-loop-letter_at-4-1 → goal.In-loop-letter_at
@@ -20,7 +21,7 @@ asked c = c.before.before.before.before.before.before
 abbrev tested : goal.After-stride-at → goal.In-loop-letter_at
 tested c = asked c.before.before.before.before.before.before.before.before.before.before.before.before
 
-abbrev looped : goal.After-stride-at → goal.At-loop-letter_at
+abbrev looped : goal.After-stride-at → (tie.At-loop goal.the-invariant-loop-letter_at goal.the-decreases-loop-letter_at)
 looped c = (tested c).before
 
 -- ---- the answers
@@ -30,9 +31,8 @@ loop-letter_at-init c = rw c.start-site.ensures (storing-none _ c.requires)
 -- the count of commands and that of segments fit
 pub overflow_cast-number : goal.overflow_cast-number
 overflow_cast-number c =
-    let more = c.loop-letter_at-test.true in
-    let asks = storing-asks c.loop-letter_at.invariant (start c.before).requires more in
-    omega (arith, storing-number c.loop-letter_at.invariant (start c.before).requires more, asks.1.segments)
+    let asks = storing-asks c.loop-letter_at.invariant (start c.before).requires c.loop-letter_at-test.true in
+    omega (arith, storing-number c.loop-letter_at.invariant (start c.before).requires c.loop-letter_at-test.true, asks.1.segments)
 
 pub lay_at-site-requires : goal.lay_at-site-requires
 lay_at-site-requires c =

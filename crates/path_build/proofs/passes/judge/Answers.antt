@@ -8,19 +8,20 @@ use lib.ListN.{length}
 use Rattle.path_build.specs.Lists.{stored_list}
 use Rattle.path_build.proofs.Lists.{formed}
 use Rattle.path_build.proofs.Along.{Measuring, measuring-none, measuring-inside, measuring-few, measuring-bad, measuring-fits, measured-refused, measuring-more, measured-all}
+use Rattle.path_build.proofs.passes.judge.Tie as tie
 use Rattle.path_build.proofs.passes.judge.Goals as goal
 
 -- ---- the points of the code that the answers look back to
-abbrev start : goal.At-loop-letter_at → goal.Start
+abbrev start : (tie.At-loop goal.the-invariant-loop-letter_at goal.the-decreases-loop-letter_at) → (tie.Start goal.the-invariant-loop-letter_at goal.the-decreases-loop-letter_at)
 start l = l.before.before.before.before
 
-abbrev told : goal.After-width-at → goal.In-Command-2
+abbrev told : goal.After-width-at → (tie.After-command goal.the-invariant-loop-letter_at goal.the-decreases-loop-letter_at)
 told c = c.before.before.before.before.before.before
 
-abbrev decoded : goal.In-Command-2 → goal.After-decode
+abbrev decoded : (tie.After-command goal.the-invariant-loop-letter_at goal.the-decreases-loop-letter_at) → (tie.After-decode goal.the-invariant-loop-letter_at goal.the-decreases-loop-letter_at)
 decoded c = c.before.before
 
-abbrev looped : goal.After-decode → goal.At-loop-letter_at
+abbrev looped : (tie.After-decode goal.the-invariant-loop-letter_at goal.the-decreases-loop-letter_at) → (tie.At-loop goal.the-invariant-loop-letter_at goal.the-decreases-loop-letter_at)
 looped c = c.before.before.before
 
 -- ---- the answers

@@ -15,8 +15,7 @@ loop-i-init c = (omega arith, refl)
 
 pub loop-i-preserved : goal.loop-i-preserved
 loop-i-preserved c =
-    let inside = c.loop-i-test.true in
-    (omega (arith, inside), near-more c.args.numbers.now c.loop-i.i c.loop-i.near c.is_near-near.result inside c.loop-i.invariant.1 c.is_near-near.ensures)
+    (omega (arith, c.loop-i-test.true), near-more c.args.numbers.now c.loop-i.i c.loop-i.near c.is_near-near.result c.loop-i-test.true c.loop-i.invariant.1 c.is_near-near.ensures)
 
 pub returns : goal.returns
 returns c = near-all c.args.numbers.now c.loop-i.i c.loop-i.near c.loop-i-test.false c.loop-i.invariant.1

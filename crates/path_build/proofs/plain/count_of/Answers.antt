@@ -9,10 +9,11 @@ use lib.Dec.{eqb}
 use lib.ListN.{length, get_or, drop}
 use Rattle.path_build.specs.Plain.{one_if, count_in}
 use Rattle.path_build.proofs.Counting.{count_next, count-end, one-most}
+use Rattle.path_build.proofs.plain.count_of.Tie as tie
 use Rattle.path_build.proofs.plain.count_of.Goals as goal
 
 -- ---- the points
-abbrev looped : goal.After-one_if-count → goal.At-loop-i
+abbrev looped : goal.After-one_if-count → (tie.At-loop goal.the-invariant-loop-i goal.the-decreases-loop-i)
 looped c = c.before.before.before
 
 most : (c : goal.After-one_if-count) → let a = (looped c).before.before.args in one_if (eqb (get_or a.letters.now (looped c).loop.i 0) a.letter) ≤ 1
@@ -30,10 +31,10 @@ overflow_add-count c =
 pub loop-i-preserved : goal.loop-i-preserved
 loop-i-preserved c =
     let l = looped c in
-    let inside = c.loop-i-test.true in (
-      omega (arith, inside),
+    (
+      omega (arith, c.loop-i-test.true),
       omega (arith, l.loop-i.inv.1, c.one_if-count.ensures, most c),
-      omega (arith, l.loop-i.inv.2, c.one_if-count.ensures, count_next l.args.letters.now l.args.letter l.loop-i.i inside),
+      omega (arith, l.loop-i.inv.2, c.one_if-count.ensures, count_next l.args.letters.now l.args.letter l.loop-i.i c.loop-i-test.true),
     )
 
 pub returns : goal.returns

@@ -16,14 +16,12 @@ record Small (c : goal.After-count_of-closes) : Type 0 where
 
 small : (c : goal.After-count_of-closes) → Small c
 small c =
-    let few = c.if-size-gt65536.false in
-    let letters = c.args.letters.now in
     record {
-      closes = omega (arith, few, c.count_of-closes.ensures, count_most 90 letters);
-      cubics = omega (arith, few, c.count_of-cubics.ensures, count_most 67 letters);
-      quads = omega (arith, few, c.count_of-quads.ensures, count_most 81 letters);
-      lines = omega (arith, few, c.count_of-lines.ensures, count_most 76 letters);
-      moves = omega (arith, few, c.count_of-moves.ensures, count_most 77 letters);
+      closes = omega (arith, c.if-size-gt65536.false, c.count_of-closes.ensures, count_most 90 c.args.letters.now);
+      cubics = omega (arith, c.if-size-gt65536.false, c.count_of-cubics.ensures, count_most 67 c.args.letters.now);
+      quads = omega (arith, c.if-size-gt65536.false, c.count_of-quads.ensures, count_most 81 c.args.letters.now);
+      lines = omega (arith, c.if-size-gt65536.false, c.count_of-lines.ensures, count_most 76 c.args.letters.now);
+      moves = omega (arith, c.if-size-gt65536.false, c.count_of-moves.ensures, count_most 77 c.args.letters.now);
     }
 
 abbrev counted : goal.Then-all_near → goal.After-count_of-closes

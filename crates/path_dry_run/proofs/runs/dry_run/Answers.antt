@@ -14,28 +14,29 @@ use Rattle.path_dry_run.specs.Seconds.{fast_of, Recorded}
 use Rattle.path_dry_run.proofs.Sums.{slow-all}
 use Rattle.path_dry_run.proofs.Seconds.{filled_none, seconds-in-order}
 use Rattle.path_dry_run.proofs.Answering.{run-bad, run_long, run-fast, run-short-segments, run-short-raws, run-filled}
+use Rattle.path_dry_run.proofs.runs.dry_run.Tie as tie
 use Rattle.path_dry_run.proofs.runs.dry_run.Goals as goal
 
 -- ---- past the speeds
-abbrev checked : goal.Else-fast-gt100000 → goal.After-check_path
+abbrev checked : tie.Else3 → tie.After-check_path
 checked e = e.before.before.before.before
 
-abbrev start : goal.After-check_path → goal.Start
+abbrev start : tie.After-check_path → tie.Start
 start c = c.before.before.before.before.before.before.before.before.before
 
-abbrev path : goal.After-check_path → Buffers
+abbrev path : tie.After-check_path → Buffers
 path c = let a = (start c).args in buffers a.kinds.now a.fields.now a.tables.now a.lengths.now a.commands.now
 
-stored : (e : goal.Else-fast-gt100000) → is_stored (path (checked e)) ≡ true
+stored : (e : tie.Else3) → is_stored (path (checked e)) ≡ true
 stored e = sym e.check_path.ensures ∙ e.if-check_path.true
 
-few : (e : goal.Else-fast-gt100000) → length (start (checked e)).args.speeds.now ≤ 36000
+few : (e : tie.Else3) → length (start (checked e)).args.speeds.now ≤ 36000
 few e = e.if-count-gt36000.false
 
-slow : (e : goal.Else-fast-gt100000) → fast_of (start (checked e)).args.speeds.now ≤ 100000
+slow : (e : tie.Else3) → fast_of (start (checked e)).args.speeds.now ≤ 100000
 slow e = omega (arith, e.first_fast-fast.ensures, e.if-fast-gt100000.false)
 
-recorded : (e : goal.Else-fast-gt100000) → Recorded (start (checked e)).args.speeds.now
+recorded : (e : tie.Else3) → Recorded (start (checked e)).args.speeds.now
 recorded e = record { few = few e; slow = slow-all (start (checked e)).args.speeds.now (slow e) }
 
 -- ---- the answers
@@ -71,10 +72,10 @@ fill_seconds-requires c =
 pub returns-then-check_path : goal.returns-then-check_path
 returns-then-check_path c =
     let check = checked c.before.before.before.before.before.before.before.before.before.before in
-    let filled = c.fill_seconds.ensures in (
-      run-filled _ _ _ _ (stored c.before.before.before.before.before.before.before.before.before.before) (few c.before.before.before.before.before.before.before.before.before.before) (slow c.before.before.before.before.before.before.before.before.before.before) _ _ c.if-segments-count.false c.if-raws-count.false filled,
+    (
+      run-filled _ _ _ _ (stored c.before.before.before.before.before.before.before.before.before.before) (few c.before.before.before.before.before.before.before.before.before.before) (slow c.before.before.before.before.before.before.before.before.before.before) _ _ c.if-segments-count.false c.if-raws-count.false c.fill_seconds.ensures,
       λ some.
-          seconds-in-order filled some
+          seconds-in-order c.fill_seconds.ensures some
           (record {
             stored = stored-rule _ (passed (stored c.before.before.before.before.before.before.before.before.before.before));
             table_values = check.shared_slice_known-3-1.given;

@@ -25,13 +25,14 @@ use Rattle.path_dry_run.specs.Seconds.{targets_from, targets_of, raw_toward, seg
 use Rattle.path_dry_run.specs.Ordered.{sum_of, target_at}
 use Rattle.path_dry_run.proofs.Sums.{sum-next, sum-few, targets-length, target_is}
 use Rattle.path_dry_run.proofs.Seconds.{segment-some, raw-some}
+use Rattle.path_dry_run.proofs.runs.fill_seconds.Tie as tie
 use Rattle.path_dry_run.proofs.runs.fill_seconds.Goals as goal
 
 -- ---- the points, and what is known there
 abbrev Loop : Type 0
-Loop = goal.At-loop-i
+Loop = (tie.At-loop goal.the-invariant-loop-i goal.the-decreases-loop-i)
 
-abbrev start : Loop → goal.Start
+abbrev start : Loop → (tie.Start goal.the-invariant-loop-i goal.the-decreases-loop-i)
 start l = l.before.before.before.before.before.before.before.before.before.before
 
 abbrev path : Loop → Buffers
@@ -47,14 +48,12 @@ segments-size : (l : Loop) → length l.loop-i.segments ≡ length (start l).arg
 segments-size l =
     let n = count-is l in
     let room = (start l).pre.segments_room in
-    let upto = l.loop-i.inv.0 in
     ap length l.loop-i.inv.4 ∙ each-size (segment_reached (path l)) (targets_of (speeds_of l)) (start l).args.segments.now l.loop-i.i (omega arith) (omega arith)
 
 raws-size : (l : Loop) → length l.loop-i.raws ≡ length (start l).args.raws.now
 raws-size l =
     let n = count-is l in
     let room = (start l).pre.raws_room in
-    let upto = l.loop-i.inv.0 in
     ap length l.loop-i.inv.5 ∙ each-size (raw_reached (path l)) (targets_of (speeds_of l)) (start l).args.raws.now l.loop-i.i (omega arith) (omega arith)
 
 -- within the loop: one more second is left, and the sum with its speed is small enough
@@ -79,7 +78,7 @@ small t = omega (arith, next t, sum-few (start t.before).pre.recorded (suc t.loo
 
 -- past the lookup
 abbrev Reached : Type 0
-Reached = goal.After-reach-there
+Reached = (tie.After-reach goal.the-invariant-loop-i goal.the-decreases-loop-i)
 
 abbrev test : Reached → Inside
 test r = r.before.before.before
@@ -166,15 +165,14 @@ loop-i-preserved c =
     let pre = (start t.before).pre in
     let n = count-is t.before in
     let upto = more t in
-    let kinds = a.kinds.now in
-    let own = cursor-own kinds _ r.reach-there.ensures.is in
+    let own = cursor-own a.kinds.now _ r.reach-there.ensures.is in
     let one : suc t.loop-i.i ≡ t.loop-i.i + 1 = omega arith in (
       omega (arith, upto),
       next t ∙ ap (λ (k : ℕ). sum_of (take k (speeds_of t.before))) one,
       own.1,
       stands-inside r,
-      each_next (segment_reached (path t.before)) (targets_of (speeds_of t.before)) a.segments.now t.loop-i.segments t.loop-i.i _ (omega arith) (let room = pre.segments_room in omega arith) t.loop-i.inv.4 (segment-there r),
-      each_next (raw_reached (path t.before)) (targets_of (speeds_of t.before)) a.raws.now t.loop-i.raws t.loop-i.i _ (omega arith) (let room = pre.raws_room in omega arith) t.loop-i.inv.5
+      each_next (segment_reached (path t.before)) (targets_of (speeds_of t.before)) a.segments.now t.loop-i.segments t.loop-i.i _ (omega arith) (omega arith) t.loop-i.inv.4 (segment-there r),
+      each_next (raw_reached (path t.before)) (targets_of (speeds_of t.before)) a.raws.now t.loop-i.raws t.loop-i.i _ (omega arith) (let pre.segments_room = pre.raws_room in omega arith) t.loop-i.inv.5
           (c.tidy.ensures ∙ c.number_of.ensures ∙ raw-there r),
     )
 

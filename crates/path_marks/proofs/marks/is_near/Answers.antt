@@ -16,6 +16,5 @@ returns-then-segment-start c = λ e. absurd (false≢true e)
 
 pub returns : goal.returns
 returns c = λ e.
-    let a = c.args in
-    let h = leb-true (a.segment - a.from.segment) 16 e in
+    let h = leb-true (c.args.segment - c.args.from.segment) 16 e in
     record { later = omega arith; near = omega arith; enough = omega arith }

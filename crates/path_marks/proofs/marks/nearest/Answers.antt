@@ -3,10 +3,11 @@ use borrow.Author.Rules.{rules}
 use Prim.Native.Nat.{◌/◌, ◌^◌, ◌<◌}
 use native.Mathlib.Omega.{arith}
 use Rattle.path_marks.proofs.Marking.{mark-lt, mark-le, mark-whole, mark-moves}
+use Rattle.path_marks.proofs.marks.nearest.Tie as tie
 use Rattle.path_marks.proofs.marks.nearest.Goals as goal
 
 -- the mark is one of the 256
-among : (s : goal.Start) → s.args.segment / 2 ^ s.args.shift < 256
+among : (s : tie.Start) → s.args.segment / 2 ^ s.args.shift < 256
 among s = mark-lt s.requires
 
 pub overflow_sub-segment : goal.overflow_sub-segment

@@ -6,9 +6,10 @@ use Rattle.path_segment.specs.Segments.{width_of}
 use Rattle.path_segment.proofs.Widths.{width-most}
 use Rattle.path_stored.proofs.Counting.{before-most}
 use Rattle.path_place.proofs.Walks.{Walked, walked_from, walked_on, walked-is, walked-tables}
+use Rattle.path_marks.proofs.marks.reached.Tie as tie
 use Rattle.path_marks.proofs.marks.reached.Goals as goal
 
-abbrev start : goal.After-tables_near → goal.Start
+abbrev start : goal.After-tables_near → tie.Start
 start c = c.before.before.before.before
 
 -- what stands before the segment
@@ -22,20 +23,15 @@ few c = let move = (start c).requires.move in omega arith
 
 pub fields_near-requires : goal.fields_near-requires
 fields_near-requires c =
-    let pre = c.requires in
-    let short = pre.short in
-    record { order = short.later; short = short.near; enough = short.enough; inside = pre.move.inside; known = pre.known }
+    record { order = c.requires.short.later; c.requires.short = c.requires.short.near; enough = c.requires.short.enough; inside = c.requires.move.inside; known = c.requires.known }
 
 pub tables_near-requires : goal.tables_near-requires
 tables_near-requires c =
-    let pre = c.requires in
-    let short = pre.short in
-    record { order = short.later; short = short.near; enough = short.enough; inside = pre.move.inside; known = pre.known }
+    record { order = c.requires.short.later; c.requires.short = c.requires.short.near; enough = c.requires.short.enough; inside = c.requires.move.inside; known = c.requires.known }
 
 -- nothing overflows
 pub overflow_add-result : goal.overflow_add-result
 overflow_add-result c =
-    let inside = c.requires.move in
     let from = walked_from c.requires.move.is in
     record { fits = omega (arith, from.fields_are, c.fields_near.ensures, before-most width_of 11 width-most c.args.kinds.now c.args.segment) }
 

@@ -7,13 +7,14 @@ use lib.Pow.{pow_pos}
 use Rattle.path_place.proofs.Standing.{cursor-own}
 use Rattle.path_marks.specs.Marks.{Reach}
 use Rattle.path_marks.proofs.Marking.{Setting, apart-is, setting-first, setting-own, setting-fields, setting-tables, setting-lt, setting-stored, setting-done, setting-next}
+use Rattle.path_marks.proofs.marks.set_marks.Tie as tie
 use Rattle.path_marks.proofs.marks.set_marks.Goals as goal
 
 -- ---- the points, and what is known there
 abbrev Loop : Type 0
-Loop = goal.At-loop-at
+Loop = (tie.At-loop goal.the-invariant-loop-at goal.the-decreases-loop-at)
 
-abbrev start : Loop → goal.Start
+abbrev start : Loop → (tie.Start goal.the-invariant-loop-at goal.the-decreases-loop-at)
 start l = l.before.before.before.before
 
 few : (l : Loop) → length (start l).args.kinds.now ≤ 65536
@@ -73,7 +74,5 @@ loop-at-smaller c =
 
 pub loop-at-preserved : goal.loop-at-preserved
 loop-at-preserved c =
-    let s = c.loop-at.invariant in
-    let stored = setting-stored (few c.before.before.before.before.before.before) s (room c.before.before.before.before.before.before) in
-    let more = c.if-count-at.false in
-    setting-next (few c.before.before.before.before.before.before) s stored (omega (arith, more, apart-is (reach c.before.before.before.before.before.before))) (rw (apart-is (reach c.before.before.before.before.before.before)) at c.forward-at.ensures)
+    let stored = setting-stored (few c.before.before.before.before.before.before) c.loop-at.invariant (room c.before.before.before.before.before.before) in
+    setting-next (few c.before.before.before.before.before.before) c.loop-at.invariant stored (omega (arith, c.if-count-at.false, apart-is (reach c.before.before.before.before.before.before))) (rw (apart-is (reach c.before.before.before.before.before.before)) at c.forward-at.ensures)

@@ -26,5 +26,4 @@ returns-in-Arc c = rw c.in-Arc.is c.arc_position.ensures
 pub returns-in-Fallback : goal.returns-in-Fallback
 unfolding position_of
 returns-in-Fallback c =
-    let along = c.args.along.value in
-    rw c.in-Fallback.is (ap Placed.At (c.line_position-in-Fallback.ensures ∙ ap (λ (line : LineSegment). line_position_of line along) c.chord_line.ensures))
+    rw c.in-Fallback.is (ap Placed.At (c.line_position-in-Fallback.ensures ∙ ap (λ (line : LineSegment). line_position_of line c.args.along.value) c.chord_line.ensures))

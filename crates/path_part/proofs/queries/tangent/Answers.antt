@@ -25,5 +25,4 @@ returns-in-Arc c = rw c.in-Arc.is c.arc_tangent.ensures
 pub returns-in-Fallback : goal.returns-in-Fallback
 unfolding tangent_of
 returns-in-Fallback c =
-    let line = c.chord_line.ensures in
-    rw c.in-Fallback.is (ap Placed.At (c.line_tangent-in-Fallback.ensures ∙ ap line_tangent_of line))
+    rw c.in-Fallback.is (ap Placed.At (c.line_tangent-in-Fallback.ensures ∙ ap line_tangent_of c.chord_line.ensures))

@@ -10,13 +10,13 @@ pub loop-at-init : goal.loop-at-init
 loop-at-init c = (c.requires.earlier, c.requires.inside, walked_from c.requires.is)
 
 pub overflow_sub-fields : goal.overflow_sub-fields
-overflow_sub-fields c = let l = c.loop-at in omega (arith, width-passed l.invariant.2 (omega arith) l.invariant.1 _ c.width-fields.ensures)
+overflow_sub-fields c = omega (arith, width-passed c.loop-at.invariant.2 (omega arith) c.loop-at.invariant.1 _ c.width-fields.ensures)
 
 pub overflow_sub-tables : goal.overflow_sub-tables
-overflow_sub-tables c = let l = c.loop-at in omega (arith, table-passed l.invariant.2 (omega arith) l.invariant.1 _ c.table_width-tables.ensures)
+overflow_sub-tables c = omega (arith, table-passed c.loop-at.invariant.2 (omega arith) c.loop-at.invariant.1 _ c.table_width-tables.ensures)
 
 pub loop-at-preserved : goal.loop-at-preserved
-loop-at-preserved c = let l = c.loop-at in (omega arith, omega arith, walked-back l.invariant.2 (omega arith) l.invariant.1 _ _ c.width-fields.ensures c.table_width-tables.ensures)
+loop-at-preserved c = (omega arith, omega arith, walked-back c.loop-at.invariant.2 (omega arith) c.loop-at.invariant.1 _ _ c.width-fields.ensures c.table_width-tables.ensures)
 
 pub returns : goal.returns
 returns c = walked-is _ c.loop-at.invariant.2 (omega arith)

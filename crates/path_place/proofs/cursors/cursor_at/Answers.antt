@@ -9,8 +9,6 @@ use Rattle.path_place.proofs.cursors.cursor_at.Goals as goal
 
 pub overflow_mul-result : goal.overflow_mul-result
 overflow_mul-result c =
-    let few = c.requires.0 in
-    let inside = c.requires.1 in
     record { fits = omega (arith, c.tables_before.ensures, before-most tables_of 1 tables-most c.args.kinds.now c.args.segment) }
 
 pub returns : goal.returns

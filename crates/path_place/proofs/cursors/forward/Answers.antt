@@ -9,10 +9,10 @@ pub loop-at-init : goal.loop-at-init
 loop-at-init c = (c.requires.later, walked_from c.requires.is)
 
 pub overflow_add-fields : goal.overflow_add-fields
-overflow_add-fields c = omega (arith, walked-fields c.loop-at.invariant.1 (let h = c.requires in omega arith), width-at-most _ _ c.width-fields.ensures)
+overflow_add-fields c = omega (arith, walked-fields c.loop-at.invariant.1 (omega arith), width-at-most _ _ c.width-fields.ensures)
 
 pub overflow_add-tables : goal.overflow_add-tables
-overflow_add-tables c = omega (arith, walked-tables c.loop-at.invariant.1 (let h = c.requires in omega arith), table-at-most _ _ c.table_width-tables.ensures)
+overflow_add-tables c = omega (arith, walked-tables c.loop-at.invariant.1 (omega arith), table-at-most _ _ c.table_width-tables.ensures)
 
 pub loop-at-preserved : goal.loop-at-preserved
 loop-at-preserved c = (omega arith, walked_next _ _ c.loop-at.invariant.1 (omega (arith, c.requires.inside)) c.width-fields.ensures c.table_width-tables.ensures)

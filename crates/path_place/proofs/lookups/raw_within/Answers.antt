@@ -13,5 +13,4 @@ raw_for-requires c = λ has. subst (TableThere c.args.tables.now) (sym (cursor-t
 pub returns : goal.returns
 unfolding raw_within
 returns c =
-    let a = c.args in
-    c.raw_for.ensures ∙ ap (λ (first : ℕ). raw_for (get_or a.kinds.now a.at.segment 0) a.tables.now first a.along.value) (cursor-tables _ _ c.requires.is)
+    c.raw_for.ensures ∙ ap (λ (first : ℕ). raw_for (get_or c.args.kinds.now c.args.at.segment 0) c.args.tables.now first c.args.along.value) (cursor-tables _ _ c.requires.is)

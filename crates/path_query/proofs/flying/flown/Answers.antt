@@ -8,16 +8,16 @@ use Rattle.table.specs.declared.tables.Spot.{Spot}
 use Rattle.table.specs.Spots.{spot_of}
 use Rattle.path_place.proofs.Standing.{spot-among}
 use Rattle.path_query.proofs.Seats.{some-place, seated, flight-is}
+use Rattle.path_query.proofs.flying.flown.Tie as tie
 use Rattle.path_query.proofs.flying.flown.Goals as goal
 
 -- the spot's segment is one of the path's
-inside : (start : goal.Start) {spot : Spot} → spot ≡ spot_of start.args.lengths.now start.args.progress.value → spot.segment < length start.args.kinds.now
+inside : (start : tie.Start) {spot : Spot} → spot ≡ spot_of start.args.lengths.now start.args.progress.value → spot.segment < length start.args.kinds.now
 inside start {spot} e = rw e (spot-among (some-place start.requires) start.args.progress.value)
 
 pub cursor_at-at-requires : goal.cursor_at-at-requires
 cursor_at-at-requires c =
     let among = inside c.before.before.before.before.before.before.before c.spot-found.ensures in
-    let few = c.requires.path.few in
     (omega arith, omega arith)
 
 pub flown_within-requires : goal.flown_within-requires
@@ -26,5 +26,4 @@ flown_within-requires c =
 
 pub returns : goal.returns
 returns c =
-    let spot = c.spot-found in
-    c.flown_within.ensures ∙ flight-is _ _ spot.result c.cursor_at-at.result spot.ensures c.cursor_at-at.ensures
+    c.flown_within.ensures ∙ flight-is _ _ c.spot-found.result c.cursor_at-at.result c.spot-found.ensures c.cursor_at-at.ensures

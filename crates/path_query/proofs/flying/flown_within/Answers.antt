@@ -10,6 +10,5 @@ heading-requires c =
 
 pub returns : goal.returns
 returns c =
-    let a = c.args in
-    flown-is a.kinds.now a.fields.now a.tables.now a.at a.along.value _ _ _ _ c.requires.standing.is c.segment_here-segment.ensures
+    flown-is c.args.kinds.now c.args.fields.now c.args.tables.now c.args.at c.args.along.value _ _ _ _ c.requires.standing.is c.segment_here-segment.ensures
     c.raw_within-raw.ensures (c.tidy_point-position.ensures ∙ c.sample.ensures) (c.tidy_point-tangent.ensures ∙ c.heading.ensures)

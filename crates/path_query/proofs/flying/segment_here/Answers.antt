@@ -11,10 +11,9 @@ use Rattle.path_query.proofs.flying.segment_here.Goals as goal
 
 pub segment_at-requires : goal.segment_at-requires
 segment_at-requires c =
-    let here = c.requires.standing in
-    let i = c.args.at.segment in (
-      c.requires.fielded.known i here.inside,
-      subst (λ (n : ℕ). n + width_of (get_or c.args.kinds.now i 0) ≤ length c.args.fields.now) (sym (cursor-fields _ _ here.is)) (segment-fields c.requires.fielded i here.inside),
+    (
+      c.requires.fielded.known c.args.at.segment c.requires.standing.inside,
+      subst (λ (n : ℕ). n + width_of (get_or c.args.kinds.now c.args.at.segment 0) ≤ length c.args.fields.now) (sym (cursor-fields _ _ c.requires.standing.is)) (segment-fields c.requires.fielded c.args.at.segment c.requires.standing.inside),
     )
 
 pub returns : goal.returns

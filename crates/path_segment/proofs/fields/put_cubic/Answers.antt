@@ -9,5 +9,4 @@ use Rattle.path_segment.proofs.fields.put_cubic.Goals as goal
 
 pub returns : goal.returns
 returns c =
-    let a = c.args in
-    then-put a.fields-1.now a.at (xy a.start (xy a.control1 [])) (xy a.control2 (xy a.end [])) c.put_pair.ensures refl c.put_pair-2.ensures
+    then-put c.args.fields.now c.args.at (xy c.args.start (xy c.args.control1 [])) (xy c.args.control2 (xy c.args.end [])) c.put_pair.ensures refl c.put_pair-2.ensures

@@ -9,5 +9,4 @@ use Rattle.path_segment.proofs.fields.put_quad.Goals as goal
 
 pub returns : goal.returns
 returns c =
-    let a = c.args in
-    then-put a.fields-1.now a.at (xy a.start (xy a.control [])) (xy a.end []) c.put_pair.ensures refl c.put_two.ensures
+    then-put c.args.fields.now c.args.at (xy c.args.start (xy c.args.control [])) (xy c.args.end []) c.put_pair.ensures refl c.put_two.ensures

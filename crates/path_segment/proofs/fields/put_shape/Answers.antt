@@ -7,13 +7,14 @@ use mathlib.Core.List.{[], ◌∷◌, ◌++◌}
 use mathlib.Core.Path.{refl, ap, ◌∙◌}
 use Prim.Native.Nat.{◌+◌}
 use borrow.Author.Rules.{rules}
+use Rattle.path_segment.proofs.fields.put_shape.Tie as tie
 use Rattle.path_segment.proofs.fields.put_shape.Goals as goal
 
 -- ---- the points
-abbrev ends : goal.After-put_two → goal.After-put_cubic
+abbrev ends : tie.After-put_two → tie.After-put_cubic
 ends p = p.before.before.before.before
 
-abbrev start : goal.After-put_cubic → goal.Start
+abbrev start : tie.After-put_cubic → tie.Start
 start p = p.before.before.before
 
 -- ---- the answers
@@ -23,9 +24,8 @@ shape_of-fields c = simp length-set (c.put_two.auto.0 ∙ (ends c.before.before.
 pub returns : goal.returns
 returns c =
     let a = (start (ends c.before.before.before)).args in
-    let s = a.shape in
-    let points = xy s.start (xy s.end (xy s.center (xy s.radii []))) in
-    let angles = s.x_axis_rotation ∷ s.start_angle ∷ [] in
+    let points = xy a.shape.start (xy a.shape.end (xy a.shape.center (xy a.shape.radii []))) in
+    let angles = a.shape.x_axis_rotation ∷ a.shape.start_angle ∷ [] in
     let put = then-put a.fields-1.now a.at points angles (ends c.before.before.before).put-cubic.ensures refl c.put_two.ensures in
     then-put a.fields-1.now a.at (points ++ angles) (c.tidy.result ∷ []) {j = a.at + 10} put refl refl
     ∙ ap (λ z. sets a.fields-1.now a.at (points ++ angles ++ z ∷ [])) c.tidy.ensures

@@ -6,14 +6,15 @@ use native.Mathlib.Omega.{arith}
 use mathlib.Core.Path.{◌≡◌, ap, ◌∙◌}
 use Prim.Native.Nat.{◌-◌, ◌≤◌}
 use borrow.Author.Rules.{rules}
+use Rattle.path_segment.proofs.fields.put_table.Tie as tie
 use Rattle.path_segment.proofs.fields.put_table.Goals as goal
 
 -- ---- the points
-abbrev start : goal.At-loop-k → goal.Start
+abbrev start : (tie.At-loop goal.the-invariant-loop-k goal.the-decreases-loop-k) → (tie.Start goal.the-invariant-loop-k goal.the-decreases-loop-k)
 start l = l.before.before.before
 
 -- the buffer keeps its length
-kept : (l : goal.At-loop-k) → length l.loop-k.tables ≡ length (start l).args.tables.now
+kept : (l : (tie.At-loop goal.the-invariant-loop-k goal.the-decreases-loop-k)) → length l.loop-k.tables ≡ length (start l).args.tables.now
 kept l = let a = (start l).args in ap length l.loop-k.invariant.2 ∙ length-sets a.tables.now a.at (take l.loop-k.k a.table.entries)
 
 -- ---- the answers
@@ -22,9 +23,8 @@ bounds-tables-at c = omega (arith, kept c.before.before)
 
 pub loop-k-preserved : goal.loop-k-preserved
 loop-k-preserved c =
-    let l = c.loop-k in
     let a = (start c.before.before).args in
-    (omega arith, l.invariant.1, put_next a.table.entries a.tables.now a.at l.k l.tables _ (omega arith) l.invariant.2 c.tidy.ensures)
+    (omega arith, c.loop-k.invariant.1, put_next a.table.entries a.tables.now a.at c.loop-k.k c.loop-k.tables _ (omega arith) c.loop-k.invariant.2 c.tidy.ensures)
 
 pub bounds-tables-at-2 : goal.bounds-tables-at-2
 bounds-tables-at-2 c = omega (arith, kept c.before.before)
@@ -34,7 +34,6 @@ shape_of-tables c = simp length-set (kept c.before.before)
 
 pub returns : goal.returns
 returns c =
-    let l = c.loop-k in
     let a = (start c.before.before).args in
-    let k : l.k ≡ 32 = omega arith in
-    put_last a.table.entries a.tables.now a.at 32 l.tables _ _ l.invariant.1 (rw k at l.invariant.2) c.tidy-2.ensures
+    let k : c.loop-k.k ≡ 32 = omega arith in
+    put_last a.table.entries a.tables.now a.at 32 c.loop-k.tables _ _ c.loop-k.invariant.1 (rw k at c.loop-k.invariant.2) c.tidy-2.ensures

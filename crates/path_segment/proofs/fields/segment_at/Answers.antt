@@ -52,18 +52,15 @@ shape_at-requires-in_default c = omega (arith, room _ 4 _ _ (fifth _ c.in_defaul
 
 pub returns-in-0 : goal.returns-in-0
 returns-in-0 c =
-    let a = c.args in
-    line_at a.fields.now a.at c.point_at-start.ensures c.point_at-end.ensures c.in-0.is
+    line_at c.args.fields.now c.args.at c.point_at-start.ensures c.point_at-end.ensures c.in-0.is
 
 pub returns-in-1 : goal.returns-in-1
 returns-in-1 c =
-    let a = c.args in
-    quad_at a.fields.now a.at c.point_at.ensures c.point_at-in-1.ensures c.point_at-in-1-2.ensures c.in-1.is
+    quad_at c.args.fields.now c.args.at c.point_at.ensures c.point_at-in-1.ensures c.point_at-in-1-2.ensures c.in-1.is
 
 pub returns-in-2 : goal.returns-in-2
 returns-in-2 c =
-    let a = c.args in
-    cubic-at a.fields.now a.at c.point_at-in-2.ensures c.point_at-in-2-2.ensures c.point_at-in-2-3.ensures c.point_at-in-2-4.ensures
+    cubic-at c.args.fields.now c.args.at c.point_at-in-2.ensures c.point_at-in-2-2.ensures c.point_at-in-2-3.ensures c.point_at-in-2-4.ensures
     c.in-2.is
 
 pub returns-in-3 : goal.returns-in-3
@@ -71,5 +68,4 @@ returns-in-3 c = arc-at _ c.shape_at.ensures c.in-3.is
 
 pub returns-in_default : goal.returns-in_default
 returns-in_default c =
-    let r = c.in_default.in_default-own.rest in
-    fallback-at _ c.shape_at-in_default.ensures (fifth _ r.0.0.0.1 r.0.0.1 r.0.1 r.1 c.requires.0)
+    fallback-at _ c.shape_at-in_default.ensures (fifth _ c.in_default.in_default-own.rest.0.0.0.1 c.in_default.in_default-own.rest.0.0.1 c.in_default.in_default-own.rest.0.1 c.in_default.in_default-own.rest.1 c.requires.0)

@@ -7,13 +7,11 @@ use Rattle.path_segment.proofs.fields.shape_at.Goals as goal
 
 pub returns : goal.returns
 returns c =
-    let a = c.args in
-    let n = a.fields.now in
-    let p = point-first n a.at c.point_at-start.ensures in
-    let q = point-later n a.at 2 c.point_at-end.ensures in
-    let r = point-later n a.at 4 c.point_at-center.ensures in
-    let s = point-later n a.at 6 c.point_at-radii.ensures in
-    let x = number-from n a.at 8 (a.at + 8) refl in
-    let y = number-from n a.at 9 (a.at + 9) refl in
-    let z = number-from n a.at 10 (a.at + 10) refl in
+    let p = point-first c.args.fields.now c.args.at c.point_at-start.ensures in
+    let q = point-later c.args.fields.now c.args.at 2 c.point_at-end.ensures in
+    let r = point-later c.args.fields.now c.args.at 4 c.point_at-center.ensures in
+    let s = point-later c.args.fields.now c.args.at 6 c.point_at-radii.ensures in
+    let x = number-from c.args.fields.now c.args.at 8 (c.args.at + 8) refl in
+    let y = number-from c.args.fields.now c.args.at 9 (c.args.at + 9) refl in
+    let z = number-from c.args.fields.now c.args.at 10 (c.args.at + 10) refl in
     cc

@@ -5,13 +5,14 @@ use lib.Seq.{sets}
 use native.Mathlib.Omega.{arith}
 use mathlib.Core.Path.{◌≡◌, sym, ap, ◌∙◌}
 use borrow.Author.Rules.{rules}
+use Rattle.path_segment.proofs.fields.store_table.Tie as tie
 use Rattle.path_segment.proofs.fields.store_table.Goals as goal
 
 -- ---- the points
-abbrev start : goal.After-has_table → goal.Start
+abbrev start : tie.After-has_table → tie.Start
 start p = p.before.before.before
 
-abbrev has : (p : goal.After-has_table) → has_table (kind_of (start p).args.segment) ≡ p.has_table.result
+abbrev has : (p : tie.After-has_table) → has_table (kind_of (start p).args.segment) ≡ p.has_table.result
 has p = ap has_table (sym p.kind.ensures) ∙ sym p.has_table.ensures
 
 -- ---- the answers

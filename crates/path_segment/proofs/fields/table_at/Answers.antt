@@ -12,13 +12,9 @@ loop-k-init c = (omega arith, refl, λ k h. absurd (omega arith))
 
 pub loop-k-preserved : goal.loop-k-preserved
 loop-k-preserved c =
-    let l = c.loop-k in
-    let a = c.args in
-    (omega arith, simp length-set l.invariant.1, copied_more l.entries a.tables.now a.at l.k (rw l.invariant.1 c.loop-k-test.true) l.invariant.2)
+    (omega arith, simp length-set c.loop-k.invariant.1, copied_more c.loop-k.entries c.args.tables.now c.args.at c.loop-k.k (rw c.loop-k.invariant.1 c.loop-k-test.true) c.loop-k.invariant.2)
 
 pub returns : goal.returns
 returns c =
-    let l = c.loop-k in
-    let a = c.args in
-    let e = copied_all l.entries a.tables.now a.at 32 l.invariant.1 (omega arith) (λ k h. l.invariant.2 k (omega arith)) in
+    let e = copied_all c.loop-k.entries c.args.tables.now c.args.at 32 c.loop-k.invariant.1 (omega arith) (λ k h. c.loop-k.invariant.2 k (omega arith)) in
     cc

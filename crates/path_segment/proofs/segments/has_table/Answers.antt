@@ -18,4 +18,4 @@ returns-in-3 c = rw c.in-3.is
 
 pub returns-in_default : goal.returns-in_default
 unfolding has_table tables_of
-returns-in_default c = let r = c.in_default.in_default-own.rest in no-table-for _ r.0.0.1 r.0.1 r.1
+returns-in_default c = no-table-for _ c.in_default.in_default-own.rest.0.0.1 c.in_default.in_default-own.rest.0.1 c.in_default.in_default-own.rest.1

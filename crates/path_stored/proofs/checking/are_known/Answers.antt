@@ -12,7 +12,7 @@ pub loop-i-init : goal.loop-i-init
 loop-i-init c = refl
 
 pub loop-i-preserved : goal.loop-i-preserved
-loop-i-preserved c = let l = c.loop-i in l.invariant ∙ known_next c.args.kinds.now l.known l.i (search rules)
+loop-i-preserved c = c.loop-i.invariant ∙ known_next c.args.kinds.now c.loop-i.known c.loop-i.i (search rules)
 
 pub returns : goal.returns
-returns c = let l = c.loop-i in known-end c.args.kinds.now l.known l.i c.loop-i-test.false ∙ sym l.invariant
+returns c = known-end c.args.kinds.now c.loop-i.known c.loop-i.i c.loop-i-test.false ∙ sym c.loop-i.invariant

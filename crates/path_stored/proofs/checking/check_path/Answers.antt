@@ -13,10 +13,11 @@ use mathlib.Core.List.{List}
 use lib.Dec.{T, leb, eqb}
 use Prim.Native.Nat.{ℕ, ◌*◌}
 use borrow.Author.Rules.{rules}
+use Rattle.path_stored.proofs.checking.check_path.Tie as tie
 use Rattle.path_stored.proofs.checking.check_path.Goals as goal
 
 -- ---- the points: after each test that passed, and what it showed
-abbrev start : goal.Else-count-gt65536 → goal.Start
+abbrev start : goal.Else-count-gt65536 → tie.Start
 start p = p.before.before.before.before.before.before
 
 abbrev kinds : goal.Else-count-gt65536 → List ℕ
@@ -44,7 +45,7 @@ tabled : (p : goal.Else-tables-n) → let s = one (two (three p)) in let k = kin
 tabled p = agrees _ _ _ p.if-tables-n.false (ap (λ m. 33 * m) p.tables_before-n.ensures)
 
 -- the tables' test, whichever way it went
-judged : (p : goal.After-tables_are_sound)
+judged : (p : tie.After-tables_are_sound)
     → let s = one (two (three p.before)) in let k = kinds s in tables_are_sound (start s).args.tables.now (before tables_of k (length k)) ≡ p.tables_are_sound.result
 judged p = let s = start (one (two (three p.before))) in ap (tables_are_sound s.args.tables.now) (sym p.tables_before-n.ensures) ∙ sym p.tables_are_sound.ensures
 

@@ -13,7 +13,7 @@ pub loop-k-init : goal.loop-k-init
 loop-k-init c = refl
 
 pub loop-k-preserved : goal.loop-k-preserved
-loop-k-preserved c = let l = c.loop-k in l.invariant ∙ falls-next c.args.commands.now l.rise l.previous l.k (search rules)
+loop-k-preserved c = c.loop-k.invariant ∙ falls-next c.args.commands.now c.loop-k.rise c.loop-k.previous c.loop-k.k (search rules)
 
 pub returns : goal.returns
-returns c = let l = c.loop-k in falls-end c.args.commands.now l.rise l.previous l.k c.loop-k-test.false ∙ sym l.invariant
+returns c = falls-end c.args.commands.now c.loop-k.rise c.loop-k.previous c.loop-k.k c.loop-k-test.false ∙ sym c.loop-k.invariant

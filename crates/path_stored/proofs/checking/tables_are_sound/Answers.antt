@@ -8,6 +8,7 @@ use mathlib.Core.Bool.{true}
 use mathlib.Core.Path.{◌≡◌, refl, sym, ap, ◌∙◌}
 use Prim.Native.Nat.{◌*◌, ◌-◌, ◌≤◌}
 use borrow.Author.Rules.{rules}
+use Rattle.path_stored.proofs.checking.tables_are_sound.Tie as tie
 use Rattle.path_stored.proofs.checking.tables_are_sound.Goals as goal
 
 pub loop-j-init : goal.loop-j-init
@@ -15,15 +16,14 @@ unfolding tables_are_sound
 loop-j-init c = (omega arith, refl)
 
 -- the table at j, whichever way its test went
-abbrev judging : goal.After-row_is_sound → goal.At-loop-j
+abbrev judging : (tie.After-row_is_sound goal.the-invariant-loop-j goal.the-decreases-loop-j) → (tie.At-loop goal.the-invariant-loop-j goal.the-decreases-loop-j)
 judging p = p.before.before.before
 
-judged : (p : goal.After-row_is_sound)
+judged : (p : (tie.After-row_is_sound goal.the-invariant-loop-j goal.the-decreases-loop-j))
     → let t = (judging p).before.before.args.tables.now in let j = (judging p).loop.j in sound_at t j ≡ p.row_is_sound.result
 judged p =
     let l = judging p in
-    let t = l.args.tables.now in
-    sym (row-part t l.loop-j.j (search rules)) ∙ sym p.row_is_sound.ensures
+    sym (row-part l.args.tables.now l.loop-j.j (search rules)) ∙ sym p.row_is_sound.ensures
 
 pub loop-j-preserved : goal.loop-j-preserved
 loop-j-preserved c = let l = judging c.before in (omega arith, sound-next _ l.loop-j.j l.loop-j.inv.1 (judged c.before ∙ c.if-row_is_sound.true))
@@ -34,4 +34,4 @@ returns-else-row_is_sound c =
     sound-stop _ l.loop-j.j l.args.n c.loop-j-test.true l.loop-j.inv.1 (judged c.before ∙ c.if-row_is_sound.false)
 
 pub returns : goal.returns
-returns c = let l = c.loop-j in let e : l.j ≡ c.args.n = omega arith in sym (rw e at l.invariant.1)
+returns c = let e : c.loop-j.j ≡ c.args.n = omega arith in sym (rw e at c.loop-j.invariant.1)

@@ -15,36 +15,30 @@ loop-j-init c = (omega arith, c.requires.span.order, fields-start c.args.kinds.n
 -- a byte holds 128 and one more
 pub overflow_add-from1 : goal.overflow_add-from1
 overflow_add-from1 c =
-    let l = c.loop-j in
-    omega (arith, l.invariant.2.few1, c.requires.short, one_at_most 1 (get_or c.args.kinds.now l.j 0), c.one_from-from1.ensures)
+    omega (arith, c.loop-j.invariant.2.few1, c.requires.short, one_at_most 1 (get_or c.args.kinds.now c.loop-j.j 0), c.one_from-from1.ensures)
 
 pub overflow_add-from2 : goal.overflow_add-from2
 overflow_add-from2 c =
-    let l = c.loop-j in
-    omega (arith, l.invariant.2.few2, c.requires.short, one_at_most 2 (get_or c.args.kinds.now l.j 0), c.one_from-from2.ensures)
+    omega (arith, c.loop-j.invariant.2.few2, c.requires.short, one_at_most 2 (get_or c.args.kinds.now c.loop-j.j 0), c.one_from-from2.ensures)
 
 pub overflow_add-from3 : goal.overflow_add-from3
 overflow_add-from3 c =
-    let l = c.loop-j in
-    omega (arith, l.invariant.2.few3, c.requires.short, one_at_most 3 (get_or c.args.kinds.now l.j 0), c.one_from-from3.ensures)
+    omega (arith, c.loop-j.invariant.2.few3, c.requires.short, one_at_most 3 (get_or c.args.kinds.now c.loop-j.j 0), c.one_from-from3.ensures)
 
 pub overflow_add-from5 : goal.overflow_add-from5
 overflow_add-from5 c =
-    let l = c.loop-j in
-    omega (arith, l.invariant.2.few5, c.requires.short, one_at_most 5 (get_or c.args.kinds.now l.j 0), c.one_from-from5.ensures)
+    omega (arith, c.loop-j.invariant.2.few5, c.requires.short, one_at_most 5 (get_or c.args.kinds.now c.loop-j.j 0), c.one_from-from5.ensures)
 
 pub loop-j-preserved : goal.loop-j-preserved
 loop-j-preserved c =
-    let l = c.loop-j in
     (
       omega arith,
       omega arith,
-      fields-more _ _ _ _ l.invariant.2 l.invariant.0 (omega (arith, c.requires.span.inside))
+      fields-more _ _ _ _ c.loop-j.invariant.2 c.loop-j.invariant.0 (omega (arith, c.requires.span.inside))
           c.one_from-from1.ensures c.one_from-from2.ensures c.one_from-from3.ensures c.one_from-from5.ensures,
     )
 
 pub returns : goal.returns
 returns c =
-    let l = c.loop-j in
-    let e : l.j ≡ c.args.to = omega arith in
-    omega (arith, l.invariant.2.sum, l.invariant.2.grows, ap (before width_of c.args.kinds.now) e, c.wide-4.ensures, c.wide-3.ensures, c.wide-2.ensures, c.wide.ensures)
+    let e : c.loop-j.j ≡ c.args.to = omega arith in
+    omega (arith, c.loop-j.invariant.2.sum, c.loop-j.invariant.2.grows, ap (before width_of c.args.kinds.now) e, c.wide-4.ensures, c.wide-3.ensures, c.wide-2.ensures, c.wide.ensures)

@@ -13,25 +13,21 @@ loop-at-init c = (omega arith, c.requires.order, omega arith)
 
 pub tables_of_few-sum-requires : goal.tables_of_few-sum-requires
 tables_of_few-sum-requires c =
-    let step = c.short_end-end.ensures in
-    let whole = c.requires in
-    record { span = record { few = whole.few; order = omega arith; inside = omega (arith, whole.inside) }; short = step.short }
+    record { span = record { few = c.requires.few; order = omega arith; inside = omega (arith, c.requires.inside) }; short = c.short_end-end.ensures.short }
 
 -- the segments of the next part too
-more : (c : goal.After-tables_of_few-sum) → let l = c.loop-at in Adds tables_of c.args.kinds.now c.args.from c.short_end-end.result (l.sum + c.tables_of_few-sum.result)
+more : (c : goal.After-tables_of_few-sum) → Adds tables_of c.args.kinds.now c.args.from c.short_end-end.result (c.loop-at.sum + c.tables_of_few-sum.result)
 more c = omega (arith, c.loop-at.invariant.2, c.tables_of_few-sum.ensures)
 
 pub overflow_add-sum : goal.overflow_add-sum
 overflow_add-sum c =
-    let whole = c.requires in
-    let few : c.short_end-end.result ≤ 65536 = omega (arith, c.short_end-end.ensures.within, whole.inside, whole.few) in
+    let few : c.short_end-end.result ≤ 65536 = omega (arith, c.short_end-end.ensures.within, c.requires.inside, c.requires.few) in
     omega (arith, adds-most tables_of tables-under _ _ _ _ few (more c))
 
 pub loop-at-preserved : goal.loop-at-preserved
-loop-at-preserved c = let step = c.short_end-end.ensures in (omega arith, step.within, more c)
+loop-at-preserved c = (omega arith, c.short_end-end.ensures.within, more c)
 
 pub returns : goal.returns
 returns c =
-    let l = c.loop-at in
-    let e : l.at ≡ c.args.to = omega arith in
-    subst (λ (k : ℕ). Adds tables_of c.args.kinds.now c.args.from k l.sum) e l.invariant.2
+    let e : c.loop-at.at ≡ c.args.to = omega arith in
+    subst (λ (k : ℕ). Adds tables_of c.args.kinds.now c.args.from k c.loop-at.sum) e c.loop-at.invariant.2

@@ -12,22 +12,21 @@ pub loop-j-init : goal.loop-j-init
 loop-j-init c = (omega arith, c.requires.span.order, tabling-start c.args.kinds.now c.args.from)
 
 -- the next sum, of which 128 are the most
-more : (c : goal.After-one_table-sum) → let l = c.loop-j in Tabling c.args.kinds.now c.args.from (l.j + 1) (l.sum + c.one_table-sum.result)
+more : (c : goal.After-one_table-sum) → Tabling c.args.kinds.now c.args.from (c.loop-j.j + 1) (c.loop-j.sum + c.one_table-sum.result)
 more c =
-    let l = c.loop-j in
+    let c.loop-j = c.loop-j in
     let c.before.before.before.before.before = c.before.before.before.before.before in
-    tabling-more c.one_table-sum.result l.invariant.2 l.invariant.0 (omega (arith, c.requires.span.inside)) c.one_table-sum.ensures
+    tabling-more c.one_table-sum.result c.loop-j.invariant.2 c.loop-j.invariant.0 (omega (arith, c.requires.span.inside)) c.one_table-sum.ensures
 
 pub overflow_add-sum : goal.overflow_add-sum
 overflow_add-sum c = omega (arith, (more c).few, c.requires.short)
 
 pub loop-j-preserved : goal.loop-j-preserved
-loop-j-preserved c = let l = c.loop-j in (omega arith, omega arith, more c)
+loop-j-preserved c = (omega arith, omega arith, more c)
 
 pub returns : goal.returns
 returns c =
-    let l = c.loop-j in
-    let e : l.j ≡ c.args.to = omega arith in
-    let s : l.sum ≡ c.wide.result = omega arith in
+    let e : c.loop-j.j ≡ c.args.to = omega arith in
+    let s : c.loop-j.sum ≡ c.wide.result = omega arith in
     subst (λ (k : ℕ). Adds tables_of c.args.kinds.now c.args.from k c.wide.result) e
-    (subst (λ (n : ℕ). Adds tables_of c.args.kinds.now c.args.from l.j n) s l.invariant.2.adds)
+    (subst (λ (n : ℕ). Adds tables_of c.args.kinds.now c.args.from c.loop-j.j n) s c.loop-j.invariant.2.adds)

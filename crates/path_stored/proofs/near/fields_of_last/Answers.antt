@@ -11,9 +11,7 @@ use Rattle.path_stored.proofs.near.fields_of_last.Goals as goal
 -- no lane is above 7
 most : (c : goal.After-last_few-word) → c.last_few-word.result ≤ 506381209866536711
 most c =
-    let pre = c.requires in
-    let word = pre.word in
-    lanes-most itself (λ kind known. omega arith) c.args.kinds.now pre.known _ _ _ pre.short (omega arith) c.last_few-word.ensures
+    lanes-most itself (λ kind known. omega arith) c.args.kinds.now c.requires.known _ _ _ c.requires.short (omega arith) c.last_few-word.ensures
 
 pub overflow_add-from3 : goal.overflow_add-from3
 overflow_add-from3 c = record { fits = omega (arith, most c) }
@@ -37,13 +35,10 @@ overflow_add-result c = record { fits = omega (arith, most c, from3-most c) }
 pub overflow_mul-result-2 : goal.overflow_mul-result-2
 overflow_mul-result-2 c = record { fits = omega (arith, from4-most c) }
 
-lanes : (c : goal.After-last_few-word) → let a = c.args in
-    2 * c.last_few-word.result + bit_and ((c.last_few-word.result + 361700864190383365) / 8) 72340172838076673
-    ≡ laid more_fields a.kinds.now (a.end - a.few) a.few + 2 * bit_and ((c.last_few-word.result + 289360691352306692) / 8) 72340172838076673
+lanes : (c : goal.After-last_few-word) → 2 * c.last_few-word.result + bit_and ((c.last_few-word.result + 361700864190383365) / 8) 72340172838076673
+    ≡ laid more_fields c.args.kinds.now (c.args.end - c.args.few) c.args.few + 2 * bit_and ((c.last_few-word.result + 289360691352306692) / 8) 72340172838076673
 lanes c =
-    let pre = c.requires in
-    let word = pre.word in
-    field-lanes c.args.kinds.now pre.known _ _ _ pre.short (omega arith) c.last_few-word.ensures
+    field-lanes c.args.kinds.now c.requires.known _ _ _ c.requires.short (omega arith) c.last_few-word.ensures
 
 pub overflow_sub-result : goal.overflow_sub-result
 overflow_sub-result c = omega (arith, lanes c)

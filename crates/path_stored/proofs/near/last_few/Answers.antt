@@ -6,5 +6,4 @@ use Rattle.path_stored.proofs.near.last_few.Goals as goal
 
 pub returns : goal.returns
 returns c =
-    let pre = c.requires in
-    last-lanes c.args.kinds.now pre.known c.args.end c.args.few _ _ pre.word.enough pre.word.inside pre.short refl c.word_before.ensures
+    last-lanes c.args.kinds.now c.requires.known c.args.end c.args.few _ _ c.requires.word.enough c.requires.word.inside c.requires.short refl c.word_before.ensures

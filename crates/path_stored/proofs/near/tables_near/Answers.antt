@@ -6,32 +6,28 @@ use Rattle.path_segment.specs.Segments.{tables_of}
 use Rattle.path_stored.proofs.Lanes.{Halves, halves, lanes-most, joined, tables-few}
 use Rattle.path_stored.proofs.near.tables_near.Goals as goal
 
-parts : (c : goal.After-at_most_eight-last) → let a = c.args in Halves (a.to - a.from) c.at_most_eight-last.result
-parts c = let pre = c.requires in halves _ _ c.at_most_eight-last.ensures (omega arith)
+parts : (c : goal.After-at_most_eight-last) → Halves (c.args.to - c.args.from) c.at_most_eight-last.result
+parts c = halves _ _ c.at_most_eight-last.ensures (omega arith)
 
 pub tables_of_last-high-requires : goal.tables_of_last-high-requires
 tables_of_last-high-requires c =
-    let pre = c.requires in
-    record { word = record { enough = omega arith; inside = pre.inside }; short = (parts c).short; known = pre.known }
+    record { word = record { enough = omega arith; inside = c.requires.inside }; short = (parts c).short; known = c.requires.known }
 
 pub overflow_sub-few-2 : goal.overflow_sub-few-2
 overflow_sub-few-2 c = let h = parts c.before in omega arith
 
 pub tables_of_last-low-requires : goal.tables_of_last-low-requires
 tables_of_last-low-requires c =
-    let pre = c.requires in
-    record { word = record { enough = omega arith; inside = omega arith }; short = (parts c.before).rest; known = pre.known }
+    record { word = record { enough = omega arith; inside = omega arith }; short = (parts c.before).rest; known = c.requires.known }
 
 -- no number of eight lanes is large
 pub overflow_add-result : goal.overflow_add-result
 overflow_add-result c =
-    let pre = c.requires in
     let h = parts c.before.before in
-    let high = lanes-most tables_of tables-few c.args.kinds.now pre.known _ _ _ h.short (omega arith) c.tables_of_last-high.ensures in
-    let low = lanes-most tables_of tables-few c.args.kinds.now pre.known _ _ _ h.rest (omega arith) c.tables_of_last-low.ensures in
+    let high = lanes-most tables_of tables-few c.args.kinds.now c.requires.known _ _ _ h.short (omega arith) c.tables_of_last-high.ensures in
+    let low = lanes-most tables_of tables-few c.args.kinds.now c.requires.known _ _ _ h.rest (omega arith) c.tables_of_last-low.ensures in
     record { fits = omega arith }
 
 pub returns : goal.returns
 returns c =
-    let a = c.args in
-    joined a.kinds.now c.requires.known tables_of tables-few a.from a.to _ _ _ c.requires c.at_most_eight-last.ensures c.tables_of_last-high.ensures c.tables_of_last-low.ensures
+    joined c.args.kinds.now c.requires.known tables_of tables-few c.args.from c.args.to _ _ _ c.requires c.at_most_eight-last.ensures c.tables_of_last-high.ensures c.tables_of_last-low.ensures

@@ -9,9 +9,7 @@ use Rattle.path_stored.proofs.near.tables_of_last.Goals as goal
 -- no lane is above 7
 most : (c : goal.After-last_few) → c.last_few.result ≤ 506381209866536711
 most c =
-    let pre = c.requires in
-    let word = pre.word in
-    lanes-most itself (λ kind known. omega arith) c.args.kinds.now pre.known _ _ _ pre.short (omega arith) c.last_few.ensures
+    lanes-most itself (λ kind known. omega arith) c.args.kinds.now c.requires.known _ _ _ c.requires.short (omega arith) c.last_few.ensures
 
 pub overflow_mul-result : goal.overflow_mul-result
 overflow_mul-result c = record { fits = omega (arith, most c) }
@@ -21,6 +19,4 @@ overflow_add-result c = record { fits = omega (arith, most c) }
 
 pub returns : goal.returns
 returns c =
-    let pre = c.requires in
-    let word = pre.word in
-    table-lanes c.args.kinds.now pre.known _ _ _ pre.short (omega arith) c.last_few.ensures
+    table-lanes c.args.kinds.now c.requires.known _ _ _ c.requires.short (omega arith) c.last_few.ensures

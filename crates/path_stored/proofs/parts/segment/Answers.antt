@@ -10,10 +10,8 @@ use Rattle.path_stored.proofs.parts.segment.Goals as goal
 
 pub segment_at-requires : goal.segment_at-requires
 segment_at-requires c =
-    let a = c.args in
-    let pre = c.requires in
-    (pre.0.known a.i pre.1, omega (arith, segment-fields pre.0 a.i pre.1, c.fields_before-at.ensures))
+    (c.requires.0.known c.args.i c.requires.1, omega (arith, segment-fields c.requires.0 c.args.i c.requires.1, c.fields_before-at.ensures))
 
 pub returns : goal.returns
 unfolding segment_in
-returns c = let a = c.args in c.segment_at.ensures ∙ ap (λ at. segment_of (get_or a.kinds.now a.i 0) (drop at a.fields.now)) c.fields_before-at.ensures
+returns c = c.segment_at.ensures ∙ ap (λ at. segment_of (get_or c.args.kinds.now c.args.i 0) (drop at c.args.fields.now)) c.fields_before-at.ensures

@@ -9,10 +9,11 @@ use native.Mathlib.Omega.{arith}
 use mathlib.Core.Path.{◌≡◌, sym, ap, ◌∙◌}
 use Prim.Native.Nat.{◌*◌}
 use borrow.Author.Rules.{rules}
+use Rattle.path_stored.proofs.parts.segment_table.Tie as tie
 use Rattle.path_stored.proofs.parts.segment_table.Goals as goal
 
 -- a curve's table, after those of the curves before it
-abbrev start : goal.After-tables_before-n → goal.Start
+abbrev start : goal.After-tables_before-n → tie.Start
 start p = p.before.before.before.before.before.before
 
 abbrev curve : (p : goal.After-tables_before-n) → has_table (get_or (start p).args.kinds.now (start p).args.i 0) ≡ true

@@ -5,4 +5,4 @@ use Rattle.path_stored.proofs.queries.nothing.Goals as goal
 
 pub returns : goal.returns
 unfolding nothing_of
-returns c = let e = c.no_table-table.ensures in cc
+returns c = cc

@@ -6,13 +6,14 @@ use Rattle.arc.specs.Lines.{line_length_of}
 use Rattle.commands.proofs.Storing.{four-put}
 use Rattle.path_storing.proofs.Judged.{kind_fits, length-fits, command-fits, line-fits, line-laid}
 use borrow.Author.Rules.{rules}
+use Rattle.path_storing.proofs.direct.lay_line.Tie as tie
 use Rattle.path_storing.proofs.direct.lay_line.Goals as goal
 
 -- ---- the points
-abbrev start : goal.After-put_point → goal.Start
+abbrev start : tie.After-put_point → tie.Start
 start p = p.before.before.before.before.before.before.before.before.before
 
-abbrev first : goal.After-put_point-2 → goal.After-put_point
+abbrev first : tie.After-put_point2 → tie.After-put_point
 first p = p.before.before.before.before
 
 -- ---- the answers
@@ -36,6 +37,5 @@ unfolding line_length_of
 returns c =
     let one = first c.before.before.before.before.before in
     let a = (start one).args in
-    let from = a.site.pen.current in
-    let put = four-put a.fields-1.now a.site.fields from.x from.y a.end.x a.end.y one.put_point.last.0 _ one.put_point.ensures c.put_point-2.ensures in
+    let put = four-put a.fields-1.now a.site.fields a.site.pen.current.x a.site.pen.current.y a.end.x a.end.y one.put_point.last.0 _ one.put_point.ensures c.put_point-2.ensures in
     line-laid put (ap (add binary32 _) c.distance.ensures) c.drawn.ensures

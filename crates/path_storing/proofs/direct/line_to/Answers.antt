@@ -5,8 +5,7 @@ use Rattle.path_storing.proofs.direct.line_to.Goals as goal
 
 pub lay_line-requires : goal.lay_line-requires
 lay_line-requires c =
-    let pre = c.requires in
-    (pre.0, room_at (line-drawn _ c.if-pen.true _) pre.1)
+    (c.requires.0, room_at (line-drawn _ c.if-pen.true _) c.requires.1)
 
 pub returns-then-pen : goal.returns-then-pen
 returns-then-pen c =

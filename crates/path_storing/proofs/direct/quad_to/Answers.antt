@@ -2,10 +2,11 @@
 use borrow.Author.Rules.{rules}
 use native.Mathlib.Omega.{arith}
 use Rattle.path_storing.proofs.Judged.{quad-drawn, quad-undrawn, quad-laid, moved-laid, room_at, room-counts, laid-at}
+use Rattle.path_storing.proofs.direct.quad_to.Tie as tie
 use Rattle.path_storing.proofs.direct.quad_to.Goals as goal
 
 -- ---- the points
-abbrev start : goal.After-store_segment-length → goal.Start
+abbrev start : tie.After-store_segment → tie.Start
 start p = p.before.before.before.before.before.before.before.before.before.before.before.before.before.before
 
 -- ---- the answers

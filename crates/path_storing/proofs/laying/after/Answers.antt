@@ -7,16 +7,17 @@ use Rattle.path_segment.specs.Segments.{fields_of, table_stored}
 use Rattle.path_segment.proofs.Reading.{fields-most, fields-counted}
 use Rattle.path_segment.proofs.Tables.{table-most, table_counted}
 use Rattle.path_storing.proofs.Judged.{after_is}
+use Rattle.path_storing.proofs.laying.after.Tie as tie
 use Rattle.path_storing.proofs.laying.after.Goals as goal
 
 -- ---- the points, and what is counted there
-abbrev start : goal.After-table_width-more → goal.Start
+abbrev start : tie.After-table_width → goal.Start
 start p = p.before.before.before
 
-own : (p : goal.After-table_width-more) → p.width-own.result ≡ length (fields_of (start p).args.segment)
+own : (p : tie.After-table_width) → p.width-own.result ≡ length (fields_of (start p).args.segment)
 own p = fields-counted (start p).args.segment p.width-own.ensures p.kind-byte.ensures
 
-more : (p : goal.After-table_width-more) → p.table_width-more.result ≡ length (table_stored (start p).args.segment)
+more : (p : tie.After-table_width) → p.table_width-more.result ≡ length (table_stored (start p).args.segment)
 more p = table_counted (start p).args.segment p.table_width-more.ensures p.kind-byte.ensures
 
 -- ---- the answers

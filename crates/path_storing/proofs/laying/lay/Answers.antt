@@ -7,8 +7,7 @@ use Rattle.path_storing.proofs.laying.lay.Goals as goal
 
 pub line_to-requires : goal.line_to-requires
 line_to-requires c =
-    let pre = c.requires in
-    (pre.0, room_at (ap (draw_of _) c.in-LineTo.is) pre.1)
+    (c.requires.0, room_at (ap (draw_of _) c.in-LineTo.is) c.requires.1)
 
 pub returns-in-LineTo : goal.returns-in-LineTo
 returns-in-LineTo c =

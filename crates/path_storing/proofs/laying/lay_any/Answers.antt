@@ -6,8 +6,7 @@ use Rattle.path_storing.proofs.laying.lay_any.Goals as goal
 
 pub lay_segment-requires : goal.lay_segment-requires
 lay_segment-requires c =
-    let pre = c.requires in
-    (pre.0, room_at (sym c.draw.ensures ∙ c.in-Segment.is) pre.1)
+    (c.requires.0, room_at (sym c.draw.ensures ∙ c.in-Segment.is) c.requires.1)
 
 pub returns-in-Moved : goal.returns-in-Moved
 returns-in-Moved c = moved-laid (sym c.draw.ensures ∙ c.in-Moved.is) c.moved.ensures

@@ -4,16 +4,17 @@ use mathlib.Core.Path.{◌≡◌, ap, ◌∙◌}
 use lib.Ieee.{binary32, add}
 use Rattle.path_drawing.specs.Building.{length_after}
 use Rattle.path_storing.proofs.Judged.{kind_fits, fields_fit, table_fits, length-fits, command-fits, segment-stored}
+use Rattle.path_storing.proofs.laying.store_segment.Tie as tie
 use Rattle.path_storing.proofs.laying.store_segment.Goals as goal
 
 -- ---- the points
-abbrev start : goal.After-put_segment → goal.Start
+abbrev start : tie.After-put_segment → tie.Start
 start p = p.before.before.before.before.before.before.before.before
 
-abbrev put : goal.After-store_table → goal.After-put_segment
+abbrev put : tie.After-store_table → tie.After-put_segment
 put p = p.before.before.before.before
 
-abbrev table : goal.After-tidy-length → goal.After-store_table
+abbrev table : goal.After-tidy-length → tie.After-store_table
 table p = p.before.before.before
 
 -- the running length that is stored

@@ -8,10 +8,11 @@ use Rattle.path_segment.proofs.Tables.{table-most, table_counted}
 use Rattle.path_storing.specs.Tallies.{counted_of}
 use Rattle.path_storing.proofs.Tallying.{grown-counted}
 use borrow.Author.Rules.{rules}
+use Rattle.path_storing.proofs.tallies.count_any.Tie as tie
 use Rattle.path_storing.proofs.tallies.count_any.Goals as goal
 
 -- ---- the points, and what is counted there
-abbrev drawn : goal.After-table_width-more → goal.In-Segment-2
+abbrev drawn : goal.After-table_width-more → tie.After-segment
 drawn p = p.before.before.before.before.before.before
 
 own : (p : goal.After-table_width-more) → p.width-own.result ≡ length (fields_of (drawn p).segment.given.0.0)
@@ -24,8 +25,7 @@ more p = table_counted (drawn p).segment.given.0.0 p.table_width-more.ensures p.
 pub grown-requires : goal.grown-requires
 grown-requires c =
     let d = drawn c in
-    let segment = d.in-Segment.segment in
-    (d.pre, omega (arith, own c, fields-most segment), omega (arith, more c, table-most segment))
+    (d.pre, omega (arith, own c, fields-most d.in-Segment.segment), omega (arith, more c, table-most d.in-Segment.segment))
 
 pub returns-then-is_bounded : goal.returns-then-is_bounded
 returns-then-is_bounded c =

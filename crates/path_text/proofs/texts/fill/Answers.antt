@@ -8,16 +8,17 @@ use lib.ListN.{length}
 use Rattle.svg_step.proofs.Ahead.{step-ahead}
 use Rattle.path_stored.specs.Buffers.{buffers}
 use Rattle.path_text.proofs.Steps.{Storing, storing-none, stored-kinds, stored-fields, stored-tables, stored-lengths, stored-commands, storing-unread, stored-all, storing-room, storing-number, storing-more}
+use Rattle.path_text.proofs.texts.fill.Tie as tie
 use Rattle.path_text.proofs.texts.fill.Goals as goal
 
 -- ---- the points of the code that the answers look back to
-abbrev start : goal.At-loop-command → goal.Start
+abbrev start : goal.At-loop-command → (tie.Start goal.the-invariant-loop-command goal.the-decreases-loop-command)
 start l = l.before.before.before.before.before.before.before.before.before
 
-abbrev told : goal.After-lay-site → goal.In-Command-2
+abbrev told : (tie.After-lay goal.the-invariant-loop-command goal.the-decreases-loop-command) → (tie.After-command goal.the-invariant-loop-command goal.the-decreases-loop-command)
 told p = p.before.before.before.before.before.before.before
 
-abbrev stepped : goal.In-Command-2 → goal.After-read_step
+abbrev stepped : (tie.After-command goal.the-invariant-loop-command goal.the-decreases-loop-command) → (tie.After-read_step goal.the-invariant-loop-command goal.the-decreases-loop-command)
 stepped p = p.before.before
 
 -- ---- the answers

@@ -17,8 +17,7 @@ loop-first-init c = rw c.fresh-reader.ensures ([], known-none _)
 
 pub returns-in-Done : goal.returns-in-Done
 returns-in-Done c =
-    let k = c.loop-first.invariant in
-    unbuilt-size _ c.requires.1 (known-all _ _ _ k.1 (sym c.Read-step.ensures ∙ c.in-Done.is))
+    unbuilt-size _ c.requires.1 (known-all _ _ _ c.loop-first.invariant.1 (sym c.Read-step.ensures ∙ c.in-Done.is))
 
 pub returns-in-Refused : goal.returns-in-Refused
 returns-in-Refused c =

@@ -5,10 +5,8 @@ use Rattle.season_feed.proofs.sheets.put_lines.Goals as goal
 
 pub returns-then-output-size : goal.returns-then-output-size
 returns-then-output-size c =
-    let counted = c.put_sheet-size.ensures in
-    short-output _ _ counted c.if-output-size.true
+    short-output _ _ c.put_sheet-size.ensures c.if-output-size.true
 
 pub returns : goal.returns
 returns c =
-    let counted = c.put_sheet-size.ensures in
-    whole-output _ _ counted c.if-output-size.false c.put_sheet.ensures
+    whole-output _ _ c.put_sheet-size.ensures c.if-output-size.false c.put_sheet.ensures

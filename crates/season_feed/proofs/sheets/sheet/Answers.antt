@@ -20,8 +20,7 @@ returns-then-season-eq17179869184 c = sheet-many (sym c.if-whole.false ∙ c.who
 
 pub bump-requires : goal.bump-requires
 bump-requires c =
-    let t = c.requires.stands.tally in
-    (omega (arith, tally-rows t), roomy-less (tally-roomy t) (omega arith))
+    (omega (arith, tally-rows c.requires.stands.tally), roomy-less (tally-roomy c.requires.stands.tally) (omega arith))
 
 pub put_lines-requires-2 : goal.put_lines-requires-2
 put_lines-requires-2 c =

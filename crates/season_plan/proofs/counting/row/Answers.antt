@@ -46,17 +46,15 @@ returns-in-3 c = rw c.in-3.is
 pub returns-in_default : goal.returns-in_default
 unfolding row_of
 returns-in_default c =
-    let a = c.args.byte in
-    let no = c.in_default.in_default-own.rest in
     simp (
-      ne_eqb a 77 no.0.0.0.0.0.0.0.0.0.1,
-      ne_eqb a 76 no.0.0.0.0.0.0.0.0.1,
-      ne_eqb a 81 no.0.0.0.0.0.0.0.1,
-      ne_eqb a 67 no.0.0.0.0.0.0.1,
-      ne_eqb a 65 no.0.0.0.0.0.1,
-      ne_eqb a 90 no.0.0.0.0.1,
-      ne_eqb a 0 no.0.0.0.1,
-      ne_eqb a 1 no.0.0.1,
-      ne_eqb a 2 no.0.1,
-      ne_eqb a 3 no.1,
+      ne_eqb c.args.byte 77 c.in_default.in_default-own.rest.0.0.0.0.0.0.0.0.0.1,
+      ne_eqb c.args.byte 76 c.in_default.in_default-own.rest.0.0.0.0.0.0.0.0.1,
+      ne_eqb c.args.byte 81 c.in_default.in_default-own.rest.0.0.0.0.0.0.0.1,
+      ne_eqb c.args.byte 67 c.in_default.in_default-own.rest.0.0.0.0.0.0.1,
+      ne_eqb c.args.byte 65 c.in_default.in_default-own.rest.0.0.0.0.0.1,
+      ne_eqb c.args.byte 90 c.in_default.in_default-own.rest.0.0.0.0.1,
+      ne_eqb c.args.byte 0 c.in_default.in_default-own.rest.0.0.0.1,
+      ne_eqb c.args.byte 1 c.in_default.in_default-own.rest.0.0.1,
+      ne_eqb c.args.byte 2 c.in_default.in_default-own.rest.0.1,
+      ne_eqb c.args.byte 3 c.in_default.in_default-own.rest.1,
     )

@@ -8,9 +8,10 @@ use lib.Seq.{length-take-le}
 use Rattle.station_listing.proofs.Lent.{full, flight, used, not-built}
 use Rattle.season_plan.proofs.Marks.{marked-length, roomy-less}
 use Rattle.season_plan.proofs.Reading.{number-row, number-tallied, letters-few, unbuilt-counted, flown-as}
+use Rattle.season_plan.proofs.plans.fly.Tie as tie
 use Rattle.season_plan.proofs.plans.fly.Goals as goal
 
-abbrev start : goal.After-build_path → goal.Start
+abbrev start : tie.After-build_path → tie.Start
 start b = b.before.before.before.before.before.before.before.before.before
 
 -- ---- the buffers

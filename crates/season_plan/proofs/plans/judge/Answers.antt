@@ -8,9 +8,10 @@ use lib.Seq.{length-take-le}
 use Rattle.station_listing.proofs.Texts.{spare, not-read, letters-most, numbers-most, held}
 use Rattle.season_plan.proofs.Marks.{marked-length, roomy-less}
 use Rattle.season_plan.proofs.Reading.{number-row, number-tallied, unread-counted}
+use Rattle.season_plan.proofs.plans.judge.Tie as tie
 use Rattle.season_plan.proofs.plans.judge.Goals as goal
 
-abbrev start : goal.After-read_lean → goal.Start
+abbrev start : tie.After-read_lean → tie.Start
 start p = p.before.before.before.before.before.before
 
 -- ---- the buffers

@@ -29,5 +29,4 @@ shape_of-out c = to-length _ _ _ _ _ _ _ c.loop-k.invariant.1
 pub returns : goal.returns
 unfolding row_lines
 returns c =
-    let inv = c.loop-k.invariant in
-    to-all _ _ _ _ _ _ _ _ inv.1 c.args.many (omega (arith, inv.0, c.loop-k-test.false)) (omega (arith, c.requires.1, c.requires.2, inv.0))
+    to-all _ _ _ _ _ _ _ _ c.loop-k.invariant.1 c.args.many (omega (arith, c.loop-k.invariant.0, c.loop-k-test.false)) (omega (arith, c.requires.1, c.requires.2, c.loop-k.invariant.0))

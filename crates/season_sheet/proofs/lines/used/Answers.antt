@@ -21,6 +21,5 @@ loop-k-preserved c =
 
 pub returns : goal.returns
 returns c =
-    let inv = c.loop-k.invariant in
-    let e : c.loop-k.k ≡ c.args.many = omega (arith, inv.0, c.loop-k-test.false) in
-    (inv.1 ∙ ap (used_in _ _) e, omega (arith, inv.2, e))
+    let e : c.loop-k.k ≡ c.args.many = omega (arith, c.loop-k.invariant.0, c.loop-k-test.false) in
+    (c.loop-k.invariant.1 ∙ ap (used_in _ _) e, omega (arith, c.loop-k.invariant.2, e))

@@ -5,6 +5,7 @@ use Rattle.floats.specs.Floats.{clamp01_of}
 use Rattle.polyline.specs.Points.{count_of}
 use Rattle.spline.specs.Formula.{index_of, along_of, curve_of, InSpans}
 use Rattle.spline.proofs.Spans.{scaled-is, in-spans, index-lt}
+use Rattle.spline.proofs.sampling.curve.Tie as tie
 use Rattle.spline.proofs.sampling.curve.Goals as goal
 
 pub int_to_float-scaled : goal.int_to_float-scaled
@@ -12,7 +13,7 @@ unfolding in_float
 int_to_float-scaled c = le→leb (count_of c.args.points.now - 1) (2 ^ 24) (omega arith)
 
 -- the clamped parameter
-clamped : (c : goal.After-clamp01) → c.clamp01.result ≡ clamp01_of c.args.raw.value
+clamped : (c : tie.After-clamp01) → c.clamp01.result ≡ clamp01_of c.args.raw.value
 clamped c = c.clamp01.ensures ∙ ap clamp01_of c.number_of.ensures
 
 spans : (n : ℕ) → 3 ≤ n → n ≤ 4096 → (0 < n - 1) × (n - 1 ≤ 4095)

@@ -13,8 +13,7 @@ returns-then-count-eq1 c = c.point_at.ensures ∙ sym (sample-one _ _ c.if-count
 
 pub returns-then-count-eq2 : goal.returns-then-count-eq2
 returns-then-count-eq2 c =
-    let a = c.args in
-    cc (sample-two a.points.now a.raw.value c.if-count-eq2.true)
+    cc (sample-two c.args.points.now c.args.raw.value c.if-count-eq2.true)
 
 pub returns : goal.returns
 returns c = c.curve.ensures ∙ sym (sample-more _ _ (omega arith))

@@ -17,6 +17,5 @@ same {p} {q} {t} {u} {s} r e f g = rw (e, f) (ap (λ (v : Float). record { posit
 pub returns : goal.returns
 unfolding spline_flight_of
 returns c =
-    let raw = c.raw-at in
-    same _ (c.tidy_point-position.ensures ∙ c.sample.ensures ∙ ap (spline_sample_of _) raw.ensures)
-    (c.tidy_point-tangent.ensures ∙ c.direction.ensures ∙ ap (spline_direction_of _) raw.ensures) raw.ensures
+    same _ (c.tidy_point-position.ensures ∙ c.sample.ensures ∙ ap (spline_sample_of _) c.raw-at.ensures)
+    (c.tidy_point-tangent.ensures ∙ c.direction.ensures ∙ ap (spline_direction_of _) c.raw-at.ensures) c.raw-at.ensures

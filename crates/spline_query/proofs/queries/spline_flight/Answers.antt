@@ -14,8 +14,7 @@ flight-requires c = tested-sound _ _ _ c.spline_is_sound.ensures c.if-spline_is_
 pub returns-then-spline_is_sound : goal.returns-then-spline_is_sound
 unfolding spline_flown_of
 returns-then-spline_is_sound c =
-    let sound = c.spline_is_sound.ensures in
-    (ap Flown.At c.flight.ensures ∙ taken _ _ _ sound _ _ c.if-spline_is_sound.true, spline-in-order _ _ (passed (sym sound ∙ c.if-spline_is_sound.true)) c.shared_slice_known-2-1.given)
+    (ap Flown.At c.flight.ensures ∙ taken _ _ _ c.spline_is_sound.ensures _ _ c.if-spline_is_sound.true, spline-in-order _ _ (passed (sym c.spline_is_sound.ensures ∙ c.if-spline_is_sound.true)) c.shared_slice_known-2-1.given)
 
 pub returns : goal.returns
 unfolding spline_flown_of

@@ -14,10 +14,8 @@ loop-i-init c = refl
 
 pub loop-i-preserved : goal.loop-i-preserved
 loop-i-preserved c =
-    let at-loop = c.loop-i in
-    let numbers = c.args.numbers.now in
-    at-loop.invariant ∙ every-next is_near numbers at-loop.i at-loop.near c.loop-i-test.true
-    ∙ ap (λ (b : Bool). (at-loop.near && b) && all_near (drop (at-loop.i + 1) numbers)) (sym c.is_near-near.ensures)
+    c.loop-i.invariant ∙ every-next is_near c.args.numbers.now c.loop-i.i c.loop-i.near c.loop-i-test.true
+    ∙ ap (λ (b : Bool). (c.loop-i.near && b) && all_near (drop (c.loop-i.i + 1) c.args.numbers.now)) (sym c.is_near-near.ensures)
 
 pub returns : goal.returns
 returns c = every-end is_near _ c.loop-i.i c.loop-i.near c.loop-i-test.false ∙ sym c.loop-i.invariant

@@ -22,25 +22,22 @@ loop-k-init c =
 
 pub fill_row-walk-requires : goal.fill_row-walk-requires
 fill_row-walk-requires c =
-    let f = c.loop-k.invariant in
     record {
       sampled = c.requires.sampled;
-      whole = omega (arith, c.loop-k-test.true, f.1, c.requires.sampled.counted);
-      walking = f.0.walking;
-      room = omega (arith, filling-length f.0, f.0.room);
+      whole = omega (arith, c.loop-k-test.true, c.loop-k.invariant.1, c.requires.sampled.counted);
+      walking = c.loop-k.invariant.0.walking;
+      room = omega (arith, filling-length c.loop-k.invariant.0, c.loop-k.invariant.0.room);
     }
 
 pub loop-k-preserved : goal.loop-k-preserved
 loop-k-preserved c =
-    let row = c.fill_row-walk.ensures in
-    let f = c.loop-k.invariant in
-    (filling-row f.0 row.0 (row.1 _ f.0.filled), omega (arith, f.1))
+    (filling-row c.loop-k.invariant.0 c.fill_row-walk.ensures.0 (c.fill_row-walk.ensures.1 _ c.loop-k.invariant.0.filled), omega (arith, c.loop-k.invariant.1))
 
 pub bounds-table-k : goal.bounds-table-k
-bounds-table-k c = let f = c.loop-k.invariant.0 in omega (arith, filling-length f, f.room, f.walking.upto)
+bounds-table-k c = omega (arith, filling-length c.loop-k.invariant.0, c.loop-k.invariant.0.room, c.loop-k.invariant.0.walking.upto)
 
 pub shape_of-table : goal.shape_of-table
-shape_of-table c = let at-loop = c.loop-k in length-set at-loop.table-1 at-loop.k at-loop.walk.total ∙ filling-length at-loop.invariant.0
+shape_of-table c = length-set c.loop-k.table c.loop-k.k c.loop-k.walk.total ∙ filling-length c.loop-k.invariant.0
 
 pub returns : goal.returns
 returns c = filling-done c.loop-k.invariant.0 c.loop-k-test.false

@@ -9,13 +9,14 @@ use Rattle.spline.specs.Formula.{spline_sample_of}
 use Rattle.spline_table.specs.Rows.{walk_of, Walking}
 use Rattle.spline_table.proofs.Passing.{walking_start, walking-more}
 use Rattle.spline_table.proofs.Finding.{Finding, finding-start, finding-more, finding-ends, finding-none}
+use Rattle.spline_table.proofs.entries.first_measured.Tie as tie
 use Rattle.spline_table.proofs.entries.first_measured.Goals as goal
 
 -- ---- the points
-abbrev loop : goal.After-distance-total → goal.At-loop-k
+abbrev loop : goal.After-distance-total → (tie.At-loop goal.the-invariant-loop-k goal.the-decreases-loop-k)
 loop p = p.before.before.before.before
 
-abbrev start : goal.At-loop-k → goal.Start
+abbrev start : (tie.At-loop goal.the-invariant-loop-k goal.the-decreases-loop-k) → (tie.Start goal.the-invariant-loop-k goal.the-decreases-loop-k)
 start l = l.before.before.before.before
 
 -- the next sample and the length up to it

@@ -13,8 +13,7 @@ loop-i-init c = refl
 
 pub loop-i-preserved : goal.loop-i-preserved
 loop-i-preserved c =
-    let at-loop = c.loop-i in
-    at-loop.invariant ∙ every-next (is_between _ _) c.args.numbers.now at-loop.i at-loop.all c.loop-i-test.true
+    c.loop-i.invariant ∙ every-next (is_between _ _) c.args.numbers.now c.loop-i.i c.loop-i.all c.loop-i-test.true
 
 pub returns : goal.returns
 returns c = every-end (is_between _ _) c.args.numbers.now c.loop-i.i c.loop-i.all c.loop-i-test.false ∙ sym c.loop-i.invariant

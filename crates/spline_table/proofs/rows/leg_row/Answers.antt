@@ -16,12 +16,9 @@ next-is c = c.sample-next.ensures ∙ ap (spline_sample_of _) c.mark.ensures
 
 pub returns : goal.returns
 returns c =
-    let points = c.args.points.now in
-    let last = c.args.last in
-    let k = c.args.k in
-    drawn-row (spline_sample_of points) last k c.leg_samples-across.result c.leg_samples-along.result _ _ _
-    (drawn (λ (p : Point). p.x) (spline_sample_of points) last k c.leg_samples-across.ensures (ap (λ (p : Point). p.x) c.requires.0.here) (ap (λ (p : Point). p.x) (next-is c.before.before.before.before.before.before.before.before.before.before.before))
-    (λ i some less. leg-across points last (k + i) c.requires.1 _ _ c.point_at-a.ensures c.point_at-b.ensures _ (c.clamped_marks-own.ensures i less)))
-    (drawn (λ (p : Point). p.y) (spline_sample_of points) last k c.leg_samples-along.ensures (ap (λ (p : Point). p.y) c.requires.0.here) (ap (λ (p : Point). p.y) (next-is c.before.before.before.before.before.before.before.before.before.before.before))
-    (λ i some less. leg-along points last (k + i) c.requires.1 _ _ c.point_at-a.ensures c.point_at-b.ensures _ (c.clamped_marks-own.ensures i less)))
+    drawn-row (spline_sample_of c.args.points.now) c.args.last c.args.k c.leg_samples-across.result c.leg_samples-along.result _ _ _
+    (drawn (λ (p : Point). p.x) (spline_sample_of c.args.points.now) c.args.last c.args.k c.leg_samples-across.ensures (ap (λ (p : Point). p.x) c.requires.0.here) (ap (λ (p : Point). p.x) (next-is c.before.before.before.before.before.before.before.before.before.before.before))
+    (λ i some less. leg-across c.args.points.now c.args.last (c.args.k + i) c.requires.1 _ _ c.point_at-a.ensures c.point_at-b.ensures _ (c.clamped_marks-own.ensures i less)))
+    (drawn (λ (p : Point). p.y) (spline_sample_of c.args.points.now) c.args.last c.args.k c.leg_samples-along.ensures (ap (λ (p : Point). p.y) c.requires.0.here) (ap (λ (p : Point). p.y) (next-is c.before.before.before.before.before.before.before.before.before.before.before))
+    (λ i some less. leg-along c.args.points.now c.args.last (c.args.k + i) c.requires.1 _ _ c.point_at-a.ensures c.point_at-b.ensures _ (c.clamped_marks-own.ensures i less)))
     c.differences_of-x.ensures c.differences_of-y.ensures (next-is c.before.before.before.before.before.before.before.before.before.before.before)

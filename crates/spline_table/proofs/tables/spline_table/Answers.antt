@@ -1,10 +1,11 @@
 -- The tests come in the order of the definition, the first pass tells where a length is not finite, and the second stores. Assumes nothing.
 use borrow.Author.Rules.{rules}
 use Rattle.spline_table.proofs.Answering.{Measured, odd-count, many-points, not_finite, no_room, stored}
+use Rattle.spline_table.proofs.tables.spline_table.Tie as tie
 use Rattle.spline_table.proofs.tables.spline_table.Goals as goal
 
 -- what is known after the first pass
-measured : (p : goal.After-first_not_finite-first) → Measured p.args.points.now p.last_entry-last.result p.first_not_finite-first.result
+measured : (p : tie.After-first_not_finite) → Measured p.args.points.now p.last_entry-last.result p.first_not_finite-first.result
 measured p = record { even = p.if-points-eq1.false; few = p.if-count-gt4096.false; ends = p.last_entry-last.ensures; found = p.first_not_finite-first.ensures }
 
 pub returns-then-points-eq1 : goal.returns-then-points-eq1

@@ -10,12 +10,13 @@ use lib.Dec.{eqb}
 use lib.ListN.{length, drop, get_or}
 use Rattle.station_check.specs.Lines.{line_end, lines_of, first_wrong}
 use Rattle.station_check.proofs.Bytes.{by_each_byte, by_bytes, passed, passed_first, passed_here, step_other, step-missing, step-extra, step-done, step_same}
+use Rattle.station_check.proofs.compare.first_wrong.Tie as tie
 use Rattle.station_check.proofs.compare.first_wrong.Goals as goal
 
 abbrev Loop : Type 0
-Loop = goal.At-loop-i
+Loop = (tie.At-loop goal.the-invariant-loop-i goal.the-decreases-loop-i)
 
-abbrev start : Loop → goal.Start
+abbrev start : Loop → (tie.Start goal.the-invariant-loop-i goal.the-decreases-loop-i)
 start l = l.before.before.before
 
 abbrev wanted_of : Loop → List ℕ
@@ -52,7 +53,7 @@ returns-then-own-given c =
     here c.before.before.before.before.before (step_other (wanted_of c.before.before.before.before.before) (given_of c.before.before.before.before.before) c.loop-i.i c.loop-i-test.true c.if-given-i.false c.if-own-given.true)
 
 -- past both tests
-abbrev test : goal.After-line_end-line → goal.Else-given-i
+abbrev test : goal.After-line_end-line → (tie.Else1 goal.the-invariant-loop-i goal.the-decreases-loop-i)
 test c = c.before.before.before.before
 
 ends-at-most : (c : goal.After-line_end-line) → c.line_end-line.result ≤ 1

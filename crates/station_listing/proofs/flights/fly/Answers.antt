@@ -4,13 +4,14 @@ use mathlib.Core.Path.{sym}
 use native.Mathlib.Omega.{arith}
 use lib.Seq.{length-take-le}
 use Rattle.station_listing.proofs.Lent.{full, sized, unbuilt, flight, used, ready, listed}
+use Rattle.station_listing.proofs.flights.fly.Tie as tie
 use Rattle.station_listing.proofs.flights.fly.Goals as goal
 
 -- ---- the points
-abbrev start : goal.After-build_path → goal.Start
+abbrev start : tie.After-build_path → tie.Start
 start p = p.before.before.before.before.before.before.before.before.before.before
 
-abbrev built : goal.After-print-arg-1 → goal.After-build_path
+abbrev built : goal.After-print-arg-1 → tie.After-build_path
 built p = p.before.before.before.before.before.before.before.before.before
 
 -- the path is to be listed

@@ -6,25 +6,26 @@ use native.Mathlib.Omega.{arith}
 use lib.ListN.{drop}
 use Rattle.svg.specs.Texts.{commands_of, offsets_of}
 use Rattle.station_listing.proofs.Printing.{few-commands, listed-within, printed}
+use Rattle.station_listing.proofs.flights.print.Tie as tie
 use Rattle.station_listing.proofs.flights.print.Goals as goal
 
 -- ---- the points, from the last section back to the first
-abbrev start : goal.After-put_header-past_commands → goal.Start
+abbrev start : tie.After-put_header → tie.Start
 start p = p.before.before.before.before.before.before.before.before.before.before
 
-abbrev header : goal.After-list-past_lines → goal.After-put_header-past_commands
+abbrev header : tie.After-list → tie.After-put_header
 header p = p.before.before.before.before
 
-abbrev text : goal.After-list-past_lines → List ℕ
+abbrev text : tie.After-list → List ℕ
 text p = drop (start (header p)).args.start (start (header p)).args.input.now
 
-abbrev lines : goal.After-put_header-past_segments → goal.After-list-past_lines
+abbrev lines : tie.After-put_header2 → tie.After-list
 lines p = p.before.before.before.before.before
 
-abbrev header-2 : goal.After-put_segments-past_kinds → goal.After-put_header-past_segments
+abbrev header-2 : tie.After-put_segments → tie.After-put_header2
 header-2 p = p.before.before.before.before
 
-abbrev segments : goal.After-put_header-past_stations → goal.After-put_segments-past_kinds
+abbrev segments : tie.After-put_header3 → tie.After-put_segments
 segments p = p.before.before.before.before.before
 
 -- ---- the answers

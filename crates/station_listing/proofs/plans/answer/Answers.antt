@@ -5,14 +5,15 @@ use native.Mathlib.Omega.{arith}
 use lib.Seq.{length-take-le}
 use Rattle.station_listing.proofs.Telling.{too_long, not-read, letters-most, numbers-most, held}
 use Rattle.station_listing.proofs.Texts.{spare}
+use Rattle.station_listing.proofs.plans.answer.Tie as tie
 use Rattle.station_listing.proofs.plans.answer.Goals as goal
 
 -- ---- the points
-abbrev start : goal.After-read_lean → goal.Start
+abbrev start : tie.After-read_lean → tie.Start
 start p = p.before.before.before.before.before.before.before.before
 
 -- the list is to be flown
-abbrev read : goal.After-fly-arg-1 → goal.After-read_lean
+abbrev read : goal.After-fly-arg-1 → tie.After-read_lean
 read p = p.before.before.before.before.before.before.before
 
 -- ---- the buffers
@@ -28,8 +29,7 @@ slice_bounds-read_lean-end-4 c = search rules
 -- ---- the answers
 pub returns-then-input-start-gt4096 : goal.returns-then-input-start-gt4096
 returns-then-input-start-gt4096 c =
-    let a = c.args in
-    too_long a.input.now a.start _ c.if-input-start-gt4096.true c.put_refusal.ensures
+    too_long c.args.input.now c.args.start _ c.if-input-start-gt4096.true c.put_refusal.ensures
 
 pub returns-in-Refused : goal.returns-in-Refused
 returns-in-Refused c =

@@ -12,11 +12,9 @@ returns-in-Refused c =
 
 pub answer-requires : goal.answer-requires
 answer-requires c =
-    let pre = c.requires in
-    let a = asked _ _ _ 0 (sym pre.is ∙ c.in-Stations.is) in
-    (omega (arith, a.inside, asked-past _ _ c.in-Stations.is pre.past), a.least, a.most)
+    let a = asked _ _ _ 0 (sym c.requires.is ∙ c.in-Stations.is) in
+    (omega (arith, a.inside, asked-past _ _ c.in-Stations.is c.requires.past), a.least, a.most)
 
 pub returns-in-Stations : goal.returns-in-Stations
 returns-in-Stations c =
-    let pre = c.requires in
-    line-asked _ _ _ _ _ pre.is _ _ c.in-Stations.is (rw (asked-past _ _ c.in-Stations.is pre.past) c.answer.ensures)
+    line-asked _ _ _ _ _ c.requires.is _ _ c.in-Stations.is (rw (asked-past _ _ c.in-Stations.is c.requires.past) c.answer.ensures)

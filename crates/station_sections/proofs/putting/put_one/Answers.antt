@@ -10,10 +10,8 @@ flight-there-requires c = c.requires.0.stored
 
 pub put_station-requires : goal.put_station-requires
 put_station-requires c =
-    let pre = c.requires in
-    (omega (arith, pre.0.most, pre.1), segment-few pre.0 _ c.flight-there.ensures, omega arith)
+    (omega (arith, c.requires.0.most, c.requires.1), segment-few c.requires.0 _ c.flight-there.ensures, omega arith)
 
 pub returns : goal.returns
 returns c =
-    let put = c.put_station.ensures in
-    within-as 44 _ put.put (station-is _ _ _ _ _ c.progress-along.ensures c.flight-there.ensures) put.within
+    within-as 44 _ c.put_station.ensures.put (station-is _ _ _ _ _ c.progress-along.ensures c.flight-there.ensures) c.put_station.ensures.within

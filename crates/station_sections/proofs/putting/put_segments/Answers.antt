@@ -18,8 +18,7 @@ overflow_cast-commands c =
 
 pub put_segment-at-requires : goal.put_segment-at-requires
 put_segment-at-requires c =
-    let pre = c.requires in
-    (pre.0.small c.loop-k.k (omega arith), omega (arith, c.loop-k.invariant.1.within, pre.0.few))
+    (c.requires.0.small c.loop-k.k (omega arith), omega (arith, c.loop-k.invariant.1.within, c.requires.0.few))
 
 pub loop-k-preserved : goal.loop-k-preserved
 loop-k-preserved c = (omega arith, to-more _ _ _ _ _ _ _ c.loop-k.invariant.1 _ _ c.put_segment-at.ensures)
@@ -30,5 +29,4 @@ shape_of-out c = to-length _ _ _ _ _ _ _ c.loop-k.invariant.1
 pub returns : goal.returns
 unfolding segment_lines
 returns c =
-    let inv = c.loop-k.invariant in
-    to-all _ _ _ _ _ _ _ _ inv.1 (length c.args.kinds.now) (omega (arith, inv.0, c.loop-k-test.false)) (omega (arith, c.requires.0.few))
+    to-all _ _ _ _ _ _ _ _ c.loop-k.invariant.1 (length c.args.kinds.now) (omega (arith, c.loop-k.invariant.0, c.loop-k-test.false)) (omega (arith, c.requires.0.few))

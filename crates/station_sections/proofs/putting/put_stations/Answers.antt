@@ -12,8 +12,7 @@ loop-number-init c = (omega arith, to_none _ _ _ _)
 
 pub put_one-at-requires : goal.put_one-at-requires
 put_one-at-requires c =
-    let pre = c.requires in
-    (pre.0, c.loop-number-test.true, omega (arith, c.loop-number.invariant.1.within, pre.0.most, pre.1))
+    (c.requires.0, c.loop-number-test.true, omega (arith, c.loop-number.invariant.1.within, c.requires.0.most, c.requires.1))
 
 pub loop-number-preserved : goal.loop-number-preserved
 loop-number-preserved c = (omega arith, to-more _ _ _ _ _ _ _ c.loop-number.invariant.1 _ _ c.put_one-at.ensures)
@@ -24,5 +23,4 @@ shape_of-out c = to-length _ _ _ _ _ _ _ c.loop-number.invariant.1
 pub returns : goal.returns
 unfolding station_lines
 returns c =
-    let inv = c.loop-number.invariant in
-    to-all _ _ _ _ _ _ _ _ inv.1 c.args.count (omega (arith, inv.0, c.loop-number-test.false)) (omega (arith, c.requires.0.most, inv.0))
+    to-all _ _ _ _ _ _ _ _ c.loop-number.invariant.1 c.args.count (omega (arith, c.loop-number.invariant.0, c.loop-number-test.false)) (omega (arith, c.requires.0.most, c.loop-number.invariant.0))

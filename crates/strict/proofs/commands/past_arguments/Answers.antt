@@ -12,20 +12,17 @@ loop-kind-init c = set_out _ _ _ _
 
 pub returns-then-next : goal.returns-then-next
 returns-then-next c =
-    let a = c.args in
-    let reads = item a.edition a.text.now a.kind _ _ _ c.past_separator-start.ensures c.read_argument-next.ensures in
-    come-to-end a.edition a.text.now a.kind a.at _ c.loop-kind.invariant (no_item a.edition a.text.now a.kind a.at _ _ reads c.if-next.true)
+    let reads = item c.args.edition c.args.text.now c.args.kind _ _ _ c.past_separator-start.ensures c.read_argument-next.ensures in
+    come-to-end c.args.edition c.args.text.now c.args.kind c.args.at _ c.loop-kind.invariant (no_item c.args.edition c.args.text.now c.args.kind c.args.at _ _ reads c.if-next.true)
 
 pub loop-kind-smaller : goal.loop-kind-smaller
 loop-kind-smaller c =
-    let a = c.args in
-    let reads = item a.edition a.text.now a.kind _ _ _ c.past_separator-start.ensures c.read_argument-next.ensures in
-    let one = one-item a.edition a.text.now a.kind a.at _ _ reads c.if-next.false in
-    let h = item-ahead a.edition a.text.now a.kind _ _ one.0.0 in
+    let reads = item c.args.edition c.args.text.now c.args.kind _ _ _ c.past_separator-start.ensures c.read_argument-next.ensures in
+    let one = one-item c.args.edition c.args.text.now c.args.kind c.args.at _ _ reads c.if-next.false in
+    let h = item-ahead c.args.edition c.args.text.now c.args.kind _ _ one.0.0 in
     omega arith
 
 pub loop-kind-preserved : goal.loop-kind-preserved
 loop-kind-preserved c =
-    let a = c.args in
-    let reads = item a.edition a.text.now a.kind _ _ _ c.past_separator-start.ensures c.read_argument-next.ensures in
-    go_on a.edition a.text.now a.kind a.at _ c.loop-kind.invariant _ (one-item a.edition a.text.now a.kind a.at _ _ reads c.if-next.false)
+    let reads = item c.args.edition c.args.text.now c.args.kind _ _ _ c.past_separator-start.ensures c.read_argument-next.ensures in
+    go_on c.args.edition c.args.text.now c.args.kind c.args.at _ c.loop-kind.invariant _ (one-item c.args.edition c.args.text.now c.args.kind c.args.at _ _ reads c.if-next.false)

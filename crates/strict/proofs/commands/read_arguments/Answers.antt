@@ -5,11 +5,9 @@ use Rattle.strict.proofs.commands.read_arguments.Goals as goal
 
 pub returns-then-end : goal.returns-then-end
 returns-then-end c =
-    let a = c.args in
-    arguments-missing a.edition a.text.now a.kind a.at _ c.past_space.ensures _ c.read_argument-end.ensures c.if-end.true
+    arguments-missing c.args.edition c.args.text.now c.args.kind c.args.at _ c.past_space.ensures _ c.read_argument-end.ensures c.if-end.true
 
 pub returns : goal.returns
 returns c =
-    let a = c.args in
-    arguments-past a.edition a.text.now a.kind a.at _ c.past_space.ensures _ _ c.read_argument-end.ensures
+    arguments-past c.args.edition c.args.text.now c.args.kind c.args.at _ c.past_space.ensures _ _ c.read_argument-end.ensures
     c.if-end.false c.past_arguments.ensures

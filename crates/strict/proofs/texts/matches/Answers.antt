@@ -22,33 +22,27 @@ loop-at-init c = set_out _ _ _ _ c.past_space-at.ensures c.stands_alone-alone.en
 
 pub returns-then-alone-begun : goal.returns-then-alone-begun
 returns-then-alone-begun c =
-    let a = c.args in
-    (λ z. absurd (clash z refl), λ m. absurd (no_second a.edition a.text.now _ c.loop-at.begun _ c.loop-at-test.true c.if-alone-begun.true (c.loop-at.invariant.0 m)))
+    (λ z. absurd (clash z refl), λ m. absurd (no_second c.args.edition c.args.text.now _ c.loop-at.begun _ c.loop-at-test.true c.if-alone-begun.true (c.loop-at.invariant.0 m)))
 
 pub returns-then-end : goal.returns-then-end
 returns-then-end c =
-    let a = c.args in
-    let none-due = missing-lacks (Command a.edition a.text.now c.loop-at.begun) (Goes a.edition a.text.now) _ _ c.read_command-end.ensures c.if-end.true in
-    (λ z. absurd (clash z refl), λ m. absurd (no_more a.edition a.text.now _ _ _ c.loop-at-test.true none-due (c.loop-at.invariant.0 m)))
+    let none-due = missing-lacks (Command c.args.edition c.args.text.now c.loop-at.begun) (Goes c.args.edition c.args.text.now) _ _ c.read_command-end.ensures c.if-end.true in
+    (λ z. absurd (clash z refl), λ m. absurd (no_more c.args.edition c.args.text.now _ _ _ c.loop-at-test.true none-due (c.loop-at.invariant.0 m)))
 
 pub loop-at-smaller : goal.loop-at-smaller
 loop-at-smaller c =
-    let a = c.args in
-    let one = ends-past (Command a.edition a.text.now c.loop-at.begun) (Goes a.edition a.text.now) _ _ c.read_command-end.ensures c.if-end.false in
-    falls _ _ _ _ c.loop-at-test.true (command-grows a.edition a.text.now c.loop-at.begun _ _ one.0)
-    (gap-onward a.edition a.text.now _ _ c.past_gap-at.ensures)
+    let one = ends-past (Command c.args.edition c.args.text.now c.loop-at.begun) (Goes c.args.edition c.args.text.now) _ _ c.read_command-end.ensures c.if-end.false in
+    falls _ _ _ _ c.loop-at-test.true (command-grows c.args.edition c.args.text.now c.loop-at.begun _ _ one.0)
+    (gap-onward c.args.edition c.args.text.now _ _ c.past_gap-at.ensures)
 
 pub loop-at-preserved : goal.loop-at-preserved
 loop-at-preserved c =
-    let a = c.args in
-    let one = ends-past (Command a.edition a.text.now c.loop-at.begun) (Goes a.edition a.text.now) _ _ c.read_command-end.ensures c.if-end.false in
-    let inv = c.loop-at.invariant in (
-      λ m. goes-forth a.edition a.text.now _ _ _ _ _ c.loop-at-test.true one c.past_gap-at.ensures (inv.0 m),
-      λ r. inv.1 (goes_back a.edition a.text.now _ c.loop-at.begun _ _ _ c.if-alone-begun.false one c.past_gap-at.ensures r),
+    let one = ends-past (Command c.args.edition c.args.text.now c.loop-at.begun) (Goes c.args.edition c.args.text.now) _ _ c.read_command-end.ensures c.if-end.false in
+    (
+      λ m. goes-forth c.args.edition c.args.text.now _ _ _ _ _ c.loop-at-test.true one c.past_gap-at.ensures (c.loop-at.invariant.0 m),
+      λ r. c.loop-at.invariant.1 (goes_back c.args.edition c.args.text.now _ c.loop-at.begun _ _ _ c.if-alone-begun.false one c.past_gap-at.ensures r),
     )
 
 pub returns : goal.returns
 returns c =
-    let a = c.args in
-    let inv = c.loop-at.invariant in
-    (λ z. inv.1 (ended (eqb-true _ _ z)), λ m. eq-eqb _ _ (at-end a.edition a.text.now _ _ _ c.loop-at-test.false (inv.0 m)))
+    (λ z. c.loop-at.invariant.1 (ended (eqb-true _ _ z)), λ m. eq-eqb _ _ (at-end c.args.edition c.args.text.now _ _ _ c.loop-at-test.false (c.loop-at.invariant.0 m)))

@@ -10,16 +10,17 @@ use Rattle.svg.specs.Lists.{command_list}
 use Rattle.svg.specs.Texts.{Holding}
 use Rattle.svg.proofs.Holding.{held-letters, held-numbers, held-offsets, held-within, held_whole, held-refused, held-offset, held_small}
 use Rattle.svg.proofs.Holding.{full-of-letters, full-of-numbers, full-of-offsets, holding-more}
+use Rattle.svg.proofs.passes.fill.Tie as tie
 use Rattle.svg.proofs.passes.fill.Goals as goal
 
 -- ---- the points of the code that the answers look back to
-abbrev loop-start : goal.At-loop-refusal → goal.Start
+abbrev loop-start : goal.At-loop-refusal → (tie.Start goal.the-invariant-loop-refusal goal.the-decreases-loop-refusal)
 loop-start l = l.before.before.before.before.before
 
-abbrev looped : goal.After-width-more → goal.At-loop-refusal
+abbrev looped : (tie.After-width goal.the-invariant-loop-refusal goal.the-decreases-loop-refusal) → goal.At-loop-refusal
 looped w = w.before.before.before.before.before
 
-abbrev sized : goal.After-struct_known-1 → goal.After-width-more
+abbrev sized : goal.After-struct_known-1 → (tie.After-width goal.the-invariant-loop-refusal goal.the-decreases-loop-refusal)
 sized c = c.before.before.before.before.before.before.before.before.before.before.before
 
 -- ---- the answers

@@ -4,16 +4,17 @@ use mathlib.Core.Path.{sym}
 use lib.Seq.{length-take-le}
 use Rattle.svg.proofs.Answering.{unread}
 use Rattle.svg.proofs.Holding.{holding-none, told-refused, whole-within, whole-held, full-within, full-begun}
+use Rattle.svg.proofs.reading.read_by.Tie as tie
 use Rattle.svg.proofs.reading.read_by.Goals as goal
 
 -- ---- the points of the code that the answers look back to
-abbrev start : goal.After-fill → goal.Start
+abbrev start : tie.After-fill → tie.Start
 start h = h.before.before.before.before.before.before.before.before.before.before.before.before
 
-abbrev whole : goal.In-Whole → goal.After-fill
+abbrev whole : goal.In-Whole → tie.After-fill
 whole t = t.before.before.before.before.before.before.before.before.before
 
-abbrev full : goal.In-Full → goal.After-fill
+abbrev full : goal.In-Full → tie.After-fill
 full t = t.before.before.before.before.before.before.before.before.before
 
 -- ---- the answers

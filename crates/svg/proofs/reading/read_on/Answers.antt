@@ -8,13 +8,14 @@ use Rattle.svg.specs.Texts.{commands_of, offsets_of, measure_of, Roomed}
 use Rattle.svg.specs.declared.passes.Size.TheVariants.{Counted}
 use Rattle.svg.proofs.Answering.{unread, no-letters, no-numbers, no-offsets, has_room, read_whole}
 use Rattle.svg.proofs.Holding.{begun-counting, begun-room, begun-holding, begun-filled}
+use Rattle.svg.proofs.reading.read_on.Tie as tie
 use Rattle.svg.proofs.reading.read_on.Goals as goal
 
 -- ---- the points of the code that the answers look back to
-abbrev start : goal.In-Counted → goal.Start
+abbrev start : tie.After-known_told2 → tie.Start
 start t = t.before.before.before.before.before.before.before.before.before.before.before
 
-abbrev judged : goal.After-copy_letters-arg-1 → goal.In-Counted
+abbrev judged : goal.After-copy_letters-arg-1 → tie.After-known_told2
 judged c = c.before.before.before.before
 
 abbrev lettered : goal.After-copy_numbers-arg-1 → goal.After-copy_letters-arg-1
@@ -78,9 +79,9 @@ fill-requires c =
     let n = numbered o in
     let l = lettered n in
     let s = start (judged l) in
-    let a = s.args in (
+    (
       s.pre.0,
-      begun-holding s.pre.1 (lent a.letters-1 a.numbers-1 a.offsets-1) (room l) _ n.copy_letters.ensures o.copy_numbers.ensures
+      begun-holding s.pre.1 (lent s.args.letters s.args.numbers s.args.offsets) (room l) _ n.copy_letters.ensures o.copy_numbers.ensures
           c.copy_offsets.ensures,
     )
 
@@ -91,7 +92,6 @@ returns-in-Counted c =
     let l = lettered n in
     let t = judged l in
     let s = start t in
-    let a = s.args in
     read_whole _ _ s.pre.0 (sym t.measure_on.ensures ∙ t.in-Counted.is) l.if-letters-places.left l.if-numbers-count.left l.if-offsets-places.left _
-    (begun-filled s.pre.1 (lent a.letters-1 a.numbers-1 a.offsets-1) (room l) _ n.copy_letters.ensures o.copy_numbers.ensures
+    (begun-filled s.pre.1 (lent s.args.letters s.args.numbers s.args.offsets) (room l) _ n.copy_letters.ensures o.copy_numbers.ensures
     c.copy_offsets.ensures _ _ c.fill.ensures)

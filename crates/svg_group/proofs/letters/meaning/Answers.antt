@@ -56,16 +56,15 @@ returns-in-90 c = ⊎_elim (λ e. rw e) (λ e. rw e) c.in-90.is
 pub returns-in_default : goal.returns-in_default
 unfolding meaning_of
 returns-in_default c =
-    let r = c.in_default.in_default-own.rest in
     simp (
-      neither _ 77 109 r.0.0.0.0.0.0.0.0.0.1,
-      neither _ 76 108 r.0.0.0.0.0.0.0.0.1,
-      neither _ 72 104 r.0.0.0.0.0.0.0.1,
-      neither _ 86 118 r.0.0.0.0.0.0.1,
-      neither _ 67 99 r.0.0.0.0.0.1,
-      neither _ 83 115 r.0.0.0.0.1,
-      neither _ 81 113 r.0.0.0.1,
-      neither _ 84 116 r.0.0.1,
-      neither _ 65 97 r.0.1,
-      neither _ 90 122 r.1,
+      neither _ 77 109 c.in_default.in_default-own.rest.0.0.0.0.0.0.0.0.0.1,
+      neither _ 76 108 c.in_default.in_default-own.rest.0.0.0.0.0.0.0.0.1,
+      neither _ 72 104 c.in_default.in_default-own.rest.0.0.0.0.0.0.0.1,
+      neither _ 86 118 c.in_default.in_default-own.rest.0.0.0.0.0.0.1,
+      neither _ 67 99 c.in_default.in_default-own.rest.0.0.0.0.0.1,
+      neither _ 83 115 c.in_default.in_default-own.rest.0.0.0.0.1,
+      neither _ 81 113 c.in_default.in_default-own.rest.0.0.0.1,
+      neither _ 84 116 c.in_default.in_default-own.rest.0.0.1,
+      neither _ 65 97 c.in_default.in_default-own.rest.0.1,
+      neither _ 90 122 c.in_default.in_default-own.rest.1,
     )

@@ -24,7 +24,6 @@ returns-then-is_exponent_mark c =
 pub returns : goal.returns
 unfolding pass_number_of
 returns c =
-    let text = c.args.text.now in
     let none = ap (λ (x : ℕ). among x exponent_marks) (sym c.byte_at.ensures) ∙ sym c.is_exponent_mark.ensures ∙ c.if-is_exponent_mark.false in
     simp (sym c.past_separators-start.ensures, lt-ltb _ _ c.if-text-start.false)
-    (plain-number text _ _ _ _ _ c.past_sign-whole.ensures c.past_digits-point.ensures c.past_point-fraction.ensures c.past_digits-mark.ensures c.if-whole-point.false none)
+    (plain-number c.args.text.now _ _ _ _ _ c.past_sign-whole.ensures c.past_digits-point.ensures c.past_point-fraction.ensures c.past_digits-mark.ensures c.if-whole-point.false none)

@@ -15,12 +15,10 @@ raw_parameter-requires c = passed (sym c.table_is_sound.ensures ∙ c.if-table_i
 
 pub returns-then-table_is_sound : goal.returns-then-table_is_sound
 returns-then-table_is_sound c =
-    let args = c.args in
-    let size : length args.table.entries ≡ 32 = sym (mapped-length args.table.entries) ∙ c.well_formed.0.1.1.0.1.0.1 in
-    let few : length args.table.entries ≤ most_entries = omega arith in
-    looked-at args.table.entries args.table.total args.progress.value c.raw_parameter.result few (sym c.table_is_sound.ensures ∙ c.if-table_is_sound.true) c.raw_parameter.ensures
+    let size : length c.args.table.entries ≡ 32 = sym (mapped-length c.args.table.entries) ∙ c.well_formed.0.1.1.0.1.0.1 in
+    let few : length c.args.table.entries ≤ most_entries = omega arith in
+    looked-at c.args.table.entries c.args.table.total c.args.progress.value c.raw_parameter.result few (sym c.table_is_sound.ensures ∙ c.if-table_is_sound.true) c.raw_parameter.ensures
 
 pub returns : goal.returns
 returns c =
-    let args = c.args in
-    looked-unsound args.table.entries args.table.total args.progress.value (sym c.table_is_sound.ensures ∙ c.if-table_is_sound.false)
+    looked-unsound c.args.table.entries c.args.table.total c.args.progress.value (sym c.table_is_sound.ensures ∙ c.if-table_is_sound.false)

@@ -10,15 +10,12 @@ raw_parameter_in-requires c = record { sound = passed (sym c.entries_are_sound.e
 
 pub returns-then-entries_are_sound : goal.returns-then-entries_are_sound
 returns-then-entries_are_sound c =
-    let args = c.args in
-    looked-at args.entries.now args.total args.progress.value c.raw_parameter_in.result (search rules) (sym c.entries_are_sound.ensures ∙ c.if-entries_are_sound.true) c.raw_parameter_in.ensures
+    looked-at c.args.entries.now c.args.total c.args.progress.value c.raw_parameter_in.result (search rules) (sym c.entries_are_sound.ensures ∙ c.if-entries_are_sound.true) c.raw_parameter_in.ensures
 
 pub returns-else-entries_are_sound : goal.returns-else-entries_are_sound
 returns-else-entries_are_sound c =
-    let args = c.args in
-    looked-unsound args.entries.now args.total args.progress.value (sym c.entries_are_sound.ensures ∙ c.if-entries_are_sound.false)
+    looked-unsound c.args.entries.now c.args.total c.args.progress.value (sym c.entries_are_sound.ensures ∙ c.if-entries_are_sound.false)
 
 pub returns-else-entries-le65521 : goal.returns-else-entries-le65521
 returns-else-entries-le65521 c =
-    let args = c.args in
-    looked-long args.entries.now args.total args.progress.value (search rules)
+    looked-long c.args.entries.now c.args.total c.args.progress.value (search rules)

@@ -7,23 +7,19 @@ use Rattle.table.proofs.lookups.spot.Goals as goal
 
 pub returns-then-lengths-eq0 : goal.returns-then-lengths-eq0
 returns-then-lengths-eq0 c =
-    let args = c.args in
-    spotted-none args.lengths.now args.progress.value (search rules) (search rules) (sym c.lengths_are_sound.ensures ∙ c.if-lengths_are_sound.true)
+    spotted-none c.args.lengths.now c.args.progress.value (search rules) (search rules) (sym c.lengths_are_sound.ensures ∙ c.if-lengths_are_sound.true)
 
 pub spot-requires : goal.spot-requires
 spot-requires c = record { some = search rules; sound = passed (sym c.lengths_are_sound.ensures ∙ c.if-lengths_are_sound.true) }
 
 pub returns-then-lengths_are_sound : goal.returns-then-lengths_are_sound
 returns-then-lengths_are_sound c =
-    let args = c.args in
-    spotted-at args.lengths.now args.progress.value c.spot.result (search rules) (search rules) (sym c.lengths_are_sound.ensures ∙ c.if-lengths_are_sound.true) c.spot.ensures
+    spotted-at c.args.lengths.now c.args.progress.value c.spot.result (search rules) (search rules) (sym c.lengths_are_sound.ensures ∙ c.if-lengths_are_sound.true) c.spot.ensures
 
 pub returns-else-lengths_are_sound : goal.returns-else-lengths_are_sound
 returns-else-lengths_are_sound c =
-    let args = c.args in
-    spotted-unsound args.lengths.now args.progress.value (sym c.lengths_are_sound.ensures ∙ c.if-lengths_are_sound.false)
+    spotted-unsound c.args.lengths.now c.args.progress.value (sym c.lengths_are_sound.ensures ∙ c.if-lengths_are_sound.false)
 
 pub returns-else-lengths-le65536 : goal.returns-else-lengths-le65536
 returns-else-lengths-le65536 c =
-    let args = c.args in
-    spotted-long args.lengths.now args.progress.value (search rules)
+    spotted-long c.args.lengths.now c.args.progress.value (search rules)

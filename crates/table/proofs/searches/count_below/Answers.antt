@@ -13,8 +13,7 @@ loop-i-init c = counting-start c.args.lengths.now c.args.target
 -- 64 lengths are counted at the most
 pub overflow_add-count : goal.overflow_add-count
 overflow_add-count c =
-    let l = c.loop-i in
-    omega (arith, (counting_more c.requires.0 l.invariant c.loop-i-test.true _ c.one_below-count.ensures).most, c.requires.1, c.loop-i-test.true)
+    omega (arith, (counting_more c.requires.0 c.loop-i.invariant c.loop-i-test.true _ c.one_below-count.ensures).most, c.requires.1, c.loop-i-test.true)
 
 pub loop-i-preserved : goal.loop-i-preserved
 loop-i-preserved c = counting_more c.requires.0 c.loop-i.invariant c.loop-i-test.true _ c.one_below-count.ensures

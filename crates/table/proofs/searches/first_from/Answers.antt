@@ -13,8 +13,7 @@ loop-k-init c = bracket-passed _ _ _ c.passed_near-k.ensures
 
 pub loop-k-preserved : goal.loop-k-preserved
 loop-k-preserved c =
-    let l = c.loop-k in
-    bracket-up l.k c.requires l.invariant (search rules) (subst T (sym c.if-lengths-k.true) tt)
+    bracket-up c.loop-k.k c.requires c.loop-k.invariant (search rules) (subst T (sym c.if-lengths-k.true) tt)
 
 -- each is below
 pub returns-then-size-k : goal.returns-then-size-k
@@ -23,5 +22,4 @@ returns-then-size-k c = bracket-done c.loop-k.invariant (search rules)
 -- the length at k is not
 pub returns-else-lengths-k : goal.returns-else-lengths-k
 returns-else-lengths-k c =
-    let l = c.loop-k in
-    bracket-done (bracket-down l.k l.invariant (search rules) (search rules) (subst (λ (b : Bool). T (not b)) (sym c.if-lengths-k.false) tt)) (search rules)
+    bracket-done (bracket-down c.loop-k.k c.loop-k.invariant (search rules) (search rules) (subst (λ (b : Bool). T (not b)) (sym c.if-lengths-k.false) tt)) (search rules)

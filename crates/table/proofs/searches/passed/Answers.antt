@@ -12,13 +12,12 @@ use Rattle.table.proofs.searches.passed.Goals as goal
 
 pub loop-size-init : goal.loop-size-init
 loop-size-init c =
-    let xs = c.args.lengths.now in
-    let e : length xs ≡ 0 + length xs = omega arith in
-    subst (λ (k : ℕ). Bracket xs c.args.target 0 k) e (bracket-start xs c.args.target)
+    let e : length c.args.lengths.now ≡ 0 + length c.args.lengths.now = omega arith in
+    subst (λ (k : ℕ). Bracket c.args.lengths.now c.args.target 0 k) e (bracket-start c.args.lengths.now c.args.target)
 
 -- the next bracket
-step : (c : goal.After-quarters_below) → let l = c.loop-size in Quarter c.args.lengths.now c.args.target l.base l.size (l.size / 4) c.quarters_below.result
-step c = let l = c.loop-size in quartered (l.size / 4) c.requires l.invariant (omega arith) (omega arith) _ c.quarters_below.ensures
+step : (c : goal.After-quarters_below) → Quarter c.args.lengths.now c.args.target c.loop-size.base c.loop-size.size (c.loop-size.size / 4) c.quarters_below.result
+step c = let c.loop-size = c.loop-size in quartered (c.loop-size.size / 4) c.requires c.loop-size.invariant (omega arith) (omega arith) _ c.quarters_below.ensures
 
 pub overflow_mul-base : goal.overflow_mul-base
 overflow_mul-base c = omega (arith, (step c).upto, (step c).order)
@@ -31,20 +30,17 @@ loop-size-preserved c = step c
 
 pub count_below-requires : goal.count_below-requires
 count_below-requires c =
-    let l = c.loop-size in
-    let xs = c.args.lengths.now in
-    (part_sound l.base (l.base + l.size - l.base) xs c.requires, simp length-take (omega arith))
+    (part_sound c.loop-size.base (c.loop-size.base + c.loop-size.size - c.loop-size.base) c.args.lengths.now c.requires, simp length-take (omega arith))
 
 -- it passes over all of them
-exact : (c : goal.After-count_below) → let l = c.loop-size in l.base + c.count_below.result ≡ first_not_below c.args.target c.args.lengths.now
+exact : (c : goal.After-count_below) → c.loop-size.base + c.count_below.result ≡ first_not_below c.args.target c.args.lengths.now
 exact c =
-    let l = c.loop-size in
-    ap (λ (n : ℕ). l.base + n) c.count_below.ensures ∙ bracket-counted l.base (l.base + l.size) (l.base + l.size - l.base) l.invariant refl
+    let c.loop-size = c.loop-size in
+    ap (λ (n : ℕ). c.loop-size.base + n) c.count_below.ensures ∙ bracket-counted c.loop-size.base (c.loop-size.base + c.loop-size.size) (c.loop-size.base + c.loop-size.size - c.loop-size.base) c.loop-size.invariant refl
 
 pub overflow_add-result : goal.overflow_add-result
 overflow_add-result c =
-    let xs = c.args.lengths.now in
-    omega (arith, exact c, first-upto xs c.args.target (length xs) (bracket-start xs c.args.target).above)
+    omega (arith, exact c, first-upto c.args.lengths.now c.args.target (length c.args.lengths.now) (bracket-start c.args.lengths.now c.args.target).above)
 
 pub returns : goal.returns
 returns c = omega (arith, exact c)

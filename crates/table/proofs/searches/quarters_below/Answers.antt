@@ -11,11 +11,10 @@ use Rattle.table.proofs.searches.quarters_below.Goals as goal
 -- each is 1 or 0
 ones : (c : goal.After-step_below-third) → (c.step_below-first.result ≤ 1) × (c.step_below-second.result ≤ 1) × (c.step_below-third.result ≤ 1)
 ones c =
-    let a = c.args in
-    let below : ℕ → Bool = λ k. lt (at a.lengths.now k) a.target in (
-      at_most_one (below (a.base + a.part)) _ c.step_below-first.ensures,
-      at_most_one (below (a.base + 2 * a.part)) _ c.step_below-second.ensures,
-      at_most_one (below (a.base + 3 * a.part)) _ c.step_below-third.ensures,
+    let below : ℕ → Bool = λ k. lt (at c.args.lengths.now k) c.args.target in (
+      at_most_one (below (c.args.base + c.args.part)) _ c.step_below-first.ensures,
+      at_most_one (below (c.args.base + 2 * c.args.part)) _ c.step_below-second.ensures,
+      at_most_one (below (c.args.base + 3 * c.args.part)) _ c.step_below-third.ensures,
     )
 
 pub overflow_add-result : goal.overflow_add-result

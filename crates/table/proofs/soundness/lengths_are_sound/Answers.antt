@@ -17,12 +17,9 @@ loop-k-init c = (search rules, search rules, pairs_start c.args.lengths.now (sea
 
 pub loop-k-preserved : goal.loop-k-preserved
 loop-k-preserved c =
-    let l = c.loop-k in
-    let xs = c.args.lengths.now in
-    (search rules, search rules, pairs-more xs l.k l.climbs l.invariant.2 c.loop-k-test.true (c.shared_slice_known-in-loop-k-2-1.given l.k))
+    (search rules, search rules, pairs-more c.args.lengths.now c.loop-k.k c.loop-k.climbs c.loop-k.invariant.2 c.loop-k-test.true (c.shared_slice_known-in-loop-k-2-1.given c.loop-k.k))
 
 pub returns : goal.returns
 unfolding largest_f
 returns c =
-    let l = c.loop-k in
-    pairs-done c.args.lengths.now l.k l.climbs l.invariant.2 (search rules)
+    pairs-done c.args.lengths.now c.loop-k.k c.loop-k.climbs c.loop-k.invariant.2 (search rules)

@@ -12,5 +12,4 @@ use Rattle.table.proofs.soundness.row_is_sound.Goals as goal
 pub returns : goal.returns
 unfolding zero_f
 returns c =
-    let row = c.args.row.now in
-    ap (λ (b : Bool). b && eq (at row 0) zero_f && le (at row (last_of row)) (at row (last_of row - 1))) c.lengths_are_sound.ensures ∙ row-sound row c.requires
+    ap (λ (b : Bool). b && eq (at c.args.row.now 0) zero_f && le (at c.args.row.now (last_of c.args.row.now)) (at c.args.row.now (last_of c.args.row.now - 1))) c.lengths_are_sound.ensures ∙ row-sound c.args.row.now c.requires

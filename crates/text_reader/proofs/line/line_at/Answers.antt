@@ -15,9 +15,7 @@ returns-then-end-at-gt9 c = line-long _ _ _ c.exponent-run.ensures c.if-end-at.f
 
 pub overflow_add-end : goal.overflow_add-end
 overflow_add-end c =
-    let text = c.args.text.now in
-    let end = c.exponent-run.result.at in
-    let h : end < length text = feed-inside text end (sym c.byte_at.ensures ∙ c.if-byte_at-eq10.true) in
+    let h : c.exponent-run.result.at < length c.args.text.now = feed-inside c.args.text.now c.exponent-run.result.at (sym c.byte_at.ensures ∙ c.if-byte_at-eq10.true) in
     omega arith
 
 pub returns-then-byte_at-eq10 : goal.returns-then-byte_at-eq10

@@ -9,5 +9,4 @@ answer a t = of_bits binary32 (over_of a t * 2 ^ 31 + pack_of (gap_of a t) 58)
 
 pub returns : goal.returns
 returns c =
-    let sides = c.cosine_sides-sides in
-    c.near.ensures ∙ ap (λ (a : ℕ). answer a sides.result.minus) sides.ensures.0 ∙ ap (answer _) sides.ensures.1
+    c.near.ensures ∙ ap (λ (a : ℕ). answer a c.cosine_sides-sides.result.minus) c.cosine_sides-sides.ensures.0 ∙ ap (answer _) c.cosine_sides-sides.ensures.1

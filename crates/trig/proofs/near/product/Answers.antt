@@ -28,6 +28,5 @@ float_to_bits-head c =
 
 pub returns : goal.returns
 returns c =
-    let given = c.args in
-    subst (λ (w : ℕ). (w % narrow_step ≡ narrow_half → ⊥) → Stands w (sine_from given.turned given.r given.sides.plus given.sides.minus)) (sym c.wrapping_add_u64.ensures)
-    (product-stands given.r given.sides.plus given.sides.minus c.requires.0 c.requires.1 c.requires.2 c.requires.3 given.turned)
+    subst (λ (w : ℕ). (w % narrow_step ≡ narrow_half → ⊥) → Stands w (sine_from c.args.turned c.args.r c.args.sides.plus c.args.sides.minus)) (sym c.wrapping_add_u64.ensures)
+    (product-stands c.args.r c.args.sides.plus c.args.sides.minus c.requires.0 c.requires.1 c.requires.2 c.requires.3 c.args.turned)

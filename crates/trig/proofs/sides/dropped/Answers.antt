@@ -7,7 +7,6 @@ use Rattle.trig.proofs.sides.dropped.Goals as goal
 kept : (r : ℕ) → r < 2 ^ 64 → r / 2 ^ drop_of r < 2 ^ 31
 kept r h =
     let l = leading_length 64 r h in
-    let e = l.1 in
     let m : l.0 ≤ 31 + drop_of r = omega arith in
     shr_lt 31 (drop_of r) (lt_of_lt_of_le l.2 (pow_mono m))
 

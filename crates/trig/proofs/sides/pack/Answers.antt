@@ -6,7 +6,6 @@ use Rattle.trig.proofs.sides.pack.Goals as goal
 zeros-lt : (w : ℕ) → (w ≡ 0 → ⊥) → w < 2 ^ 64 → count_leading_zeros 64 w < 64
 zeros-lt w n h =
     let t = leading_top 64 w (pos_of_ne-zero n) h in
-    let e = t.1 in
     omega arith
 
 pub returns-then-w-eq0 : goal.returns-then-w-eq0

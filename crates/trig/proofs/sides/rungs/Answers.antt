@@ -5,7 +5,5 @@ use Rattle.trig.proofs.sides.rungs.Goals as goal
 
 pub returns : goal.returns
 returns c =
-    let args = c.args in
-    let first = c.rise.ensures.0 in
-    let second = c.rise-2.ensures.0 ∙ ap (λ (h : ℕ). risen args.b args.v h) first in
-    (c.rise-3.ensures.0 ∙ ap (λ (h : ℕ). risen args.a args.v h) second, omega arith)
+    let second = c.rise-2.ensures.0 ∙ ap (λ (h : ℕ). risen c.args.b c.args.v h) c.rise.ensures.0 in
+    (c.rise-3.ensures.0 ∙ ap (λ (h : ℕ). risen c.args.a c.args.v h) second, omega arith)

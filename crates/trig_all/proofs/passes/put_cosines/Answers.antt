@@ -12,14 +12,11 @@ loop-i-init c = (run-start c.requires.0.2, omega arith)
 
 pub cosine_from-requires : goal.cosine_from-requires
 cosine_from-requires c =
-    let given = c.requires in
-    (given.1.0.each c.loop-i.i c.loop-i-test.true, given.1.1.each c.loop-i.i c.loop-i-test.true)
+    (c.requires.1.0.each c.loop-i.i c.loop-i-test.true, c.requires.1.1.each c.loop-i.i c.loop-i-test.true)
 
 pub loop-i-preserved : goal.loop-i-preserved
 loop-i-preserved c =
-    let at = c.loop-i in
-    let l = c.loop-i-test.true in
-    (run_more at.invariant.0 (omega (arith, l, c.requires.0.1)) _ c.cosine_from.ensures, omega (arith, l))
+    (run_more c.loop-i.invariant.0 (omega (arith, c.loop-i-test.true, c.requires.0.1)) _ c.cosine_from.ensures, omega (arith, c.loop-i-test.true))
 
 pub returns : goal.returns
-returns c = let inv = c.loop-i.invariant in run-whole inv.0 c.loop-i-test.false inv.1
+returns c = run-whole c.loop-i.invariant.0 c.loop-i-test.false c.loop-i.invariant.1

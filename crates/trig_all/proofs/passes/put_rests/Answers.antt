@@ -10,11 +10,9 @@ use Rattle.trig_all.proofs.passes.put_rests.Goals as goal
 
 pub loop-i-preserved : goal.loop-i-preserved
 loop-i-preserved c =
-    let inv = c.loop-i.invariant in
-    let reduced = c.reduce-rest.ensures in
     let bits = c.fixed.ensures.0 ∙ ap fixed_of c.stepped_bits.ensures.0 in
     let l : c.loop-i.i < 8 = omega (arith, c.loop-i-test.true, c.requires.0) in
-    (row_more inv.0 l _ (reduced.0 ∙ ap rest_of bits), row_more inv.1 l _ (reduced.1 ∙ ap flip_of bits))
+    (row_more c.loop-i.invariant.0 l _ (c.reduce-rest.ensures.0 ∙ ap rest_of bits), row_more c.loop-i.invariant.1 l _ (c.reduce-rest.ensures.1 ∙ ap flip_of bits))
 
 pub returns : goal.returns
-returns c = let inv = c.loop-i.invariant in (row-whole inv.0 c.loop-i-test.false, row-whole inv.1 c.loop-i-test.false)
+returns c = (row-whole c.loop-i.invariant.0 c.loop-i-test.false, row-whole c.loop-i.invariant.1 c.loop-i-test.false)

@@ -18,21 +18,16 @@ loop-i-init c = (run-start c.requires.0.2, omega arith)
 
 pub sine_from-requires : goal.sine_from-requires
 sine_from-requires c =
-    let at = c.loop-i in
-    let l = c.loop-i-test.true in
-    let given = c.requires in
-    let same = run-here at.invariant.0 in (
-      of-place flip_for same (given.1.0.1.each at.i l),
-      of-place rest_for same (given.1.0.0.each at.i l),
-      of-place (λ (x : Float). sine_plus (rest_for x)) same (given.1.1.0.each at.i l),
-      of-place (λ (x : Float). sine_minus (rest_for x)) same (given.1.1.1.each at.i l),
+    let same = run-here c.loop-i.invariant.0 in (
+      of-place flip_for same (c.requires.1.0.1.each c.loop-i.i c.loop-i-test.true),
+      of-place rest_for same (c.requires.1.0.0.each c.loop-i.i c.loop-i-test.true),
+      of-place (λ (x : Float). sine_plus (rest_for x)) same (c.requires.1.1.0.each c.loop-i.i c.loop-i-test.true),
+      of-place (λ (x : Float). sine_minus (rest_for x)) same (c.requires.1.1.1.each c.loop-i.i c.loop-i-test.true),
     )
 
 pub loop-i-preserved : goal.loop-i-preserved
 loop-i-preserved c =
-    let at = c.loop-i in
-    let l = c.loop-i-test.true in
-    (run_more at.invariant.0 (omega (arith, l, c.requires.0.1)) _ (c.sine_from.ensures ∙ ap sine_of (run-here at.invariant.0)), omega (arith, l))
+    (run_more c.loop-i.invariant.0 (omega (arith, c.loop-i-test.true, c.requires.0.1)) _ (c.sine_from.ensures ∙ ap sine_of (run-here c.loop-i.invariant.0)), omega (arith, c.loop-i-test.true))
 
 pub returns : goal.returns
-returns c = let inv = c.loop-i.invariant in run-whole inv.0 c.loop-i-test.false inv.1
+returns c = run-whole c.loop-i.invariant.0 c.loop-i-test.false c.loop-i.invariant.1

@@ -19,23 +19,17 @@ cosine_sums-requires c =
 
 pub put_cosines-requires : goal.put_cosines-requires
 put_cosines-requires c =
-    let given = c.requires in
-    let rests = c.put_rests.ensures.0 in
-    let sums = c.cosine_sums.ensures in
-    ((omega (arith, given.3), omega (arith, given.2, given.4), given.1), (row-through cosine_plus rests sums.0, row-through cosine_minus rests sums.1))
+    ((omega (arith, c.requires.3), omega (arith, c.requires.2, c.requires.4), c.requires.1), (row-through cosine_plus c.put_rests.ensures.0 c.cosine_sums.ensures.0, row-through cosine_minus c.put_rests.ensures.0 c.cosine_sums.ensures.1))
 
 pub sine_sums-requires : goal.sine_sums-requires
 sine_sums-requires c =
-    let sums = c.cosine_sums.ensures in
-    (omega (arith, c.requires.3), sums.0.size, sums.1.size, rests-below (angle_of c.args.x.now c.args.from) c.put_rests.ensures.0, c.put_fourths.ensures)
+    (omega (arith, c.requires.3), c.cosine_sums.ensures.0.size, c.cosine_sums.ensures.1.size, rests-below (angle_of c.args.x.now c.args.from) c.put_rests.ensures.0, c.put_fourths.ensures)
 
 pub put_sines-requires : goal.put_sines-requires
 put_sines-requires c =
-    let given = c.requires in
-    let rests = c.put_rests.ensures in
-    let sums = c.sine_sums.ensures in (
-      (omega (arith, given.3), omega (arith, given.2, given.4), given.0),
-      (rests, (row-through sine_plus rests.0 sums.0, row-through sine_minus rests.0 sums.1)),
+    (
+      (omega (arith, c.requires.3), omega (arith, c.requires.2, c.requires.4), c.requires.0),
+      (c.put_rests.ensures, (row-through sine_plus c.put_rests.ensures.0 c.sine_sums.ensures.0, row-through sine_minus c.put_rests.ensures.0 c.sine_sums.ensures.1)),
     )
 
 pub returns : goal.returns

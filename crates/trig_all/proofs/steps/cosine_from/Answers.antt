@@ -25,7 +25,6 @@ returns-then-x-lt964689920 c = sym (cosine-tiny _ (inside _ _ c.in_reach.ensures
 
 pub returns : goal.returns
 returns c =
-    let x = c.args.x in
-    let near : in_the_reach x ≡ true = inside _ _ c.in_reach.ensures c.if-not-in_reach.false in
+    let near : in_the_reach c.args.x ≡ true = inside _ _ c.in_reach.ensures c.if-not-in_reach.false in
     let sums = c.near.ensures ∙ ap (λ (a : ℕ). answer a c.args.minus) c.requires.0 ∙ ap (answer _) c.requires.1 in
-    sums ∙ ap (λ (b : ℕ). of_bits binary32 (cosine_at (rest_of (fixed_of b)))) (stepped-main x near c.if-x-lt964689920.false) ∙ sym (cosine-main x near c.if-x-lt964689920.false)
+    sums ∙ ap (λ (b : ℕ). of_bits binary32 (cosine_at (rest_of (fixed_of b)))) (stepped-main c.args.x near c.if-x-lt964689920.false) ∙ sym (cosine-main c.args.x near c.if-x-lt964689920.false)

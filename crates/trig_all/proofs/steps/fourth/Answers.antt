@@ -13,11 +13,9 @@ same q h = ap (λ (z : ℕ). z * z) (mod-eq_of_lt h)
 
 pub overflow_mul-result : goal.overflow_mul-result
 overflow_mul-result c =
-    let q = c.square-z.ensures in
-    record { fits = omega (arith, same _ q.1, square_le _ q.1) }
+    record { fits = omega (arith, same _ c.square-z.ensures.1, square_le _ c.square-z.ensures.1) }
 
 pub returns : goal.returns
 returns c =
-    let q = c.square-z.ensures in
-    let e = ap (λ (z : ℕ). z / 2 ^ 32) (same _ q.1) in
-    (e ∙ ap (λ (z : ℕ). z * z / 2 ^ 32) q.0, omega (arith, e, square_le _ q.1))
+    let e = ap (λ (z : ℕ). z / 2 ^ 32) (same _ c.square-z.ensures.1) in
+    (e ∙ ap (λ (z : ℕ). z * z / 2 ^ 32) c.square-z.ensures.0, omega (arith, e, square_le _ c.square-z.ensures.1))

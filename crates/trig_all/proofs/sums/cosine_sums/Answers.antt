@@ -7,23 +7,19 @@ use Rattle.trig_all.proofs.Sides.{cosine-plus, cosine-minus, plus-row, minus-row
 use Rattle.trig_all.proofs.sums.cosine_sums.Goals as goal
 
 pub ladder-requires : goal.ladder-requires
-ladder-requires c = let given = c.requires in (given.0, omega arith, given.1, fourths-below c.args.r.now given.3 given.4)
+ladder-requires c = (c.requires.0, omega arith, c.requires.1, fourths-below c.args.r.now c.requires.3 c.requires.4)
 
 pub ladder-requires-2 : goal.ladder-requires-2
 ladder-requires-2 c =
-    let given = c.requires in
-    (given.0, omega arith, given.2, fourths-below c.args.r.now given.3 given.4)
+    (c.requires.0, omega arith, c.requires.2, fourths-below c.args.r.now c.requires.3 c.requires.4)
 
 pub times_squares-requires : goal.times_squares-requires
 times_squares-requires c =
-    let given = c.requires in
-    let minus = c.ladder-2.ensures in
-    (given.0, minus.size, given.3, rungs-below 2147483648 1527099483 77566957 826554 2881 c.args.v.now (omega arith) (fourths-below c.args.r.now given.3 given.4) minus)
+    (c.requires.0, c.ladder-2.ensures.size, c.requires.3, rungs-below 2147483648 1527099483 77566957 826554 2881 c.args.v.now (omega arith) (fourths-below c.args.r.now c.requires.3 c.requires.4) c.ladder-2.ensures)
 
 pub returns : goal.returns
 returns c =
-    let fourths = c.requires.4 in
-    let r = c.args.r.now in (
-      plus-row 268435456 2863311530 436314138 9402055 55103 cosine_plus r fourths c.ladder.ensures cosine-plus,
-      minus-row 2147483648 1527099483 77566957 826554 2881 cosine_minus r fourths c.ladder-2.ensures c.times_squares.ensures cosine-minus,
+    (
+      plus-row 268435456 2863311530 436314138 9402055 55103 cosine_plus c.args.r.now c.requires.4 c.ladder.ensures cosine-plus,
+      minus-row 2147483648 1527099483 77566957 826554 2881 cosine_minus c.args.r.now c.requires.4 c.ladder-2.ensures c.times_squares.ensures cosine-minus,
     )

@@ -11,19 +11,16 @@ use Rattle.trig_all.proofs.sums.first_rungs.Goals as goal
 
 pub rise-requires : goal.rise-requires
 rise-requires c =
-    let given = c.requires in
-    (omega (arith, given.1), given.3 c.loop-i.i c.loop-i-test.true, omega (arith, given.1))
+    (omega (arith, c.requires.1), c.requires.3 c.loop-i.i c.loop-i-test.true, omega (arith, c.requires.1))
 
 pub rise-requires-in-loop-i : goal.rise-requires-in-loop-i
 rise-requires-in-loop-i c =
-    let given = c.requires in
-    (omega (arith, given.1), given.3 c.loop-i.i c.loop-i-test.true, omega (arith, given.1, c.rise.ensures.1))
+    (omega (arith, c.requires.1), c.requires.3 c.loop-i.i c.loop-i-test.true, omega (arith, c.requires.1, c.rise.ensures.1))
 
 pub loop-i-preserved : goal.loop-i-preserved
 loop-i-preserved c =
-    let i = c.loop-i.i in
     row_more c.loop-i.invariant (omega (arith, c.loop-i-test.true, c.requires.0)) _
-    (c.rise-in-loop-i.ensures.0 ∙ ap (risen c.args.a (get_or c.args.v.now i 0)) c.rise.ensures.0)
+    (c.rise-in-loop-i.ensures.0 ∙ ap (risen c.args.a (get_or c.args.v.now c.loop-i.i 0)) c.rise.ensures.0)
 
 pub returns : goal.returns
 returns c = row-whole c.loop-i.invariant c.loop-i-test.false

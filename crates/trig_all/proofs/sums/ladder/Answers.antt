@@ -8,11 +8,8 @@ use Rattle.trig_all.proofs.sums.ladder.Goals as goal
 
 pub next_rungs-requires : goal.next_rungs-requires
 next_rungs-requires c =
-    let given = c.requires in
-    let row = c.first_rungs.ensures in
-    (given.0, row.size, given.3, λ k l. omega (arith, given.1, two-le c.args.c c.args.d (get_or c.args.v.now k 0) c.args.e _ (given.3 k l) (row.each k l)))
+    (c.requires.0, c.first_rungs.ensures.size, c.requires.3, λ k l. omega (arith, c.requires.1, two-le c.args.c c.args.d (get_or c.args.v.now k 0) c.args.e _ (c.requires.3 k l) (c.first_rungs.ensures.each k l)))
 
 pub returns : goal.returns
 returns c =
-    let args = c.args in
-    row-above args.a args.b args.c args.d args.e args.v.now c.first_rungs.ensures c.next_rungs.ensures
+    row-above c.args.a c.args.b c.args.c c.args.d c.args.e c.args.v.now c.first_rungs.ensures c.next_rungs.ensures

@@ -17,24 +17,20 @@ square-requires c = c.requires.2 c.loop-i.i c.loop-i-test.true
 
 pub overflow_cast-row : goal.overflow_cast-row
 overflow_cast-row c =
-    let at = c.loop-i in
-    record { fits = omega (arith, c.requires.3 at.i c.loop-i-test.true, replacing-here at.invariant) }
+    record { fits = omega (arith, c.requires.3 c.loop-i.i c.loop-i-test.true, replacing-here c.loop-i.invariant) }
 
 pub rise-requires : goal.rise-requires
 rise-requires c =
-    let at = c.loop-i in
-    (omega arith, c.square.ensures.1, omega (arith, c.requires.3 at.i c.loop-i-test.true, replacing-here at.invariant))
+    (omega arith, c.square.ensures.1, omega (arith, c.requires.3 c.loop-i.i c.loop-i-test.true, replacing-here c.loop-i.invariant))
 
 pub overflow_cast-row-in-loop-i : goal.overflow_cast-row-in-loop-i
 overflow_cast-row-in-loop-i c =
-    let at = c.loop-i in
-    record { fits = omega (arith, c.requires.3 at.i c.loop-i-test.true, c.rise.ensures.1, replacing-here at.invariant) }
+    record { fits = omega (arith, c.requires.3 c.loop-i.i c.loop-i-test.true, c.rise.ensures.1, replacing-here c.loop-i.invariant) }
 
 pub loop-i-preserved : goal.loop-i-preserved
 loop-i-preserved c =
-    let at = c.loop-i in
-    replacing-more at.invariant (omega (arith, c.loop-i-test.true, c.requires.0)) _
-    (raised c.rise.ensures.0 c.square.ensures.0 (replacing-here at.invariant))
+    replacing-more c.loop-i.invariant (omega (arith, c.loop-i-test.true, c.requires.0)) _
+    (raised c.rise.ensures.0 c.square.ensures.0 (replacing-here c.loop-i.invariant))
 
 pub returns : goal.returns
 returns c = row-whole c.loop-i.invariant.done c.loop-i-test.false
