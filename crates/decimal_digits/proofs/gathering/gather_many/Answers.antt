@@ -1,5 +1,7 @@
 -- `decimal_digits::gathering::gather_many` meets its contract. The invariant: the digits up to `at` are taken into `held`. The measure is what is left of the text.
 -- Assumes nothing.
+use mathlib.Core.Bool.{not}
+use mathlib.Core.Path.{ap}
 use Rattle.std.proofs.Common.{ℕ, ◌+◌, ◌-◌, ◌*◌, length, sym, refl, subst, le_trans, arith, rules}
 use borrow.Author.Tests.{not-false}
 use Rattle.decimal_digits.specs.Leading.{Takes}
@@ -13,7 +15,7 @@ taken : (c : goal.After-power)
     (c.loop-held.at + c.run_at-run.result.count)
     (c.loop-held.held * c.power.result + c.run_at-run.result.value)
 taken c =
-    let inside = c.has.ensures (not-false _ c.if-not-has.false) in
+    let inside = c.has.ensures (not-false _ (ap not c.if-not-has.false)) in
     takes-on c.args.text.now _ _ c.loop-held.at c.loop-held.held _ _ c.loop-held.invariant
     (subst (λ (p : ℕ). Takes c.args.text.now c.loop-held.at c.loop-held.held (c.loop-held.at + c.run_at-run.result.count) (c.loop-held.held * p + c.run_at-run.result.value)) (sym c.power.ensures)
     (takes_run c.args.text.now c.loop-held.at inside c.run_at-run.result.count c.run_at-run.ensures.count c.loop-held.held c.run_at-run.result.value c.loop-held-test.true c.run_at-run.ensures.value))
@@ -22,7 +24,7 @@ pub loop-held-init : goal.loop-held-init
 loop-held-init c = takes_none _ _ _
 
 pub run_at-run-requires : goal.run_at-run-requires
-run_at-run-requires c = c.has.ensures (not-false _ c.if-not-has.false)
+run_at-run-requires c = c.has.ensures (not-false _ (ap not c.if-not-has.false))
 
 pub power-requires : goal.power-requires
 power-requires c = (run-bounds c.args.text.now c.loop-held.at 0 _ _ _ c.run_at-run.ensures.count c.run_at-run.ensures.value refl).few
@@ -37,22 +39,22 @@ overflow_add-held c = record { fits = let b = (let bounds_here : Bounds c.loop-h
 
 pub overflow_add-at : goal.overflow_add-at
 overflow_add-at c = let b = (let bounds_here : Bounds c.loop-held.held c.run_at-run.result.count c.power.result c.run_at-run.result.value = run-bounds c.args.text.now c.loop-held.at _ _ _ _
-    c.run_at-run.ensures.count c.run_at-run.ensures.value c.power.ensures in bounds_here) in omega (arith, b.few, c.has.ensures (not-false _ c.if-not-has.false))
+    c.run_at-run.ensures.count c.run_at-run.ensures.value c.power.ensures in bounds_here) in omega (arith, b.few, c.has.ensures (not-false _ (ap not c.if-not-has.false)))
 
 pub returns-then-count-lt8 : goal.returns-then-count-lt8
 returns-then-count-lt8 c =
-    let inside = c.has.ensures (not-false _ c.if-not-has.false) in
-    let t = (let taken_here : Takes c.args.text.now c.args.from c.args.w (c.loop-held.at + c.run_at-run.result.count) (c.loop-held.held * c.power.result + c.run_at-run.result.value) = let inside = c.has.ensures (not-false _ c.if-not-has.false) in
+    let inside = c.has.ensures (not-false _ (ap not c.if-not-has.false)) in
+    let t = (let taken_here : Takes c.args.text.now c.args.from c.args.w (c.loop-held.at + c.run_at-run.result.count) (c.loop-held.held * c.power.result + c.run_at-run.result.value) = let inside = c.has.ensures (not-false _ (ap not c.if-not-has.false)) in
     takes-on c.args.text.now _ _ c.loop-held.at c.loop-held.held _ _ c.loop-held.invariant
     (subst (λ (p : ℕ). Takes c.args.text.now c.loop-held.at c.loop-held.held (c.loop-held.at + c.run_at-run.result.count) (c.loop-held.held * p + c.run_at-run.result.value)) (sym c.power.ensures)
     (takes_run c.args.text.now c.loop-held.at inside c.run_at-run.result.count c.run_at-run.ensures.count c.loop-held.held c.run_at-run.result.value c.loop-held-test.true c.run_at-run.ensures.value)) in taken_here) in
     gathers-on c.args.text.now _ _ _ _ _ _ t (gathers-none c.args.text.now _ _ _ (run-ended c.args.text.now c.loop-held.at inside c.run_at-run.result.count c.run_at-run.ensures.count c.if-count-lt8.true) (le_trans c.requires t.onward))
 
 pub loop-held-smaller : goal.loop-held-smaller
-loop-held-smaller c = omega (arith, c.if-count-lt8.false, c.has.ensures (not-false _ c.if-not-has.false))
+loop-held-smaller c = omega (arith, c.if-count-lt8.false, c.has.ensures (not-false _ (ap not c.if-not-has.false)))
 
 pub loop-held-preserved : goal.loop-held-preserved
-loop-held-preserved c = (let taken_here : Takes c.args.text.now c.args.from c.args.w (c.loop-held.at + c.run_at-run.result.count) (c.loop-held.held * c.power.result + c.run_at-run.result.value) = let inside = c.has.ensures (not-false _ c.if-not-has.false) in
+loop-held-preserved c = (let taken_here : Takes c.args.text.now c.args.from c.args.w (c.loop-held.at + c.run_at-run.result.count) (c.loop-held.held * c.power.result + c.run_at-run.result.value) = let inside = c.has.ensures (not-false _ (ap not c.if-not-has.false)) in
     takes-on c.args.text.now _ _ c.loop-held.at c.loop-held.held _ _ c.loop-held.invariant
     (subst (λ (p : ℕ). Takes c.args.text.now c.loop-held.at c.loop-held.held (c.loop-held.at + c.run_at-run.result.count) (c.loop-held.held * p + c.run_at-run.result.value)) (sym c.power.ensures)
     (takes_run c.args.text.now c.loop-held.at inside c.run_at-run.result.count c.run_at-run.ensures.count c.loop-held.held c.run_at-run.result.value c.loop-held-test.true c.run_at-run.ensures.value)) in taken_here)

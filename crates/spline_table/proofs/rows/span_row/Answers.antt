@@ -1,4 +1,5 @@
 -- Where every mark of the row, scaled, lies between the ends of its span, each sample is on that span (`span-across`, `span-along`). Assumes nothing.
+use mathlib.Core.Bool.{not}
 use borrow.Author.Rules.{rules}
 use borrow.Author.Tests.{not-false}
 use native.Mathlib.Omega.{arith}
@@ -31,7 +32,7 @@ returns c =
     let own_is : (i : ℕ) → 0 < i → i < 16 → at c.scaled-own.result i ≡ mul binary32 (clamped_mark_of c.args.last (c.args.k + i)) (of_int binary32 (pos (count_of c.args.points.now - 1))) = λ i some less.
     c.scaled-own.ensures.each i some less ∙ ap (λ (z : Float). mul binary32 z (of_int binary32 (pos (count_of c.args.points.now - 1)))) (c.clamped_marks-clamped.ensures i less) in
     let between : (i : ℕ) → i < 16 → T (is_between (of_int binary32 (pos (c.args.k / 16))) (of_int binary32 (pos (c.args.k / 16 + 1))) (at c.scaled-own.result i)) = λ i less.
-    every-at (is_between (of_int binary32 (pos (c.args.k / 16))) (of_int binary32 (pos (c.args.k / 16 + 1)))) c.scaled-own.result (passed (sym c.all_between.ensures ∙ not-false _ c.if-not-all_between.false)) i (omega (arith, c.scaled-own.ensures.size)) in
+    every-at (is_between (of_int binary32 (pos (c.args.k / 16))) (of_int binary32 (pos (c.args.k / 16 + 1)))) c.scaled-own.result (passed (sym c.all_between.ensures ∙ not-false _ (ap not c.if-not-all_between.false))) i (omega (arith, c.scaled-own.ensures.size)) in
     drawn-row (spline_sample_of c.args.points.now) c.args.last c.args.k c.span_samples-across.result c.span_samples-along.result _ _ _
     (drawn (λ (p : Point). p.x) (spline_sample_of c.args.points.now) c.args.last c.args.k c.span_samples-across.ensures (ap (λ (p : Point). p.x) c.requires.0.here) (ap (λ (p : Point). p.x) ((let next_is_here : c.sample-next.result ≡ sample_at (spline_sample_of c.args.points.now) c.args.last (c.args.k + 16) = c.sample-next.ensures ∙ ap (spline_sample_of _) c.mark.ensures in next_is_here)))
     (λ i some less. span-across c.args.points.now c.args.last (c.args.k + i) c.requires.1 c.requires.0.sampled.few (c.args.k / 16) inside _ _ _ _ c.before_span-p0.ensures
