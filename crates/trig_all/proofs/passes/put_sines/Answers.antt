@@ -19,10 +19,10 @@ loop-i-init c = (run-start c.requires.places.2, omega arith)
 pub sine_from-requires : goal.sine_from-requires
 sine_from-requires c =
     let same = run-here c.loop-i.invariant.0 in (
-      of-place flip_for same (c.requires.rests.0.1.each c.loop-i.i c.loop-i-test.true),
-      of-place rest_for same (c.requires.rests.0.0.each c.loop-i.i c.loop-i-test.true),
-      of-place (λ (x : Float). sine_plus (rest_for x)) same (c.requires.rests.1.0.each c.loop-i.i c.loop-i-test.true),
-      of-place (λ (x : Float). sine_minus (rest_for x)) same (c.requires.rests.1.1.each c.loop-i.i c.loop-i-test.true),
+      of-place flip_for same (c.requires.rests.1.each c.loop-i.i c.loop-i-test.true),
+      of-place rest_for same (c.requires.rests.0.each c.loop-i.i c.loop-i-test.true),
+      of-place (λ (x : Float). sine_plus (rest_for x)) same (c.requires.sums.0.each c.loop-i.i c.loop-i-test.true),
+      of-place (λ (x : Float). sine_minus (rest_for x)) same (c.requires.sums.1.each c.loop-i.i c.loop-i-test.true),
     )
 
 pub loop-i-preserved : goal.loop-i-preserved
