@@ -18,13 +18,13 @@ loop-size-init c =
 pub overflow_mul-base : goal.overflow_mul-base
 overflow_mul-base c =
     let next : Quarter c.args.lengths.now c.args.target c.loop-size.base c.loop-size.size (c.loop-size.size / 4) c.quarters_below.result =
-        quartered (c.loop-size.size / 4) c.requires c.loop-size.invariant (omega arith) (omega arith) _ c.quarters_below.ensures in
+    quartered (c.loop-size.size / 4) c.requires c.loop-size.invariant (omega arith) (omega arith) _ c.quarters_below.ensures in
     omega (arith, next.upto, next.order)
 
 pub overflow_add-base : goal.overflow_add-base
 overflow_add-base c =
     let next : Quarter c.args.lengths.now c.args.target c.loop-size.base c.loop-size.size (c.loop-size.size / 4) c.quarters_below.result =
-        quartered (c.loop-size.size / 4) c.requires c.loop-size.invariant (omega arith) (omega arith) _ c.quarters_below.ensures in
+    quartered (c.loop-size.size / 4) c.requires c.loop-size.invariant (omega arith) (omega arith) _ c.quarters_below.ensures in
     omega (arith, next.upto, next.order)
 
 pub loop-size-preserved : goal.loop-size-preserved
@@ -37,11 +37,11 @@ count_below-requires c =
 pub overflow_add-result : goal.overflow_add-result
 overflow_add-result c =
     let exact : c.loop-size.base + c.count_below.result ≡ first_not_below c.args.target c.args.lengths.now =
-        ap (λ (n : ℕ). c.loop-size.base + n) c.count_below.ensures ∙ bracket-counted c.loop-size.base (c.loop-size.base + c.loop-size.size) (c.loop-size.base + c.loop-size.size - c.loop-size.base) c.loop-size.invariant refl in
+    ap (λ (n : ℕ). c.loop-size.base + n) c.count_below.ensures ∙ bracket-counted c.loop-size.base (c.loop-size.base + c.loop-size.size) (c.loop-size.base + c.loop-size.size - c.loop-size.base) c.loop-size.invariant refl in
     omega (arith, exact, first-upto c.args.lengths.now c.args.target (length c.args.lengths.now) (bracket-start c.args.lengths.now c.args.target).above)
 
 pub returns : goal.returns
 returns c =
     let exact : c.loop-size.base + c.count_below.result ≡ first_not_below c.args.target c.args.lengths.now =
-        ap (λ (n : ℕ). c.loop-size.base + n) c.count_below.ensures ∙ bracket-counted c.loop-size.base (c.loop-size.base + c.loop-size.size) (c.loop-size.base + c.loop-size.size - c.loop-size.base) c.loop-size.invariant refl in
+    ap (λ (n : ℕ). c.loop-size.base + n) c.count_below.ensures ∙ bracket-counted c.loop-size.base (c.loop-size.base + c.loop-size.size) (c.loop-size.base + c.loop-size.size - c.loop-size.base) c.loop-size.invariant refl in
     omega (arith, exact)
