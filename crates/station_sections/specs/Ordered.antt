@@ -1,7 +1,7 @@
 -- Demand 3 of the stations of a listing (path_place/specs/Demand.antt has the demand): what the printed lines hold, and in which order. Stations and segments count from 0. Definitions only.
 use Rattle.std.specs.Prelude.{ℕ, ◌-◌, ◌≤◌, ◌<◌, ◌≡◌, length}
 use Rattle.floats.specs.Floats.{zero_f, one_f}
-use Rattle.table.specs.Spots.{path_total}
+use Rattle.table.specs.Spots.{path_total, spot_of}
 use Rattle.table_order.specs.Stated.{NoStepBack}
 use Rattle.table_order.specs.Swept.{Inside}
 use Rattle.flight.specs.declared.Found.TheVariants.{Segment}
@@ -10,13 +10,13 @@ use Rattle.path_stored.specs.Buffers.{Buffers}
 use Rattle.path_place.specs.declared.places.Place.{Place}
 use Rattle.path_place.specs.Places.{placed}
 use Rattle.path_place.specs.Demand.{target_along, EnclosedBy, SweptBy}
-use Rattle.path_query.specs.Ordered.{pair_flown}
+use Rattle.path_query.specs.Flights.{flown_at}
 use Rattle.station_lines.specs.Lines.{station_line}
 use Rattle.station_sections.specs.Sections.{progress_of, station_of}
 
 -- the sample and the heading of the pair of the station k, at that very pair
 abbrev pub flown_by : Buffers → ℕ → ℕ → Place → Flight
-flown_by b n k pair = pair_flown b pair (progress_of n k)
+flown_by b n k pair = flown_at b pair (spot_of b.lengths (progress_of n k)).progress.value
 
 pub record OrderedStations (b : Buffers) (n : ℕ) : Type 0 where
   -- the pair of segment number and raw parameter at which the station k is
