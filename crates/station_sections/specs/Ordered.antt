@@ -29,6 +29,9 @@ pub record OrderedStations (b : Buffers) (n : ℕ) : Type 0 where
   -- the first is at the first segment's 0, the last at the last one's 1
   pub starts : pair 0 ≡ placed 0 zero_f
   pub ends : pair (n - 1) ≡ placed (length b.kinds - 1) one_f
-  -- where the target is above 0 and below the total, the running lengths of its segment enclose it, and so do the entries of that segment's table
-  pub enclosed : (k : ℕ) → Inside (path_total b.lengths) (target_along b.lengths (progress_of n k)) → EnclosedBy b (progress_of n k) (pair k)
-  pub swept : (k : ℕ) → Inside (path_total b.lengths) (target_along b.lengths (progress_of n k)) → SweptBy b (progress_of n k) (pair k)
+
+-- and where the target is above 0 and below the total, the running lengths of its segment enclose it, and so do the entries of that segment's table
+pub record EnclosedStations (b : Buffers) (n : ℕ) : Type 0 where
+  pub stations : OrderedStations b n
+  pub enclosed : (k : ℕ) → Inside (path_total b.lengths) (target_along b.lengths (progress_of n k)) → EnclosedBy b (progress_of n k) (stations.pair k)
+  pub swept : (k : ℕ) → Inside (path_total b.lengths) (target_along b.lengths (progress_of n k)) → SweptBy b (progress_of n k) (stations.pair k)
