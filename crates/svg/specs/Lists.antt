@@ -1,7 +1,7 @@
 -- The three buffers of a command list as one value (document 01, "Permissive reading"; document 02, L5): letters, numbers and offsets travel together in
 -- every contract of reading. The code stays on slices. Definitions only.
 use Rattle.std.specs.Prelude.{ℕ, List, [], ◌∷◌, Float, length}
-use Rattle.std.specs.Borrow.{Bor}
+use Rattle.std.specs.Borrow.{Bor, MutBor}
 use denote.Triple.Both.{Both}
 use Rattle.answers.specs.Report.{written}
 
@@ -17,15 +17,19 @@ command_list letters numbers offsets = record { letters = letters; numbers = num
 abbrev pub lent : Bor (List ℕ) → Bor (List Float) → Bor (List ℕ) → CommandList
 lent letters numbers offsets = command_list letters.now numbers.now offsets.now
 
+-- the same of slices that the function may write
+abbrev pub lent_mut : MutBor (List ℕ) → MutBor (List Float) → MutBor (List ℕ) → CommandList
+lent_mut letters numbers offsets = command_list letters.now numbers.now offsets.now
+
 -- and what an `ensures` does: what they hold as a function is entered, and as it returns
 abbrev Lent : Type 0 → Type 0
-Lent A = Both (Bor (List A)) (Bor (List A))
+Lent A = Both (MutBor (List A)) (MutBor (List A))
 
 abbrev pub before : Lent ℕ → Lent Float → Lent ℕ → CommandList
-before letters numbers offsets = lent letters.entry numbers.entry offsets.entry
+before letters numbers offsets = lent_mut letters.entry numbers.entry offsets.entry
 
 abbrev pub after : Lent ℕ → Lent Float → Lent ℕ → CommandList
-after letters numbers offsets = lent letters.exit numbers.exit offsets.exit
+after letters numbers offsets = lent_mut letters.exit numbers.exit offsets.exit
 
 -- nothing in any of them
 abbrev pub no_list : CommandList

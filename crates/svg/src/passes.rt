@@ -1,7 +1,7 @@
 // The passes over a text: one stores while there is room, the other only counts.
 ghost use Rattle.std.specs.Prelude.{◌≡◌, ◌≤◌, length};
 ghost use Rattle.answers.specs.Report.{written};
-ghost use Rattle.svg.specs.Lists.{lent, before, after};
+ghost use Rattle.svg.specs.Lists.{lent_mut, before, after};
 ghost use Rattle.svg.specs.Texts.{commands_of, measure_of, Counting, Holding, Stores};
 
 use answers::Refusal;
@@ -81,7 +81,7 @@ pub(crate) fn fill(
     numbers: &mut [f32],
     offsets: &mut [u32],
 ) -> Stored
-    requires { (length text.now ≤ 65536) × Holding text.now (lent letters numbers offsets) (lent letters numbers offsets) from first start }
+    requires { (length text.now ≤ 65536) × Holding text.now (lent_mut letters numbers offsets) (lent_mut letters numbers offsets) from first start }
     ensures { Stores text.now (before letters numbers offsets) (after letters numbers offsets) result }
 {
     let mut reader = from;

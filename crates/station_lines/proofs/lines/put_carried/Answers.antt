@@ -7,6 +7,7 @@ use Rattle.station_lines.specs.Lines.{value_fields, carried_fields}
 use Rattle.answers.specs.Answers.{listed}
 use Rattle.answers.specs.declared.refusals.Values.{Values}
 use Rattle.station_lines.proofs.Fields.{carried_other}
+use borrow.Enum.Refused.{opened}
 use Rattle.station_lines.proofs.lines.put_carried.Goals as goal
 
 pub returns-in-UnsupportedCommand : goal.returns-in-UnsupportedCommand
@@ -18,4 +19,4 @@ returns-in-UnsupportedCommand c =
 pub returns : goal.returns
 returns c =
     within-as 105 _ (put_same c.put_values.ensures.put _ (ap (λ (v : Values). value_fields (listed v)) c.carried.ensures))
-    (carried_other _ c.in-UnsupportedCommand.in-UnsupportedCommand-own.keys2) (omega arith)
+    (carried_other _ (opened c.in_default.in_default-own.keys2)) (omega arith)

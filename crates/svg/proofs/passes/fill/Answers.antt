@@ -10,7 +10,6 @@ use Rattle.svg.specs.Lists.{command_list}
 use Rattle.svg.specs.Texts.{Holding}
 use Rattle.svg.proofs.Holding.{held-letters, held-numbers, held-offsets, held-within, held_whole, held-refused, held-offset, held_small}
 use Rattle.svg.proofs.Holding.{full-of-letters, full-of-numbers, full-of-offsets, holding-more}
-use Rattle.svg.proofs.passes.fill.Tie as tie
 use Rattle.svg.proofs.passes.fill.Goals as goal
 
 -- ---- the answers
@@ -27,7 +26,7 @@ pub shape_of-offsets-in-Done : goal.shape_of-offsets-in-Done
 shape_of-offsets-in-Done c = held-offsets c.loop-refusal.invariant
 
 pub returns-in-Done : goal.returns-in-Done
-returns-in-Done c = held_whole c.loop-refusal.invariant (sym c.Read-step.ensures ∙ c.in-Done.is)
+returns-in-Done c = held_whole c.loop-refusal.invariant (sym c.read_step.ensures ∙ c.in-Done.is)
 
 pub shape_of-letters-in-Refused : goal.shape_of-letters-in-Refused
 shape_of-letters-in-Refused c = held-letters c.loop-refusal.invariant
@@ -39,7 +38,7 @@ pub shape_of-offsets-in-Refused : goal.shape_of-offsets-in-Refused
 shape_of-offsets-in-Refused c = held-offsets c.loop-refusal.invariant
 
 pub returns-in-Refused : goal.returns-in-Refused
-returns-in-Refused c = held-refused c.loop-refusal.invariant _ (sym c.Read-step.ensures ∙ c.in-Refused.is)
+returns-in-Refused c = held-refused c.loop-refusal.invariant _ (sym c.read_step.ensures ∙ c.in-Refused.is)
 
 pub shape_of-letters-then-letters-letter_at : goal.shape_of-letters-then-letters-letter_at
 shape_of-letters-then-letters-letter_at c = held-letters c.loop-refusal.invariant
@@ -52,7 +51,7 @@ shape_of-offsets-then-letters-letter_at c = held-offsets c.loop-refusal.invarian
 
 pub returns-then-letters-letter_at : goal.returns-then-letters-letter_at
 returns-then-letters-letter_at c =
-    full-of-letters c.loop-refusal.invariant _ _ (sym c.Read-step.ensures ∙ c.in-Command.is) c.if-letters-letter_at.true
+    full-of-letters c.loop-refusal.invariant _ _ (sym c.read_step.ensures ∙ c.in-Command.is) c.if-letters-letter_at.true
 
 pub overflow_sub-numbers : goal.overflow_sub-numbers
 overflow_sub-numbers c = omega (arith, held-within c.loop-refusal.invariant)
@@ -68,7 +67,7 @@ shape_of-offsets-then-numbers-at c = held-offsets c.loop-refusal.invariant
 
 pub returns-then-numbers-at : goal.returns-then-numbers-at
 returns-then-numbers-at c =
-    full-of-numbers c.loop-refusal.invariant _ _ (sym c.Read-step.ensures ∙ c.in-Command.is) _ c.width-more.ensures (omega (arith, c.if-numbers-at.true, held-within c.loop-refusal.invariant))
+    full-of-numbers c.loop-refusal.invariant _ _ (sym c.read_step.ensures ∙ c.in-Command.is) _ c.width-more.ensures (omega (arith, c.if-numbers-at.true, held-within c.loop-refusal.invariant))
 
 pub shape_of-letters-then-offsets-letter_at : goal.shape_of-letters-then-offsets-letter_at
 shape_of-letters-then-offsets-letter_at c = held-letters c.loop-refusal.invariant
@@ -81,7 +80,7 @@ shape_of-offsets-then-offsets-letter_at c = held-offsets c.loop-refusal.invarian
 
 pub returns-then-offsets-letter_at : goal.returns-then-offsets-letter_at
 returns-then-offsets-letter_at c =
-    full-of-offsets c.loop-refusal.invariant _ _ (sym c.Read-step.ensures ∙ c.in-Command.is) c.if-offsets-letter_at.true
+    full-of-offsets c.loop-refusal.invariant _ _ (sym c.read_step.ensures ∙ c.in-Command.is) c.if-offsets-letter_at.true
 
 pub store-requires : goal.store-requires
 store-requires c =
@@ -92,28 +91,28 @@ store-requires c =
 
 pub overflow_cast-offsets : goal.overflow_cast-offsets
 overflow_cast-offsets c =
-    omega (arith, held-offset c.loop-refusal.invariant _ _ (sym c.Read-step.ensures ∙ c.in-Command.is), c.requires.0)
+    omega (arith, held-offset c.loop-refusal.invariant _ _ (sym c.read_step.ensures ∙ c.in-Command.is), c.requires.0)
 
 pub offset_bounds-offsets-letter_at : goal.offset_bounds-offsets-letter_at
 offset_bounds-offsets-letter_at c =
-    omega (arith, held_small c.loop-refusal.invariant _ _ (sym c.Read-step.ensures ∙ c.in-Command.is), c.requires.0)
+    omega (arith, held_small c.loop-refusal.invariant _ _ (sym c.read_step.ensures ∙ c.in-Command.is), c.requires.0)
 
 pub bounds-offsets-letter_at : goal.bounds-offsets-letter_at
 bounds-offsets-letter_at c = omega (arith, c.if-offsets-letter_at.false)
 
 pub overflow_add-at : goal.overflow_add-at
 overflow_add-at c =
-    omega (arith, held_small c.loop-refusal.invariant _ _ (sym c.Read-step.ensures ∙ c.in-Command.is), c.width-more.ensures, c.requires.0)
+    omega (arith, held_small c.loop-refusal.invariant _ _ (sym c.read_step.ensures ∙ c.in-Command.is), c.width-more.ensures, c.requires.0)
 
 pub overflow_add-letter_at : goal.overflow_add-letter_at
 overflow_add-letter_at c =
-    omega (arith, held_small c.loop-refusal.invariant _ _ (sym c.Read-step.ensures ∙ c.in-Command.is), c.requires.0)
+    omega (arith, held_small c.loop-refusal.invariant _ _ (sym c.read_step.ensures ∙ c.in-Command.is), c.requires.0)
 
 pub loop-refusal-smaller : goal.loop-refusal-smaller
 loop-refusal-smaller c =
-    omega (arith, step-ahead _ _ _ _ (sym c.Read-step.ensures ∙ c.in-Command.is))
+    omega (arith, step-ahead _ _ _ _ (sym c.read_step.ensures ∙ c.in-Command.is))
 
 pub loop-refusal-preserved : goal.loop-refusal-preserved
 loop-refusal-preserved c =
-    holding-more c.loop-refusal.invariant _ _ (sym c.Read-step.ensures ∙ c.in-Command.is) _ c.width-more.ensures
+    holding-more c.loop-refusal.invariant _ _ (sym c.read_step.ensures ∙ c.in-Command.is) _ c.width-more.ensures
     (omega (arith, c.if-letters-letter_at.false)) (omega (arith, c.if-numbers-at.false, held-within c.loop-refusal.invariant)) (omega (arith, c.if-offsets-letter_at.false)) c.store.ensures

@@ -4,7 +4,6 @@ use mathlib.Core.Path.{sym}
 use lib.Seq.{length-take-le}
 use Rattle.svg.proofs.Answering.{unread}
 use Rattle.svg.proofs.Holding.{holding-none, told-refused, whole-within, whole-held, full-within, full-begun}
-use Rattle.svg.proofs.reading.read_by.Tie as tie
 use Rattle.svg.proofs.reading.read_by.Goals as goal
 
 -- ---- the answers
@@ -19,19 +18,19 @@ pub slice_bounds-give-end : goal.slice_bounds-give-end
 slice_bounds-give-end t = (whole-within t.fill.ensures t.in-Whole.is).0
 
 pub slice_bounds-give-end-in-Whole : goal.slice_bounds-give-end-in-Whole
-slice_bounds-give-end-in-Whole c = sym (length-take-le _ _ (slice-reshare-prefix-give c.before))
+slice_bounds-give-end-in-Whole c = sym (length-take-le _ _ ((whole-within c.fill.ensures c.in-Whole.is).0))
 
 pub slice_bounds-give-end-in-Whole-2 : goal.slice_bounds-give-end-in-Whole-2
 slice_bounds-give-end-in-Whole-2 c = (whole-within c.fill.ensures c.in-Whole.is).1
 
 pub slice_bounds-give-end-in-Whole-3 : goal.slice_bounds-give-end-in-Whole-3
-slice_bounds-give-end-in-Whole-3 c = sym (length-take-le _ _ (slice-reshare-prefix-give-2 c.before))
+slice_bounds-give-end-in-Whole-3 c = sym (length-take-le _ _ ((whole-within c.fill.ensures c.in-Whole.is).1))
 
 pub slice_bounds-give-end-in-Whole-4 : goal.slice_bounds-give-end-in-Whole-4
 slice_bounds-give-end-in-Whole-4 c = (whole-within c.fill.ensures c.in-Whole.is).2
 
 pub slice_bounds-give-end-in-Whole-5 : goal.slice_bounds-give-end-in-Whole-5
-slice_bounds-give-end-in-Whole-5 c = sym (length-take-le _ _ (slice-reshare-prefix-give-3 c.before))
+slice_bounds-give-end-in-Whole-5 c = sym (length-take-le _ _ ((whole-within c.fill.ensures c.in-Whole.is).2))
 
 pub returns-in-Whole : goal.returns-in-Whole
 returns-in-Whole c =
@@ -41,19 +40,19 @@ pub slice_bounds-read_on-end : goal.slice_bounds-read_on-end
 slice_bounds-read_on-end t = (full-within t.fill.ensures t.in-Full.is).0
 
 pub slice_bounds-read_on-end-in-Full : goal.slice_bounds-read_on-end-in-Full
-slice_bounds-read_on-end-in-Full c = sym (length-take-le _ _ (slice-reshare-prefix-read-on c.before))
+slice_bounds-read_on-end-in-Full c = sym (length-take-le _ _ ((full-within c.fill.ensures c.in-Full.is).0))
 
 pub slice_bounds-read_on-end-in-Full-2 : goal.slice_bounds-read_on-end-in-Full-2
 slice_bounds-read_on-end-in-Full-2 c = (full-within c.fill.ensures c.in-Full.is).1
 
 pub slice_bounds-read_on-end-in-Full-3 : goal.slice_bounds-read_on-end-in-Full-3
-slice_bounds-read_on-end-in-Full-3 c = sym (length-take-le _ _ (slice-reshare-prefix-read-on-2 c.before))
+slice_bounds-read_on-end-in-Full-3 c = sym (length-take-le _ _ ((full-within c.fill.ensures c.in-Full.is).1))
 
 pub slice_bounds-read_on-end-in-Full-4 : goal.slice_bounds-read_on-end-in-Full-4
 slice_bounds-read_on-end-in-Full-4 c = (full-within c.fill.ensures c.in-Full.is).2
 
 pub slice_bounds-read_on-end-in-Full-5 : goal.slice_bounds-read_on-end-in-Full-5
-slice_bounds-read_on-end-in-Full-5 c = sym (length-take-le _ _ (slice-reshare-prefix-read-on-3 c.before))
+slice_bounds-read_on-end-in-Full-5 c = sym (length-take-le _ _ ((full-within c.fill.ensures c.in-Full.is).2))
 
 pub read_on-requires : goal.read_on-requires
 read_on-requires c =

@@ -3,22 +3,12 @@ use borrow.Author.Rules.{rules}
 use mathlib.Core.Path.{◌≡◌, sym, ◌∙◌}
 use Prim.Native.Nat.{◌≤◌}
 use lib.ListN.{length}
-use Rattle.svg.specs.Lists.{command_list, lent}
+use Rattle.svg.specs.Lists.{command_list, lent_mut}
 use Rattle.svg.specs.Texts.{commands_of, offsets_of, measure_of, Roomed}
 use Rattle.svg.specs.declared.passes.Size.TheVariants.{Counted}
 use Rattle.svg.proofs.Answering.{unread, no-letters, no-numbers, no-offsets, has_room, read_whole}
 use Rattle.svg.proofs.Holding.{begun-counting, begun-room, begun-holding, begun-filled}
-use Rattle.svg.proofs.reading.read_on.Tie as tie
 use Rattle.svg.proofs.reading.read_on.Goals as goal
-
--- ---- what they find there
-room :
-    (c : goal.After-copy_letters-arg-1)
-    → Roomed (offsets_of c.args.text.now) (commands_of c.args.text.now) (lent c.args.letters-1 c.args.numbers-1 c.args.offsets-1)
-room c =
-    let c.args = c.args in
-    has_room c.args.text.now (lent c.args.letters-1 c.args.numbers-1 c.args.offsets-1) c.requires.0 (sym c.measure_on.ensures ∙ c.in-Counted.is)
-    c.if-letters-places.false c.if-numbers-count.false c.if-offsets-places.false
 
 -- ---- the answers
 pub measure_on-requires : goal.measure_on-requires
@@ -41,26 +31,26 @@ returns-then-offsets-places c =
 
 pub copy_letters-requires : goal.copy_letters-requires
 copy_letters-requires c =
-    (begun-room c.requires.1 (lent c.args.letters-1 c.args.numbers-1 c.args.offsets-1) (room c)).0
+    (begun-room c.requires.1 (lent_mut c.args.letters c.args.numbers c.args.offsets) (has_room _ (lent_mut c.args.letters c.args.numbers c.args.offsets) c.requires.0 (sym c.measure_on.ensures ∙ c.in-Counted.is) c.if-letters-places.false c.if-numbers-count.false c.if-offsets-places.false)).0
 
 pub copy_numbers-requires : goal.copy_numbers-requires
 copy_numbers-requires c =
-    (begun-room c.requires.1 (lent c.args.letters-1 c.args.numbers-1 c.args.offsets-1) (room c)).1
+    (begun-room c.requires.1 (lent_mut c.args.letters c.args.numbers c.args.offsets) (has_room _ (lent_mut c.args.letters c.args.numbers c.args.offsets) c.requires.0 (sym c.measure_on.ensures ∙ c.in-Counted.is) c.if-letters-places.false c.if-numbers-count.false c.if-offsets-places.false)).1
 
 pub copy_offsets-requires : goal.copy_offsets-requires
 copy_offsets-requires c =
-    (begun-room c.requires.1 (lent c.args.letters-1 c.args.numbers-1 c.args.offsets-1) (room c)).2
+    (begun-room c.requires.1 (lent_mut c.args.letters c.args.numbers c.args.offsets) (has_room _ (lent_mut c.args.letters c.args.numbers c.args.offsets) c.requires.0 (sym c.measure_on.ensures ∙ c.in-Counted.is) c.if-letters-places.false c.if-numbers-count.false c.if-offsets-places.false)).2
 
 pub fill-requires : goal.fill-requires
 fill-requires c =
     (
       c.requires.0,
-      begun-holding c.requires.1 (lent c.args.letters c.args.numbers c.args.offsets) (room c) _ c.copy_letters.ensures c.copy_numbers.ensures
+      begun-holding c.requires.1 (lent_mut c.args.letters c.args.numbers c.args.offsets) (has_room _ (lent_mut c.args.letters c.args.numbers c.args.offsets) c.requires.0 (sym c.measure_on.ensures ∙ c.in-Counted.is) c.if-letters-places.false c.if-numbers-count.false c.if-offsets-places.false) _ c.copy_letters.ensures c.copy_numbers.ensures
           c.copy_offsets.ensures,
     )
 
 pub returns-in-Counted : goal.returns-in-Counted
 returns-in-Counted c =
     read_whole _ _ c.requires.0 (sym c.measure_on.ensures ∙ c.in-Counted.is) c.if-letters-places.false c.if-numbers-count.false c.if-offsets-places.false _
-    (begun-filled c.requires.1 (lent c.args.letters c.args.numbers c.args.offsets) (room c.before) _ c.copy_letters.ensures c.copy_numbers.ensures
+    (begun-filled c.requires.1 (lent_mut c.args.letters c.args.numbers c.args.offsets) (has_room _ (lent_mut c.args.letters c.args.numbers c.args.offsets) c.requires.0 (sym c.measure_on.ensures ∙ c.in-Counted.is) c.if-letters-places.false c.if-numbers-count.false c.if-offsets-places.false) _ c.copy_letters.ensures c.copy_numbers.ensures
     c.copy_offsets.ensures _ _ c.fill.ensures)
