@@ -3,7 +3,6 @@
 use borrow.Author.Rules.{rules}
 use Prim.Native.Nat.{◌*◌, ◌-◌, ◌≤◌, ◌<◌}
 use mathlib.Core.Path.{◌≡◌, refl, sym, ap, ◌∙◌, subst}
-use mathlib.Core.Logic.{⊎_elim}
 use native.Mathlib.Omega.{arith}
 use lib.ListN.{length, take, get_or}
 use lib.Seq.{take_all}
@@ -25,35 +24,15 @@ use Rattle.path_query.proofs.Seats.{some-place, seated, flight-is}
 use Rattle.path_query.proofs.Answering.{flight-some}
 use Rattle.path_batch.specs.Batches.{each, segments_for, raws_for, found_for, numbers_of, numbers_for}
 use Rattle.path_batch.proofs.Filling.{Looking, looking-first, looking-next, among, looking-moves, looking-leaps, each-size, each_next, each_at, each-filled, each-equal, numbers-size, numbers-next, segment-there}
-use Rattle.path_batch.proofs.batches.fill_flights.Tie as tie
 use Rattle.path_batch.proofs.batches.fill_flights.Goals as goal
-
--- ---- the points, and what is known there
-abbrev Loop : Type 0
-Loop = (tie.At-loop goal.the-invariant-loop-k goal.the-decreases-loop-k)
-
-abbrev path : Loop → Buffers
-path l = lent l.args.kinds l.args.fields l.args.tables l.args.lengths l.args.commands
-
--- inside the loop
-abbrev Inside : Type 0
-Inside = goal.In-loop-k
-
-few : (t : Inside) → length t.args.progresses.now * 4 < 9223372036854775808
-few t = omega arith
-
--- where the segment is read
-
--- where the walk starts: there it may, and the marks are marks still
-
--- where it ends
+use Rattle.path_batch.proofs.batches.fill_flights.Goals.{then-is_step_on, else-is_step_on, then-is_near, else-is_near}
 
 -- ---- the answers
 pub fill_segments-requires : goal.fill_segments-requires
 fill_segments-requires c =
     record {
       path = some-path (some-place c.requires.places.path);
-      few = (omega arith);
+      few = let one = c.requires.places.path.path.one in let most = c.requires.places.path.path.few in omega arith;
       segments_room = c.requires.places.segments_room;
     }
 
@@ -63,129 +42,144 @@ loop-k-init c =
     (looking-first c.first_cursor-at.ensures c.requires.places.path.some, refl, marks-none c.requires.places.path.path.few, refl)
 
 pub offset_bounds-segments-k : goal.offset_bounds-segments-k
-offset_bounds-segments-k c = omega (arith, (let more_here : c.loop-k.k < length c.args.progresses.now = omega (arith, c.loop-k-test.true) in more_here), (let few_here : length c.args.progresses.now * 4 < 9223372036854775808 = omega arith in few_here))
+offset_bounds-segments-k c =
+    let few : length c.args.progresses.now * 4 < 9223372036854775808 = omega arith in
+    let more : c.loop-k.k < length c.args.progresses.now = omega (arith, c.loop-k-test.true) in
+    omega (arith, more, few)
 
 pub bounds-segments-k : goal.bounds-segments-k
-bounds-segments-k c = omega (arith, (let more_here : c.loop-k.k < length c.args.progresses.now = omega (arith, c.loop-k-test.true) in more_here), ap length c.fill_segments.ensures, (let found_segments_here : length (written (found_for ((lent c.args.kinds c.args.fields c.args.tables c.args.lengths c.args.commands)).lengths c.args.progresses.now) c.args.segments.now) ≡ length c.args.segments.now = each-filled (λ p. (spot_of ((lent c.args.kinds c.args.fields c.args.tables c.args.lengths c.args.commands)).lengths p).segment) c.args.progresses.now c.args.segments.now c.requires.places.segments_room in found_segments_here), c.requires.places.segments_room)
+bounds-segments-k c =
+    let found_segments : length (written (found_for c.args.lengths.now c.args.progresses.now) c.args.segments.now) ≡ length c.args.segments.now = each-filled (λ p. (spot_of c.args.lengths.now p).segment) c.args.progresses.now c.args.segments.now c.requires.places.segments_room in
+    let more : c.loop-k.k < length c.args.progresses.now = omega (arith, c.loop-k-test.true) in
+    omega (arith, more, ap length c.fill_segments.ensures, found_segments, c.requires.places.segments_room)
 
 pub offset_bounds-progresses-k : goal.offset_bounds-progresses-k
-offset_bounds-progresses-k c = omega (arith, (let more_here : c.loop-k.k < length c.args.progresses.now = omega (arith, c.loop-k-test.true) in more_here), (let few_here : length c.args.progresses.now * 4 < 9223372036854775808 = omega arith in few_here))
+offset_bounds-progresses-k c =
+    let few : length c.args.progresses.now * 4 < 9223372036854775808 = omega arith in
+    let more : c.loop-k.k < length c.args.progresses.now = omega (arith, c.loop-k-test.true) in
+    omega (arith, more, few)
 
 pub bounds-progresses-k : goal.bounds-progresses-k
-bounds-progresses-k c = (let more_here : c.loop-k.k < length c.args.progresses.now = omega (arith, c.loop-k-test.true) in more_here)
+bounds-progresses-k c =
+    let more : c.loop-k.k < length c.args.progresses.now = omega (arith, c.loop-k-test.true) in
+    more
 
 pub along-local-requires : goal.along-local-requires
-along-local-requires c = (some-path (some-place c.requires.places.path), (let segment_is_here : c.wide-segment.result ≡ (spot_of ((lent c.args.kinds c.args.fields c.args.tables c.args.lengths c.args.commands)).lengths ((get_or c.args.progresses.now c.loop-k.k nan))).segment = c.wide-segment.ensures
-    ∙ ap (λ (xs : List _). get_or xs c.loop-k.k 0) c.fill_segments.ensures
-    ∙ each_at (λ p. (spot_of ((lent c.args.kinds c.args.fields c.args.tables c.args.lengths c.args.commands)).lengths p).segment) 0 _ c.args.progresses.now c.loop-k.k ((let more_here : c.loop-k.k < length c.args.progresses.now = omega (arith, c.loop-k-test.true) in more_here)) in segment_is_here))
+along-local-requires c =
+    let more : c.loop-k.k < length c.args.progresses.now = omega (arith, c.loop-k-test.true) in
+    let segment_is : c.wide-segment.result ≡ (spot_of c.args.lengths.now (get_or c.args.progresses.now c.loop-k.k nan)).segment = c.wide-segment.ensures ∙ ap (λ (xs : List _). get_or xs c.loop-k.k 0) c.fill_segments.ensures ∙ each_at (λ p. (spot_of c.args.lengths.now p).segment) 0 _ c.args.progresses.now c.loop-k.k more in
+    record { sound_path = some-path (some-place c.requires.places.path); segment_value = segment_is }
 
 pub marked-shift-requires : goal.marked-shift-requires
 marked-shift-requires c =
-    looking-leaps c.requires.places.path c.loop-k.invariant.0 ((get_or c.args.progresses.now c.loop-k.k nan)) ((let segment_is_here : c.wide-segment.result ≡ (spot_of ((lent c.args.kinds c.args.fields c.args.tables c.args.lengths c.args.commands)).lengths ((get_or c.args.progresses.now c.loop-k.k nan))).segment = c.wide-segment.ensures
-    ∙ ap (λ (xs : List _). get_or xs c.loop-k.k 0) c.fill_segments.ensures
-    ∙ each_at (λ p. (spot_of ((lent c.args.kinds c.args.fields c.args.tables c.args.lengths c.args.commands)).lengths p).segment) 0 _ c.args.progresses.now c.loop-k.k ((let more_here : c.loop-k.k < length c.args.progresses.now = omega (arith, c.loop-k-test.true) in more_here)) in segment_is_here)) c.loop-k.invariant.2
+    let more : c.loop-k.k < length c.args.progresses.now = omega (arith, c.loop-k-test.true) in
+    let segment_is : c.wide-segment.result ≡ (spot_of c.args.lengths.now (get_or c.args.progresses.now c.loop-k.k nan)).segment = c.wide-segment.ensures ∙ ap (λ (xs : List _). get_or xs c.loop-k.k 0) c.fill_segments.ensures ∙ each_at (λ p. (spot_of c.args.lengths.now p).segment) 0 _ c.args.progresses.now c.loop-k.k more in
+    looking-leaps c.requires.places.path c.loop-k.invariant.0 (get_or c.args.progresses.now c.loop-k.k nan) segment_is c.loop-k.invariant.2
 
 pub nearest-start-requires : goal.nearest-start-requires
 nearest-start-requires c =
-    looking-leaps c.requires.places.path c.loop-k.invariant.0 ((get_or c.args.progresses.now c.loop-k.k nan)) ((let segment_is_here : c.wide-segment.result ≡ (spot_of ((lent c.args.kinds c.args.fields c.args.tables c.args.lengths c.args.commands)).lengths ((get_or c.args.progresses.now c.loop-k.k nan))).segment = c.wide-segment.ensures
-    ∙ ap (λ (xs : List _). get_or xs c.loop-k.k 0) c.fill_segments.ensures
-    ∙ each_at (λ p. (spot_of ((lent c.args.kinds c.args.fields c.args.tables c.args.lengths c.args.commands)).lengths p).segment) 0 _ c.args.progresses.now c.loop-k.k ((let more_here : c.loop-k.k < length c.args.progresses.now = omega (arith, c.loop-k-test.true) in more_here)) in segment_is_here)) c.marked-shift.ensures
+    let more : c.loop-k.k < length c.args.progresses.now = omega (arith, c.loop-k-test.true) in
+    let segment_is : c.wide-segment.result ≡ (spot_of c.args.lengths.now (get_or c.args.progresses.now c.loop-k.k nan)).segment = c.wide-segment.ensures ∙ ap (λ (xs : List _). get_or xs c.loop-k.k 0) c.fill_segments.ensures ∙ each_at (λ p. (spot_of c.args.lengths.now p).segment) 0 _ c.args.progresses.now c.loop-k.k more in
+    looking-leaps c.requires.places.path c.loop-k.invariant.0 (get_or c.args.progresses.now c.loop-k.k nan) segment_is c.marked-shift.ensures
 
 pub reached-here-requires : goal.reached-here-requires
 reached-here-requires c =
-    record { move = ((let ready_here : let kinds = ((lent c.args.kinds c.args.fields c.args.tables c.args.lengths c.args.commands)).kinds in Moving kinds c.if-is_step_on.start c.wide-segment.result × Marks kinds c.if-is_step_on.shift c.if-is_step_on.field-marks c.if-is_step_on.table-marks = let kinds = ((lent c.args.kinds c.args.fields c.args.tables c.args.lengths c.args.commands)).kinds in
-    ⊎_elim
-    (λ near. (
-      subst (λ (cursor : Cursor). Moving kinds cursor c.wide-segment.result) (sym near.4) (looking-moves c.requires.places.path c.loop-k.invariant.0 ((get_or c.args.progresses.now c.loop-k.k nan)) ((let segment_is_here : c.wide-segment.result ≡ (spot_of ((lent c.args.kinds c.args.fields c.args.tables c.args.lengths c.args.commands)).lengths ((get_or c.args.progresses.now c.loop-k.k nan))).segment = c.wide-segment.ensures
-    ∙ ap (λ (xs : List _). get_or xs c.loop-k.k 0) c.fill_segments.ensures
-    ∙ each_at (λ p. (spot_of ((lent c.args.kinds c.args.fields c.args.tables c.args.lengths c.args.commands)).lengths p).segment) 0 _ c.args.progresses.now c.loop-k.k ((let more_here : c.loop-k.k < length c.args.progresses.now = omega (arith, c.loop-k-test.true) in more_here)) in segment_is_here))),
-      marks-same near.1 near.2 near.3 c.loop-k.invariant.2,
-    ))
-    (λ far. (
-      subst (λ (cursor : Cursor). Moving kinds cursor c.wide-segment.result) (sym far.10) far.6.ensures,
-      marks-same far.7 far.8 far.9 far.3.ensures,
-    ))
-    c.if-is_step_on.came in ready_here)).0; short = c.is_near.ensures c.if-is_near.true; known = c.requires.places.path.path.known }
+    let more : c.loop-k.k < length c.args.progresses.now = omega (arith, c.loop-k-test.true) in
+    let segment_is : c.wide-segment.result ≡ (spot_of c.args.lengths.now (get_or c.args.progresses.now c.loop-k.k nan)).segment = c.wide-segment.ensures ∙ ap (λ (xs : List _). get_or xs c.loop-k.k 0) c.fill_segments.ensures ∙ each_at (λ p. (spot_of c.args.lengths.now p).segment) 0 _ c.args.progresses.now c.loop-k.k more in
+    let ready : let kinds = c.args.kinds.now in Moving kinds c.if-is_step_on.start c.wide-segment.result × Marks kinds c.if-is_step_on.shift c.if-is_step_on.field_marks c.if-is_step_on.table_marks = let kinds = c.args.kinds.now in elim c.if-is_step_on.branch [ then-is_step_on w ↦ ( subst (λ (cursor : Cursor). Moving kinds cursor c.wide-segment.result) (sym w.start-is) (looking-moves c.requires.places.path c.loop-k.invariant.0 (get_or c.args.progresses.now c.loop-k.k nan) segment_is), marks-same w.shift-is w.field_marks-is w.table_marks-is c.loop-k.invariant.2, ) | else-is_step_on w ↦ ( subst (λ (cursor : Cursor). Moving kinds cursor c.wide-segment.result) (sym w.start-is) w.nearest-start.ensures, marks-same w.shift-is w.field_marks-is w.table_marks-is w.marked-shift.ensures, ) ] in
+    record { move = ready.0; short = c.is_near.ensures c.if-is_near.true; known = c.requires.places.path.path.known }
 
 pub moved-here-requires : goal.moved-here-requires
-moved-here-requires c = ((let ready_here : let kinds = ((lent c.args.kinds c.args.fields c.args.tables c.args.lengths c.args.commands)).kinds in Moving kinds c.if-is_step_on.start c.wide-segment.result × Marks kinds c.if-is_step_on.shift c.if-is_step_on.field-marks c.if-is_step_on.table-marks = let kinds = ((lent c.args.kinds c.args.fields c.args.tables c.args.lengths c.args.commands)).kinds in
-    ⊎_elim
-    (λ near. (
-      subst (λ (cursor : Cursor). Moving kinds cursor c.wide-segment.result) (sym near.4) (looking-moves c.requires.places.path c.loop-k.invariant.0 ((get_or c.args.progresses.now c.loop-k.k nan)) ((let segment_is_here : c.wide-segment.result ≡ (spot_of ((lent c.args.kinds c.args.fields c.args.tables c.args.lengths c.args.commands)).lengths ((get_or c.args.progresses.now c.loop-k.k nan))).segment = c.wide-segment.ensures
-    ∙ ap (λ (xs : List _). get_or xs c.loop-k.k 0) c.fill_segments.ensures
-    ∙ each_at (λ p. (spot_of ((lent c.args.kinds c.args.fields c.args.tables c.args.lengths c.args.commands)).lengths p).segment) 0 _ c.args.progresses.now c.loop-k.k ((let more_here : c.loop-k.k < length c.args.progresses.now = omega (arith, c.loop-k-test.true) in more_here)) in segment_is_here))),
-      marks-same near.1 near.2 near.3 c.loop-k.invariant.2,
-    ))
-    (λ far. (
-      subst (λ (cursor : Cursor). Moving kinds cursor c.wide-segment.result) (sym far.10) far.6.ensures,
-      marks-same far.7 far.8 far.9 far.3.ensures,
-    ))
-    c.if-is_step_on.came in ready_here)).0
+moved-here-requires c =
+    let more : c.loop-k.k < length c.args.progresses.now = omega (arith, c.loop-k-test.true) in
+    let segment_is : c.wide-segment.result ≡ (spot_of c.args.lengths.now (get_or c.args.progresses.now c.loop-k.k nan)).segment = c.wide-segment.ensures ∙ ap (λ (xs : List _). get_or xs c.loop-k.k 0) c.fill_segments.ensures ∙ each_at (λ p. (spot_of c.args.lengths.now p).segment) 0 _ c.args.progresses.now c.loop-k.k more in
+    let ready : let kinds = c.args.kinds.now in Moving kinds c.if-is_step_on.start c.wide-segment.result × Marks kinds c.if-is_step_on.shift c.if-is_step_on.field_marks c.if-is_step_on.table_marks = let kinds = c.args.kinds.now in elim c.if-is_step_on.branch [ then-is_step_on w ↦ ( subst (λ (cursor : Cursor). Moving kinds cursor c.wide-segment.result) (sym w.start-is) (looking-moves c.requires.places.path c.loop-k.invariant.0 (get_or c.args.progresses.now c.loop-k.k nan) segment_is), marks-same w.shift-is w.field_marks-is w.table_marks-is c.loop-k.invariant.2, ) | else-is_step_on w ↦ ( subst (λ (cursor : Cursor). Moving kinds cursor c.wide-segment.result) (sym w.start-is) w.nearest-start.ensures, marks-same w.shift-is w.field_marks-is w.table_marks-is w.marked-shift.ensures, ) ] in
+    ready.0
 
 pub flown_within-there-requires : goal.flown_within-there-requires
 flown_within-there-requires c =
-    seated c.requires.places.path ((let landed_here : c.if-is_near.here ≡ cursor_of ((lent c.args.kinds c.args.fields c.args.tables c.args.lengths c.args.commands)).kinds c.wide-segment.result = ⊎_elim (λ near. near.2 ∙ near.1.ensures) (λ far. far.2 ∙ far.1.ensures) c.if-is_near.came in landed_here)) ((let within_here : c.wide-segment.result < length ((lent c.args.kinds c.args.fields c.args.tables c.args.lengths c.args.commands)).kinds = among c.requires.places.path c.loop-k.invariant.0 ((get_or c.args.progresses.now c.loop-k.k nan)) ((let segment_is_here : c.wide-segment.result ≡ (spot_of ((lent c.args.kinds c.args.fields c.args.tables c.args.lengths c.args.commands)).lengths ((get_or c.args.progresses.now c.loop-k.k nan))).segment = c.wide-segment.ensures
-    ∙ ap (λ (xs : List _). get_or xs c.loop-k.k 0) c.fill_segments.ensures
-    ∙ each_at (λ p. (spot_of ((lent c.args.kinds c.args.fields c.args.tables c.args.lengths c.args.commands)).lengths p).segment) 0 _ c.args.progresses.now c.loop-k.k ((let more_here : c.loop-k.k < length c.args.progresses.now = omega (arith, c.loop-k-test.true) in more_here)) in segment_is_here)) in within_here))
+    let more : c.loop-k.k < length c.args.progresses.now = omega (arith, c.loop-k-test.true) in
+    let segment_is : c.wide-segment.result ≡ (spot_of c.args.lengths.now (get_or c.args.progresses.now c.loop-k.k nan)).segment = c.wide-segment.ensures ∙ ap (λ (xs : List _). get_or xs c.loop-k.k 0) c.fill_segments.ensures ∙ each_at (λ p. (spot_of c.args.lengths.now p).segment) 0 _ c.args.progresses.now c.loop-k.k more in
+    let within : c.wide-segment.result < length c.args.kinds.now = among c.requires.places.path c.loop-k.invariant.0 (get_or c.args.progresses.now c.loop-k.k nan) segment_is in
+    let landed : c.if-is_near.here ≡ cursor_of c.args.kinds.now c.wide-segment.result = elim c.if-is_near.branch [ then-is_near w ↦ w.here-is ∙ w.reached-here.ensures | else-is_near w ↦ w.here-is ∙ w.moved-here.ensures ] in
+    seated c.requires.places.path landed within
 
 pub offset_bounds-raws-k : goal.offset_bounds-raws-k
-offset_bounds-raws-k c = omega (arith, (let more_here : c.loop-k.k < length c.args.progresses.now = omega (arith, c.loop-k-test.true) in more_here), (let few_here : length c.args.progresses.now * 4 < 9223372036854775808 = omega arith in few_here))
+offset_bounds-raws-k c =
+    let few : length c.args.progresses.now * 4 < 9223372036854775808 = omega arith in
+    let more : c.loop-k.k < length c.args.progresses.now = omega (arith, c.loop-k-test.true) in
+    omega (arith, more, few)
 
 pub bounds-raws-k : goal.bounds-raws-k
-bounds-raws-k c = omega (arith, (let more_here : c.loop-k.k < length c.args.progresses.now = omega (arith, c.loop-k-test.true) in more_here), (let raws_size_here : length c.loop-k.raws ≡ length c.args.raws.now = ap length c.loop-k.invariant.1 ∙ each-size ((let raw_of_here : Float → Float = λ p. (flight_of ((lent c.args.kinds c.args.fields c.args.tables c.args.lengths c.args.commands)) p).raw.value in raw_of_here)) c.args.progresses.now c.args.raws.now c.loop-k.k c.loop-k.invariant.0.upto c.requires.places.raws_room in raws_size_here), c.requires.places.raws_room)
+bounds-raws-k c =
+    let raw_of : Float → Float = λ p. (flight_of (lent c.args.kinds c.args.fields c.args.tables c.args.lengths c.args.commands) p).raw.value in
+    let raws_size : length c.loop-k.raws ≡ length c.args.raws.now = ap length c.loop-k.invariant.1 ∙ each-size raw_of c.args.progresses.now c.args.raws.now c.loop-k.k c.loop-k.invariant.0.upto c.requires.places.raws_room in
+    let more : c.loop-k.k < length c.args.progresses.now = omega (arith, c.loop-k-test.true) in
+    omega (arith, more, raws_size, c.requires.places.raws_room)
 
 pub overflow_mul-k : goal.overflow_mul-k
-overflow_mul-k c = omega (arith, (let more_here : c.loop-k.k < length c.args.progresses.now = omega (arith, c.loop-k-test.true) in more_here), (let few_here : length c.args.progresses.now * 4 < 9223372036854775808 = omega arith in few_here))
+overflow_mul-k c =
+    let few : length c.args.progresses.now * 4 < 9223372036854775808 = omega arith in
+    let more : c.loop-k.k < length c.args.progresses.now = omega (arith, c.loop-k-test.true) in
+    omega (arith, more, few)
 
 pub put_numbers-requires : goal.put_numbers-requires
-put_numbers-requires c = omega (arith, (let more_here : c.loop-k.k < length c.args.progresses.now = omega (arith, c.loop-k-test.true) in more_here), (let out_size_here : length c.loop-k.out ≡ length c.args.out.now = ap length c.loop-k.invariant.3 ∙ numbers-size ((lent c.args.kinds c.args.fields c.args.tables c.args.lengths c.args.commands)) c.args.progresses.now c.args.out.now c.loop-k.k c.loop-k.invariant.0.upto c.requires.out_room in out_size_here), c.requires.out_room)
+put_numbers-requires c =
+    let out_size : length c.loop-k.out ≡ length c.args.out.now = ap length c.loop-k.invariant.3 ∙ numbers-size (lent c.args.kinds c.args.fields c.args.tables c.args.lengths c.args.commands) c.args.progresses.now c.args.out.now c.loop-k.k c.loop-k.invariant.0.upto c.requires.out_room in
+    let more : c.loop-k.k < length c.args.progresses.now = omega (arith, c.loop-k-test.true) in
+    omega (arith, more, out_size, c.requires.out_room)
 
 pub overflow_add-k : goal.overflow_add-k
-overflow_add-k c = omega (arith, (let more_here : c.loop-k.k < length c.args.progresses.now = omega (arith, c.loop-k-test.true) in more_here), (let few_here : length c.args.progresses.now * 4 < 9223372036854775808 = omega arith in few_here))
+overflow_add-k c =
+    let few : length c.args.progresses.now * 4 < 9223372036854775808 = omega arith in
+    let more : c.loop-k.k < length c.args.progresses.now = omega (arith, c.loop-k-test.true) in
+    omega (arith, more, few)
 
 pub loop-k-smaller : goal.loop-k-smaller
-loop-k-smaller c = omega (arith, (let more_here : c.loop-k.k < length c.args.progresses.now = omega (arith, c.loop-k-test.true) in more_here))
+loop-k-smaller c =
+    let more : c.loop-k.k < length c.args.progresses.now = omega (arith, c.loop-k-test.true) in
+    omega (arith, more)
 
 pub loop-k-preserved : goal.loop-k-preserved
 loop-k-preserved c =
-    let p = (get_or c.args.progresses.now c.loop-k.k nan) in
+    let p = get_or c.args.progresses.now c.loop-k.k nan in
+    let more : c.loop-k.k < length c.args.progresses.now = omega (arith, c.loop-k-test.true) in
+    let segment_is : c.wide-segment.result ≡ (spot_of c.args.lengths.now (get_or c.args.progresses.now c.loop-k.k nan)).segment = c.wide-segment.ensures ∙ ap (λ (xs : List _). get_or xs c.loop-k.k 0) c.fill_segments.ensures ∙ each_at (λ p. (spot_of c.args.lengths.now p).segment) 0 _ c.args.progresses.now c.loop-k.k more in
+    let within : c.wide-segment.result < length c.args.kinds.now = among c.requires.places.path c.loop-k.invariant.0 (get_or c.args.progresses.now c.loop-k.k nan) segment_is in
+    let ready : let kinds = c.args.kinds.now in Moving kinds c.if-is_step_on.start c.wide-segment.result × Marks kinds c.if-is_step_on.shift c.if-is_step_on.field_marks c.if-is_step_on.table_marks = let kinds = c.args.kinds.now in elim c.if-is_step_on.branch [ then-is_step_on w ↦ ( subst (λ (cursor : Cursor). Moving kinds cursor c.wide-segment.result) (sym w.start-is) (looking-moves c.requires.places.path c.loop-k.invariant.0 (get_or c.args.progresses.now c.loop-k.k nan) segment_is), marks-same w.shift-is w.field_marks-is w.table_marks-is c.loop-k.invariant.2, ) | else-is_step_on w ↦ ( subst (λ (cursor : Cursor). Moving kinds cursor c.wide-segment.result) (sym w.start-is) w.nearest-start.ensures, marks-same w.shift-is w.field_marks-is w.table_marks-is w.marked-shift.ensures, ) ] in
+    let landed : c.if-is_near.here ≡ cursor_of c.args.kinds.now c.wide-segment.result = elim c.if-is_near.branch [ then-is_near w ↦ w.here-is ∙ w.reached-here.ensures | else-is_near w ↦ w.here-is ∙ w.moved-here.ensures ] in
+    let landed_there : c.if-is_near.here ≡ cursor_of c.args.kinds.now (spot_of c.args.lengths.now p).segment = landed ∙ ap (cursor_of c.args.kinds.now) segment_is in
+    let along_is : c.along-local.result.value ≡ (spot_of c.args.lengths.now p).progress.value = ap (λ (local : Progress). local.value) c.along-local.ensures in
+    let path = lent c.args.kinds c.args.fields c.args.tables c.args.lengths c.args.commands in
+    let raw_of : Float → Float = λ x. (flight_of path x).raw.value in
     let flown =
-    c.flown_within-there.ensures
-    ∙ ap (flown_within c.args.kinds.now c.args.fields.now c.args.tables.now c.if-is_near.here.segment) ((let along_is_here : c.along-local.result.value ≡ (spot_of ((lent c.args.kinds c.args.fields c.args.tables c.args.lengths c.args.commands)).lengths ((get_or c.args.progresses.now c.loop-k.k nan))).progress.value = ap (λ (local : Progress). local.value) c.along-local.ensures in along_is_here))
-    ∙ flight-is ((lent c.args.kinds c.args.fields c.args.tables c.args.lengths c.args.commands)) p (spot_of c.args.lengths.now p) c.if-is_near.here refl ((let landed_there_here : c.if-is_near.here ≡ cursor_of ((lent c.args.kinds c.args.fields c.args.tables c.args.lengths c.args.commands)).kinds (spot_of ((lent c.args.kinds c.args.fields c.args.tables c.args.lengths c.args.commands)).lengths ((get_or c.args.progresses.now c.loop-k.k nan))).segment = (let landed_here : c.if-is_near.here ≡ cursor_of ((lent c.args.kinds c.args.fields c.args.tables c.args.lengths c.args.commands)).kinds c.wide-segment.result = ⊎_elim (λ near. near.2 ∙ near.1.ensures) (λ far. far.2 ∙ far.1.ensures) c.if-is_near.came in landed_here) ∙ ap (cursor_of ((lent c.args.kinds c.args.fields c.args.tables c.args.lengths c.args.commands)).kinds) ((let segment_is_here : c.wide-segment.result ≡ (spot_of ((lent c.args.kinds c.args.fields c.args.tables c.args.lengths c.args.commands)).lengths ((get_or c.args.progresses.now c.loop-k.k nan))).segment = c.wide-segment.ensures
-    ∙ ap (λ (xs : List _). get_or xs c.loop-k.k 0) c.fill_segments.ensures
-    ∙ each_at (λ p. (spot_of ((lent c.args.kinds c.args.fields c.args.tables c.args.lengths c.args.commands)).lengths p).segment) 0 _ c.args.progresses.now c.loop-k.k ((let more_here : c.loop-k.k < length c.args.progresses.now = omega (arith, c.loop-k-test.true) in more_here)) in segment_is_here)) in landed_there_here))
-    ∙ flight-some ((lent c.args.kinds c.args.fields c.args.tables c.args.lengths c.args.commands)) p c.requires.places.path.some in (
-      looking-next c.if-is_near.here c.wide-segment.result ((let landed_here : c.if-is_near.here ≡ cursor_of ((lent c.args.kinds c.args.fields c.args.tables c.args.lengths c.args.commands)).kinds c.wide-segment.result = ⊎_elim (λ near. near.2 ∙ near.1.ensures) (λ far. far.2 ∙ far.1.ensures) c.if-is_near.came in landed_here)) ((let within_here : c.wide-segment.result < length ((lent c.args.kinds c.args.fields c.args.tables c.args.lengths c.args.commands)).kinds = among c.requires.places.path c.loop-k.invariant.0 ((get_or c.args.progresses.now c.loop-k.k nan)) ((let segment_is_here : c.wide-segment.result ≡ (spot_of ((lent c.args.kinds c.args.fields c.args.tables c.args.lengths c.args.commands)).lengths ((get_or c.args.progresses.now c.loop-k.k nan))).segment = c.wide-segment.ensures
-    ∙ ap (λ (xs : List _). get_or xs c.loop-k.k 0) c.fill_segments.ensures
-    ∙ each_at (λ p. (spot_of ((lent c.args.kinds c.args.fields c.args.tables c.args.lengths c.args.commands)).lengths p).segment) 0 _ c.args.progresses.now c.loop-k.k ((let more_here : c.loop-k.k < length c.args.progresses.now = omega (arith, c.loop-k-test.true) in more_here)) in segment_is_here)) in within_here)) ((let more_here : c.loop-k.k < length c.args.progresses.now = omega (arith, c.loop-k-test.true) in more_here)),
-      each_next ((let raw_of_here : Float → Float = λ p. (flight_of ((lent c.args.kinds c.args.fields c.args.tables c.args.lengths c.args.commands)) p).raw.value in raw_of_here)) c.args.progresses.now _ c.loop-k.raws c.loop-k.k _ ((let more_here : c.loop-k.k < length c.args.progresses.now = omega (arith, c.loop-k-test.true) in more_here)) c.requires.places.raws_room c.loop-k.invariant.1
-          (c.tidy.ensures ∙ c.number_of.ensures ∙ ap (λ (flight : Flight). flight.raw-1.value) flown),
-      ((let ready_here : let kinds = ((lent c.args.kinds c.args.fields c.args.tables c.args.lengths c.args.commands)).kinds in Moving kinds c.if-is_step_on.start c.wide-segment.result × Marks kinds c.if-is_step_on.shift c.if-is_step_on.field-marks c.if-is_step_on.table-marks = let kinds = ((lent c.args.kinds c.args.fields c.args.tables c.args.lengths c.args.commands)).kinds in
-    ⊎_elim
-    (λ near. (
-      subst (λ (cursor : Cursor). Moving kinds cursor c.wide-segment.result) (sym near.4) (looking-moves c.requires.places.path c.loop-k.invariant.0 ((get_or c.args.progresses.now c.loop-k.k nan)) ((let segment_is_here : c.wide-segment.result ≡ (spot_of ((lent c.args.kinds c.args.fields c.args.tables c.args.lengths c.args.commands)).lengths ((get_or c.args.progresses.now c.loop-k.k nan))).segment = c.wide-segment.ensures
-    ∙ ap (λ (xs : List _). get_or xs c.loop-k.k 0) c.fill_segments.ensures
-    ∙ each_at (λ p. (spot_of ((lent c.args.kinds c.args.fields c.args.tables c.args.lengths c.args.commands)).lengths p).segment) 0 _ c.args.progresses.now c.loop-k.k ((let more_here : c.loop-k.k < length c.args.progresses.now = omega (arith, c.loop-k-test.true) in more_here)) in segment_is_here))),
-      marks-same near.1 near.2 near.3 c.loop-k.invariant.2,
-    ))
-    (λ far. (
-      subst (λ (cursor : Cursor). Moving kinds cursor c.wide-segment.result) (sym far.10) far.6.ensures,
-      marks-same far.7 far.8 far.9 far.3.ensures,
-    ))
-    c.if-is_step_on.came in ready_here)).1,
+        c.flown_within-there.ensures
+        ∙ ap (flown_within c.args.kinds.now c.args.fields.now c.args.tables.now c.if-is_near.here.segment) along_is
+        ∙ flight-is path p (spot_of c.args.lengths.now p) c.if-is_near.here refl landed_there
+        ∙ flight-some path p c.requires.places.path.some in (
+      looking-next c.if-is_near.here c.wide-segment.result landed within more,
+      each_next raw_of c.args.progresses.now _ c.loop-k.raws c.loop-k.k _ more c.requires.places.raws_room c.loop-k.invariant.1
+          (c.tidy.ensures ∙ c.number_of.ensures ∙ ap (λ (flight : Flight). flight.raw.value) flown),
+      ready.1,
       c.put_numbers.ensures
-          ∙ numbers-next ((lent c.args.kinds c.args.fields c.args.tables c.args.lengths c.args.commands)) c.args.progresses.now c.args.out.now c.loop-k.out c.loop-k.k _ ((let more_here : c.loop-k.k < length c.args.progresses.now = omega (arith, c.loop-k-test.true) in more_here)) c.requires.out_room c.loop-k.invariant.3 (ap numbers_of flown),
+          ∙ numbers-next path c.args.progresses.now c.args.out.now c.loop-k.out c.loop-k.k _ more c.requires.out_room c.loop-k.invariant.3 (ap numbers_of flown),
     )
 
 pub shape_of-segments : goal.shape_of-segments
-shape_of-segments c = ap length c.fill_segments.ensures ∙ (let found_segments_here : length (written (found_for ((lent c.args.kinds c.args.fields c.args.tables c.args.lengths c.args.commands)).lengths c.args.progresses.now) c.args.segments.now) ≡ length c.args.segments.now = each-filled (λ p. (spot_of ((lent c.args.kinds c.args.fields c.args.tables c.args.lengths c.args.commands)).lengths p).segment) c.args.progresses.now c.args.segments.now c.requires.places.segments_room in found_segments_here)
+shape_of-segments c =
+    let found_segments : length (written (found_for c.args.lengths.now c.args.progresses.now) c.args.segments.now) ≡ length c.args.segments.now = each-filled (λ p. (spot_of c.args.lengths.now p).segment) c.args.progresses.now c.args.segments.now c.requires.places.segments_room in
+    ap length c.fill_segments.ensures ∙ found_segments
 
 pub shape_of-raws : goal.shape_of-raws
-shape_of-raws c = (let raws_size_here : length c.loop-k.raws ≡ length c.args.raws.now = ap length c.loop-k.invariant.1 ∙ each-size ((let raw_of_here : Float → Float = λ p. (flight_of ((lent c.args.kinds c.args.fields c.args.tables c.args.lengths c.args.commands)) p).raw.value in raw_of_here)) c.args.progresses.now c.args.raws.now c.loop-k.k c.loop-k.invariant.0.upto c.requires.places.raws_room in raws_size_here)
+shape_of-raws c =
+    let raw_of : Float → Float = λ p. (flight_of (lent c.args.kinds c.args.fields c.args.tables c.args.lengths c.args.commands) p).raw.value in
+    let raws_size : length c.loop-k.raws ≡ length c.args.raws.now = ap length c.loop-k.invariant.1 ∙ each-size raw_of c.args.progresses.now c.args.raws.now c.loop-k.k c.loop-k.invariant.0.upto c.requires.places.raws_room in
+    raws_size
 
 pub shape_of-out : goal.shape_of-out
-shape_of-out c = (let out_size_here : length c.loop-k.out ≡ length c.args.out.now = ap length c.loop-k.invariant.3 ∙ numbers-size ((lent c.args.kinds c.args.fields c.args.tables c.args.lengths c.args.commands)) c.args.progresses.now c.args.out.now c.loop-k.k c.loop-k.invariant.0.upto c.requires.out_room in out_size_here)
+shape_of-out c =
+    let out_size : length c.loop-k.out ≡ length c.args.out.now = ap length c.loop-k.invariant.3 ∙ numbers-size (lent c.args.kinds c.args.fields c.args.tables c.args.lengths c.args.commands) c.args.progresses.now c.args.out.now c.loop-k.k c.loop-k.invariant.0.upto c.requires.out_room in
+    out_size
 
 pub returns : goal.returns
 returns c =
@@ -196,8 +190,8 @@ returns c =
             segments_are =
                 c.fill_segments.ensures
                 ∙ ap (λ (xs : List _). written xs c.args.segments.now)
-                (each-equal (λ p. (spot_of ((lent c.args.kinds c.args.fields c.args.tables c.args.lengths c.args.commands)).lengths p).segment) (λ p. segment_given (flight_of ((lent c.args.kinds c.args.fields c.args.tables c.args.lengths c.args.commands)) p).segment) (λ p. segment-there ((lent c.args.kinds c.args.fields c.args.tables c.args.lengths c.args.commands)) p c.requires.places.path.some refl) c.args.progresses.now);
-            raws_are = c.loop-k.invariant.1 ∙ ap (λ (ps : List Float). written (raws_for ((lent c.args.kinds c.args.fields c.args.tables c.args.lengths c.args.commands)) ps) c.args.raws.now) all;
+                (each-equal (λ p. (spot_of c.args.lengths.now p).segment) (λ p. segment_given (flight_of (lent c.args.kinds c.args.fields c.args.tables c.args.lengths c.args.commands) p).segment) (λ p. segment-there (lent c.args.kinds c.args.fields c.args.tables c.args.lengths c.args.commands) p c.requires.places.path.some refl) c.args.progresses.now);
+            raws_are = c.loop-k.invariant.1 ∙ ap (λ (ps : List Float). written (raws_for (lent c.args.kinds c.args.fields c.args.tables c.args.lengths c.args.commands) ps) c.args.raws.now) all;
           };
-      out_is = c.loop-k.invariant.3 ∙ ap (λ (ps : List Float). written (numbers_for ((lent c.args.kinds c.args.fields c.args.tables c.args.lengths c.args.commands)) ps) c.args.out.now) all;
+      out_is = c.loop-k.invariant.3 ∙ ap (λ (ps : List Float). written (numbers_for (lent c.args.kinds c.args.fields c.args.tables c.args.lengths c.args.commands) ps) c.args.out.now) all;
     }

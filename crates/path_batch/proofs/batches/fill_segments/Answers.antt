@@ -14,15 +14,6 @@ use Rattle.path_batch.specs.Batches.{each, found_for}
 use Rattle.path_batch.proofs.Filling.{each-size, each_next}
 use Rattle.path_batch.proofs.batches.fill_segments.Goals as goal
 
--- ---- the points, and what is known there
-
--- where the next search starts is settled: that one more progress was left, the loop's start, and the spot
-abbrev Settled : Type 0
-Settled = goal.Joined-is_step_on
-
-more : (m : Settled) → m.loop-i.i < length m.args.progresses.now
-more m = omega (arith, m.loop-i-test.true)
-
 -- ---- the answers
 pub loop-i-init : goal.loop-i-init
 unfolding each
@@ -37,26 +28,40 @@ overflow_cast-segments c =
     record { fits = omega (arith, c.segment_near-segment.ensures, spot-inside c.args.lengths.now c.requires.path p) }
 
 pub offset_bounds-segments-i : goal.offset_bounds-segments-i
-offset_bounds-segments-i c = omega (arith, (let more_here : c.loop-i.i < length c.args.progresses.now = omega (arith, c.loop-i-test.true) in more_here), (let few_here : length c.args.progresses.now * 4 < 9223372036854775808 = omega arith in few_here))
+offset_bounds-segments-i c =
+    let few : length c.args.progresses.now * 4 < 9223372036854775808 = omega arith in
+    let more : c.loop-i.i < length c.args.progresses.now = omega (arith, c.loop-i-test.true) in
+    omega (arith, more, few)
 
 pub bounds-segments-i : goal.bounds-segments-i
-bounds-segments-i c = omega (arith, (let more_here : c.loop-i.i < length c.args.progresses.now = omega (arith, c.loop-i-test.true) in more_here), (let segments_size_here : length c.loop-i.segments ≡ length c.args.segments.now = ap length c.loop-i.invariant.1 ∙ each-size (λ p. (spot_of c.args.lengths.now p).segment) c.args.progresses.now c.args.segments.now c.loop-i.i c.loop-i.invariant.0 c.requires.segments_room in segments_size_here), c.requires.segments_room)
+bounds-segments-i c =
+    let segments_size : length c.loop-i.segments ≡ length c.args.segments.now = ap length c.loop-i.invariant.1 ∙ each-size (λ p. (spot_of c.args.lengths.now p).segment) c.args.progresses.now c.args.segments.now c.loop-i.i c.loop-i.invariant.0 c.requires.segments_room in
+    let more : c.loop-i.i < length c.args.progresses.now = omega (arith, c.loop-i-test.true) in
+    omega (arith, more, segments_size, c.requires.segments_room)
 
 pub overflow_add-i : goal.overflow_add-i
-overflow_add-i c = omega (arith, (let more_here : c.loop-i.i < length c.args.progresses.now = omega (arith, c.loop-i-test.true) in more_here), (let few_here : length c.args.progresses.now * 4 < 9223372036854775808 = omega arith in few_here))
+overflow_add-i c =
+    let few : length c.args.progresses.now * 4 < 9223372036854775808 = omega arith in
+    let more : c.loop-i.i < length c.args.progresses.now = omega (arith, c.loop-i-test.true) in
+    omega (arith, more, few)
 
 pub loop-i-smaller : goal.loop-i-smaller
-loop-i-smaller c = omega (arith, (let more_here : c.loop-i.i < length c.args.progresses.now = omega (arith, c.loop-i-test.true) in more_here))
+loop-i-smaller c =
+    let more : c.loop-i.i < length c.args.progresses.now = omega (arith, c.loop-i-test.true) in
+    omega (arith, more)
 
 pub loop-i-preserved : goal.loop-i-preserved
 loop-i-preserved c =
+    let more : c.loop-i.i < length c.args.progresses.now = omega (arith, c.loop-i-test.true) in
     (
-      omega (arith, (let more_here : c.loop-i.i < length c.args.progresses.now = omega (arith, c.loop-i-test.true) in more_here)),
-      each_next (λ p. (spot_of c.args.lengths.now p).segment) c.args.progresses.now c.args.segments.now c.loop-i.segments c.loop-i.i _ ((let more_here : c.loop-i.i < length c.args.progresses.now = omega (arith, c.loop-i-test.true) in more_here)) c.requires.segments_room c.loop-i.invariant.1 c.segment_near-segment.ensures,
+      omega (arith, more),
+      each_next (λ p. (spot_of c.args.lengths.now p).segment) c.args.progresses.now c.args.segments.now c.loop-i.segments c.loop-i.i _ more c.requires.segments_room c.loop-i.invariant.1 c.segment_near-segment.ensures,
     )
 
 pub shape_of-segments : goal.shape_of-segments
-shape_of-segments c = (let segments_size_here : length c.loop-i.segments ≡ length c.args.segments.now = ap length c.loop-i.invariant.1 ∙ each-size (λ p. (spot_of c.args.lengths.now p).segment) c.args.progresses.now c.args.segments.now c.loop-i.i c.loop-i.invariant.0 c.requires.segments_room in segments_size_here)
+shape_of-segments c =
+    let segments_size : length c.loop-i.segments ≡ length c.args.segments.now = ap length c.loop-i.invariant.1 ∙ each-size (λ p. (spot_of c.args.lengths.now p).segment) c.args.progresses.now c.args.segments.now c.loop-i.i c.loop-i.invariant.0 c.requires.segments_room in
+    segments_size
 
 pub returns : goal.returns
 returns c =

@@ -19,12 +19,15 @@ returns-then-total c =
 pub returns-then-target : goal.returns-then-target
 unfolding zero_f target_of epsilon_f
 returns-then-target c =
-    segment-low _ _ ((let long_here : le (path_total c.args.lengths.now) epsilon_f ≡ false = rw (path-total c.args.lengths.now c.requires.some) at c.if-total.false in long_here)) (rw (c.clamp01.ensures, path-total c.args.lengths.now c.requires.some) at c.if-target.true)
+    let long : le (path_total c.args.lengths.now) epsilon_f ≡ false = rw (path-total c.args.lengths.now c.requires.some) at c.if-total.false in
+    segment-low _ _ long (rw (c.clamp01.ensures, path-total c.args.lengths.now c.requires.some) at c.if-target.true)
 
 pub returns-then-target-total : goal.returns-then-target-total
 unfolding target_of epsilon_f zero_f
 returns-then-target-total c =
-    segment-high _ _ ((let long_here : le (path_total c.args.lengths.now) epsilon_f ≡ false = rw (path-total c.args.lengths.now c.requires.some) at c.if-total.false in long_here)) ((let low_here : le ((target_of (path_total c.args.lengths.now) c.args.progress.value)) zero_f ≡ false = rw (c.clamp01.ensures, path-total c.args.lengths.now c.requires.some) at c.if-target.false in low_here)) (rw (c.clamp01.ensures, path-total c.args.lengths.now c.requires.some) at c.if-target-total.true)
+    let low : le ((target_of (path_total c.args.lengths.now) c.args.progress.value)) zero_f ≡ false = rw (c.clamp01.ensures, path-total c.args.lengths.now c.requires.some) at c.if-target.false in
+    let long : le (path_total c.args.lengths.now) epsilon_f ≡ false = rw (path-total c.args.lengths.now c.requires.some) at c.if-total.false in
+    segment-high _ _ long low (rw (c.clamp01.ensures, path-total c.args.lengths.now c.requires.some) at c.if-target-total.true)
 
 pub first_from-requires : goal.first_from-requires
 first_from-requires c = c.requires.sound
@@ -32,6 +35,8 @@ first_from-requires c = c.requires.sound
 pub returns : goal.returns
 unfolding target_of epsilon_f zero_f
 returns c =
+    let low : le ((target_of (path_total c.args.lengths.now) c.args.progress.value)) zero_f ≡ false = rw (c.clamp01.ensures, path-total c.args.lengths.now c.requires.some) at c.if-target.false in
+    let long : le (path_total c.args.lengths.now) epsilon_f ≡ false = rw (path-total c.args.lengths.now c.requires.some) at c.if-total.false in
     let total = path-total c.args.lengths.now c.requires.some in
     let high = rw (c.clamp01.ensures, total) at c.if-target-total.false in
-    rw (c.first_from.ensures, c.clamp01.ensures, total) (segment-within _ _ ((let long_here : le (path_total c.args.lengths.now) epsilon_f ≡ false = rw (path-total c.args.lengths.now c.requires.some) at c.if-total.false in long_here)) ((let low_here : le ((target_of (path_total c.args.lengths.now) c.args.progress.value)) zero_f ≡ false = rw (c.clamp01.ensures, path-total c.args.lengths.now c.requires.some) at c.if-target.false in low_here)) high)
+    rw (c.first_from.ensures, c.clamp01.ensures, total) (segment-within _ _ long low high)

@@ -23,7 +23,7 @@ pub point_at-control-requires : goal.point_at-control-requires
 point_at-control-requires c = omega (arith, quad-wide c.args.letter c.args.numbers.now c.args.at c.requires.0 c.in-81.is)
 
 pub overflow_add-at : goal.overflow_add-at
-overflow_add-at c = omega (arith, quad-wide c.args.letter c.args.numbers.now c.args.at c.requires.0 c.in-81.is, c.before.before.before.before.before.before.before.before)
+overflow_add-at c = omega (arith, quad-wide c.args.letter c.args.numbers.now c.args.at c.requires.0 c.in-81.is)
 
 pub point_at-end-requires-in-81 : goal.point_at-end-requires-in-81
 point_at-end-requires-in-81 c = omega (arith, quad-wide c.args.letter c.args.numbers.now c.args.at c.requires.0 c.in-81.is)
@@ -41,13 +41,13 @@ pub point_at-control1-requires : goal.point_at-control1-requires
 point_at-control1-requires c = omega (arith, cubic-wide c.args.letter c.args.numbers.now c.args.at c.requires.0 c.in-67.is)
 
 pub overflow_add-at-in-67 : goal.overflow_add-at-in-67
-overflow_add-at-in-67 c = omega (arith, cubic-wide c.args.letter c.args.numbers.now c.args.at c.requires.0 c.in-67.is, c.before.before.before.before.before.before.before.before)
+overflow_add-at-in-67 c = omega (arith, cubic-wide c.args.letter c.args.numbers.now c.args.at c.requires.0 c.in-67.is)
 
 pub point_at-control2-requires : goal.point_at-control2-requires
 point_at-control2-requires c = omega (arith, cubic-wide c.args.letter c.args.numbers.now c.args.at c.requires.0 c.in-67.is)
 
 pub overflow_add-at-in-67-2 : goal.overflow_add-at-in-67-2
-overflow_add-at-in-67-2 c = omega (arith, cubic-wide c.args.letter c.args.numbers.now c.args.at c.requires.0 c.in-67.is, c.before.before.before.before.before.before.before.before.before)
+overflow_add-at-in-67-2 c = omega (arith, cubic-wide c.args.letter c.args.numbers.now c.args.at c.requires.0 c.in-67.is)
 
 pub point_at-end-requires-in-67 : goal.point_at-end-requires-in-67
 point_at-end-requires-in-67 c = omega (arith, cubic-wide c.args.letter c.args.numbers.now c.args.at c.requires.0 c.in-67.is)

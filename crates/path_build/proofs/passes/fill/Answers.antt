@@ -28,17 +28,17 @@ lay_at-site-requires c =
 pub overflow_add-at : goal.overflow_add-at
 overflow_add-at c =
     let asks = storing-asks c.loop-letter_at.invariant c.requires c.loop-letter_at-test.true in
-    omega (arith, asks.0, c.stride-at.ensures, c)
+    omega (arith, asks.0, c.stride-at.ensures)
 
 pub overflow_add-letter_at : goal.overflow_add-letter_at
-overflow_add-letter_at c = omega (arith, c.loop-letter_at-test.true, c)
+overflow_add-letter_at c = omega (arith, c.loop-letter_at-test.true)
 
 pub loop-letter_at-smaller : goal.loop-letter_at-smaller
 loop-letter_at-smaller c = omega (arith, c.loop-letter_at-test.true)
 
 pub loop-letter_at-preserved : goal.loop-letter_at-preserved
 loop-letter_at-preserved c =
-    storing-next c.loop-letter_at.invariant c.requires c.loop-letter_at-test.true c.stride-at.ensures c.Lay-at.ensures
+    storing-next c.loop-letter_at.invariant c.requires c.loop-letter_at-test.true c.stride-at.ensures c.lay_at-site.ensures
 
 pub shape_of-kinds : goal.shape_of-kinds
 shape_of-kinds c = stored-kinds c.loop-letter_at.invariant c.requires

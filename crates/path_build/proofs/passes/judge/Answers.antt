@@ -34,7 +34,7 @@ returns-in-Refused c =
 pub overflow_add-at : goal.overflow_add-at
 overflow_add-at c =
     let fits = measuring-fits c.loop-letter_at.invariant c.loop-letter_at-test.true (sym c.decode.ensures ∙ c.in-Command.is) in
-    omega (arith, fits, c.width-at.ensures, c)
+    omega (arith, fits, c.width-at.ensures)
 
 pub loop-letter_at-smaller : goal.loop-letter_at-smaller
 loop-letter_at-smaller c = omega (arith, c.loop-letter_at-test.true)

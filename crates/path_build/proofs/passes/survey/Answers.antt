@@ -31,10 +31,10 @@ returns-in-Unsure c = tt
 pub overflow_add-at : goal.overflow_add-at
 overflow_add-at c =
     let fits = surveying-fits c.loop-letter_at.invariant c.loop-letter_at-test.true (sym c.decode.ensures ∙ c.in-Command.is) in
-    omega (arith, fits, c.width-at.ensures, c)
+    omega (arith, fits, c.width-at.ensures)
 
 pub overflow_add-letter_at : goal.overflow_add-letter_at
-overflow_add-letter_at c = omega (arith, c.loop-letter_at-test.true, c)
+overflow_add-letter_at c = omega (arith, c.loop-letter_at-test.true)
 
 pub loop-letter_at-smaller : goal.loop-letter_at-smaller
 loop-letter_at-smaller c = omega (arith, c.loop-letter_at-test.true)

@@ -6,7 +6,7 @@ use mathlib.Core.Bool.{true}
 use native.Mathlib.Omega.{arith}
 use lib.ListN.{length}
 use Rattle.floats.proofs.Tests.{passed}
-use Rattle.path_stored.specs.Buffers.{Buffers, buffers}
+use Rattle.path_stored.specs.Buffers.{buffers}
 use Rattle.path_stored.specs.Stored.{is_stored}
 use Rattle.path_stored.proofs.Rule.{stored-rule}
 use Rattle.path_query.proofs.Seats.{a-flight}
@@ -14,67 +14,85 @@ use Rattle.path_dry_run.specs.Seconds.{fast_of, Recorded}
 use Rattle.path_dry_run.proofs.Sums.{slow-all}
 use Rattle.path_dry_run.proofs.Seconds.{filled_none, seconds-in-order}
 use Rattle.path_dry_run.proofs.Answering.{run-bad, run_long, run-fast, run-short-segments, run-short-raws, run-filled}
-use Rattle.path_dry_run.proofs.runs.dry_run.Tie as tie
 use Rattle.path_dry_run.proofs.runs.dry_run.Goals as goal
-
-abbrev path : tie.After-check_path → Buffers
-path c = buffers c.args.kinds.now c.args.fields.now c.args.tables.now c.args.lengths.now c.args.commands.now
-
-stored : (e : tie.Else3) → is_stored (path e) ≡ true
-stored e = sym e.check_path.ensures ∙ e.if-check_path.true
-
-few : (e : tie.Else3) → length e.args.speeds.now ≤ 36000
-few e = e.if-count-gt36000.false
-
-slow : (e : tie.Else3) → fast_of e.args.speeds.now ≤ 100000
-slow e = omega (arith, e.first_fast-fast.ensures, e.if-fast-gt100000.false)
-
-recorded : (e : tie.Else3) → Recorded e.args.speeds.now
-recorded e = record { few = few e; slow = slow-all e.args.speeds.now (slow e) }
 
 -- ---- the answers
 pub returns-then-count-gt36000 : goal.returns-then-count-gt36000
-returns-then-count-gt36000 c = (run_long _ _ _ _ (sym c.check_path.ensures ∙ c.if-check_path.true) c.if-count-gt36000.true, tt)
+returns-then-count-gt36000 c = record {
+      dry_run = run_long _ _ _ _ (sym c.check_path.ensures ∙ c.if-check_path.true) c.if-count-gt36000.true;
+      ordered_run = tt;
+    }
 
 pub returns-then-fast-gt100000 : goal.returns-then-fast-gt100000
 returns-then-fast-gt100000 c =
-    (run-fast _ _ _ _ (sym c.check_path.ensures ∙ c.if-check_path.true) c.if-count-gt36000.false _ c.first_fast-fast.ensures c.if-fast-gt100000.true, tt)
+    record {
+      dry_run = run-fast _ _ _ _ (sym c.check_path.ensures ∙ c.if-check_path.true) c.if-count-gt36000.false _ c.first_fast-fast.ensures c.if-fast-gt100000.true;
+      ordered_run = tt;
+    }
 
 pub returns-then-segments-count : goal.returns-then-segments-count
-returns-then-segments-count c = (run-short-segments _ _ _ _ ((let stored_here : is_stored ((buffers c.args.kinds.now c.args.fields.now c.args.tables.now c.args.lengths.now c.args.commands.now)) ≡ true = sym c.check_path.ensures ∙ c.if-check_path.true in stored_here)) ((let few_here : length c.args.speeds.now ≤ 36000 = c.if-count-gt36000.false in few_here)) ((let slow_here : fast_of c.args.speeds.now ≤ 100000 = omega (arith, c.first_fast-fast.ensures, c.if-fast-gt100000.false) in slow_here)) c.if-segments-count.true, tt)
+returns-then-segments-count c =
+    let slow : fast_of c.args.speeds.now ≤ 100000 = omega (arith, c.first_fast-fast.ensures, c.if-fast-gt100000.false) in
+    let few : length c.args.speeds.now ≤ 36000 = c.if-count-gt36000.false in
+    let stored : is_stored (buffers c.args.kinds.now c.args.fields.now c.args.tables.now c.args.lengths.now c.args.commands.now) ≡ true = sym c.check_path.ensures ∙ c.if-check_path.true in
+    record {
+      dry_run = run-short-segments _ _ _ _ stored few slow c.if-segments-count.true;
+      ordered_run = tt;
+    }
 
 pub returns-then-raws-count : goal.returns-then-raws-count
-returns-then-raws-count c = (run-short-raws _ _ _ _ ((let stored_here : is_stored ((buffers c.args.kinds.now c.args.fields.now c.args.tables.now c.args.lengths.now c.args.commands.now)) ≡ true = sym c.check_path.ensures ∙ c.if-check_path.true in stored_here)) ((let few_here : length c.args.speeds.now ≤ 36000 = c.if-count-gt36000.false in few_here)) ((let slow_here : fast_of c.args.speeds.now ≤ 100000 = omega (arith, c.first_fast-fast.ensures, c.if-fast-gt100000.false) in slow_here)) c.if-segments-count.false c.if-raws-count.true, tt)
+returns-then-raws-count c =
+    let slow : fast_of c.args.speeds.now ≤ 100000 = omega (arith, c.first_fast-fast.ensures, c.if-fast-gt100000.false) in
+    let few : length c.args.speeds.now ≤ 36000 = c.if-count-gt36000.false in
+    let stored : is_stored (buffers c.args.kinds.now c.args.fields.now c.args.tables.now c.args.lengths.now c.args.commands.now) ≡ true = sym c.check_path.ensures ∙ c.if-check_path.true in
+    record {
+      dry_run = run-short-raws _ _ _ _ stored few slow c.if-segments-count.false c.if-raws-count.true;
+      ordered_run = tt;
+    }
 
 pub returns-then-kinds-eq0 : goal.returns-then-kinds-eq0
 returns-then-kinds-eq0 c =
-    (
-      run-filled _ _ _ _ ((let stored_here : is_stored ((buffers c.args.kinds.now c.args.fields.now c.args.tables.now c.args.lengths.now c.args.commands.now)) ≡ true = sym c.check_path.ensures ∙ c.if-check_path.true in stored_here)) ((let few_here : length c.args.speeds.now ≤ 36000 = c.if-count-gt36000.false in few_here)) ((let slow_here : fast_of c.args.speeds.now ≤ 100000 = omega (arith, c.first_fast-fast.ensures, c.if-fast-gt100000.false) in slow_here)) _ _ c.if-segments-count.false c.if-raws-count.false (filled_none _ _ c.if-kinds-eq0.true _ _ _ _ c.fill_none.ensures c.fill_zeros.ensures),
-      λ some. absurd (omega (arith, c.if-kinds-eq0.true, some)),
-    )
+    let slow : fast_of c.args.speeds.now ≤ 100000 = omega (arith, c.first_fast-fast.ensures, c.if-fast-gt100000.false) in
+    let few : length c.args.speeds.now ≤ 36000 = c.if-count-gt36000.false in
+    let stored : is_stored (buffers c.args.kinds.now c.args.fields.now c.args.tables.now c.args.lengths.now c.args.commands.now) ≡ true = sym c.check_path.ensures ∙ c.if-check_path.true in
+    record {
+      dry_run = run-filled _ _ _ _ stored few slow _ _ c.if-segments-count.false c.if-raws-count.false (filled_none _ _ c.if-kinds-eq0.true _ _ _ _ c.fill_none.ensures c.fill_zeros.ensures);
+      ordered_run = λ some. absurd (omega (arith, c.if-kinds-eq0.true, some));
+    }
 
 pub fill_seconds-requires : goal.fill_seconds-requires
 fill_seconds-requires c =
+    let slow : fast_of c.args.speeds.now ≤ 100000 = omega (arith, c.first_fast-fast.ensures, c.if-fast-gt100000.false) in
+    let few : length c.args.speeds.now ≤ 36000 = c.if-count-gt36000.false in
+    let recorded : Recorded c.args.speeds.now = record { few = few; slow = slow-all c.args.speeds.now slow } in
+    let stored : is_stored (buffers c.args.kinds.now c.args.fields.now c.args.tables.now c.args.lengths.now c.args.commands.now) ≡ true = sym c.check_path.ensures ∙ c.if-check_path.true in
     record {
-      path = a-flight (stored-rule _ (passed ((let stored_here : is_stored ((buffers c.args.kinds.now c.args.fields.now c.args.tables.now c.args.lengths.now c.args.commands.now)) ≡ true = sym c.check_path.ensures ∙ c.if-check_path.true in stored_here)))) (omega (arith, c.if-kinds-eq0.false));
-      recorded = (let recorded_here : Recorded c.args.speeds.now = record { few = (let few_here : length c.args.speeds.now ≤ 36000 = c.if-count-gt36000.false in few_here); slow = slow-all c.args.speeds.now ((let slow_here : fast_of c.args.speeds.now ≤ 100000 = omega (arith, c.first_fast-fast.ensures, c.if-fast-gt100000.false) in slow_here)) } in recorded_here);
+      path = a-flight (stored-rule _ (passed stored)) (omega (arith, c.if-kinds-eq0.false));
+      recorded = recorded;
       segments_room = c.if-segments-count.false;
       raws_room = c.if-raws-count.false;
     }
 
 pub returns-then-check_path : goal.returns-then-check_path
 returns-then-check_path c =
-    (
-      run-filled _ _ _ _ ((let stored_here : is_stored ((buffers c.args.kinds.now c.args.fields.now c.args.tables.now c.args.lengths.now c.args.commands.now)) ≡ true = sym c.check_path.ensures ∙ c.if-check_path.true in stored_here)) ((let few_here : length c.args.speeds.now ≤ 36000 = c.if-count-gt36000.false in few_here)) ((let slow_here : fast_of c.args.speeds.now ≤ 100000 = omega (arith, c.first_fast-fast.ensures, c.if-fast-gt100000.false) in slow_here)) _ _ c.if-segments-count.false c.if-raws-count.false c.fill_seconds.ensures,
-      λ some.
+    let slow : fast_of c.args.speeds.now ≤ 100000 = omega (arith, c.first_fast-fast.ensures, c.if-fast-gt100000.false) in
+    let few : length c.args.speeds.now ≤ 36000 = c.if-count-gt36000.false in
+    let recorded : Recorded c.args.speeds.now = record { few = few; slow = slow-all c.args.speeds.now slow } in
+    let stored : is_stored (buffers c.args.kinds.now c.args.fields.now c.args.tables.now c.args.lengths.now c.args.commands.now) ≡ true = sym c.check_path.ensures ∙ c.if-check_path.true in
+    record {
+      dry_run = run-filled _ _ _ _ stored few slow _ _ c.if-segments-count.false c.if-raws-count.false c.fill_seconds.ensures;
+      ordered_run = λ some.
           seconds-in-order c.fill_seconds.ensures some
           (record {
-            stored = stored-rule _ (passed ((let stored_here : is_stored ((buffers c.args.kinds.now c.args.fields.now c.args.tables.now c.args.lengths.now c.args.commands.now)) ≡ true = sym c.check_path.ensures ∙ c.if-check_path.true in stored_here)));
+            stored = stored-rule _ (passed stored);
             table_values = c.shared_slice_known-3-1.given;
             length_values = c.shared_slice_known-4-1.given;
           })
-          ((let recorded_here : Recorded c.args.speeds.now = record { few = (let few_here : length c.args.speeds.now ≤ 36000 = c.if-count-gt36000.false in few_here); slow = slow-all c.args.speeds.now ((let slow_here : fast_of c.args.speeds.now ≤ 100000 = omega (arith, c.first_fast-fast.ensures, c.if-fast-gt100000.false) in slow_here)) } in recorded_here)),
-    )
+          recorded;
+    }
 
 pub returns : goal.returns
-returns c = (run-bad _ _ _ _ (sym c.check_path.ensures ∙ c.if-check_path.false), tt)
+returns c = record {
+      dry_run = run-bad _ _ _ _ (sym c.check_path.ensures ∙ c.if-check_path.false);
+      ordered_run = tt;
+    }

@@ -15,12 +15,14 @@ pub spot_toward-spot-requires : goal.spot_toward-spot-requires
 spot_toward-spot-requires c = record { sound_path = some-path c.requires.reachable.path; t = c.requires.t }
 
 pub moved-at-requires : goal.moved-at-requires
-moved-at-requires c = moving c.requires.reachable.path c.requires.reachable.is c.requires.reachable.inside ((let among_here : c.spot_toward-spot.result.segment < length c.args.kinds.now = let same = ap (λ (spot : Spot). spot.segment) c.spot_toward-spot.ensures in
-    omega (arith, same, toward-inside c.args.lengths.now (some-path c.requires.reachable.path) c.args.target c.requires.t) in among_here))
+moved-at-requires c =
+    let among : c.spot_toward-spot.result.segment < length c.args.kinds.now = let same = ap (λ (spot : Spot). spot.segment) c.spot_toward-spot.ensures in omega (arith, same, toward-inside c.args.lengths.now (some-path c.requires.reachable.path) c.args.target c.requires.t) in
+    moving c.requires.reachable.path c.requires.reachable.is c.requires.reachable.inside among
 
 pub raw_within-raw-requires : goal.raw_within-raw-requires
-raw_within-raw-requires c = standing c.requires.reachable.path c.moved-at.ensures ((let among_here : c.spot_toward-spot.result.segment < length c.args.kinds.now = let same = ap (λ (spot : Spot). spot.segment) c.spot_toward-spot.ensures in
-    omega (arith, same, toward-inside c.args.lengths.now (some-path c.requires.reachable.path) c.args.target c.requires.t) in among_here))
+raw_within-raw-requires c =
+    let among : c.spot_toward-spot.result.segment < length c.args.kinds.now = let same = ap (λ (spot : Spot). spot.segment) c.spot_toward-spot.ensures in omega (arith, same, toward-inside c.args.lengths.now (some-path c.requires.reachable.path) c.args.target c.requires.t) in
+    standing c.requires.reachable.path c.moved-at.ensures among
 
 pub returns : goal.returns
 returns c =

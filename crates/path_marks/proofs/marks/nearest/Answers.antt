@@ -12,16 +12,24 @@ pub returns-then-distance-segment : goal.returns-then-distance-segment
 returns-then-distance-segment c = c.requires.move
 
 pub offset_bounds-fields-k : goal.offset_bounds-fields-k
-offset_bounds-fields-k c = omega (arith, (let among_here : c.args.segment / 2 ^ c.args.shift < 256 = mark-lt c.requires in among_here))
+offset_bounds-fields-k c =
+    let among : c.args.segment / 2 ^ c.args.shift < 256 = mark-lt c.requires in
+    omega (arith, among)
 
 pub bounds-fields-k : goal.bounds-fields-k
-bounds-fields-k c = omega (arith, (let among_here : c.args.segment / 2 ^ c.args.shift < 256 = mark-lt c.requires in among_here))
+bounds-fields-k c =
+    let among : c.args.segment / 2 ^ c.args.shift < 256 = mark-lt c.requires in
+    omega (arith, among)
 
 pub offset_bounds-tables-k : goal.offset_bounds-tables-k
-offset_bounds-tables-k c = omega (arith, (let among_here : c.args.segment / 2 ^ c.args.shift < 256 = mark-lt c.requires in among_here))
+offset_bounds-tables-k c =
+    let among : c.args.segment / 2 ^ c.args.shift < 256 = mark-lt c.requires in
+    omega (arith, among)
 
 pub bounds-tables-k : goal.bounds-tables-k
-bounds-tables-k c = omega (arith, (let among_here : c.args.segment / 2 ^ c.args.shift < 256 = mark-lt c.requires in among_here))
+bounds-tables-k c =
+    let among : c.args.segment / 2 ^ c.args.shift < 256 = mark-lt c.requires in
+    omega (arith, among)
 
 pub returns : goal.returns
 returns c =

@@ -12,10 +12,13 @@ flight-requires c = stored-rule _ (passed (sym c.check_path.ensures ∙ c.if-che
 
 pub returns-then-check_path : goal.returns-then-check_path
 returns-then-check_path c =
-    let stored = sym c.check_path.ensures ∙ c.if-check_path.true in (
-      flew-well _ _ _ stored c.flight.ensures,
-      λ some. ordered _ stored some c.shared_slice_known-3-1.given c.shared_slice_known-4-1.given,
-    )
+    let stored = sym c.check_path.ensures ∙ c.if-check_path.true in record {
+      value = flew-well _ _ _ stored c.flight.ensures;
+      ordered_by = λ some. ordered _ stored some c.shared_slice_known-3-1.given c.shared_slice_known-4-1.given;
+    }
 
 pub returns : goal.returns
-returns c = (flew-bad _ _ (sym c.check_path.ensures ∙ c.if-check_path.false), tt)
+returns c = record {
+      value = flew-bad _ _ (sym c.check_path.ensures ∙ c.if-check_path.false);
+      ordered_by = tt;
+    }

@@ -14,10 +14,10 @@ pub overflow_add-result : goal.overflow_add-result
 overflow_add-result c = omega (arith, c.requires.0.segments)
 
 pub overflow_add-result-then-pen : goal.overflow_add-result-then-pen
-overflow_add-result-then-pen c = omega (arith, c.requires.0.segments, c.requires.0.fields-1)
+overflow_add-result-then-pen c = omega (arith, c.requires.0.segments, c.requires.0.fields)
 
 pub overflow_add-result-then-pen-2 : goal.overflow_add-result-then-pen-2
-overflow_add-result-then-pen-2 c = omega (arith, c.requires.0.segments, c.requires.0.tables-1)
+overflow_add-result-then-pen-2 c = omega (arith, c.requires.0.segments, c.requires.0.tables)
 
 pub returns-then-pen : goal.returns-then-pen
 returns-then-pen c =

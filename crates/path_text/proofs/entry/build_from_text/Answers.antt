@@ -8,12 +8,12 @@ use Rattle.path_text.proofs.entry.build_from_text.Goals as goal
 
 -- ---- the answers
 pub returns-in-Refused : goal.returns-in-Refused
-returns-in-Refused c = ended-refused _ _ c.type_size.ensures (sym c.room.ensures ∙ c.in-Refused.is)
+returns-in-Refused c = ended-refused _ _ c.size_of.ensures (sym c.room.ensures ∙ c.in-Refused.is)
 
 pub fill-requires : goal.fill-requires
 fill-requires c =
-    ended-holding (lent_mut c.args.kinds c.args.fields c.args.tables c.args.lengths c.args.commands) _ c.type_size.ensures (sym c.room.ensures ∙ c.in-Built.is)
+    ended-holding (lent_mut c.args.kinds c.args.fields c.args.tables c.args.lengths c.args.commands) _ c.size_of.ensures (sym c.room.ensures ∙ c.in-Built.is)
 
 pub returns-in-Built : goal.returns-in-Built
 returns-in-Built c =
-    ended-built _ _ c.type_size.ensures (sym c.room.ensures ∙ c.in-Built.is) c.fill.ensures
+    ended-built _ _ c.size_of.ensures (sym c.room.ensures ∙ c.in-Built.is) c.fill.ensures

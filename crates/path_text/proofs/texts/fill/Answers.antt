@@ -32,7 +32,7 @@ shape_of-commands-in-Done c = stored-commands c.loop-command.invariant c.require
 
 pub returns-in-Done : goal.returns-in-Done
 returns-in-Done c =
-    stored-all c.loop-command.invariant c.requires (sym c.Read-step.ensures ∙ c.in-Done.is)
+    stored-all c.loop-command.invariant c.requires (sym c.read_step.ensures ∙ c.in-Done.is)
 
 pub shape_of-kinds-in-Refused : goal.shape_of-kinds-in-Refused
 shape_of-kinds-in-Refused c = stored-kinds c.loop-command.invariant c.requires
@@ -51,20 +51,20 @@ shape_of-commands-in-Refused c = stored-commands c.loop-command.invariant c.requ
 
 pub returns-in-Refused : goal.returns-in-Refused
 returns-in-Refused c =
-    absurd (storing-unread c.loop-command.invariant c.requires (sym c.Read-step.ensures ∙ c.in-Refused.is))
+    absurd (storing-unread c.loop-command.invariant c.requires (sym c.read_step.ensures ∙ c.in-Refused.is))
 
 pub lay-site-requires : goal.lay-site-requires
 lay-site-requires c =
-    storing-room c.loop-command.invariant c.requires (sym c.Read-step.ensures ∙ c.in-Command.is)
+    storing-room c.loop-command.invariant c.requires (sym c.read_step.ensures ∙ c.in-Command.is)
 
 pub overflow_add-number : goal.overflow_add-number
 overflow_add-number c =
-    omega (arith, storing-number c.loop-command.invariant c.requires (sym c.Read-step.ensures ∙ c.in-Command.is))
+    omega (arith, storing-number c.loop-command.invariant c.requires (sym c.read_step.ensures ∙ c.in-Command.is))
 
 pub loop-command-smaller : goal.loop-command-smaller
 loop-command-smaller c =
-    omega (arith, step-ahead _ _ _ _ (sym c.Read-step.ensures ∙ c.in-Command.is))
+    omega (arith, step-ahead _ _ _ _ (sym c.read_step.ensures ∙ c.in-Command.is))
 
 pub loop-command-preserved : goal.loop-command-preserved
 loop-command-preserved c =
-    storing-more c.loop-command.invariant c.requires (sym c.Read-step.ensures ∙ c.in-Command.is) c.lay-site.ensures
+    storing-more c.loop-command.invariant c.requires (sym c.read_step.ensures ∙ c.in-Command.is) c.lay-site.ensures

@@ -13,23 +13,23 @@ pub loop-refusal-init : goal.loop-refusal-init
 loop-refusal-init c = rw (c.fresh-reader.ensures, c.start-site.ensures) (measuring-none _)
 
 pub returns-in-Done : goal.returns-in-Done
-returns-in-Done c = measured-all c.loop-refusal.invariant (sym c.Read-step.ensures ∙ c.in-Done.is)
+returns-in-Done c = measured-all c.loop-refusal.invariant (sym c.read_step.ensures ∙ c.in-Done.is)
 
 pub returns-in-Refused : goal.returns-in-Refused
-returns-in-Refused c = measured-unread c.loop-refusal.invariant (sym c.Read-step.ensures ∙ c.in-Refused.is)
+returns-in-Refused c = measured-unread c.loop-refusal.invariant (sym c.read_step.ensures ∙ c.in-Refused.is)
 
 pub advance-requires : goal.advance-requires
 advance-requires c =
-    measuring-few c.loop-refusal.invariant (sym c.Read-step.ensures ∙ c.in-Command.is) c.requires
+    measuring-few c.loop-refusal.invariant (sym c.read_step.ensures ∙ c.in-Command.is) c.requires
 
 pub returns-in-Refused-advance : goal.returns-in-Refused-advance
 returns-in-Refused-advance c =
-    measured-unbuilt c.loop-refusal.invariant (sym c.Read-step.ensures ∙ c.in-Command.is) (sym c.advance.ensures ∙ c.in-Refused-advance.is)
+    measured-unbuilt c.loop-refusal.invariant (sym c.read_step.ensures ∙ c.in-Command.is) (sym c.advance.ensures ∙ c.in-Refused-advance.is)
 
 pub loop-refusal-smaller : goal.loop-refusal-smaller
 loop-refusal-smaller c =
-    omega (arith, step-ahead _ _ _ _ (sym c.Read-step.ensures ∙ c.in-Command.is))
+    omega (arith, step-ahead _ _ _ _ (sym c.read_step.ensures ∙ c.in-Command.is))
 
 pub loop-refusal-preserved : goal.loop-refusal-preserved
 loop-refusal-preserved c =
-    measuring-more c.loop-refusal.invariant (sym c.Read-step.ensures ∙ c.in-Command.is) (sym c.advance.ensures ∙ c.in-To.is)
+    measuring-more c.loop-refusal.invariant (sym c.read_step.ensures ∙ c.in-Command.is) (sym c.advance.ensures ∙ c.in-To.is)

@@ -13,23 +13,23 @@ pub loop-command-init : goal.loop-command-init
 loop-command-init c = rw (c.fresh-reader.ensures, c.opening-tally.ensures) (surveying-none _)
 
 pub returns-in-Done : goal.returns-in-Done
-returns-in-Done c = surveyed-all c.loop-command.invariant (sym c.Read-step.ensures ∙ c.in-Done.is)
+returns-in-Done c = surveyed-all c.loop-command.invariant (sym c.read_step.ensures ∙ c.in-Done.is)
 
 pub returns-in-Refused : goal.returns-in-Refused
 returns-in-Refused c = tt
 
 pub count-requires : goal.count-requires
 count-requires c =
-    surveying-few c.loop-command.invariant (sym c.Read-step.ensures ∙ c.in-Command.is) c.requires
+    surveying-few c.loop-command.invariant (sym c.read_step.ensures ∙ c.in-Command.is) c.requires
 
 pub returns-in-Unsure : goal.returns-in-Unsure
 returns-in-Unsure c = tt
 
 pub loop-command-smaller : goal.loop-command-smaller
 loop-command-smaller c =
-    omega (arith, step-ahead _ _ _ _ (sym c.Read-step.ensures ∙ c.in-Command.is))
+    omega (arith, step-ahead _ _ _ _ (sym c.read_step.ensures ∙ c.in-Command.is))
 
 pub loop-command-preserved : goal.loop-command-preserved
 loop-command-preserved c =
-    surveying-more c.loop-command.invariant (sym c.Read-step.ensures ∙ c.in-Command.is) c.requires
+    surveying-more c.loop-command.invariant (sym c.read_step.ensures ∙ c.in-Command.is) c.requires
     (sym c.count.ensures ∙ c.in-To.is)

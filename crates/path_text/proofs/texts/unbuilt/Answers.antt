@@ -17,15 +17,15 @@ loop-first-init c = rw c.fresh-reader.ensures ([], known-none _)
 
 pub returns-in-Done : goal.returns-in-Done
 returns-in-Done c =
-    unbuilt-size _ c.requires.1 (known-all _ _ _ c.loop-first.invariant.1 (sym c.Read-step.ensures ∙ c.in-Done.is))
+    unbuilt-size _ c.requires.1 (known-all _ _ _ c.loop-first.invariant.1 (sym c.read_step.ensures ∙ c.in-Done.is))
 
 pub returns-in-Refused : goal.returns-in-Refused
 returns-in-Refused c =
-    unread-size _ (known-refused _ _ _ c.loop-first.invariant.1 _ (sym c.Read-step.ensures ∙ c.in-Refused.is))
+    unread-size _ (known-refused _ _ _ c.loop-first.invariant.1 _ (sym c.read_step.ensures ∙ c.in-Refused.is))
 
 pub loop-first-smaller : goal.loop-first-smaller
-loop-first-smaller c = omega (arith, step-ahead _ _ _ _ (sym c.Read-step.ensures ∙ c.in-Command.is))
+loop-first-smaller c = omega (arith, step-ahead _ _ _ _ (sym c.read_step.ensures ∙ c.in-Command.is))
 
 pub loop-first-preserved : goal.loop-first-preserved
 loop-first-preserved c =
-    (_, known_more _ _ _ c.loop-first.invariant.1 _ _ (sym c.Read-step.ensures ∙ c.in-Command.is))
+    (_, known_more _ _ _ c.loop-first.invariant.1 _ _ (sym c.read_step.ensures ∙ c.in-Command.is))
