@@ -29,7 +29,7 @@ module _ {P S : Span} where
 
   pub of-star : {i k j : ℕ} → P i k → star (S · P) k j → sequence P S i j
   of-star {i} {k} {j} p (none z) = last (subst (λ (y : ℕ). P i y) z p)
-  of-star p (more x w) = then p x.1 (of-star x.2 w)
+  of-star {i = i} p (more x w) = then p x.1 (of-star {i = x.0} x.2 w)
 
 -- ---- one more argument
 

@@ -3,7 +3,7 @@ use borrow.Author.Rules.{rules}
 use borrow.Author.Tests.{not-true, not-false, eq-eqb, ne_eqb}
 use Prim.Native.Nat.{ℕ, ◌/◌, ◌%◌}
 use mathlib.Core.Path.{◌≡◌, refl, sym, ap, ◌∙◌}
-use mathlib.Core.Bool.{Bool, true, false, cond, ◌&&◌}
+use mathlib.Core.Bool.{not, Bool, true, false, cond, ◌&&◌}
 use lib.Dec.{eqb}
 use lib.Ieee.{Float, nan, binary32, binary64, to_bits, of_bits, div}
 use lib.Ieee.Scale.{finite}
@@ -53,25 +53,25 @@ module _ (y x : Float) where
         ∙ both-finite h k
 
 pub returns-then-not-is_finite : goal.returns-then-not-is_finite
-returns-then-not-is_finite c = none ∙ nan-first _ _ (sym c.is_finite.ensures ∙ not-true _ c.if-not-is_finite.true)
+returns-then-not-is_finite c = none ∙ nan-first _ _ (sym c.is_finite.ensures ∙ not-true _ (ap not c.if-not-is_finite.true))
 
 pub returns-then-not-is_finite-2 : goal.returns-then-not-is_finite-2
-returns-then-not-is_finite-2 c = none ∙ nan-second _ _ (sym c.is_finite-2.ensures ∙ not-true _ c.if-not-is_finite-2.true)
+returns-then-not-is_finite-2 c = none ∙ nan-second _ _ (sym c.is_finite-2.ensures ∙ not-true _ (ap not c.if-not-is_finite-2.true))
 
 pub wide-c-requires : goal.wide-c-requires
-wide-c-requires c = sym c.is_finite.ensures ∙ not-false _ c.if-not-is_finite.false
+wide-c-requires c = sym c.is_finite.ensures ∙ not-false _ (ap not c.if-not-is_finite.false)
 
 pub wide-d-requires : goal.wide-d-requires
-wide-d-requires c = sym c.is_finite-2.ensures ∙ not-false _ c.if-not-is_finite-2.false
+wide-d-requires c = sym c.is_finite-2.ensures ∙ not-false _ (ap not c.if-not-is_finite-2.false)
 
 pub returns-then-a-eq0 : goal.returns-then-a-eq0
 returns-then-a-eq0 c =
-    let fy = sym c.is_finite.ensures ∙ not-false _ c.if-not-is_finite.false in
-    let fx = sym c.is_finite-2.ensures ∙ not-false _ c.if-not-is_finite-2.false in
+    let fy = sym c.is_finite.ensures ∙ not-false _ (ap not c.if-not-is_finite.false) in
+    let fx = sym c.is_finite-2.ensures ∙ not-false _ (ap not c.if-not-is_finite-2.false) in
     c.axis.ensures ∙ on-axis c.args.y c.args.x _ _ c.wide-c.ensures.0 c.wide-d.ensures.0 fy fx c.if-a-eq0.true
 
 pub returns : goal.returns
 returns c =
-    let fy = sym c.is_finite.ensures ∙ not-false _ c.if-not-is_finite.false in
-    let fx = sym c.is_finite-2.ensures ∙ not-false _ c.if-not-is_finite-2.false in
+    let fy = sym c.is_finite.ensures ∙ not-false _ (ap not c.if-not-is_finite.false) in
+    let fx = sym c.is_finite-2.ensures ∙ not-false _ (ap not c.if-not-is_finite-2.false) in
     c.slant.ensures ∙ off-axis c.args.y c.args.x _ _ c.wide-c.ensures.0 c.wide-d.ensures.0 fy fx c.if-a-eq0.false

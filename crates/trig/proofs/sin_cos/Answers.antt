@@ -1,4 +1,5 @@
 -- The cases of `sin` and of `cos` side by side, over one reduction. Assumes nothing.
+use mathlib.Core.Bool.{not}
 use Rattle.std.proofs.Common.{◌≡◌, ℕ, ◌+◌, true, sym, ap, ◌∙◌, arith, rules}
 use lib.Ieee.{binary32, of_bits}
 use Rattle.trig_rule.specs.Rule.{in_the_reach}
@@ -9,20 +10,20 @@ use Rattle.trig.proofs.sin_cos.Goals as goal
 
 pub returns-then-not-in_reach : goal.returns-then-not-in_reach
 returns-then-not-in_reach c =
-    let far = outside _ _ c.in_reach.ensures c.if-not-in_reach.true in
+    let far = outside _ _ c.in_reach.ensures (ap not c.if-not-in_reach.true) in
     (none ∙ sym (sine-far c.args.x far), none ∙ sym (cosine-far c.args.x far))
 
 pub float_to_bits-b : goal.float_to_bits-b
-float_to_bits-b c = number _ (inside _ _ c.in_reach.ensures c.if-not-in_reach.false)
+float_to_bits-b c = number _ (inside _ _ c.in_reach.ensures (ap not c.if-not-in_reach.false))
 
 pub returns-then-a-lt964689920 : goal.returns-then-a-lt964689920
 returns-then-a-lt964689920 c =
-    let near = inside _ _ c.in_reach.ensures c.if-not-in_reach.false in
+    let near = inside _ _ c.in_reach.ensures (ap not c.if-not-in_reach.false) in
     (sym (sine-tiny _ near c.if-a-lt964689920.true), sym (cosine-tiny _ near c.if-a-lt964689920.true))
 
 pub fixed-requires : goal.fixed-requires
 fixed-requires c =
-    (c.if-a-lt964689920.false, plain-le c.args.x c.well_formed.0.1 (inside _ _ c.in_reach.ensures c.if-not-in_reach.false))
+    (c.if-a-lt964689920.false, plain-le c.args.x c.well_formed.0.1 (inside _ _ c.in_reach.ensures (ap not c.if-not-in_reach.false)))
 
 pub overflow_add-b : goal.overflow_add-b
 overflow_add-b c =
@@ -35,7 +36,7 @@ sine_near-s-requires c =
 pub returns : goal.returns
 returns c =
     let size = fixed_of (plain c.args.x) in
-    let near : in_the_reach c.args.x ≡ true = inside _ _ c.in_reach.ensures c.if-not-in_reach.false in
+    let near : in_the_reach c.args.x ≡ true = inside _ _ c.in_reach.ensures (ap not c.if-not-in_reach.false) in
     let turned : sign_bit c.args.x + c.reduce-r.result.flip ≡ sign_bit c.args.x + flip_of size = cc in
     let left : c.reduce-r.result.size ≡ rest_of size = cc in (
       c.sine_near-s.ensures ∙ ap (of_bits binary32) (sine-is turned left c.sine_sides-sides.ensures.0 c.sine_sides-sides.ensures.1) ∙ sym (sine-main c.args.x near c.if-a-lt964689920.false),

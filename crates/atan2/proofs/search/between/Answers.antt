@@ -4,7 +4,7 @@ use borrow.Author.Tests.{not-true, not-false}
 use native.Mathlib.Omega.{arith}
 use Prim.Native.Nat.{ℕ}
 use mathlib.Core.Path.{◌≡◌, sym, ap, ◌∙◌}
-use mathlib.Core.Bool.{Bool, true, false, cond}
+use mathlib.Core.Bool.{not, Bool, true, false, cond}
 use Rattle.atan2_rule.specs.Steps.{ahead_at, climb, nearer, between_of}
 use Rattle.atan2.proofs.search.between.Goals as goal
 
@@ -27,16 +27,16 @@ module _ (u v left from to : ℕ) where
 
 pub returns-then-not-ahead_at : goal.returns-then-not-ahead_at
 returns-then-not-ahead_at c =
-    (at_first c.args.u c.args.v c.args.left c.args.from c.args.to (sym c.ahead_at.ensures ∙ not-true _ c.if-not-ahead_at.true), omega arith)
+    (at_first c.args.u c.args.v c.args.left c.args.from c.args.to (sym c.ahead_at.ensures ∙ not-true _ (ap not c.if-not-ahead_at.true)), omega arith)
 
 pub returns-then-ahead_at : goal.returns-then-ahead_at
 returns-then-ahead_at c =
-    (at_last c.args.u c.args.v c.args.left c.args.from c.args.to (sym c.ahead_at.ensures ∙ not-false _ c.if-not-ahead_at.false) (sym c.ahead_at-2.ensures ∙ c.if-ahead_at.true), omega arith)
+    (at_last c.args.u c.args.v c.args.left c.args.from c.args.to (sym c.ahead_at.ensures ∙ not-false _ (ap not c.if-not-ahead_at.false)) (sym c.ahead_at-2.ensures ∙ c.if-ahead_at.true), omega arith)
 
 pub returns : goal.returns
 returns c =
     (
       c.nearer.ensures.0 ∙ ap (nearer c.args.u c.args.v c.args.left) c.climb.ensures.0
-          ∙ inside c.args.u c.args.v c.args.left c.args.from c.args.to (sym c.ahead_at.ensures ∙ not-false _ c.if-not-ahead_at.false) (sym c.ahead_at-2.ensures ∙ c.if-ahead_at.false),
+          ∙ inside c.args.u c.args.v c.args.left c.args.from c.args.to (sym c.ahead_at.ensures ∙ not-false _ (ap not c.if-not-ahead_at.false)) (sym c.ahead_at-2.ensures ∙ c.if-ahead_at.false),
       omega arith,
     )

@@ -10,21 +10,17 @@ use Rattle.bezier.specs.Quads.{quad_derivative_of, quad_sample_of, quad_directio
 use Rattle.bezier.proofs.Queries.{tried-first, tried-second}
 use Rattle.bezier.proofs.directions.quad_direction.Goals as goal
 
--- the first direction, by its definition
-first : (c : goal.After-normalize-first) → c.normalize-first.result ≡ normalize_of (quad_derivative_of c.args.start c.args.control c.args.end c.args.raw.value)
-first c = c.normalize-first.ensures ∙ ap normalize_of c.quad_derivative.ensures
-
 pub returns-then-is_nothing : goal.returns-then-is_nothing
 unfolding quad_direction
 returns-then-is_nothing c =
     let further = c.raw_parameter_in-further.ensures ∙ ap (raw_of c.args.entries.now c.args.total) c.ahead.ensures in
     let there = c.quad_sample-there.ensures ∙ ap (quad_sample_of c.args.start c.args.control c.args.end) further in
     let apart = c.sub.ensures ∙ ap (λ (p : Point). sub_of p c.quad_sample-here.result) there ∙ ap (sub_of _) c.quad_sample-here.ensures in
-    c.normalize.ensures ∙ ap normalize_of apart
-    ∙ tried-second _ _ _ (c.is_nothing.ensures ∙ ap is_nothing (first c.before.before.before.before.before.before.before.before)) c.if-is_nothing.true
+    c.normalize-first.ensures ∙ ap normalize_of apart
+    ∙ tried-second _ _ _ (c.is_nothing.ensures ∙ ap is_nothing ((let first_here : c.normalize-first.result ≡ normalize_of (quad_derivative_of c.args.start c.args.control c.args.end c.args.raw.value) = c.normalize-first.ensures ∙ ap normalize_of c.quad_derivative.ensures in first_here))) c.if-is_nothing.true
 
 pub returns : goal.returns
 unfolding quad_direction
 returns c =
-    let is = first c.before.before in
+    let is = (let first_here : c.normalize-first.result ≡ normalize_of (quad_derivative_of c.args.start c.args.control c.args.end c.args.raw.value) = c.normalize-first.ensures ∙ ap normalize_of c.quad_derivative.ensures in first_here) in
     is ∙ tried-first _ _ _ (c.is_nothing.ensures ∙ ap is_nothing is) c.if-is_nothing.false

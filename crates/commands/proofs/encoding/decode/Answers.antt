@@ -10,53 +10,42 @@ use lib.ListN.{drop, length-drop}
 use Rattle.math.specs.declared.points.Point.{Point}
 use Rattle.commands.specs.Listed.{point_at}
 use Rattle.commands.proofs.Decoding.{point-first, point-later, is_move, is-line, is-quad, is-cubic, is-arc, is-close, short-move, short-line, short-quad, short-cubic, short-arc, unknown}
-use Rattle.commands.proofs.encoding.decode.Tie as tie
 use Rattle.commands.proofs.encoding.decode.Goals as goal
 
--- the numbers of a letter's command: those from `at` on
-abbrev left : tie.Start → List Float
-left s = drop s.args.at s.args.numbers.now
-
-abbrev first : (s : tie.Start) {p : Point} → p ≡ point_at s.args.numbers.now s.args.at → p ≡ point_at (left s) 0
-first s e = point-first s.args.numbers.now s.args.at e
-
-abbrev later : (s : tie.Start) (i : ℕ) {p : Point} → p ≡ point_at s.args.numbers.now (s.args.at + i) → p ≡ point_at (left s) i
-later s i e = point-later s.args.numbers.now s.args.at i e
-
 pub returns-then-left-lt2 : goal.returns-then-left-lt2
-returns-then-left-lt2 c = short-move _ (left c.before.before.before) c.in-77.is (simp length-drop (omega arith))
+returns-then-left-lt2 c = short-move _ ((drop c.args.at c.args.numbers.now)) c.in-77.is (simp length-drop (omega arith))
 
 pub returns-then-left-lt2-2 : goal.returns-then-left-lt2-2
-returns-then-left-lt2-2 c = short-line _ (left c.before.before.before) c.in-76.is (simp length-drop (omega arith))
+returns-then-left-lt2-2 c = short-line _ ((drop c.args.at c.args.numbers.now)) c.in-76.is (simp length-drop (omega arith))
 
 pub returns-then-left-lt4 : goal.returns-then-left-lt4
-returns-then-left-lt4 c = short-quad _ (left c.before.before.before) c.in-81.is (simp length-drop (omega arith))
+returns-then-left-lt4 c = short-quad _ ((drop c.args.at c.args.numbers.now)) c.in-81.is (simp length-drop (omega arith))
 
 pub returns-then-left-lt6 : goal.returns-then-left-lt6
-returns-then-left-lt6 c = short-cubic _ (left c.before.before.before) c.in-67.is (simp length-drop (omega arith))
+returns-then-left-lt6 c = short-cubic _ ((drop c.args.at c.args.numbers.now)) c.in-67.is (simp length-drop (omega arith))
 
 pub returns-then-left-lt7 : goal.returns-then-left-lt7
-returns-then-left-lt7 c = short-arc _ (left c.before.before.before) c.in-65.is (simp length-drop (omega arith))
+returns-then-left-lt7 c = short-arc _ ((drop c.args.at c.args.numbers.now)) c.in-65.is (simp length-drop (omega arith))
 
 pub returns-else-left-lt2 : goal.returns-else-left-lt2
 returns-else-left-lt2 c =
-    is_move _ (left c.before.before.before.before) _ (first c.before.before.before.before c.point_at.ensures) c.in-77.is (simp length-drop (omega arith))
+    is_move _ ((drop c.args.at c.args.numbers.now)) _ ((let first_here : {p : Point} → p ≡ point_at c.args.numbers.now c.args.at → p ≡ point_at ((drop c.args.at c.args.numbers.now)) 0 = λ e. point-first c.args.numbers.now c.args.at e in first_here) c.point_at.ensures) c.in-77.is (simp length-drop (omega arith))
 
 pub returns-else-left-lt2-2 : goal.returns-else-left-lt2-2
 returns-else-left-lt2-2 c =
-    is-line _ (left c.before.before.before.before) _ (first c.before.before.before.before c.point_at-in-76.ensures) c.in-76.is (simp length-drop (omega arith))
+    is-line _ ((drop c.args.at c.args.numbers.now)) _ ((let first_here : {p : Point} → p ≡ point_at c.args.numbers.now c.args.at → p ≡ point_at ((drop c.args.at c.args.numbers.now)) 0 = λ e. point-first c.args.numbers.now c.args.at e in first_here) c.point_at-in-76.ensures) c.in-76.is (simp length-drop (omega arith))
 
 pub returns-else-left-lt4 : goal.returns-else-left-lt4
 returns-else-left-lt4 c =
-    is-quad _ (left c.before.before.before.before.before) _ _ (first c.before.before.before.before.before c.point_at-in-81.ensures) (later c.before.before.before.before.before 2 c.point_at-in-81-2.ensures) c.in-81.is (simp length-drop (omega arith))
+    is-quad _ ((drop c.args.at c.args.numbers.now)) _ _ ((let first_here : {p : Point} → p ≡ point_at c.args.numbers.now c.args.at → p ≡ point_at ((drop c.args.at c.args.numbers.now)) 0 = λ e. point-first c.args.numbers.now c.args.at e in first_here) c.point_at-in-81.ensures) ((let later_here : (i : ℕ) {p : Point} → p ≡ point_at c.args.numbers.now (c.args.at + i) → p ≡ point_at ((drop c.args.at c.args.numbers.now)) i = λ i e. point-later c.args.numbers.now c.args.at i e in later_here) 2 c.point_at-in-81-2.ensures) c.in-81.is (simp length-drop (omega arith))
 
 pub returns-else-left-lt6 : goal.returns-else-left-lt6
 returns-else-left-lt6 c =
-    is-cubic _ (left c.before.before.before.before.before.before) _ _ _ (first c.before.before.before.before.before.before c.point_at-in-67.ensures) (later c.before.before.before.before.before.before 2 c.point_at-in-67-2.ensures) (later c.before.before.before.before.before.before 4 c.point_at-in-67-3.ensures)
+    is-cubic _ ((drop c.args.at c.args.numbers.now)) _ _ _ ((let first_here : {p : Point} → p ≡ point_at c.args.numbers.now c.args.at → p ≡ point_at ((drop c.args.at c.args.numbers.now)) 0 = λ e. point-first c.args.numbers.now c.args.at e in first_here) c.point_at-in-67.ensures) ((let later_here : (i : ℕ) {p : Point} → p ≡ point_at c.args.numbers.now (c.args.at + i) → p ≡ point_at ((drop c.args.at c.args.numbers.now)) i = λ i e. point-later c.args.numbers.now c.args.at i e in later_here) 2 c.point_at-in-67-2.ensures) ((let later_here : (i : ℕ) {p : Point} → p ≡ point_at c.args.numbers.now (c.args.at + i) → p ≡ point_at ((drop c.args.at c.args.numbers.now)) i = λ i e. point-later c.args.numbers.now c.args.at i e in later_here) 4 c.point_at-in-67-3.ensures)
     c.in-67.is (simp length-drop (omega arith))
 
 pub returns-else-left-lt7 : goal.returns-else-left-lt7
-returns-else-left-lt7 c = c.arc_at.ensures ∙ is-arc _ (left c.before.before.before.before) c.in-65.is (simp length-drop (omega arith))
+returns-else-left-lt7 c = c.arc_at.ensures ∙ is-arc _ ((drop c.args.at c.args.numbers.now)) c.in-65.is (simp length-drop (omega arith))
 
 pub returns-in-90 : goal.returns-in-90
 returns-in-90 c = is-close _ _ c.in-90.is

@@ -16,12 +16,6 @@ use borrow.Author.Rules.{rules}
 use Rattle.decimal.proofs.magnitudes.magnitude.Tie as tie
 use Rattle.decimal.proofs.magnitudes.magnitude.Goals as goal
 
-low-dropped : (c : tie.Start) → c.args.dropped + 64 < 2 ^ 63 + 64
-low-dropped c = omega (arith, c.requires.few-dropped)
-
-low-places : (c : tie.Start) → c.args.places < 2 ^ 63
-low-places c = omega (arith, c.requires.few)
-
 -- the place among the powers of ten, for any exponents that are capped so
 module _ (c : tie.After-nearest) (up down : ℕ) (e : c.args.rise ≡ capped up) (f : c.args.fall ≡ capped down)
     (one : (up ≡ 0) ⊎ (down ≡ 0)) where
@@ -36,12 +30,12 @@ module _ (c : tie.After-nearest) (up down : ℕ) (e : c.args.rise ≡ capped up)
       let x = c.sum-up.ensures up e in
       let y = c.sum-down.ensures down f in
       subst (λ (i : ℕ). Apart (start.args.dropped + 64) up start.args.places down i) (sym (ap (λ (i : ℕ). i - c.sum-down.result) x ∙ ap (λ (i : ℕ). capped (start.args.dropped + 64 + up) - i) y))
-      (near (start.args.dropped + 64) up start.args.places down (low-dropped start) (low-places start) one
+      (near (start.args.dropped + 64) up start.args.places down ((let low_dropped_here : start.args.dropped + 64 < 2 ^ 63 + 64 = omega (arith, start.requires.few-dropped) in low_dropped_here)) ((let low_places_here : start.args.places < 2 ^ 63 = omega (arith, start.requires.few) in low_places_here)) one
       (subst (λ (i : ℕ). capped (start.args.places + down) ≤ i) x (subst (λ (i : ℕ). i ≤ c.sum-up.result) y c.if-up-down.false))
       (subst (λ (i : ℕ). i - capped (start.args.places + down) ≤ 102) x (subst (λ (i : ℕ). c.sum-up.result - i ≤ 102) y c.if-up-down-gt102.false)))
 
   leading : Leading start.args.w place (val (digits_among start.args.part.now) * 10 ^ up) (10 ^ (start.args.places + down))
-  leading = placed start.args.w (start.args.dropped + 64 + up) _ (start.args.places + down) (sized _ _ _ up start.pre.leads) place apart.at-or-past
+  leading = placed start.args.w (start.args.dropped + 64 + up) _ (start.args.places + down) (sized _ _ _ up start.requires.leads) place apart.at-or-past
 
 pub returns-then-w-eq0 : goal.returns-then-w-eq0
 returns-then-w-eq0 c =
@@ -56,7 +50,7 @@ returns-then-up-down c =
           let x = c.sum-up.ensures up e in
           let y = c.sum-down.ensures down f in
           too-low c.args.w (c.args.dropped + 64 + up) _ (c.args.places + down) (sized _ _ _ up c.requires.leads) c.ranges.w.fits
-          (under (c.args.dropped + 64) up c.args.places down (low-dropped c.before.before.before.before.before) (low-places c.before.before.before.before.before) one (subst (λ (i : ℕ). i < capped (c.args.places + down)) x (subst (λ (i : ℕ). c.sum-up.result < i) y c.if-up-down.true)));
+          (under (c.args.dropped + 64) up c.args.places down ((let low_dropped_here : c.args.dropped + 64 < 2 ^ 63 + 64 = omega (arith, c.requires.few-dropped) in low_dropped_here)) ((let low_places_here : c.args.places < 2 ^ 63 = omega (arith, c.requires.few) in low_places_here)) one (subst (λ (i : ℕ). i < capped (c.args.places + down)) x (subst (λ (i : ℕ). c.sum-up.result < i) y c.if-up-down.true)));
     }
 
 pub returns-then-up-down-gt102 : goal.returns-then-up-down-gt102
@@ -66,7 +60,7 @@ returns-then-up-down-gt102 c =
           let x = c.sum-up.ensures up e in
           let y = c.sum-down.ensures down f in
           too-high c.args.w (c.args.dropped + 64 + up) _ (c.args.places + down) (sized _ _ _ up c.requires.leads) (omega (arith, c.if-w-eq0.false))
-          (past (c.args.dropped + 64) up c.args.places down (low-dropped c.before.before.before.before.before.before) (low-places c.before.before.before.before.before.before) one
+          (past (c.args.dropped + 64) up c.args.places down ((let low_dropped_here : c.args.dropped + 64 < 2 ^ 63 + 64 = omega (arith, c.requires.few-dropped) in low_dropped_here)) ((let low_places_here : c.args.places < 2 ^ 63 = omega (arith, c.requires.few) in low_places_here)) one
           (subst (λ (i : ℕ). capped (c.args.places + down) ≤ i) x (subst (λ (i : ℕ). i ≤ c.sum-up.result) y c.if-up-down.false))
           (subst (λ (i : ℕ). 102 < i - capped (c.args.places + down)) x (subst (λ (i : ℕ). 102 < c.sum-up.result - i) y c.if-up-down-gt102.true)));
     }

@@ -1,6 +1,6 @@
 -- `decimal::numbers::find` meets its contract: each way out is a law over what the calls have found. Assumes nothing.
 use mathlib.Core.Path.{◌≡◌, refl, ap, sym, ◌∙◌}
-use mathlib.Core.Bool.{true, false}
+use mathlib.Core.Bool.{not, true, false}
 use Prim.Native.Nat.{ℕ, ◌+◌, ◌^◌, ◌<◌}
 use native.Mathlib.Omega.{arith}
 use lib.Dec.{eqb}
@@ -13,15 +13,6 @@ use Rattle.decimal.proofs.Found.{plain_at, marked-at, mark-inside, number-no-dig
 use borrow.Author.Rules.{rules}
 use Rattle.decimal.proofs.numbers.find.Goals as goal
 
--- an e stands past the digits
-is-mark : (c : goal.Else-not-is_exponent_mark) → among (get_or c.args.text.now c.gather_many-all.result.at 0) exponent_marks ≡ true
-is-mark c = ap (λ (x : ℕ). among x exponent_marks) (sym c.byte_at.ensures) ∙ sym c.is_exponent_mark.ensures ∙ not-false _ c.if-not-is_exponent_mark.false
-
--- then the text goes on
-mark-lt : (c : goal.Else-not-is_exponent_mark) → c.gather_many-all.result.at + 1 < 2 ^ 64
-mark-lt c =
-    omega (arith, mark-inside c.args.text.now _ (is-mark c), c.well_formed)
-
 pub gather_many-all-requires : goal.gather_many-all-requires
 gather_many-all-requires c =
     omega (arith, c.gather-first.ensures.few, c.past_point-fraction.ensures, one-onward points c.args.text.now c.gather-first.result.at)
@@ -32,7 +23,7 @@ returns-then-whole-point c =
 
 pub returns-then-not-is_exponent_mark : goal.returns-then-not-is_exponent_mark
 returns-then-not-is_exponent_mark c =
-    let no-mark = ap (λ (x : ℕ). among x exponent_marks) (sym c.byte_at.ensures) ∙ sym c.is_exponent_mark.ensures ∙ not-true _ c.if-not-is_exponent_mark.true in
+    let no-mark = ap (λ (x : ℕ). among x exponent_marks) (sym c.byte_at.ensures) ∙ sym c.is_exponent_mark.ensures ∙ not-true _ (ap not c.if-not-is_exponent_mark.true) in
     let end = plain_at _ c.gather_many-all.ensures.passed no-mark in
     record {
       said = (
@@ -42,19 +33,19 @@ returns-then-not-is_exponent_mark c =
     }
 
 pub overflow_add-mark : goal.overflow_add-mark
-overflow_add-mark c = omega (arith, mark-lt c)
+overflow_add-mark c = omega (arith, (let mark_lt_here : c.gather_many-all.result.at + 1 < 2 ^ 64 = omega (arith, mark-inside c.args.text.now _ ((let is_mark_here : among (get_or c.args.text.now c.gather_many-all.result.at 0) exponent_marks ≡ true = ap (λ (x : ℕ). among x exponent_marks) (sym c.byte_at.ensures) ∙ sym c.is_exponent_mark.ensures ∙ not-false _ (ap not c.if-not-is_exponent_mark.false) in is_mark_here)), c.well_formed) in mark_lt_here))
 
 pub returns-then-digits-end : goal.returns-then-digits-end
 returns-then-digits-end c =
-    let end = marked-at (is-mark c.before.before.before) c.past_sign-digits.ensures c.exponent-power.ensures in
+    let end = marked-at ((let is_mark_here : among (get_or c.args.text.now c.gather_many-all.result.at 0) exponent_marks ≡ true = ap (λ (x : ℕ). among x exponent_marks) (sym c.byte_at.ensures) ∙ sym c.is_exponent_mark.ensures ∙ not-false _ (ap not c.if-not-is_exponent_mark.false) in is_mark_here)) c.past_sign-digits.ensures c.exponent-power.ensures in
     record { said = number-no-exponent _ c.past_sign-whole.ensures c.gather-first.ensures c.past_point-fraction.ensures c.gather_many-all.ensures c.if-whole-point.false end.x-is end.e-is (end.none c.if-digits-end.true) }
 
 pub overflow_add-mark-2 : goal.overflow_add-mark-2
-overflow_add-mark-2 c = omega (arith, mark-lt c.before.before.before)
+overflow_add-mark-2 c = omega (arith, (let mark_lt_here : c.gather_many-all.result.at + 1 < 2 ^ 64 = omega (arith, mark-inside c.args.text.now _ ((let is_mark_here : among (get_or c.args.text.now c.gather_many-all.result.at 0) exponent_marks ≡ true = ap (λ (x : ℕ). among x exponent_marks) (sym c.byte_at.ensures) ∙ sym c.is_exponent_mark.ensures ∙ not-false _ (ap not c.if-not-is_exponent_mark.false) in is_mark_here)), c.well_formed) in mark_lt_here))
 
 pub returns-then-byte_at-eq45 : goal.returns-then-byte_at-eq45
 returns-then-byte_at-eq45 c =
-    let end = marked-at (is-mark c.before.before.before.before.before) c.past_sign-digits.ensures c.exponent-power.ensures in
+    let end = marked-at ((let is_mark_here : among (get_or c.args.text.now c.gather_many-all.result.at 0) exponent_marks ≡ true = ap (λ (x : ℕ). among x exponent_marks) (sym c.byte_at.ensures) ∙ sym c.is_exponent_mark.ensures ∙ not-false _ (ap not c.if-not-is_exponent_mark.false) in is_mark_here)) c.past_sign-digits.ensures c.exponent-power.ensures in
     let is-minus = ap (λ (x : ℕ). eqb x minus) (sym c.byte_at-2.ensures) ∙ eq-eqb _ _ c.if-byte_at-eq45.true in
     record {
       said = (
@@ -65,7 +56,7 @@ returns-then-byte_at-eq45 c =
 
 pub returns : goal.returns
 returns c =
-    let end = marked-at (is-mark c.before.before.before.before.before) c.past_sign-digits.ensures c.exponent-power.ensures in
+    let end = marked-at ((let is_mark_here : among (get_or c.args.text.now c.gather_many-all.result.at 0) exponent_marks ≡ true = ap (λ (x : ℕ). among x exponent_marks) (sym c.byte_at.ensures) ∙ sym c.is_exponent_mark.ensures ∙ not-false _ (ap not c.if-not-is_exponent_mark.false) in is_mark_here)) c.past_sign-digits.ensures c.exponent-power.ensures in
     let no_minus = ap (λ (x : ℕ). eqb x minus) (sym c.byte_at-2.ensures) ∙ ne_eqb _ _ c.if-byte_at-eq45.false in
     record {
       said = (

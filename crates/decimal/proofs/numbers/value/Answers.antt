@@ -15,7 +15,6 @@ use Rattle.decimal.specs.Decimal.{minus, numerator, denominator, places_of}
 use Rattle.decimal.specs.Bits.{Nearest}
 use Rattle.decimal.proofs.Ranged.{quotient-tells, quotient-bits}
 use Rattle.decimal.proofs.Valued.{all-four, plain-negative, one_way, gathered, short-is, value-signed}
-use Rattle.decimal.proofs.numbers.value.Tie as tie
 use Rattle.decimal.proofs.numbers.value.Goals as goal
 
 pub pattern-b-requires : goal.pattern-b-requires
@@ -28,55 +27,45 @@ narrow-requires c some =
     let t = all-four _ _ _ _ c.if-w-rise.true in
     quotient-tells _ _ some (ltb-true _ _ t.0) (ten-pos _) (pow-le-pow_right (zero-lt-suc 9) (leb-true _ _ t.3)) _ c.pattern-b.ensures (c.tells.ensures c.if-tells.true)
 
--- the bits of the quotient are those of the number's size
-short-near : (c : goal.After-narrow)
-    → Nearest c.args.parts.w
-    (10 ^ places_of c.args.parts.places) c.narrow.result
-short-near c =
-    subst (λ (n : ℕ). Nearest c.args.parts.w (10 ^ places_of c.args.parts.places) n)
+pub signed-requires : goal.signed-requires
+signed-requires c = ((let short_near_here : Nearest c.args.parts.w (10 ^ places_of c.args.parts.places) c.narrow.result = subst (λ (n : ℕ). Nearest c.args.parts.w (10 ^ places_of c.args.parts.places) n)
     (sym c.narrow.ensures)
     (let t = all-four _ _ _ _ c.if-w-rise.true in
-    quotient-bits _ _ (ten-pos _) (pow-le-pow_right (zero-lt-suc 9) (leb-true _ _ t.3)) (c.tells.ensures c.if-tells.true) _ (ltb-true _ _ t.0) c.pattern-b.ensures)
-
-pub signed-requires : goal.signed-requires
-signed-requires c = (short-near c).finite_or_infinite
+    quotient-bits _ _ (ten-pos _) (pow-le-pow_right (zero-lt-suc 9) (leb-true _ _ t.3)) (c.tells.ensures c.if-tells.true) _ (ltb-true _ _ t.0) c.pattern-b.ensures) in short_near_here)).finite_or_infinite
 
 pub returns-then-tells : goal.returns-then-tells
 returns-then-tells c =
     let t = all-four _ _ _ _ c.if-w-rise.true in
     value-signed _ _ _ _ _ _ c.requires _ _ (ap (λ (n : ℕ). eqb n minus) c.byte_at-negative.ensures)
-    (c.signed.ensures ∙ sym ((short-near c.before).is _) ∙ short-is _ _ _ _ _ _ c.requires (le_of_lt (ltb-true _ _ t.0)) (eqb-true _ _ t.1) (eqb-true _ _ t.2) _)
+    (c.signed.ensures ∙ sym (((let short_near_here : Nearest c.args.parts.w (10 ^ places_of c.args.parts.places) c.narrow.result = subst (λ (n : ℕ). Nearest c.args.parts.w (10 ^ places_of c.args.parts.places) n)
+    (sym c.narrow.ensures)
+    (let t = all-four _ _ _ _ c.if-w-rise.true in
+    quotient-bits _ _ (ten-pos _) (pow-le-pow_right (zero-lt-suc 9) (leb-true _ _ t.3)) (c.tells.ensures c.if-tells.true) _ (ltb-true _ _ t.0) c.pattern-b.ensures) in short_near_here)).is _) ∙ short-is _ _ _ _ _ _ c.requires (le_of_lt (ltb-true _ _ t.0)) (eqb-true _ _ t.1) (eqb-true _ _ t.2) _)
 
 pub magnitude-bits-requires : goal.magnitude-bits-requires
 magnitude-bits-requires c = gathered _ _ _ _ _ _ c.requires (omega (arith, c.well_formed))
 
--- the bits are those of the number's size
-nearest : (c : tie.After-magnitude)
-    → Nearest (numerator c.args.text.now c.args.parts.places)
-    (denominator c.args.text.now c.args.parts.places) c.magnitude-bits.result
-nearest c = c.magnitude-bits.ensures.bits _ _ c.requires.rises c.requires.drops (one_way _ _)
-
 pub overflow_add-result : goal.overflow_add-result
-overflow_add-result c = let m = nearest c.before in record { fits = omega (arith, m.finite_or_infinite) }
+overflow_add-result c = let m = (let nearest_here : Nearest (numerator c.args.text.now c.args.parts.places) (denominator c.args.text.now c.args.parts.places) c.magnitude-bits.result = c.magnitude-bits.ensures.bits _ _ c.requires.rises c.requires.drops (one_way _ _) in nearest_here) in record { fits = omega (arith, m.finite_or_infinite) }
 
 pub overflow_cast-result : goal.overflow_cast-result
-overflow_cast-result c = let m = nearest c.before in record { fits = omega (arith, m.finite_or_infinite) }
+overflow_cast-result c = let m = (let nearest_here : Nearest (numerator c.args.text.now c.args.parts.places) (denominator c.args.text.now c.args.parts.places) c.magnitude-bits.result = c.magnitude-bits.ensures.bits _ _ c.requires.rises c.requires.drops (one_way _ _) in nearest_here) in record { fits = omega (arith, m.finite_or_infinite) }
 
 pub float_from_bits-result : goal.float_from_bits-result
-float_from_bits-result c = plain-negative _ (nearest c.before).finite_or_infinite
+float_from_bits-result c = plain-negative _ ((let nearest_here : Nearest (numerator c.args.text.now c.args.parts.places) (denominator c.args.text.now c.args.parts.places) c.magnitude-bits.result = c.magnitude-bits.ensures.bits _ _ c.requires.rises c.requires.drops (one_way _ _) in nearest_here)).finite_or_infinite
 
 pub overflow_cast-result-else-negative : goal.overflow_cast-result-else-negative
-overflow_cast-result-else-negative c = let m = nearest c.before in record { fits = omega (arith, m.finite_or_infinite) }
+overflow_cast-result-else-negative c = let m = (let nearest_here : Nearest (numerator c.args.text.now c.args.parts.places) (denominator c.args.text.now c.args.parts.places) c.magnitude-bits.result = c.magnitude-bits.ensures.bits _ _ c.requires.rises c.requires.drops (one_way _ _) in nearest_here) in record { fits = omega (arith, m.finite_or_infinite) }
 
 pub float_from_bits-result-else-negative : goal.float_from_bits-result-else-negative
-float_from_bits-result-else-negative c = no-nan-single _ (nearest c.before).finite_or_infinite
+float_from_bits-result-else-negative c = no-nan-single _ ((let nearest_here : Nearest (numerator c.args.text.now c.args.parts.places) (denominator c.args.text.now c.args.parts.places) c.magnitude-bits.result = c.magnitude-bits.ensures.bits _ _ c.requires.rises c.requires.drops (one_way _ _) in nearest_here)).finite_or_infinite
 
 pub returns-then-negative : goal.returns-then-negative
 returns-then-negative c =
     value-signed _ _ _ _ _ _ c.requires _ true (sym (ap (λ (n : ℕ). eqb n minus) (sym c.byte_at-negative.ensures) ∙ c.if-negative.true))
-    (ap (λ (n : ℕ). of_bits binary32 n) (add_comm c.magnitude-bits.result sign_place) ∙ sym ((nearest c.before).is true))
+    (ap (λ (n : ℕ). of_bits binary32 n) (add_comm c.magnitude-bits.result sign_place) ∙ sym (((let nearest_here : Nearest (numerator c.args.text.now c.args.parts.places) (denominator c.args.text.now c.args.parts.places) c.magnitude-bits.result = c.magnitude-bits.ensures.bits _ _ c.requires.rises c.requires.drops (one_way _ _) in nearest_here)).is true))
 
 pub returns-else-negative : goal.returns-else-negative
 returns-else-negative c =
     value-signed _ _ _ _ _ _ c.requires _ false (sym (ap (λ (n : ℕ). eqb n minus) (sym c.byte_at-negative.ensures) ∙ c.if-negative.false))
-    (ap (λ (n : ℕ). of_bits binary32 n) (sym (zero-add c.magnitude-bits.result)) ∙ sym ((nearest c.before).is false))
+    (ap (λ (n : ℕ). of_bits binary32 n) (sym (zero-add c.magnitude-bits.result)) ∙ sym (((let nearest_here : Nearest (numerator c.args.text.now c.args.parts.places) (denominator c.args.text.now c.args.parts.places) c.magnitude-bits.result = c.magnitude-bits.ensures.bits _ _ c.requires.rises c.requires.drops (one_way _ _) in nearest_here)).is false))

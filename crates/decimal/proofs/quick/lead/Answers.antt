@@ -13,21 +13,15 @@ no_zero : among 0 signs ≡ false
 unfolding among
 no_zero = refl
 
-is_one : (c : goal.Then-is_sign) → among (get_or c.args.text.now c.args.at 0) signs ≡ true
-is_one c = ap (λ (b : ℕ). among b signs) (sym c.byte_at-byte.ensures) ∙ sym c.is_sign.ensures ∙ c.if-is_sign.true
-
-inside : (c : goal.Then-is_sign) → c.args.at < length c.args.text.now
-inside c = byte_inside signs c.args.text.now _ no_zero (is_one c)
-
 pub overflow_add-result : goal.overflow_add-result
-overflow_add-result c = record { fits = omega (arith, inside c, c.well_formed) }
+overflow_add-result c = record { fits = omega (arith, (let inside_here : c.args.at < length c.args.text.now = byte_inside signs c.args.text.now _ no_zero ((let is_one_here : among (get_or c.args.text.now c.args.at 0) signs ≡ true = ap (λ (b : ℕ). among b signs) (sym c.byte_at-byte.ensures) ∙ sym c.is_sign.ensures ∙ c.if-is_sign.true in is_one_here)) in inside_here), c.well_formed) }
 
 pub overflow_add-at : goal.overflow_add-at
-overflow_add-at c = record { fits = omega (arith, inside c, c.well_formed) }
+overflow_add-at c = record { fits = omega (arith, (let inside_here : c.args.at < length c.args.text.now = byte_inside signs c.args.text.now _ no_zero ((let is_one_here : among (get_or c.args.text.now c.args.at 0) signs ≡ true = ap (λ (b : ℕ). among b signs) (sym c.byte_at-byte.ensures) ∙ sym c.is_sign.ensures ∙ c.if-is_sign.true in is_one_here)) in inside_here), c.well_formed) }
 
 pub returns-then-is_sign : goal.returns-then-is_sign
 returns-then-is_sign c =
-    (one_byte signs c.args.text.now _ no_zero (is_one c.before), c.byte_at.ensures)
+    (one_byte signs c.args.text.now _ no_zero ((let is_one_here : among (get_or c.args.text.now c.args.at 0) signs ≡ true = ap (λ (b : ℕ). among b signs) (sym c.byte_at-byte.ensures) ∙ sym c.is_sign.ensures ∙ c.if-is_sign.true in is_one_here)), c.byte_at-byte.ensures)
 
 pub returns : goal.returns
 returns c =

@@ -35,15 +35,8 @@ returns-then-byte-ne46 c h =
     (gathers-none c.args.text.now c.whole_digits-first.result.at c.whole_digits-first.result.w 0 ended (omega arith)) (no_both (eqb c.lead-led.result.at c.whole_digits-first.result.at) (eqb c.whole_digits-first.result.at c.whole_digits-first.result.at) plain.0) (plain_at c.whole_digits-first.result.at (sym ended) no-mark) settled.few)
     (ap (λ (b : ℕ). eqb b minus) (sym c.byte_at-negative.ensures)) (omega arith)
 
--- ---- a point
-is-point : (c : goal.Else-byte-ne46) → get_or c.args.text.now c.whole_digits-first.result.at 0 ≡ 46
-is-point c = sym c.byte_at-byte.ensures ∙ search c.if-byte-ne46.false
-
-inside : (c : goal.Else-byte-ne46) → c.whole_digits-first.result.at < length c.args.text.now
-inside c = byte_inside points c.args.text.now _ no_zero (alone-is _ 46 (is-point c))
-
 pub overflow_add-fraction : goal.overflow_add-fraction
-overflow_add-fraction c = record { fits = omega (arith, inside c, c.well_formed) }
+overflow_add-fraction c = record { fits = omega (arith, (let inside_here : c.whole_digits-first.result.at < length c.args.text.now = byte_inside points c.args.text.now _ no_zero (alone-is _ 46 ((let is_point_here : get_or c.args.text.now c.whole_digits-first.result.at 0 ≡ 46 = sym c.byte_at-byte.ensures ∙ search c.if-byte-ne46.false in is_point_here))) in inside_here), c.well_formed) }
 
 pub returns-then-whole-point-2 : goal.returns-then-whole-point-2
 returns-then-whole-point-2 c h = absurd (omega (arith, h))
@@ -56,8 +49,8 @@ returns c h =
     let settled = c.settle-2.ensures h in
     let before-few : c.whole_digits-first.result.w < 2 ^ 53 = omega (arith, c.fraction_digits-all.ensures.takes.grows, settled.few) in
     let after = fills-all c.args.text.now (c.whole_digits-first.result.at + 1) c.whole_digits-first.result.w c.fraction_digits-all.result c.fraction_digits-all.ensures settled.few in
-    let no-mark = ap (λ (b : ℕ). among b exponent_marks) (sym c.byte_at.ensures) ∙ sym c.is_exponent_mark-2.ensures ∙ c.if-is_exponent_mark.false in
+    let no-mark = ap (λ (b : ℕ). among b exponent_marks) (sym c.byte_at-negative.ensures) ∙ sym c.is_exponent_mark-2.ensures ∙ c.if-is_exponent_mark.false in
     quick-read _ _ settled
     (quick-number c.args.at c.lead-led.ensures.0 (fills-all c.args.text.now c.lead-led.result.at 0 c.whole_digits-first.result c.whole_digits-first.ensures before-few)
-    (one_byte points c.args.text.now c.whole_digits-first.result.at no_zero (alone-is _ 46 (is-point c.before.before.before.before.before.before.before))) after c.if-whole-point-2.false (plain_at (c.whole_digits-first.result.at + 1) after.passed no-mark) settled.few)
+    (one_byte points c.args.text.now c.whole_digits-first.result.at no_zero (alone-is _ 46 ((let is_point_here : get_or c.args.text.now c.whole_digits-first.result.at 0 ≡ 46 = sym c.byte_at-byte.ensures ∙ search c.if-byte-ne46.false in is_point_here)))) after c.if-whole-point-2.false (plain_at (c.whole_digits-first.result.at + 1) after.passed no-mark) settled.few)
     (ap (λ (b : ℕ). eqb b minus) (sym c.byte_at-negative.ensures)) refl

@@ -33,21 +33,19 @@ narrow-requires c some =
     quotient-tells _ _ some (omega (arith, c.if-w-ge9007199254740992.false)) (ten-pos _) (small _ (omega (arith, c.if-places-gt8.false))) _
     c.pattern-b.ensures (c.tells.ensures c.if-tells.true)
 
-near : (c : goal.After-narrow) → Nearest c.args.w (10 ^ c.args.places) c.narrow.result
-near c =
-    subst (λ (n : ℕ). Nearest c.args.w (10 ^ c.args.places) n) (sym c.narrow.ensures)
-    (quotient-bits _ _ (ten-pos _) (small _ (omega (arith, c.if-places-gt8.false))) (c.tells.ensures c.if-tells.true) _
-    (omega (arith, c.if-w-ge9007199254740992.false)) c.pattern-b.ensures)
-
 pub signed-requires : goal.signed-requires
-signed-requires c = (near c).finite_or_infinite
+signed-requires c = ((let near_here : Nearest c.args.w (10 ^ c.args.places) c.narrow.result = subst (λ (n : ℕ). Nearest c.args.w (10 ^ c.args.places) n) (sym c.narrow.ensures)
+    (quotient-bits _ _ (ten-pos _) (small _ (omega (arith, c.if-places-gt8.false))) (c.tells.ensures c.if-tells.true) _
+    (omega (arith, c.if-w-ge9007199254740992.false)) c.pattern-b.ensures) in near_here)).finite_or_infinite
 
 pub returns-then-tells : goal.returns-then-tells
 returns-then-tells c h =
     record {
       c.before.before.before.before.before.before = omega (arith, c.if-w-ge9007199254740992.false);
       ends = refl;
-      stored = set-one c.args.out.now _ c.requires ∙ ap (λ (x : Float). x ∷ []) (c.signed.ensures ∙ sym ((near c.before).is _));
+      stored = set-one c.args.out.now _ c.requires ∙ ap (λ (x : Float). x ∷ []) (c.signed.ensures ∙ sym (((let near_here : Nearest c.args.w (10 ^ c.args.places) c.narrow.result = subst (λ (n : ℕ). Nearest c.args.w (10 ^ c.args.places) n) (sym c.narrow.ensures)
+    (quotient-bits _ _ (ten-pos _) (small _ (omega (arith, c.if-places-gt8.false))) (c.tells.ensures c.if-tells.true) _
+    (omega (arith, c.if-w-ge9007199254740992.false)) c.pattern-b.ensures) in near_here)).is _));
     }
 
 pub returns : goal.returns

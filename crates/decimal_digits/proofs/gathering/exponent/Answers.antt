@@ -1,5 +1,6 @@
 -- `decimal_digits::gathering::exponent` meets its contract. The invariant: the run from `at` ends where the run from `from` does, and the size is the number of the
 -- digits passed, capped. The measure is what is left of the text. Assumes nothing.
+use mathlib.Core.Bool.{not}
 use Rattle.std.proofs.Common.{◌≡◌, ℕ, ◌+◌, ◌-◌, ◌*◌, ◌<◌, ◌≤◌, length, get_or, sym, refl, ap, ◌∙◌, subst, arith, rules}
 use borrow.Author.Tests.{not-true, not-false}
 use Rattle.scan.specs.Bytes.{digits}
@@ -16,15 +17,15 @@ pub loop-at-init : goal.loop-at-init
 loop-at-init c = (search rules, refl, size-start c.args.text.now c.args.from)
 
 pub digit-requires : goal.digit-requires
-digit-requires c = digit-range _ (sym c.is_digit.ensures ∙ not-false _ c.if-not-is_digit.false)
+digit-requires c = digit-range _ (sym c.is_digit.ensures ∙ not-false _ (ap not c.if-not-is_digit.false))
 
 pub longer-size-requires : goal.longer-size-requires
-longer-size-requires c = subst (λ (d : ℕ). d < 10) (sym c.digit.ensures) (digit_lt _ (sym c.is_digit.ensures ∙ not-false _ c.if-not-is_digit.false))
+longer-size-requires c = subst (λ (d : ℕ). d < 10) (sym c.digit.ensures) (digit_lt _ (sym c.is_digit.ensures ∙ not-false _ (ap not c.if-not-is_digit.false)))
 
 pub loop-at-preserved : goal.loop-at-preserved
 loop-at-preserved c =
     let inside : c.loop-at.at < length c.args.text.now = c.loop-at-test.true in
-    let is_one = sym c.is_digit.ensures ∙ not-false _ c.if-not-is_digit.false in (
+    let is_one = sym c.is_digit.ensures ∙ not-false _ (ap not c.if-not-is_digit.false) in (
       omega arith,
       all_pass digits c.args.text.now c.loop-at.at inside is_one ∙ c.loop-at.invariant.1,
       c.longer-size.ensures (val (digits_in c.args.text.now c.args.from c.loop-at.at)) c.loop-at.invariant.2
@@ -38,4 +39,4 @@ returns-after-loop-at c = power-is _ _ _ c.loop-at.invariant.0 _ c.loop-at.invar
 pub returns-then-not-is_digit : goal.returns-then-not-is_digit
 returns-then-not-is_digit c =
     power-is _ _ _ c.loop-at.invariant.0 _ c.loop-at.invariant.1
-    (all-stop digits _ _ c.loop-at-test.true (sym c.is_digit.ensures ∙ not-true _ c.if-not-is_digit.true)) c.loop-at.invariant.2
+    (all-stop digits _ _ c.loop-at-test.true (sym c.is_digit.ensures ∙ not-true _ (ap not c.if-not-is_digit.true))) c.loop-at.invariant.2

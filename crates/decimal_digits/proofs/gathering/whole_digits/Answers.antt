@@ -11,15 +11,8 @@ no_zero : among 0 digits ≡ false
 unfolding among
 no_zero = refl
 
--- the byte at the place is a digit
-is_one : (c : goal.Then-is_digit) → among (get_or c.args.text.now c.args.from 0) digits ≡ true
-is_one c = ap (λ (b : ℕ). among b digits) (sym c.requires) ∙ sym c.is_digit.ensures ∙ c.if-is_digit.true
-
-inside : (c : goal.Then-is_digit) → c.args.from < length c.args.text.now
-inside c = byte_inside digits c.args.text.now _ no_zero (is_one c)
-
 pub overflow_add-from : goal.overflow_add-from
-overflow_add-from c = record { fits = omega (arith, inside c, c.well_formed) }
+overflow_add-from c = record { fits = omega (arith, (let inside_here : c.args.from < length c.args.text.now = byte_inside digits c.args.text.now _ no_zero ((let is_one_here : among (get_or c.args.text.now c.args.from 0) digits ≡ true = ap (λ (b : ℕ). among b digits) (sym c.requires) ∙ sym c.is_digit.ensures ∙ c.if-is_digit.true in is_one_here)) in inside_here), c.well_formed) }
 
 pub digit-requires : goal.digit-requires
 digit-requires c = digit-range _ (sym c.is_digit.ensures ∙ c.if-is_digit.true)
@@ -27,7 +20,7 @@ digit-requires c = digit-range _ (sym c.is_digit.ensures ∙ c.if-is_digit.true)
 pub returns-then-is_digit : goal.returns-then-is_digit
 returns-then-is_digit c =
     let value : 0 * 10 + (get_or c.args.text.now c.args.from 0 - 48) ≡ c.digit.result = zero-add _ ∙ ap (λ (b : ℕ). b - 48) (sym c.requires) ∙ sym c.digit.ensures in
-    let first = subst (λ (w : ℕ). Takes c.args.text.now c.args.from 0 (c.args.from + 1) w) value (takes-digit c.args.text.now c.args.from 0 (inside c.before.before) (is_one c.before.before) (lit< tt)) in
+    let first = subst (λ (w : ℕ). Takes c.args.text.now c.args.from 0 (c.args.from + 1) w) value (takes-digit c.args.text.now c.args.from 0 ((let inside_here : c.args.from < length c.args.text.now = byte_inside digits c.args.text.now _ no_zero ((let is_one_here : among (get_or c.args.text.now c.args.from 0) digits ≡ true = ap (λ (b : ℕ). among b digits) (sym c.requires) ∙ sym c.is_digit.ensures ∙ c.if-is_digit.true in is_one_here)) in inside_here)) ((let is_one_here : among (get_or c.args.text.now c.args.from 0) digits ≡ true = ap (λ (b : ℕ). among b digits) (sym c.requires) ∙ sym c.is_digit.ensures ∙ c.if-is_digit.true in is_one_here)) (lit< tt)) in
     record { takes = takes-on c.args.text.now _ _ _ _ _ _ first c.fill.ensures.takes; ended = c.fill.ensures.ended }
 
 pub returns : goal.returns

@@ -9,38 +9,28 @@ use Rattle.decimal_product.specs.Near.{High}
 use Rattle.decimal_product.proofs.Leading.{Raised, raised, under-60, bracket}
 use Rattle.decimal_product.proofs.products.nearest.Goals as goal
 
--- what is known of the power and of the digits moved up
-power : (c : goal.After-tens) → Leads c.args.place c.tens.result
-power c = subst (λ (p : ℕ). Leads c.args.place p) (sym c.tens.ensures) (leads c.args.place c.requires.1)
-
-lifted : (c : goal.Start) → Raised c.args.w (count_leading_zeros 64 c.args.w)
-lifted c = raised c.args.w c.requires.0 c.ranges.w.fits
-
-multiplied : (c : goal.After-high-product) → High (c.args.w * 2 ^ count_leading_zeros 64 c.args.w) c.tens.result c.high-product.result
-multiplied c = subst (λ (x : ℕ). High x c.tens.result c.high-product.result) (lifted c.before.before).back c.high-product.ensures
-
 pub overflow_cast-moved : goal.overflow_cast-moved
-overflow_cast-moved c = record { fits = omega (arith, (lifted c).few) }
+overflow_cast-moved c = record { fits = omega (arith, ((let lifted_here : Raised c.args.w (count_leading_zeros 64 c.args.w) = raised c.args.w c.requires.0 c.ranges.w.fits in lifted_here)).few) }
 
 pub overflow_shl-w : goal.overflow_shl-w
-overflow_shl-w c = (lifted c).few
+overflow_shl-w c = ((let lifted_here : Raised c.args.w (count_leading_zeros 64 c.args.w) = raised c.args.w c.requires.0 c.ranges.w.fits in lifted_here)).few
 
 pub high-product-requires : goal.high-product-requires
-high-product-requires c = (power c).small
+high-product-requires c = ((let power_here : Leads c.args.place c.tens.result = subst (λ (p : ℕ). Leads c.args.place p) (sym c.tens.ensures) (leads c.args.place c.requires.1) in power_here)).small
 
 pub overflow_cast-moved-2 : goal.overflow_cast-moved-2
-overflow_cast-moved-2 c = record { fits = omega (arith, (lifted c.before.before).few) }
+overflow_cast-moved-2 c = record { fits = omega (arith, ((let lifted_here : Raised c.args.w (count_leading_zeros 64 c.args.w) = raised c.args.w c.requires.0 c.ranges.w.fits in lifted_here)).few) }
 
 pub settle-requires : goal.settle-requires
 settle-requires c =
-    let l = lifted c.before.before in
-    let p = power c.before in
-    let m = multiplied c in
+    let l = (let lifted_here : Raised c.args.w (count_leading_zeros 64 c.args.w) = raised c.args.w c.requires.0 c.ranges.w.fits in lifted_here) in
+    let p = (let power_here : Leads c.args.place c.tens.result = subst (λ (p : ℕ). Leads c.args.place p) (sym c.tens.ensures) (leads c.args.place c.requires.1) in power_here) in
+    let m = (let multiplied_here : High (c.args.w * 2 ^ count_leading_zeros 64 c.args.w) c.tens.result c.high-product.result = subst (λ (x : ℕ). High x c.tens.result c.high-product.result) ((let lifted_here : Raised c.args.w (count_leading_zeros 64 c.args.w) = raised c.args.w c.requires.0 c.ranges.w.fits in lifted_here)).back c.high-product.ensures in multiplied_here) in
     (m.full l.full p.full, under-60 _ _ _ l.fits p.small m, l.few, c.requires.1)
 
 pub returns : goal.returns
 returns c =
-    let l = lifted c.before.before.before in
+    let l = (let lifted_here : Raised c.args.w (count_leading_zeros 64 c.args.w) = raised c.args.w c.requires.0 c.ranges.w.fits in lifted_here) in
     record {
-      said = λ s num den D h. c.settle.ensures.said s num den D (bracket _ _ _ _ _ num den c.requires.0 D l (power c.before.before) (multiplied c.before) h);
+      said = λ s num den D h. c.settle.ensures.said s num den D (bracket _ _ _ _ _ num den c.requires.0 D l ((let power_here : Leads c.args.place c.tens.result = subst (λ (p : ℕ). Leads c.args.place p) (sym c.tens.ensures) (leads c.args.place c.requires.1) in power_here)) ((let multiplied_here : High (c.args.w * 2 ^ count_leading_zeros 64 c.args.w) c.tens.result c.high-product.result = subst (λ (x : ℕ). High x c.tens.result c.high-product.result) ((let lifted_here : Raised c.args.w (count_leading_zeros 64 c.args.w) = raised c.args.w c.requires.0 c.ranges.w.fits in lifted_here)).back c.high-product.ensures in multiplied_here)) h);
     }

@@ -1,5 +1,6 @@
 -- `decimal_tie::scales::compare_rest` meets its contract. The invariant: the digits from `i` on against `w` are in the order that is asked for. The measure is what
 -- is left of the part. Assumes nothing.
+use mathlib.Core.Bool.{not}
 use mathlib.Core.Path.{◌≡◌, refl, ap, sym, ◌∙◌, subst}
 use mathlib.Core.List.{List, ◌∷◌}
 use Prim.Native.Nat.{ℕ, ◌+◌, ◌-◌, ◌<◌, Ordering}
@@ -22,13 +23,13 @@ loop-i-init c = (c.requires, refl)
 
 pub loop-i-preserved-then-not-is_digit : goal.loop-i-preserved-then-not-is_digit
 loop-i-preserved-then-not-is_digit c =
-    let is_none = sym c.is_digit.ensures ∙ not-true _ c.if-not-is_digit.true in (
+    let is_none = sym c.is_digit.ensures ∙ not-true _ (ap not c.if-not-is_digit.true) in (
       c.loop-i.invariant.0,
       ap (λ (ds : List ℕ). against ds (wide_of c.loop-i.w)) (sym (other-first _ _ c.loop-i-test.true is_none)) ∙ c.loop-i.invariant.1,
     )
 
 pub digit-d-requires : goal.digit-d-requires
-digit-d-requires c = digit-range _ (sym c.is_digit.ensures ∙ not-false _ c.if-not-is_digit.false)
+digit-d-requires c = digit-range _ (sym c.is_digit.ensures ∙ not-false _ (ap not c.if-not-is_digit.false))
 
 pub times_ten-t-requires : goal.times_ten-t-requires
 times_ten-t-requires c = (c.loop-i.invariant.0, omega arith)
@@ -39,7 +40,7 @@ read_first :
     → against (c.digit-d.result ∷ digits_among (drop (c.loop-i.i + 1) c.args.part.now)) (wide_of c.loop-i.w) ≡ against (digits_among (drop c.args.from c.args.part.now)) (wide_of c.args.f)
 read_first c =
     let c.before.before.before.before.before.before = c.before.before.before.before.before.before in
-    let is_one = sym c.is_digit.ensures ∙ not-false _ c.if-not-is_digit.false in
+    let is_one = sym c.is_digit.ensures ∙ not-false _ (ap not c.if-not-is_digit.false) in
     ap (λ (d : ℕ). against (d ∷ digits_among (drop (c.loop-i.i + 1) c.args.part.now)) (wide_of c.loop-i.w)) c.digit-d.ensures
     ∙ ap (λ (ds : List ℕ). against ds (wide_of c.loop-i.w)) (sym (digit-first c.args.part.now c.loop-i.i c.loop-i-test.true is_one))
     ∙ c.loop-i.invariant.1

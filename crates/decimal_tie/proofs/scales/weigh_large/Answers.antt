@@ -8,36 +8,31 @@ use Rattle.decimal_tie.specs.Weighing.{order_of}
 use Rattle.decimal_tie.proofs.Wides.{wide-lt}
 use Rattle.decimal_tie.proofs.Weighed.{partly-start, partly-lt, partly-gt, partly-eq, six-lt, whole-beyond, whole_is}
 use borrow.Author.Rules.{rules}
-use Rattle.decimal_tie.proofs.scales.weigh_large.Tie as tie
 use Rattle.decimal_tie.proofs.scales.weigh_large.Goals as goal
-
--- the six words are below 2 ^ 300
-limit : (c : tie.Start) → wide_of c.args.above * 2 ^ 150 + wide_of c.args.fraction < 2 ^ 300
-limit c = six-lt _ _ (wide-lt _ c.requires.0) (wide-lt _ c.requires.1)
 
 pub compare_wide-requires : goal.compare_wide-requires
 compare_wide-requires c =
-    ((whole_is c.whole_digits.ensures _ (limit c.before.before.before.before.before) c.in-Is.is).0, c.requires.0)
+    ((whole_is c.whole_digits.ensures _ ((let limit_here : wide_of c.args.above * 2 ^ 150 + wide_of c.args.fraction < 2 ^ 300 = six-lt _ _ (wide-lt _ c.requires.0) (wide-lt _ c.requires.1) in limit_here)) c.in-Is.is).0, c.requires.0)
 
 pub compare_rest-requires : goal.compare_rest-requires
 compare_rest-requires c = c.requires.1
 
 pub returns-in-Beyond : goal.returns-in-Beyond
 returns-in-Beyond c =
-    sym (partly-start _ _ _ ∙ whole-beyond c.whole_digits.ensures _ (limit c.before.before.before.before) c.in-Beyond.is)
+    sym (partly-start _ _ _ ∙ whole-beyond c.whole_digits.ensures _ ((let limit_here : wide_of c.args.above * 2 ^ 150 + wide_of c.args.fraction < 2 ^ 300 = six-lt _ _ (wide-lt _ c.requires.0) (wide-lt _ c.requires.1) in limit_here)) c.in-Beyond.is)
 
 pub returns-in-Less : goal.returns-in-Less
 returns-in-Less c =
     sym
     (partly-start _ _ _
-    ∙ (whole_is c.whole_digits.ensures _ (limit c.before.before.before.before.before.before.before.before) c.in-Is.is).1
+    ∙ (whole_is c.whole_digits.ensures _ ((let limit_here : wide_of c.args.above * 2 ^ 150 + wide_of c.args.fraction < 2 ^ 300 = six-lt _ _ (wide-lt _ c.requires.0) (wide-lt _ c.requires.1) in limit_here)) c.in-Is.is).1
     ∙ partly-lt _ _ _ _ (wide-lt _ c.requires.1) (val-lt _) (lt-of-compare _ _ (sym c.compare_wide.ensures ∙ ap order_of c.in-Less.is)))
 
 pub returns-in-Greater : goal.returns-in-Greater
 returns-in-Greater c =
     sym
     (partly-start _ _ _
-    ∙ (whole_is c.whole_digits.ensures _ (limit c.before.before.before.before.before.before.before.before) c.in-Is.is).1
+    ∙ (whole_is c.whole_digits.ensures _ ((let limit_here : wide_of c.args.above * 2 ^ 150 + wide_of c.args.fraction < 2 ^ 300 = six-lt _ _ (wide-lt _ c.requires.0) (wide-lt _ c.requires.1) in limit_here)) c.in-Is.is).1
     ∙ partly-gt _ _ _ _ (wide-lt _ c.requires.1) (val-lt _) (gt-of-compare _ _ (sym c.compare_wide.ensures ∙ ap order_of c.in-Greater.is)))
 
 pub returns-in-Equal : goal.returns-in-Equal
@@ -45,5 +40,5 @@ returns-in-Equal c =
     c.compare_rest.ensures
     ∙ sym
     (partly-start _ _ _
-    ∙ (whole_is c.whole_digits.ensures _ (limit c.before.before.before.before.before.before.before.before.before) c.in-Is.is).1
+    ∙ (whole_is c.whole_digits.ensures _ ((let limit_here : wide_of c.args.above * 2 ^ 150 + wide_of c.args.fraction < 2 ^ 300 = six-lt _ _ (wide-lt _ c.requires.0) (wide-lt _ c.requires.1) in limit_here)) c.in-Is.is).1
     ∙ partly-eq _ _ _ _ (wide-lt _ c.requires.1) (val-lt _) (eq-of-compare _ _ (sym c.compare_wide.ensures ∙ ap order_of c.in-Equal.is)))

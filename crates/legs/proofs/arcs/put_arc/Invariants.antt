@@ -10,7 +10,7 @@ use Rattle.legs.proofs.ArcLegs.{arc-step, arc-past, arc-done}
 use Rattle.legs.proofs.arcs.put_arc.Given as goal
 
 abbrev pub invariant-loop-i : goal.invariant-loop-i
-invariant-loop-i l = (l.i ≤ 31) × ((l.from ≡ arc_point l.shape l.i) × (l.out ≡ sets l.at l.initial.out (arc_legs l.shape 0 l.i)))
+invariant-loop-i l = (l.i ≤ 31) × ((l.from ≡ arc_point l.shape l.i) × (l.out ≡ sets l.initial.out l.at (arc_legs l.shape 0 l.i)))
 
 abbrev pub decreases-loop-i : goal.decreases-loop-i
 decreases-loop-i l = 31 - l.i

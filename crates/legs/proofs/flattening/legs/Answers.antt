@@ -1,5 +1,6 @@
 -- `legs::legs` meets its contract: the path, the distance and the room are judged in this order, and the legs are written from the array of the first pass or by a second one.
 -- Assumes nothing.
+use mathlib.Core.Bool.{not}
 use borrow.Author.Rules.{rules}
 use borrow.Author.Tests.{not-true, not-false}
 use mathlib.Core.Path.{sym, ap, ◌∙◌}
@@ -15,7 +16,7 @@ pub check_path-requires : goal.check_path-requires
 check_path-requires c = search rules
 
 pub returns-then-not-check_path : goal.returns-then-not-check_path
-returns-then-not-check_path c = bad-path _ _ _ (sym c.check_path.ensures ∙ not-true _ c.if-not-check_path.true)
+returns-then-not-check_path c = bad-path _ _ _ (sym c.check_path.ensures ∙ not-true _ (ap not c.if-not-check_path.true))
 
 pub is_distance-requires : goal.is_distance-requires
 is_distance-requires c = search rules
@@ -28,8 +29,8 @@ overflow_cast-result c = search rules
 
 pub returns-then-not-is_distance : goal.returns-then-not-is_distance
 returns-then-not-is_distance c =
-    out_of_range _ _ _ (sym c.check_path.ensures ∙ not-false _ c.if-not-check_path.false)
-    (sym c.is_distance.ensures ∙ not-true _ c.if-not-is_distance.true) _ c.bits.ensures
+    out_of_range _ _ _ (sym c.check_path.ensures ∙ not-false _ (ap not c.if-not-check_path.false))
+    (sym c.is_distance.ensures ∙ not-true _ (ap not c.if-not-is_distance.true)) _ c.bits.ensures
 
 pub limit_of-limit-requires : goal.limit_of-limit-requires
 limit_of-limit-requires c = search rules
@@ -39,12 +40,12 @@ slice_bounds-put_path-end c = search rules
 
 pub put_path-told-requires : goal.put_path-told-requires
 put_path-told-requires c =
-    stored-fielded _ (passed (sym c.check_path.ensures ∙ not-false _ c.if-not-check_path.false))
+    stored-fielded _ (passed (sym c.check_path.ensures ∙ not-false _ (ap not c.if-not-check_path.false)))
 
 pub returns-then-out-legs : goal.returns-then-out-legs
 returns-then-out-legs c =
-    no_room _ _ _ (sym c.check_path.ensures ∙ not-false _ c.if-not-check_path.false)
-    (sym c.is_distance.ensures ∙ not-false _ c.if-not-is_distance.false) _ c.limit_of-limit.ensures _ c.put_path-told.ensures c.if-out-legs.true
+    no_room _ _ _ (sym c.check_path.ensures ∙ not-false _ (ap not c.if-not-check_path.false))
+    (sym c.is_distance.ensures ∙ not-false _ (ap not c.if-not-is_distance.false)) _ c.limit_of-limit.ensures _ c.put_path-told.ensures c.if-out-legs.true
 
 pub slice_bounds-copy-end : goal.slice_bounds-copy-end
 slice_bounds-copy-end c = search rules
@@ -57,20 +58,20 @@ copy-requires c = search rules
 
 pub put_path-requires : goal.put_path-requires
 put_path-requires c =
-    stored-fielded _ (passed (sym c.check_path.ensures ∙ not-false _ c.if-not-check_path.false))
+    stored-fielded _ (passed (sym c.check_path.ensures ∙ not-false _ (ap not c.if-not-check_path.false)))
 
 pub shape_of-out-then-legs-le1024 : goal.shape_of-out-then-legs-le1024
 shape_of-out-then-legs-le1024 c = search rules
 
 pub returns-then-legs-le1024 : goal.returns-then-legs-le1024
 returns-then-legs-le1024 c =
-    flown-copied _ _ _ (sym c.check_path.ensures ∙ not-false _ c.if-not-check_path.false)
-    (sym c.is_distance.ensures ∙ not-false _ c.if-not-is_distance.false) _ c.limit_of-limit.ensures _ c.put_path-told.ensures c.if-out-legs.false (search rules) c.copy.ensures
+    flown-copied _ _ _ (sym c.check_path.ensures ∙ not-false _ (ap not c.if-not-check_path.false))
+    (sym c.is_distance.ensures ∙ not-false _ (ap not c.if-not-is_distance.false)) _ c.limit_of-limit.ensures _ c.put_path-told.ensures c.if-out-legs.false (search rules) c.copy.ensures
 
 pub shape_of-out-else-legs-le1024 : goal.shape_of-out-else-legs-le1024
 shape_of-out-else-legs-le1024 c = search rules
 
 pub returns-else-legs-le1024 : goal.returns-else-legs-le1024
 returns-else-legs-le1024 c =
-    flown-put _ _ _ (sym c.check_path.ensures ∙ not-false _ c.if-not-check_path.false)
-    (sym c.is_distance.ensures ∙ not-false _ c.if-not-is_distance.false) _ c.limit_of-limit.ensures _ c.put_path-told.ensures c.if-out-legs.false c.put_path.ensures
+    flown-put _ _ _ (sym c.check_path.ensures ∙ not-false _ (ap not c.if-not-check_path.false))
+    (sym c.is_distance.ensures ∙ not-false _ (ap not c.if-not-is_distance.false)) _ c.limit_of-limit.ensures _ c.put_path-told.ensures c.if-out-legs.false c.put_path-told.ensures

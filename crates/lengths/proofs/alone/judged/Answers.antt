@@ -32,22 +32,18 @@ float_to_float-a c = let x = c.args.x in and_i (fits binary64 x) (not (is_nan x)
 pub float_to_float-b : goal.float_to_float-b
 float_to_float-b c = let y = c.args.y in and_i (fits binary64 y) (not (is_nan y)) (fits_widens y c.row_known-2-1.given) (number y c.if-y.false)
 
--- both are numbers
-sum-upward : (c : goal.After-row_known-2-1) → T (upward (square_sum_of c.args.x c.args.y))
-sum-upward c = squares-upward _ _ (number _ c.if-x.false) (number _ c.if-y.false)
-
 pub guess-g-requires : goal.guess-g-requires
 unfolding square_sum_of
-guess-g-requires c = sum-upward c
+guess-g-requires c = (let sum_upward_here : T (upward (square_sum_of c.args.x c.args.y)) = squares-upward _ _ (number _ c.if-x.false) (number _ c.if-y.false) in sum_upward_here)
 
 pub root_or_zero-requires : goal.root_or_zero-requires
 unfolding square_sum_of
-root_or_zero-requires c = sum-upward c.before.before.before
+root_or_zero-requires c = (let sum_upward_here : T (upward (square_sum_of c.args.x c.args.y)) = squares-upward _ _ (number _ c.if-x.false) (number _ c.if-y.false) in sum_upward_here)
 
 pub returns-then-g-2 : goal.returns-then-g-2
 unfolding square_sum_of
 returns-then-g-2 c =
-    judged-at c.args.x c.args.y _ _ (sum-upward c.before.before.before.before, inl refl) c.root_or_zero.ensures
+    judged-at c.args.x c.args.y _ _ ((let sum_upward_here : T (upward (square_sum_of c.args.x c.args.y)) = squares-upward _ _ (number _ c.if-x.false) (number _ c.if-y.false) in sum_upward_here), inl refl) c.root_or_zero.ensures
 
 pub returns-else-g-2 : goal.returns-else-g-2
 unfolding zero_f

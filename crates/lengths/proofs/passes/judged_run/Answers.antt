@@ -16,17 +16,14 @@ use Rattle.lengths.proofs.passes.judged_run.Goals as goal
 pub loop-i-init : goal.loop-i-init
 loop-i-init c = passing-start refl
 
-element-copy-out-square-sum :
-    goal.bounds-x-at
-element-copy-out-square-sum c = search rules
+pub bounds-x-at : goal.bounds-x-at
+bounds-x-at c = search rules
 
-element-copy-out-square-sum-2 :
-    goal.bounds-y-at
-element-copy-out-square-sum-2 c = search rules
+pub bounds-y-at : goal.bounds-y-at
+bounds-y-at c = search rules
 
-square-sum-requires :
-    goal.square_sum-requires
-square-sum-requires c κs = search rules
+pub square_sum-requires : goal.square_sum-requires
+square_sum-requires c = search rules
 
 pub loop-i-preserved : goal.loop-i-preserved
 loop-i-preserved c =
@@ -38,9 +35,8 @@ loop-j-init c = passing-start refl
 pub guess-requires : goal.guess-requires
 guess-requires c = (c.loop-i.invariant.done c.loop-j.j (omega (arith, c.loop-j-test.true, c.loop-i-test.false))).0
 
-array-write-guesses :
-    goal.bounds-guesses-j
-array-write-guesses c = search rules
+pub bounds-guesses-j : goal.bounds-guesses-j
+bounds-guesses-j c = search rules
 
 pub loop-j-preserved : goal.loop-j-preserved
 loop-j-preserved c = passing-more c.loop-j.invariant c.loop-j-test.true _ refl
@@ -48,21 +44,17 @@ loop-j-preserved c = passing-more c.loop-j.invariant c.loop-j-test.true _ refl
 pub loop-k-init : goal.loop-k-init
 loop-k-init c = passing-start refl
 
-array-read-root-or-zero :
-    goal.bounds-sums-k
-array-read-root-or-zero c = search rules
+pub bounds-sums-k : goal.bounds-sums-k
+bounds-sums-k c = search rules
 
-mul-root-or-zero-2 :
-    goal.offset_bounds-guesses-k
-mul-root-or-zero-2 c = search rules
+pub offset_bounds-guesses-k : goal.offset_bounds-guesses-k
+offset_bounds-guesses-k c = search rules
 
-array-read-root-or-zero-2 :
-    goal.bounds-guesses-k
-array-read-root-or-zero-2 c = search rules
+pub bounds-guesses-k : goal.bounds-guesses-k
+bounds-guesses-k c = search rules
 
-root-or-zero-requires :
-    goal.root_or_zero-requires
-root-or-zero-requires c κs = (c.loop-i.invariant.done c.loop-k.k (omega (arith, c.loop-k-test.true, c.loop-i-test.false))).0
+pub root_or_zero-requires : goal.root_or_zero-requires
+root_or_zero-requires c = (c.loop-i.invariant.done c.loop-k.k (omega (arith, c.loop-k-test.true, c.loop-i-test.false))).0
 
 pub loop-k-preserved : goal.loop-k-preserved
 loop-k-preserved c =

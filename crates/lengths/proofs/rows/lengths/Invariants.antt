@@ -9,7 +9,7 @@ use Rattle.lengths.proofs.Lists.{measured, passing-row, Flagged, flagged-start, 
 use Rattle.lengths.proofs.rows.lengths.Given as goal
 
 abbrev pub invariant-loop-k : goal.invariant-loop-k
-invariant-loop-k l = Flagged l.x l.y l.out 31 (l.initial.out + l.k) l.unsettled
+invariant-loop-k l = Flagged l.x l.y l.out 31 (l.at + l.k) l.unsettled
 
 abbrev pub decreases-loop-k : goal.decreases-loop-k
 decreases-loop-k l = 16 - l.k

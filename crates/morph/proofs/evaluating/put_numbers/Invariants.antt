@@ -7,7 +7,7 @@ use Rattle.morph.proofs.Filling.{Filling, filling-start, filling-first, filling-
 use Rattle.morph.proofs.evaluating.put_numbers.Given as goal
 
 abbrev pub invariant-loop-j : goal.invariant-loop-j
-invariant-loop-j l = Filling l.from l.to l.along l.half l.initial.out l.out l.any l.j
+invariant-loop-j l = Filling l.from l.to l.along l.initial.out l.half l.out l.any l.j
 
 abbrev pub decreases-loop-j : goal.decreases-loop-j
-decreases-loop-j l = l.initial.out - l.j
+decreases-loop-j l = l.half - l.j

@@ -9,7 +9,7 @@ use lib.Seq.{set-get_or}
 use Rattle.morph.proofs.evaluating.tidy_numbers.Given as goal
 
 abbrev pub invariant-loop-j : goal.invariant-loop-j
-invariant-loop-j l = l.out ≡ l.count
+invariant-loop-j l = l.out ≡ l.initial.out
 
 abbrev pub decreases-loop-j : goal.decreases-loop-j
-decreases-loop-j l = l.initial.out - l.j
+decreases-loop-j l = l.count - l.j

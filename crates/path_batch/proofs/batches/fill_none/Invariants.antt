@@ -11,7 +11,7 @@ use Rattle.path_batch.proofs.Filling.{same_size, same_next}
 use Rattle.path_batch.proofs.batches.fill_none.Given as goal
 
 abbrev pub invariant-loop-k : goal.invariant-loop-k
-invariant-loop-k l = (l.k ≤ l.initial.segments) × (l.segments ≡ written (replicate l.k no_segment) l.count)
+invariant-loop-k l = (l.k ≤ l.count) × (l.segments ≡ written (replicate l.k no_segment) l.initial.segments)
 
 abbrev pub decreases-loop-k : goal.decreases-loop-k
-decreases-loop-k l = l.initial.segments - l.k
+decreases-loop-k l = l.count - l.k

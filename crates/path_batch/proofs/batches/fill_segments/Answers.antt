@@ -12,39 +12,16 @@ use Rattle.table.specs.Spots.{spot_of}
 use Rattle.path_place.proofs.Standing.{spot-inside}
 use Rattle.path_batch.specs.Batches.{each, found_for}
 use Rattle.path_batch.proofs.Filling.{each-size, each_next}
-use Rattle.path_batch.proofs.batches.fill_segments.Tie as tie
 use Rattle.path_batch.proofs.batches.fill_segments.Goals as goal
 
 -- ---- the points, and what is known there
-abbrev Loop : Type 0
-Loop = (tie.At-loop goal.the-invariant-loop-i goal.the-decreases-loop-i)
-
-abbrev start : Loop → (tie.Start goal.the-invariant-loop-i goal.the-decreases-loop-i)
-start l = l.before.before.before.before
-
-segments-size : (l : Loop) → length l.loop-i.segments ≡ length (start l).args.segments.now
-segments-size l =
-    let a = (start l).args in
-    ap length l.loop-i.inv.1 ∙ each-size (λ p. (spot_of a.lengths.now p).segment) a.progresses.now a.segments.now l.loop-i.i l.loop-i.inv.0 (start l).pre.segments_room
 
 -- where the next search starts is settled: that one more progress was left, the loop's start, and the spot
 abbrev Settled : Type 0
 Settled = goal.Joined-is_step_on
 
-abbrev spotted : Settled → goal.After-segment_near-segment
-spotted m = m.before.before
-
-abbrev tested : Settled → goal.In-loop-i
-tested m = (spotted m).before.before
-
-abbrev looked : Settled → Loop
-looked m = (tested m).before
-
-more : (m : Settled) → (looked m).loop.i < length (start (looked m)).args.progresses.now
-more m = omega (arith, (tested m).loop-test.taken)
-
-few : (m : Settled) → length (start (looked m)).args.progresses.now * 4 < 9223372036854775808
-few m = let good = (start (looked m)).good in omega arith
+more : (m : Settled) → m.loop-i.i < length m.args.progresses.now
+more m = omega (arith, m.loop-i-test.true)
 
 -- ---- the answers
 pub loop-i-init : goal.loop-i-init
@@ -52,44 +29,36 @@ unfolding each
 loop-i-init c = (omega arith, refl)
 
 pub segment_near-segment-requires : goal.segment_near-segment-requires
-segment_near-segment-requires c = (start c.before.before).pre.path
+segment_near-segment-requires c = c.requires.path
 
 pub overflow_cast-segments : goal.overflow_cast-segments
 overflow_cast-segments c =
-    let l = looked c in
-    let a = (start l).args in
-    let p = get_or a.progresses.now l.loop-i.i nan in
-    let most = (start l).pre.few in
-    let same = (spotted c).segment-near.ensures in
-    record { fits = omega (arith, same, spot-inside a.lengths.now (start l).pre.path p) }
+    let p = get_or c.args.progresses.now c.loop-i.i nan in
+    record { fits = omega (arith, c.segment_near-segment.ensures, spot-inside c.args.lengths.now c.requires.path p) }
 
 pub offset_bounds-segments-i : goal.offset_bounds-segments-i
-offset_bounds-segments-i c = omega (arith, more c, few c)
+offset_bounds-segments-i c = omega (arith, (let more_here : c.loop-i.i < length c.args.progresses.now = omega (arith, c.loop-i-test.true) in more_here), (let few_here : length c.args.progresses.now * 4 < 9223372036854775808 = omega arith in few_here))
 
 pub bounds-segments-i : goal.bounds-segments-i
-bounds-segments-i c = omega (arith, more c, segments-size (looked c), (start (looked c)).pre.segments_room)
+bounds-segments-i c = omega (arith, (let more_here : c.loop-i.i < length c.args.progresses.now = omega (arith, c.loop-i-test.true) in more_here), (let segments_size_here : length c.loop-i.segments ≡ length c.args.segments.now = ap length c.loop-i.invariant.1 ∙ each-size (λ p. (spot_of c.args.lengths.now p).segment) c.args.progresses.now c.args.segments.now c.loop-i.i c.loop-i.invariant.0 c.requires.segments_room in segments_size_here), c.requires.segments_room)
 
 pub overflow_add-i : goal.overflow_add-i
-overflow_add-i c = omega (arith, more c, few c)
+overflow_add-i c = omega (arith, (let more_here : c.loop-i.i < length c.args.progresses.now = omega (arith, c.loop-i-test.true) in more_here), (let few_here : length c.args.progresses.now * 4 < 9223372036854775808 = omega arith in few_here))
 
 pub loop-i-smaller : goal.loop-i-smaller
-loop-i-smaller c = omega (arith, more c)
+loop-i-smaller c = omega (arith, (let more_here : c.loop-i.i < length c.args.progresses.now = omega (arith, c.loop-i-test.true) in more_here))
 
 pub loop-i-preserved : goal.loop-i-preserved
 loop-i-preserved c =
-    let l = looked c in
-    let a = (start l).args in
-    let pre = (start l).pre in
-    let is = (spotted c).segment-near.ensures in (
-      omega (arith, more c),
-      each_next (λ p. (spot_of a.lengths.now p).segment) a.progresses.now a.segments.now l.loop-i.segments l.loop-i.i _ (more c) pre.segments_room l.loop-i.inv.1 is,
+    (
+      omega (arith, (let more_here : c.loop-i.i < length c.args.progresses.now = omega (arith, c.loop-i-test.true) in more_here)),
+      each_next (λ p. (spot_of c.args.lengths.now p).segment) c.args.progresses.now c.args.segments.now c.loop-i.segments c.loop-i.i _ ((let more_here : c.loop-i.i < length c.args.progresses.now = omega (arith, c.loop-i-test.true) in more_here)) c.requires.segments_room c.loop-i.invariant.1 c.segment_near-segment.ensures,
     )
 
 pub shape_of-segments : goal.shape_of-segments
-shape_of-segments c = segments-size c.before
+shape_of-segments c = (let segments_size_here : length c.loop-i.segments ≡ length c.args.segments.now = ap length c.loop-i.invariant.1 ∙ each-size (λ p. (spot_of c.args.lengths.now p).segment) c.args.progresses.now c.args.segments.now c.loop-i.i c.loop-i.invariant.0 c.requires.segments_room in segments_size_here)
 
 pub returns : goal.returns
 returns c =
-    let a = (start c.before).args in
-    let all : take c.loop-i.i a.progresses.now ≡ a.progresses.now = take_all c.loop-i.i a.progresses.now (omega arith) in
-    c.loop-i.invariant.1 ∙ ap (λ (ps : List Float). written (found_for a.lengths.now ps) a.segments.now) all
+    let all : take c.loop-i.i c.args.progresses.now ≡ c.args.progresses.now = take_all c.loop-i.i c.args.progresses.now (omega arith) in
+    c.loop-i.invariant.1 ∙ ap (λ (ps : List Float). written (found_for c.args.lengths.now ps) c.args.segments.now) all

@@ -11,7 +11,7 @@ use Rattle.path_batch.proofs.Filling.{same_size, same_next}
 use Rattle.path_batch.proofs.batches.fill_zeros.Given as goal
 
 abbrev pub invariant-loop-k : goal.invariant-loop-k
-invariant-loop-k l = (l.k ≤ l.initial.out) × (l.out ≡ written (replicate l.k zero_f) l.count)
+invariant-loop-k l = (l.k ≤ l.count) × (l.out ≡ written (replicate l.k zero_f) l.initial.out)
 
 abbrev pub decreases-loop-k : goal.decreases-loop-k
-decreases-loop-k l = l.initial.out - l.k
+decreases-loop-k l = l.count - l.k

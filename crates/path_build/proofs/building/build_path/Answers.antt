@@ -6,20 +6,14 @@ use Rattle.path_build.proofs.Answering.{ended-refused, ended-holding, ended-buil
 use Rattle.path_build.proofs.building.build_path.Tie as tie
 use Rattle.path_build.proofs.building.build_path.Goals as goal
 
--- ---- the points
-abbrev answered : tie.After-segments → tie.After-room
-answered t = t.before.before
-
 -- ---- the answers
 pub returns-in-Refused : goal.returns-in-Refused
 returns-in-Refused c = ended-refused _ _ c.sized.ensures (sym c.room.ensures ∙ c.in-Refused.is)
 
 pub fill-requires : goal.fill-requires
 fill-requires c =
-    let r = answered c.before.before.before.before.before.before in
-    ended-holding (lent r.args.kinds r.args.fields r.args.tables r.args.lengths r.args.commands) _ r.sized.ensures (sym r.room.ensures ∙ c.in-Built.is)
+    ended-holding (lent c.args.kinds c.args.fields c.args.tables c.args.lengths c.args.commands) _ c.sized.ensures (sym c.room.ensures ∙ c.in-Built.is)
 
 pub returns-in-Built : goal.returns-in-Built
 returns-in-Built c =
-    let r = answered c.before.before.before.before.before.before.before.before.before.before.before.before.before.before.before.before.before in
-    ended-built _ _ r.sized.ensures (sym r.room.ensures ∙ c.in-Built.is) c.fill.ensures
+    ended-built _ _ c.sized.ensures (sym c.room.ensures ∙ c.in-Built.is) c.fill.ensures

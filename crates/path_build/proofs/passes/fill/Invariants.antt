@@ -11,7 +11,7 @@ use Rattle.path_build.proofs.Along.{stored-commands, stored-all, storing-number,
 use Rattle.path_build.proofs.passes.fill.Given as goal
 
 abbrev pub invariant-loop-letter_at : goal.invariant-loop-letter_at
-invariant-loop-letter_at l = Storing (stored_list l.letters l.numbers) l.site l.letter_at l.at (buffers l.count l.initial.kinds l.initial.fields l.initial.tables l.initial.lengths) (buffers l.kinds l.fields l.tables l.lengths l.commands)
+invariant-loop-letter_at l = Storing (stored_list l.letters l.numbers) l.site l.letter_at l.at (buffers l.initial.kinds l.initial.fields l.initial.tables l.initial.lengths l.initial.commands) (buffers l.kinds l.fields l.tables l.lengths l.commands)
 
 abbrev pub decreases-loop-letter_at : goal.decreases-loop-letter_at
 decreases-loop-letter_at l = length l.letters - l.letter_at

@@ -9,15 +9,7 @@ use lib.Dec.{eqb}
 use lib.ListN.{length, get_or, drop}
 use Rattle.path_build.specs.Plain.{one_if, count_in}
 use Rattle.path_build.proofs.Counting.{count_next, count-end, one-most}
-use Rattle.path_build.proofs.plain.count_of.Tie as tie
 use Rattle.path_build.proofs.plain.count_of.Goals as goal
-
--- ---- the points
-abbrev looped : goal.After-one_if-count → (tie.At-loop goal.the-invariant-loop-i goal.the-decreases-loop-i)
-looped c = c.before.before.before
-
-most : (c : goal.After-one_if-count) → let a = (looped c).before.before.args in one_if (eqb (get_or a.letters.now (looped c).loop.i 0) a.letter) ≤ 1
-most c = let a = (looped c).before.before.args in one-most (eqb (get_or a.letters.now (looped c).loop.i 0) a.letter)
 
 -- ---- the answers
 pub loop-i-init : goal.loop-i-init
@@ -25,16 +17,14 @@ loop-i-init c = (omega arith, omega arith, zero-add _)
 
 pub overflow_add-count : goal.overflow_add-count
 overflow_add-count c =
-    let l = looped c in
-    omega (arith, l.loop-i.inv.0, l.loop-i.inv.1, l.pre, c.one_if-count.ensures, most c)
+    omega (arith, c.loop-i.invariant.0, c.loop-i.invariant.1, c.requires, c.one_if-count.ensures, (let most_here : one_if (eqb (get_or c.args.letters.now c.loop-i.i 0) c.args.letter) ≤ 1 = let c.args = c.args in one-most (eqb (get_or c.args.letters.now c.loop-i.i 0) c.args.letter) in most_here))
 
 pub loop-i-preserved : goal.loop-i-preserved
 loop-i-preserved c =
-    let l = looped c in
     (
       omega (arith, c.loop-i-test.true),
-      omega (arith, l.loop-i.inv.1, c.one_if-count.ensures, most c),
-      omega (arith, l.loop-i.inv.2, c.one_if-count.ensures, count_next l.args.letters.now l.args.letter l.loop-i.i c.loop-i-test.true),
+      omega (arith, c.loop-i.invariant.1, c.one_if-count.ensures, (let most_here : one_if (eqb (get_or c.args.letters.now c.loop-i.i 0) c.args.letter) ≤ 1 = let c.args = c.args in one-most (eqb (get_or c.args.letters.now c.loop-i.i 0) c.args.letter) in most_here)),
+      omega (arith, c.loop-i.invariant.2, c.one_if-count.ensures, count_next c.args.letters.now c.args.letter c.loop-i.i c.loop-i-test.true),
     )
 
 pub returns : goal.returns

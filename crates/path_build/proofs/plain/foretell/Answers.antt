@@ -14,19 +14,6 @@ record Small (c : goal.After-count_of-closes) : Type 0 where
   lines : c.count_of-lines.result ≤ 65536
   moves : c.count_of-moves.result ≤ 65536
 
-small : (c : goal.After-count_of-closes) → Small c
-small c =
-    record {
-      closes = omega (arith, c.if-size-gt65536.false, c.count_of-closes.ensures, count_most 90 c.args.letters.now);
-      cubics = omega (arith, c.if-size-gt65536.false, c.count_of-cubics.ensures, count_most 67 c.args.letters.now);
-      quads = omega (arith, c.if-size-gt65536.false, c.count_of-quads.ensures, count_most 81 c.args.letters.now);
-      lines = omega (arith, c.if-size-gt65536.false, c.count_of-lines.ensures, count_most 76 c.args.letters.now);
-      moves = omega (arith, c.if-size-gt65536.false, c.count_of-moves.ensures, count_most 77 c.args.letters.now);
-    }
-
-abbrev counted : goal.Then-all_near → goal.After-count_of-closes
-counted c = c.before.before.before.before
-
 -- ---- the answers
 pub count_of-moves-requires : goal.count_of-moves-requires
 count_of-moves-requires c = omega (arith, c.if-size-gt65536.false)

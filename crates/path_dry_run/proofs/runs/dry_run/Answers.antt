@@ -17,27 +17,20 @@ use Rattle.path_dry_run.proofs.Answering.{run-bad, run_long, run-fast, run-short
 use Rattle.path_dry_run.proofs.runs.dry_run.Tie as tie
 use Rattle.path_dry_run.proofs.runs.dry_run.Goals as goal
 
--- ---- past the speeds
-abbrev checked : tie.Else3 → tie.After-check_path
-checked e = e.before.before.before.before
-
-abbrev start : tie.After-check_path → tie.Start
-start c = c.before.before.before.before.before.before.before.before.before
-
 abbrev path : tie.After-check_path → Buffers
-path c = let a = (start c).args in buffers a.kinds.now a.fields.now a.tables.now a.lengths.now a.commands.now
+path c = buffers c.args.kinds.now c.args.fields.now c.args.tables.now c.args.lengths.now c.args.commands.now
 
-stored : (e : tie.Else3) → is_stored (path (checked e)) ≡ true
+stored : (e : tie.Else3) → is_stored (path e) ≡ true
 stored e = sym e.check_path.ensures ∙ e.if-check_path.true
 
-few : (e : tie.Else3) → length (start (checked e)).args.speeds.now ≤ 36000
+few : (e : tie.Else3) → length e.args.speeds.now ≤ 36000
 few e = e.if-count-gt36000.false
 
-slow : (e : tie.Else3) → fast_of (start (checked e)).args.speeds.now ≤ 100000
+slow : (e : tie.Else3) → fast_of e.args.speeds.now ≤ 100000
 slow e = omega (arith, e.first_fast-fast.ensures, e.if-fast-gt100000.false)
 
-recorded : (e : tie.Else3) → Recorded (start (checked e)).args.speeds.now
-recorded e = record { few = few e; slow = slow-all (start (checked e)).args.speeds.now (slow e) }
+recorded : (e : tie.Else3) → Recorded e.args.speeds.now
+recorded e = record { few = few e; slow = slow-all e.args.speeds.now (slow e) }
 
 -- ---- the answers
 pub returns-then-count-gt36000 : goal.returns-then-count-gt36000
@@ -48,40 +41,39 @@ returns-then-fast-gt100000 c =
     (run-fast _ _ _ _ (sym c.check_path.ensures ∙ c.if-check_path.true) c.if-count-gt36000.false _ c.first_fast-fast.ensures c.if-fast-gt100000.true, tt)
 
 pub returns-then-segments-count : goal.returns-then-segments-count
-returns-then-segments-count c = (run-short-segments _ _ _ _ (stored c.before) (few c.before) (slow c.before) c.if-segments-count.true, tt)
+returns-then-segments-count c = (run-short-segments _ _ _ _ ((let stored_here : is_stored ((buffers c.args.kinds.now c.args.fields.now c.args.tables.now c.args.lengths.now c.args.commands.now)) ≡ true = sym c.check_path.ensures ∙ c.if-check_path.true in stored_here)) ((let few_here : length c.args.speeds.now ≤ 36000 = c.if-count-gt36000.false in few_here)) ((let slow_here : fast_of c.args.speeds.now ≤ 100000 = omega (arith, c.first_fast-fast.ensures, c.if-fast-gt100000.false) in slow_here)) c.if-segments-count.true, tt)
 
 pub returns-then-raws-count : goal.returns-then-raws-count
-returns-then-raws-count c = (run-short-raws _ _ _ _ (stored c.before.before) (few c.before.before) (slow c.before.before) c.if-segments-count.false c.if-raws-count.true, tt)
+returns-then-raws-count c = (run-short-raws _ _ _ _ ((let stored_here : is_stored ((buffers c.args.kinds.now c.args.fields.now c.args.tables.now c.args.lengths.now c.args.commands.now)) ≡ true = sym c.check_path.ensures ∙ c.if-check_path.true in stored_here)) ((let few_here : length c.args.speeds.now ≤ 36000 = c.if-count-gt36000.false in few_here)) ((let slow_here : fast_of c.args.speeds.now ≤ 100000 = omega (arith, c.first_fast-fast.ensures, c.if-fast-gt100000.false) in slow_here)) c.if-segments-count.false c.if-raws-count.true, tt)
 
 pub returns-then-kinds-eq0 : goal.returns-then-kinds-eq0
 returns-then-kinds-eq0 c =
     (
-      run-filled _ _ _ _ (stored c.before.before.before.before.before.before.before.before.before.before.before) (few c.before.before.before.before.before.before.before.before.before.before.before) (slow c.before.before.before.before.before.before.before.before.before.before.before) _ _ c.if-segments-count.false c.if-raws-count.false (filled_none _ _ c.if-kinds-eq0.true _ _ _ _ c.fill_none.ensures c.fill_zeros.ensures),
+      run-filled _ _ _ _ ((let stored_here : is_stored ((buffers c.args.kinds.now c.args.fields.now c.args.tables.now c.args.lengths.now c.args.commands.now)) ≡ true = sym c.check_path.ensures ∙ c.if-check_path.true in stored_here)) ((let few_here : length c.args.speeds.now ≤ 36000 = c.if-count-gt36000.false in few_here)) ((let slow_here : fast_of c.args.speeds.now ≤ 100000 = omega (arith, c.first_fast-fast.ensures, c.if-fast-gt100000.false) in slow_here)) _ _ c.if-segments-count.false c.if-raws-count.false (filled_none _ _ c.if-kinds-eq0.true _ _ _ _ c.fill_none.ensures c.fill_zeros.ensures),
       λ some. absurd (omega (arith, c.if-kinds-eq0.true, some)),
     )
 
 pub fill_seconds-requires : goal.fill_seconds-requires
 fill_seconds-requires c =
     record {
-      path = a-flight (stored-rule _ (passed (stored c.before.before.before.before.before))) (omega (arith, c.if-kinds-eq0.false));
-      recorded = recorded c.before.before.before.before.before;
+      path = a-flight (stored-rule _ (passed ((let stored_here : is_stored ((buffers c.args.kinds.now c.args.fields.now c.args.tables.now c.args.lengths.now c.args.commands.now)) ≡ true = sym c.check_path.ensures ∙ c.if-check_path.true in stored_here)))) (omega (arith, c.if-kinds-eq0.false));
+      recorded = (let recorded_here : Recorded c.args.speeds.now = record { few = (let few_here : length c.args.speeds.now ≤ 36000 = c.if-count-gt36000.false in few_here); slow = slow-all c.args.speeds.now ((let slow_here : fast_of c.args.speeds.now ≤ 100000 = omega (arith, c.first_fast-fast.ensures, c.if-fast-gt100000.false) in slow_here)) } in recorded_here);
       segments_room = c.if-segments-count.false;
       raws_room = c.if-raws-count.false;
     }
 
 pub returns-then-check_path : goal.returns-then-check_path
 returns-then-check_path c =
-    let check = checked c.before.before.before.before.before.before.before.before.before.before in
     (
-      run-filled _ _ _ _ (stored c.before.before.before.before.before.before.before.before.before.before) (few c.before.before.before.before.before.before.before.before.before.before) (slow c.before.before.before.before.before.before.before.before.before.before) _ _ c.if-segments-count.false c.if-raws-count.false c.fill_seconds.ensures,
+      run-filled _ _ _ _ ((let stored_here : is_stored ((buffers c.args.kinds.now c.args.fields.now c.args.tables.now c.args.lengths.now c.args.commands.now)) ≡ true = sym c.check_path.ensures ∙ c.if-check_path.true in stored_here)) ((let few_here : length c.args.speeds.now ≤ 36000 = c.if-count-gt36000.false in few_here)) ((let slow_here : fast_of c.args.speeds.now ≤ 100000 = omega (arith, c.first_fast-fast.ensures, c.if-fast-gt100000.false) in slow_here)) _ _ c.if-segments-count.false c.if-raws-count.false c.fill_seconds.ensures,
       λ some.
           seconds-in-order c.fill_seconds.ensures some
           (record {
-            stored = stored-rule _ (passed (stored c.before.before.before.before.before.before.before.before.before.before));
-            table_values = check.shared_slice_known-3-1.given;
-            length_values = check.shared_slice_known-4-1.given;
+            stored = stored-rule _ (passed ((let stored_here : is_stored ((buffers c.args.kinds.now c.args.fields.now c.args.tables.now c.args.lengths.now c.args.commands.now)) ≡ true = sym c.check_path.ensures ∙ c.if-check_path.true in stored_here)));
+            table_values = c.shared_slice_known-3-1.given;
+            length_values = c.shared_slice_known-4-1.given;
           })
-          (recorded c.before.before.before.before.before.before.before.before.before.before),
+          ((let recorded_here : Recorded c.args.speeds.now = record { few = (let few_here : length c.args.speeds.now ≤ 36000 = c.if-count-gt36000.false in few_here); slow = slow-all c.args.speeds.now ((let slow_here : fast_of c.args.speeds.now ≤ 100000 = omega (arith, c.first_fast-fast.ensures, c.if-fast-gt100000.false) in slow_here)) } in recorded_here)),
     )
 
 pub returns : goal.returns

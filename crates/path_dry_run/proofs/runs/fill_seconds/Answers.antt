@@ -32,76 +32,20 @@ use Rattle.path_dry_run.proofs.runs.fill_seconds.Goals as goal
 abbrev Loop : Type 0
 Loop = (tie.At-loop goal.the-invariant-loop-i goal.the-decreases-loop-i)
 
-abbrev start : Loop → (tie.Start goal.the-invariant-loop-i goal.the-decreases-loop-i)
-start l = l.before.before.before.before.before.before.before.before.before.before
-
 abbrev path : Loop → Buffers
-path l = let a = (start l).args in buffers a.kinds.now a.fields.now a.tables.now a.lengths.now a.commands.now
-
-abbrev speeds_of : Loop → List ℕ
-speeds_of l = (start l).args.speeds.now
-
-count-is : (l : Loop) → length (targets_of (speeds_of l)) ≡ length (speeds_of l)
-count-is l = targets-length 0 (speeds_of l)
-
-segments-size : (l : Loop) → length l.loop-i.segments ≡ length (start l).args.segments.now
-segments-size l =
-    let n = count-is l in
-    let room = (start l).pre.segments_room in
-    ap length l.loop-i.inv.4 ∙ each-size (segment_reached (path l)) (targets_of (speeds_of l)) (start l).args.segments.now l.loop-i.i (omega arith) (omega arith)
-
-raws-size : (l : Loop) → length l.loop-i.raws ≡ length (start l).args.raws.now
-raws-size l =
-    let n = count-is l in
-    let room = (start l).pre.raws_room in
-    ap length l.loop-i.inv.5 ∙ each-size (raw_reached (path l)) (targets_of (speeds_of l)) (start l).args.raws.now l.loop-i.i (omega arith) (omega arith)
+path l = buffers l.args.kinds.now l.args.fields.now l.args.tables.now l.args.lengths.now l.args.commands.now
 
 -- within the loop: one more second is left, and the sum with its speed is small enough
 abbrev Inside : Type 0
 Inside = goal.In-loop-i
 
 more : (t : Inside) → t.loop-i.i < length (speeds_of t.before)
-more t = t.loop-i-test.taken
-
-few : (t : Inside) → length (speeds_of t.before) ≤ 36000
-few t = (start t.before).pre.recorded.few
-
-abbrev so_far : Inside → ℕ
-so_far t = t.loop-i.sum + get_or (speeds_of t.before) t.loop-i.i 0
-
-next : (t : Inside) → so_far t ≡ sum_of (take (suc t.loop-i.i) (speeds_of t.before))
-next t =
-    ap (λ (s : ℕ). s + get_or (speeds_of t.before) t.loop-i.i 0) t.loop-i.inv.1 ∙ sym (sum-next (speeds_of t.before) t.loop-i.i (more t))
+more t = t.loop-i-test.true
 
 small : (t : Inside) → so_far t ≤ 3600000000
-small t = omega (arith, next t, sum-few (start t.before).pre.recorded (suc t.loop-i.i) (more t))
+small t = omega (arith, next t, sum-few t.requires.recorded (suc t.loop-i.i) (more t))
 
 -- past the lookup
-abbrev Reached : Type 0
-Reached = (tie.After-reach goal.the-invariant-loop-i goal.the-decreases-loop-i)
-
-abbrev test : Reached → Inside
-test r = r.before.before.before
-
-target-there : (r : Reached) → r.metres.result ≡ get_or (targets_of (speeds_of (test r).before)) (test r).before.loop.i nan
-target-there r =
-    let t = test r in
-    r.metres.ensures ∙ ap metres_of (next t) ∙ sym (target_is (speeds_of t.before) t.loop-i.i (more t))
-
-some : (r : Reached) → 0 < length (start (test r).before).args.kinds.now
-some r = (start (test r).before).pre.path.some
-
-stands : (r : Reached) → r.reach-there.result.at.segment ≡ (spot_toward (start (test r).before).args.lengths.now r.metres.result).segment
-stands r = (cursor-own (start (test r).before).args.kinds.now _ r.reach-there.ensures.is).0
-
-stands-inside : (r : Reached) → r.reach-there.result.at.segment < length (start (test r).before).args.kinds.now
-stands-inside r = omega (arith, stands r, r.reach-there.ensures.inside)
-
-segment-there : (r : Reached) → r.reach-there.result.at.segment ≡ segment_reached (path (test r).before) (get_or (targets_of (speeds_of (test r).before)) (test r).before.loop.i nan)
-segment-there r = stands r ∙ sym (segment-some (path (test r).before) r.metres.result (some r)) ∙ ap (segment_reached (path (test r).before)) (target-there r)
-
-raw-there : (r : Reached) → r.reach-there.result.raw.value ≡ raw_reached (path (test r).before) (get_or (targets_of (speeds_of (test r).before)) (test r).before.loop.i nan)
-raw-there r = r.reach-there.ensures.there ∙ sym (raw-some (path (test r).before) r.metres.result (some r)) ∙ ap (raw_reached (path (test r).before)) (target-there r)
 
 -- ---- the answers
 pub loop-i-init : goal.loop-i-init
@@ -111,83 +55,73 @@ loop-i-init c =
     (omega arith, refl, own.1, omega (arith, own.0, c.requires.path.some), refl, refl)
 
 pub offset_bounds-speeds-i : goal.offset_bounds-speeds-i
-offset_bounds-speeds-i c = omega (arith, more c, few c)
+offset_bounds-speeds-i c = omega (arith, (let more_here : c.loop-i.i < length (c.args.speeds.now) = c.loop-i-test.true in more_here), (let few_here : length (c.args.speeds.now) ≤ 36000 = c.requires.recorded.few in few_here))
 
 pub bounds-speeds-i : goal.bounds-speeds-i
-bounds-speeds-i c = omega (arith, more c.before)
+bounds-speeds-i c = omega (arith, (let more_here : c.loop-i.i < length (c.args.speeds.now) = c.loop-i-test.true in more_here))
 
 pub overflow_add-sum : goal.overflow_add-sum
-overflow_add-sum c = record { fits = omega (arith, small c.before) }
+overflow_add-sum c = record { fits = omega (arith, (let small_here : (c.loop-i.sum + get_or (c.args.speeds.now) c.loop-i.i 0) ≤ 3600000000 = omega (arith, (let next_here : (c.loop-i.sum + get_or (c.args.speeds.now) c.loop-i.i 0) ≡ sum_of (take (suc c.loop-i.i) (c.args.speeds.now)) = ap (λ (s : ℕ). s + get_or (c.args.speeds.now) c.loop-i.i 0) c.loop-i.invariant.1 ∙ sym (sum-next (c.args.speeds.now) c.loop-i.i ((let more_here : c.loop-i.i < length (c.args.speeds.now) = c.loop-i-test.true in more_here))) in next_here), sum-few c.requires.recorded (suc c.loop-i.i) ((let more_here : c.loop-i.i < length (c.args.speeds.now) = c.loop-i-test.true in more_here))) in small_here)) }
 
 pub reach-there-requires : goal.reach-there-requires
 reach-there-requires c =
-    let n = so_far c.before.before in (
-      record { path = some-place (start c.before.before.before).requires.path; is = c.loop-i.invariant.2; inside = c.loop-i.invariant.3 },
-      subst (λ (x : Float). T (real x)) (sym c.metres.ensures) (nonneg-real (metres_of n) (metres-held n (omega (arith, small c.before.before))).nn),
+    let n = (c.loop-i.sum + get_or (c.args.speeds.now) c.loop-i.i 0) in (
+      record { path = some-place c.requires.path; is = c.loop-i.invariant.2; inside = c.loop-i.invariant.3 },
+      subst (λ (x : Float). T (real x)) (sym c.metres.ensures) (nonneg-real (metres_of n) (metres-held n (omega (arith, (let small_here : (c.loop-i.sum + get_or (c.args.speeds.now) c.loop-i.i 0) ≤ 3600000000 = omega (arith, (let next_here : (c.loop-i.sum + get_or (c.args.speeds.now) c.loop-i.i 0) ≡ sum_of (take (suc c.loop-i.i) (c.args.speeds.now)) = ap (λ (s : ℕ). s + get_or (c.args.speeds.now) c.loop-i.i 0) c.loop-i.invariant.1 ∙ sym (sum-next (c.args.speeds.now) c.loop-i.i ((let more_here : c.loop-i.i < length (c.args.speeds.now) = c.loop-i-test.true in more_here))) in next_here), sum-few c.requires.recorded (suc c.loop-i.i) ((let more_here : c.loop-i.i < length (c.args.speeds.now) = c.loop-i-test.true in more_here))) in small_here)))).nn),
     )
-
-abbrev found : goal.After-struct_known-1 → Reached
-found c = c.before.before.before
 
 pub overflow_cast-segments : goal.overflow_cast-segments
 overflow_cast-segments c =
-    let r = found c in
-    let most = (start (test r).before).pre.path.path.few in
-    record { fits = omega (arith, stands-inside r) }
+    record { fits = omega (arith, (let stands_inside_here : c.reach-there.result.at.segment < length c.args.kinds.now = omega (arith, (let stands_here : c.reach-there.result.at.segment ≡ (spot_toward c.args.lengths.now c.metres.result).segment = (cursor-own c.args.kinds.now _ c.reach-there.ensures.is).0 in stands_here), c.reach-there.ensures.inside) in stands_inside_here)) }
 
 pub offset_bounds-segments-i : goal.offset_bounds-segments-i
-offset_bounds-segments-i c = let t = test (found c) in omega (arith, more t, few t)
+offset_bounds-segments-i c = omega (arith, (let more_here : c.loop-i.i < length (c.args.speeds.now) = c.loop-i-test.true in more_here), (let few_here : length (c.args.speeds.now) ≤ 36000 = c.requires.recorded.few in few_here))
 
 pub bounds-segments-i : goal.bounds-segments-i
-bounds-segments-i c = let t = test (found c) in omega (arith, more t, segments-size t.before, (start t.before).pre.segments_room)
-
--- after the lookup
-abbrev ended : goal.After-tidy → Reached
-ended c = found c.before.before
+bounds-segments-i c = omega (arith, (let more_here : c.loop-i.i < length (c.args.speeds.now) = c.loop-i-test.true in more_here), (let segments_size_here : length c.loop-i.segments ≡ length c.args.segments.now = let n = (let count_is_here : length (targets_of (c.args.speeds.now)) ≡ length (c.args.speeds.now) = targets-length 0 (c.args.speeds.now) in count_is_here) in
+    ap length c.loop-i.invariant.4 ∙ each-size (segment_reached ((buffers c.args.kinds.now c.args.fields.now c.args.tables.now c.args.lengths.now c.args.commands.now))) (targets_of (c.args.speeds.now)) c.args.segments.now c.loop-i.i (omega arith) (omega arith) in segments_size_here), c.requires.segments_room)
 
 pub offset_bounds-raws-i : goal.offset_bounds-raws-i
-offset_bounds-raws-i c = let t = test (ended c) in omega (arith, more t, few t)
+offset_bounds-raws-i c = omega (arith, (let more_here : c.loop-i.i < length (c.args.speeds.now) = c.loop-i-test.true in more_here), (let few_here : length (c.args.speeds.now) ≤ 36000 = c.requires.recorded.few in few_here))
 
 pub bounds-raws-i : goal.bounds-raws-i
-bounds-raws-i c = let t = test (ended c) in omega (arith, more t, raws-size t.before, (start t.before).pre.raws_room)
+bounds-raws-i c = omega (arith, (let more_here : c.loop-i.i < length (c.args.speeds.now) = c.loop-i-test.true in more_here), (let raws_size_here : length c.loop-i.raws ≡ length c.args.raws.now = let n = (let count_is_here : length (targets_of (c.args.speeds.now)) ≡ length (c.args.speeds.now) = targets-length 0 (c.args.speeds.now) in count_is_here) in
+    ap length c.loop-i.invariant.5 ∙ each-size (raw_reached ((buffers c.args.kinds.now c.args.fields.now c.args.tables.now c.args.lengths.now c.args.commands.now))) (targets_of (c.args.speeds.now)) c.args.raws.now c.loop-i.i (omega arith) (omega arith) in raws_size_here), c.requires.raws_room)
 
 pub overflow_add-i : goal.overflow_add-i
-overflow_add-i c = let t = test (ended c) in omega (arith, more t, few t)
+overflow_add-i c = omega (arith, (let more_here : c.loop-i.i < length (c.args.speeds.now) = c.loop-i-test.true in more_here), (let few_here : length (c.args.speeds.now) ≤ 36000 = c.requires.recorded.few in few_here))
 
 pub loop-i-smaller : goal.loop-i-smaller
-loop-i-smaller c = omega (arith, more (test (ended c)))
+loop-i-smaller c = omega (arith, (let more_here : c.loop-i.i < length (c.args.speeds.now) = c.loop-i-test.true in more_here))
 
 pub loop-i-preserved : goal.loop-i-preserved
 loop-i-preserved c =
-    let r = ended c in
-    let t = test r in
-    let a = (start t.before).args in
-    let pre = (start t.before).pre in
-    let n = count-is t.before in
-    let upto = more t in
-    let own = cursor-own a.kinds.now _ r.reach-there.ensures.is in
-    let one : suc t.loop-i.i ≡ t.loop-i.i + 1 = omega arith in (
+    let n = (let count_is_here : length (targets_of (c.args.speeds.now)) ≡ length (c.args.speeds.now) = targets-length 0 (c.args.speeds.now) in count_is_here) in
+    let upto = (let more_here : c.loop-i.i < length (c.args.speeds.now) = c.loop-i-test.true in more_here) in
+    let own = cursor-own c.args.kinds.now _ c.reach-there.ensures.is in
+    let one : suc c.loop-i.i ≡ c.loop-i.i + 1 = omega arith in (
       omega (arith, upto),
-      next t ∙ ap (λ (k : ℕ). sum_of (take k (speeds_of t.before))) one,
+      (let next_here : (c.loop-i.sum + get_or (c.args.speeds.now) c.loop-i.i 0) ≡ sum_of (take (suc c.loop-i.i) (c.args.speeds.now)) = ap (λ (s : ℕ). s + get_or (c.args.speeds.now) c.loop-i.i 0) c.loop-i.invariant.1 ∙ sym (sum-next (c.args.speeds.now) c.loop-i.i ((let more_here : c.loop-i.i < length (c.args.speeds.now) = c.loop-i-test.true in more_here))) in next_here) ∙ ap (λ (k : ℕ). sum_of (take k (c.args.speeds.now))) one,
       own.1,
-      stands-inside r,
-      each_next (segment_reached (path t.before)) (targets_of (speeds_of t.before)) a.segments.now t.loop-i.segments t.loop-i.i _ (omega arith) (omega arith) t.loop-i.inv.4 (segment-there r),
-      each_next (raw_reached (path t.before)) (targets_of (speeds_of t.before)) a.raws.now t.loop-i.raws t.loop-i.i _ (omega arith) (let pre.segments_room = pre.raws_room in omega arith) t.loop-i.inv.5
-          (c.tidy.ensures ∙ c.number_of.ensures ∙ raw-there r),
+      (let stands_inside_here : c.reach-there.result.at.segment < length c.args.kinds.now = omega (arith, (let stands_here : c.reach-there.result.at.segment ≡ (spot_toward c.args.lengths.now c.metres.result).segment = (cursor-own c.args.kinds.now _ c.reach-there.ensures.is).0 in stands_here), c.reach-there.ensures.inside) in stands_inside_here),
+      each_next (segment_reached ((buffers c.args.kinds.now c.args.fields.now c.args.tables.now c.args.lengths.now c.args.commands.now))) (targets_of (c.args.speeds.now)) c.args.segments.now c.loop-i.segments c.loop-i.i _ (omega arith) (omega arith) c.loop-i.invariant.4 ((let segment_there_here : c.reach-there.result.at.segment ≡ segment_reached ((buffers c.args.kinds.now c.args.fields.now c.args.tables.now c.args.lengths.now c.args.commands.now)) (get_or (targets_of (c.args.speeds.now)) c.loop-i.i nan) = (let stands_here : c.reach-there.result.at.segment ≡ (spot_toward c.args.lengths.now c.metres.result).segment = (cursor-own c.args.kinds.now _ c.reach-there.ensures.is).0 in stands_here) ∙ sym (segment-some ((buffers c.args.kinds.now c.args.fields.now c.args.tables.now c.args.lengths.now c.args.commands.now)) c.metres.result ((let some_here : 0 < length c.args.kinds.now = c.requires.path.some in some_here))) ∙ ap (segment_reached ((buffers c.args.kinds.now c.args.fields.now c.args.tables.now c.args.lengths.now c.args.commands.now))) ((let target_there_here : c.metres.result ≡ get_or (targets_of (c.args.speeds.now)) c.loop-i.i nan = c.metres.ensures ∙ ap metres_of ((let next_here : (c.loop-i.sum + get_or (c.args.speeds.now) c.loop-i.i 0) ≡ sum_of (take (suc c.loop-i.i) (c.args.speeds.now)) = ap (λ (s : ℕ). s + get_or (c.args.speeds.now) c.loop-i.i 0) c.loop-i.invariant.1 ∙ sym (sum-next (c.args.speeds.now) c.loop-i.i ((let more_here : c.loop-i.i < length (c.args.speeds.now) = c.loop-i-test.true in more_here))) in next_here)) ∙ sym (target_is (c.args.speeds.now) c.loop-i.i ((let more_here : c.loop-i.i < length (c.args.speeds.now) = c.loop-i-test.true in more_here))) in target_there_here)) in segment_there_here)),
+      each_next (raw_reached ((buffers c.args.kinds.now c.args.fields.now c.args.tables.now c.args.lengths.now c.args.commands.now))) (targets_of (c.args.speeds.now)) c.args.raws.now c.loop-i.raws c.loop-i.i _ (omega arith) (let c.requires.segments_room = c.requires.raws_room in omega arith) c.loop-i.invariant.5
+          (c.tidy.ensures ∙ c.number_of.ensures ∙ (let raw_there_here : c.reach-there.result.raw.value ≡ raw_reached ((buffers c.args.kinds.now c.args.fields.now c.args.tables.now c.args.lengths.now c.args.commands.now)) (get_or (targets_of (c.args.speeds.now)) c.loop-i.i nan) = c.reach-there.ensures.there ∙ sym (raw-some ((buffers c.args.kinds.now c.args.fields.now c.args.tables.now c.args.lengths.now c.args.commands.now)) c.metres.result ((let some_here : 0 < length c.args.kinds.now = c.requires.path.some in some_here))) ∙ ap (raw_reached ((buffers c.args.kinds.now c.args.fields.now c.args.tables.now c.args.lengths.now c.args.commands.now))) ((let target_there_here : c.metres.result ≡ get_or (targets_of (c.args.speeds.now)) c.loop-i.i nan = c.metres.ensures ∙ ap metres_of ((let next_here : (c.loop-i.sum + get_or (c.args.speeds.now) c.loop-i.i 0) ≡ sum_of (take (suc c.loop-i.i) (c.args.speeds.now)) = ap (λ (s : ℕ). s + get_or (c.args.speeds.now) c.loop-i.i 0) c.loop-i.invariant.1 ∙ sym (sum-next (c.args.speeds.now) c.loop-i.i ((let more_here : c.loop-i.i < length (c.args.speeds.now) = c.loop-i-test.true in more_here))) in next_here)) ∙ sym (target_is (c.args.speeds.now) c.loop-i.i ((let more_here : c.loop-i.i < length (c.args.speeds.now) = c.loop-i-test.true in more_here))) in target_there_here)) in raw_there_here)),
     )
 
 pub shape_of-segments : goal.shape_of-segments
-shape_of-segments c = segments-size c.before
+shape_of-segments c = (let segments_size_here : length c.loop-i.segments ≡ length c.args.segments.now = let n = (let count_is_here : length (targets_of (c.args.speeds.now)) ≡ length (c.args.speeds.now) = targets-length 0 (c.args.speeds.now) in count_is_here) in
+    ap length c.loop-i.invariant.4 ∙ each-size (segment_reached ((buffers c.args.kinds.now c.args.fields.now c.args.tables.now c.args.lengths.now c.args.commands.now))) (targets_of (c.args.speeds.now)) c.args.segments.now c.loop-i.i (omega arith) (omega arith) in segments_size_here)
 
 pub shape_of-raws : goal.shape_of-raws
-shape_of-raws c = raws-size c.before
+shape_of-raws c = (let raws_size_here : length c.loop-i.raws ≡ length c.args.raws.now = let n = (let count_is_here : length (targets_of (c.args.speeds.now)) ≡ length (c.args.speeds.now) = targets-length 0 (c.args.speeds.now) in count_is_here) in
+    ap length c.loop-i.invariant.5 ∙ each-size (raw_reached ((buffers c.args.kinds.now c.args.fields.now c.args.tables.now c.args.lengths.now c.args.commands.now))) (targets_of (c.args.speeds.now)) c.args.raws.now c.loop-i.i (omega arith) (omega arith) in raws_size_here)
 
 pub returns : goal.returns
 returns c =
-    let a = (start c.before).args in
-    let n = count-is c.before in
-    let all : take c.loop-i.i (targets_of (speeds_of c.before)) ≡ targets_of (speeds_of c.before) = take_all c.loop-i.i (targets_of (speeds_of c.before)) (omega arith) in
+    let n = (let count_is_here : length (targets_of (c.args.speeds.now)) ≡ length (c.args.speeds.now) = targets-length 0 (c.args.speeds.now) in count_is_here) in
+    let all : take c.loop-i.i (targets_of (c.args.speeds.now)) ≡ targets_of (c.args.speeds.now) = take_all c.loop-i.i (targets_of (c.args.speeds.now)) (omega arith) in
     record {
-      segments_are = c.loop-i.invariant.4 ∙ ap (λ (ts : List Float). written (each (segment_reached (path c.before)) ts) a.segments.now) all;
-      raws_are = c.loop-i.invariant.5 ∙ ap (λ (ts : List Float). written (each (raw_reached (path c.before)) ts) a.raws.now) all;
+      segments_are = c.loop-i.invariant.4 ∙ ap (λ (ts : List Float). written (each (segment_reached ((buffers c.args.kinds.now c.args.fields.now c.args.tables.now c.args.lengths.now c.args.commands.now))) ts) c.args.segments.now) all;
+      raws_are = c.loop-i.invariant.5 ∙ ap (λ (ts : List Float). written (each (raw_reached ((buffers c.args.kinds.now c.args.fields.now c.args.tables.now c.args.lengths.now c.args.commands.now))) ts) c.args.raws.now) all;
     }

@@ -3,12 +3,7 @@ use borrow.Author.Rules.{rules}
 use Prim.Native.Nat.{◌/◌, ◌^◌, ◌<◌}
 use native.Mathlib.Omega.{arith}
 use Rattle.path_marks.proofs.Marking.{mark-lt, mark-le, mark-whole, mark-moves}
-use Rattle.path_marks.proofs.marks.nearest.Tie as tie
 use Rattle.path_marks.proofs.marks.nearest.Goals as goal
-
--- the mark is one of the 256
-among : (s : tie.Start) → s.args.segment / 2 ^ s.args.shift < 256
-among s = mark-lt s.requires
 
 pub overflow_sub-segment : goal.overflow_sub-segment
 overflow_sub-segment c = omega (arith, mark-le c.requires, mark-whole c.requires)
@@ -17,16 +12,16 @@ pub returns-then-distance-segment : goal.returns-then-distance-segment
 returns-then-distance-segment c = c.requires.move
 
 pub offset_bounds-fields-k : goal.offset_bounds-fields-k
-offset_bounds-fields-k c = omega (arith, among c.before.before.before)
+offset_bounds-fields-k c = omega (arith, (let among_here : c.args.segment / 2 ^ c.args.shift < 256 = mark-lt c.requires in among_here))
 
 pub bounds-fields-k : goal.bounds-fields-k
-bounds-fields-k c = omega (arith, among c.before.before.before)
+bounds-fields-k c = omega (arith, (let among_here : c.args.segment / 2 ^ c.args.shift < 256 = mark-lt c.requires in among_here))
 
 pub offset_bounds-tables-k : goal.offset_bounds-tables-k
-offset_bounds-tables-k c = omega (arith, among c.before.before.before.before.before)
+offset_bounds-tables-k c = omega (arith, (let among_here : c.args.segment / 2 ^ c.args.shift < 256 = mark-lt c.requires in among_here))
 
 pub bounds-tables-k : goal.bounds-tables-k
-bounds-tables-k c = omega (arith, among c.before.before.before.before.before)
+bounds-tables-k c = omega (arith, (let among_here : c.args.segment / 2 ^ c.args.shift < 256 = mark-lt c.requires in among_here))
 
 pub returns : goal.returns
 returns c =

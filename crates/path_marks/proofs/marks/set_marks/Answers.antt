@@ -14,65 +14,56 @@ use Rattle.path_marks.proofs.marks.set_marks.Goals as goal
 abbrev Loop : Type 0
 Loop = (tie.At-loop goal.the-invariant-loop-at goal.the-decreases-loop-at)
 
-abbrev start : Loop → (tie.Start goal.the-invariant-loop-at goal.the-decreases-loop-at)
-start l = l.before.before.before.before
-
-few : (l : Loop) → length (start l).args.kinds.now ≤ 65536
-few l = (start l).pre.few
-
-reach : (l : Loop) → Reach (length (start l).args.kinds.now) l.shift_for-shift.result
-reach l = l.shift_for-shift.ensures
-
-room : (l : Loop) → l.loop-at.k < 256
-room l = setting-lt (few l) l.loop-at.inv (reach l)
+few : (l : Loop) → length l.args.kinds.now ≤ 65536
+few l = l.requires.few
 
 -- ---- the answers
 pub loop-at-init : goal.loop-at-init
 loop-at-init c = setting-first _ c.requires c.first_cursor-at.ensures
 
 pub overflow_cast-fields : goal.overflow_cast-fields
-overflow_cast-fields c = omega (arith, setting-fields (few c.before) c.loop-at.invariant)
+overflow_cast-fields c = omega (arith, setting-fields ((let few_here : length c.args.kinds.now ≤ 65536 = c.requires.few in few_here)) c.loop-at.invariant)
 
 pub offset_bounds-fields-k : goal.offset_bounds-fields-k
-offset_bounds-fields-k c = omega (arith, room c.before)
+offset_bounds-fields-k c = omega (arith, (let room_here : c.loop-at.k < 256 = setting-lt ((let few_here : length c.args.kinds.now ≤ 65536 = c.requires.few in few_here)) c.loop-at.invariant ((let reach_here : Reach (length c.args.kinds.now) c.shift_for-shift.result = c.shift_for-shift.ensures in reach_here)) in room_here))
 
 pub bounds-fields-k : goal.bounds-fields-k
-bounds-fields-k c = omega (arith, room c.before)
+bounds-fields-k c = omega (arith, (let room_here : c.loop-at.k < 256 = setting-lt ((let few_here : length c.args.kinds.now ≤ 65536 = c.requires.few in few_here)) c.loop-at.invariant ((let reach_here : Reach (length c.args.kinds.now) c.shift_for-shift.result = c.shift_for-shift.ensures in reach_here)) in room_here))
 
 pub overflow_cast-tables : goal.overflow_cast-tables
-overflow_cast-tables c = omega (arith, setting-tables (few c.before.before) c.loop-at.invariant)
+overflow_cast-tables c = omega (arith, setting-tables ((let few_here : length c.args.kinds.now ≤ 65536 = c.requires.few in few_here)) c.loop-at.invariant)
 
 pub offset_bounds-tables-k : goal.offset_bounds-tables-k
-offset_bounds-tables-k c = omega (arith, room c.before.before)
+offset_bounds-tables-k c = omega (arith, (let room_here : c.loop-at.k < 256 = setting-lt ((let few_here : length c.args.kinds.now ≤ 65536 = c.requires.few in few_here)) c.loop-at.invariant ((let reach_here : Reach (length c.args.kinds.now) c.shift_for-shift.result = c.shift_for-shift.ensures in reach_here)) in room_here))
 
 pub bounds-tables-k : goal.bounds-tables-k
-bounds-tables-k c = omega (arith, room c.before.before)
+bounds-tables-k c = omega (arith, (let room_here : c.loop-at.k < 256 = setting-lt ((let few_here : length c.args.kinds.now ≤ 65536 = c.requires.few in few_here)) c.loop-at.invariant ((let reach_here : Reach (length c.args.kinds.now) c.shift_for-shift.result = c.shift_for-shift.ensures in reach_here)) in room_here))
 
 pub overflow_sub-count : goal.overflow_sub-count
-overflow_sub-count c = omega (arith, c.loop-at.invariant.inside, (setting-own (few c.before.before.before) c.loop-at.invariant).0)
+overflow_sub-count c = omega (arith, c.loop-at.invariant.inside, (setting-own ((let few_here : length c.args.kinds.now ≤ 65536 = c.requires.few in few_here)) c.loop-at.invariant).0)
 
 pub returns-then-count-at : goal.returns-then-count-at
 returns-then-count-at c =
-    setting-done (few c.before.before.before.before) c.loop-at.invariant (reach c.before.before.before.before) (setting-stored (few c.before.before.before.before) c.loop-at.invariant (room c.before.before.before.before)) (omega (arith, c.if-count-at.true, apart-is (reach c.before.before.before.before)))
+    setting-done ((let few_here : length c.args.kinds.now ≤ 65536 = c.requires.few in few_here)) c.loop-at.invariant ((let reach_here : Reach (length c.args.kinds.now) c.shift_for-shift.result = c.shift_for-shift.ensures in reach_here)) (setting-stored ((let few_here : length c.args.kinds.now ≤ 65536 = c.requires.few in few_here)) c.loop-at.invariant ((let room_here : c.loop-at.k < 256 = setting-lt ((let few_here : length c.args.kinds.now ≤ 65536 = c.requires.few in few_here)) c.loop-at.invariant ((let reach_here : Reach (length c.args.kinds.now) c.shift_for-shift.result = c.shift_for-shift.ensures in reach_here)) in room_here))) (omega (arith, c.if-count-at.true, apart-is ((let reach_here : Reach (length c.args.kinds.now) c.shift_for-shift.result = c.shift_for-shift.ensures in reach_here))))
 
 pub overflow_add-at : goal.overflow_add-at
 overflow_add-at c =
-    omega (arith, c.if-count-at.false, few c.before.before.before.before.before)
+    omega (arith, c.if-count-at.false, (let few_here : length c.args.kinds.now ≤ 65536 = c.requires.few in few_here))
 
 pub forward-at-requires : goal.forward-at-requires
 forward-at-requires c =
-    let own = setting-own (few c.before.before.before.before.before) c.loop-at.invariant in
-    record { few = few c.before.before.before.before.before; is = own.1; later = omega arith; inside = omega (arith, c.if-count-at.false) }
+    let own = setting-own ((let few_here : length c.args.kinds.now ≤ 65536 = c.requires.few in few_here)) c.loop-at.invariant in
+    record { few = (let few_here : length c.args.kinds.now ≤ 65536 = c.requires.few in few_here); is = own.1; later = omega arith; inside = omega (arith, c.if-count-at.false) }
 
 pub overflow_add-k : goal.overflow_add-k
-overflow_add-k c = omega (arith, room c.before.before.before.before.before.before)
+overflow_add-k c = omega (arith, (let room_here : c.loop-at.k < 256 = setting-lt ((let few_here : length c.args.kinds.now ≤ 65536 = c.requires.few in few_here)) c.loop-at.invariant ((let reach_here : Reach (length c.args.kinds.now) c.shift_for-shift.result = c.shift_for-shift.ensures in reach_here)) in room_here))
 
 pub loop-at-smaller : goal.loop-at-smaller
 loop-at-smaller c =
     let own = (cursor-own _ _ c.forward-at.ensures).0 in
-    omega (arith, c.if-count-at.false, apart-is (reach c.before.before.before.before.before.before), pow_pos c.shift_for-shift.result)
+    omega (arith, c.if-count-at.false, apart-is ((let reach_here : Reach (length c.args.kinds.now) c.shift_for-shift.result = c.shift_for-shift.ensures in reach_here)), pow_pos c.shift_for-shift.result)
 
 pub loop-at-preserved : goal.loop-at-preserved
 loop-at-preserved c =
-    let stored = setting-stored (few c.before.before.before.before.before.before) c.loop-at.invariant (room c.before.before.before.before.before.before) in
-    setting-next (few c.before.before.before.before.before.before) c.loop-at.invariant stored (omega (arith, c.if-count-at.false, apart-is (reach c.before.before.before.before.before.before))) (rw (apart-is (reach c.before.before.before.before.before.before)) at c.forward-at.ensures)
+    let stored = setting-stored ((let few_here : length c.args.kinds.now ≤ 65536 = c.requires.few in few_here)) c.loop-at.invariant ((let room_here : c.loop-at.k < 256 = setting-lt ((let few_here : length c.args.kinds.now ≤ 65536 = c.requires.few in few_here)) c.loop-at.invariant ((let reach_here : Reach (length c.args.kinds.now) c.shift_for-shift.result = c.shift_for-shift.ensures in reach_here)) in room_here)) in
+    setting-next ((let few_here : length c.args.kinds.now ≤ 65536 = c.requires.few in few_here)) c.loop-at.invariant stored (omega (arith, c.if-count-at.false, apart-is ((let reach_here : Reach (length c.args.kinds.now) c.shift_for-shift.result = c.shift_for-shift.ensures in reach_here)))) (rw (apart-is ((let reach_here : Reach (length c.args.kinds.now) c.shift_for-shift.result = c.shift_for-shift.ensures in reach_here))) at c.forward-at.ensures)

@@ -10,7 +10,7 @@ use Rattle.path_marks.proofs.Marking.{Setting, apart-is, setting-first, setting-
 use Rattle.path_marks.proofs.marks.set_marks.Given as goal
 
 abbrev pub invariant-loop-at : goal.invariant-loop-at
-invariant-loop-at l = Setting l.kinds l.initial.fields l.at l.k l.fields l.tables
+invariant-loop-at l = Setting l.kinds l.shift l.at l.k l.fields l.tables
 
 abbrev pub decreases-loop-at : goal.decreases-loop-at
 decreases-loop-at l = length l.kinds - l.at.segment

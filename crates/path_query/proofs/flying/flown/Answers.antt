@@ -8,21 +8,16 @@ use Rattle.table.specs.declared.tables.Spot.{Spot}
 use Rattle.table.specs.Spots.{spot_of}
 use Rattle.path_place.proofs.Standing.{spot-among}
 use Rattle.path_query.proofs.Seats.{some-place, seated, flight-is}
-use Rattle.path_query.proofs.flying.flown.Tie as tie
 use Rattle.path_query.proofs.flying.flown.Goals as goal
-
--- the spot's segment is one of the path's
-inside : (start : tie.Start) {spot : Spot} → spot ≡ spot_of start.args.lengths.now start.args.progress.value → spot.segment < length start.args.kinds.now
-inside start {spot} e = rw e (spot-among (some-place start.requires) start.args.progress.value)
 
 pub cursor_at-at-requires : goal.cursor_at-at-requires
 cursor_at-at-requires c =
-    let among = inside c.before.before.before.before.before.before.before c.spot-found.ensures in
+    let among = (let inside_here : {spot : Spot} → spot ≡ spot_of c.args.lengths.now c.args.progress.value → spot.segment < length c.args.kinds.now = λ {spot} e. rw e (spot-among (some-place c.requires) c.args.progress.value) in inside_here) c.spot-found.ensures in
     (omega arith, omega arith)
 
 pub flown_within-requires : goal.flown_within-requires
 flown_within-requires c =
-    seated c.requires c.cursor_at-at.ensures (inside c.before.before.before.before.before.before.before.before c.spot-found.ensures)
+    seated c.requires c.cursor_at-at.ensures ((let inside_here : {spot : Spot} → spot ≡ spot_of c.args.lengths.now c.args.progress.value → spot.segment < length c.args.kinds.now = λ {spot} e. rw e (spot-among (some-place c.requires) c.args.progress.value) in inside_here) c.spot-found.ensures)
 
 pub returns : goal.returns
 returns c =

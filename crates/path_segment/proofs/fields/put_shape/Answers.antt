@@ -10,22 +10,14 @@ use borrow.Author.Rules.{rules}
 use Rattle.path_segment.proofs.fields.put_shape.Tie as tie
 use Rattle.path_segment.proofs.fields.put_shape.Goals as goal
 
--- ---- the points
-abbrev ends : tie.After-put_two → tie.After-put_cubic
-ends p = p.before.before.before.before
-
-abbrev start : tie.After-put_cubic → tie.Start
-start p = p.before.before.before
-
 -- ---- the answers
 pub shape_of-fields : goal.shape_of-fields
-shape_of-fields c = simp length-set (c.put_two.auto.0 ∙ (ends c.before.before.before).put-cubic.auto.0)
+shape_of-fields c = simp length-set (c.put_two.auto.0 ∙ c.put_cubic.auto.0)
 
 pub returns : goal.returns
 returns c =
-    let a = (start (ends c.before.before.before)).args in
-    let points = xy a.shape.start (xy a.shape.end (xy a.shape.center (xy a.shape.radii []))) in
-    let angles = a.shape.x_axis_rotation ∷ a.shape.start_angle ∷ [] in
-    let put = then-put a.fields-1.now a.at points angles (ends c.before.before.before).put-cubic.ensures refl c.put_two.ensures in
-    then-put a.fields-1.now a.at (points ++ angles) (c.tidy.result ∷ []) {j = a.at + 10} put refl refl
-    ∙ ap (λ z. sets a.fields-1.now a.at (points ++ angles ++ z ∷ [])) c.tidy.ensures
+    let points = xy c.args.shape.start (xy c.args.shape.end (xy c.args.shape.center (xy c.args.shape.radii []))) in
+    let angles = c.args.shape.x_axis_rotation ∷ c.args.shape.start_angle ∷ [] in
+    let put = then-put c.args.fields-1.now c.args.at points angles c.put_cubic.ensures refl c.put_two.ensures in
+    then-put c.args.fields-1.now c.args.at (points ++ angles) (c.tidy.result ∷ []) {j = c.args.at + 10} put refl refl
+    ∙ ap (λ z. sets c.args.fields-1.now c.args.at (points ++ angles ++ z ∷ [])) c.tidy.ensures

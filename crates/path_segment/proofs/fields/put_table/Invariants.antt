@@ -9,7 +9,7 @@ use borrow.Author.Rules.{rules}
 use Rattle.path_segment.proofs.fields.put_table.Given as goal
 
 abbrev pub invariant-loop-k : goal.invariant-loop-k
-invariant-loop-k l = (l.k ≤ 32) × (length l.initial.tables ≡ 32) × (l.tables ≡ sets l.at l.table (take l.k l.initial.tables))
+invariant-loop-k l = (l.k ≤ 32) × (length l.entries ≡ 32) × (l.tables ≡ sets l.initial.tables l.at (take l.k l.entries))
 
 abbrev pub decreases-loop-k : goal.decreases-loop-k
 decreases-loop-k l = 32 - l.k

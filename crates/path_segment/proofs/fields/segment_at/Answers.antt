@@ -56,7 +56,7 @@ returns-in-0 c =
 
 pub returns-in-1 : goal.returns-in-1
 returns-in-1 c =
-    quad_at c.args.fields.now c.args.at c.point_at.ensures c.point_at-in-1.ensures c.point_at-in-1-2.ensures c.in-1.is
+    quad_at c.args.fields.now c.args.at c.point_at-start.ensures c.point_at-in-1.ensures c.point_at-in-1-2.ensures c.in-1.is
 
 pub returns-in-2 : goal.returns-in-2
 returns-in-2 c =

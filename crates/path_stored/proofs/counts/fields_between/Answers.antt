@@ -16,17 +16,13 @@ pub fields_of_few-sum-requires : goal.fields_of_few-sum-requires
 fields_of_few-sum-requires c =
     record { span = record { few = c.requires.few; order = omega arith; inside = omega (arith, c.requires.inside) }; short = c.short_end-end.ensures.short }
 
--- the segments of the next part too
-more : (c : goal.After-fields_of_few-sum) → Adds width_of c.args.kinds.now c.args.from c.short_end-end.result (c.loop-at.sum + c.fields_of_few-sum.result)
-more c = omega (arith, c.loop-at.invariant.2, c.fields_of_few-sum.ensures)
-
 pub overflow_add-sum : goal.overflow_add-sum
 overflow_add-sum c =
     let few : c.short_end-end.result ≤ 65536 = omega (arith, c.short_end-end.ensures.within, c.requires.inside, c.requires.few) in
-    omega (arith, adds-most width_of width-most _ _ _ _ few (more c))
+    omega (arith, adds-most width_of width-most _ _ _ _ few ((let more_here : Adds width_of c.args.kinds.now c.args.from c.short_end-end.result (c.loop-at.sum + c.fields_of_few-sum.result) = omega (arith, c.loop-at.invariant.2, c.fields_of_few-sum.ensures) in more_here)))
 
 pub loop-at-preserved : goal.loop-at-preserved
-loop-at-preserved c = (omega arith, c.short_end-end.ensures.within, more c)
+loop-at-preserved c = (omega arith, c.short_end-end.ensures.within, (let more_here : Adds width_of c.args.kinds.now c.args.from c.short_end-end.result (c.loop-at.sum + c.fields_of_few-sum.result) = omega (arith, c.loop-at.invariant.2, c.fields_of_few-sum.ensures) in more_here))
 
 pub returns : goal.returns
 returns c =

@@ -11,18 +11,15 @@ use Rattle.path_stored.proofs.counts.tables_of_few.Goals as goal
 pub loop-j-init : goal.loop-j-init
 loop-j-init c = (omega arith, c.requires.span.order, tabling-start c.args.kinds.now c.args.from)
 
--- the next sum, of which 128 are the most
-more : (c : goal.After-one_table-sum) → Tabling c.args.kinds.now c.args.from (c.loop-j.j + 1) (c.loop-j.sum + c.one_table-sum.result)
-more c =
-    let c.loop-j = c.loop-j in
-    let c.before.before.before.before.before = c.before.before.before.before.before in
-    tabling-more c.one_table-sum.result c.loop-j.invariant.2 c.loop-j.invariant.0 (omega (arith, c.requires.span.inside)) c.one_table-sum.ensures
-
 pub overflow_add-sum : goal.overflow_add-sum
-overflow_add-sum c = omega (arith, (more c).few, c.requires.short)
+overflow_add-sum c = omega (arith, ((let more_here : Tabling c.args.kinds.now c.args.from (c.loop-j.j + 1) (c.loop-j.sum + c.one_table-sum.result) = let c.loop-j = c.loop-j in
+    let c.before.before.before.before.before = c.before.before.before.before.before in
+    tabling-more c.one_table-sum.result c.loop-j.invariant.2 c.loop-j.invariant.0 (omega (arith, c.requires.span.inside)) c.one_table-sum.ensures in more_here)).few, c.requires.short)
 
 pub loop-j-preserved : goal.loop-j-preserved
-loop-j-preserved c = (omega arith, omega arith, more c)
+loop-j-preserved c = (omega arith, omega arith, (let more_here : Tabling c.args.kinds.now c.args.from (c.loop-j.j + 1) (c.loop-j.sum + c.one_table-sum.result) = let c.loop-j = c.loop-j in
+    let c.before.before.before.before.before = c.before.before.before.before.before in
+    tabling-more c.one_table-sum.result c.loop-j.invariant.2 c.loop-j.invariant.0 (omega (arith, c.requires.span.inside)) c.one_table-sum.ensures in more_here))
 
 pub returns : goal.returns
 returns c =

@@ -9,27 +9,18 @@ use native.Mathlib.Omega.{arith}
 use mathlib.Core.Path.{◌≡◌, sym, ap, ◌∙◌}
 use Prim.Native.Nat.{◌*◌}
 use borrow.Author.Rules.{rules}
-use Rattle.path_stored.proofs.parts.segment_table.Tie as tie
 use Rattle.path_stored.proofs.parts.segment_table.Goals as goal
 
--- a curve's table, after those of the curves before it
-abbrev start : goal.After-tables_before-n → tie.Start
-start p = p.before.before.before.before.before.before
-
-abbrev curve : (p : goal.After-tables_before-n) → has_table (get_or (start p).args.kinds.now (start p).args.i 0) ≡ true
-curve p = sym p.has_table.ensures ∙ p.if-has_table.true
-
 pub overflow_mul-n : goal.overflow_mul-n
-overflow_mul-n c = let s = start c in omega (arith, tables-at-most s.args.kinds.now s.args.i, c.tables_before-n.ensures, s.pre.0.few, s.pre.1)
+overflow_mul-n c = omega (arith, tables-at-most c.args.kinds.now c.args.i, c.tables_before-n.ensures, c.requires.0.few, c.requires.1)
 
 pub table_at-requires : goal.table_at-requires
-table_at-requires c = let s = start c in omega (arith, segment-table s.pre.0 s.args.i s.pre.1 (curve c), c.tables_before-n.ensures)
+table_at-requires c = omega (arith, segment-table c.requires.0 c.args.i c.requires.1 ((sym c.has_table.ensures ∙ c.if-has_table.true)), c.tables_before-n.ensures)
 
 pub returns-then-has_table : goal.returns-then-has_table
 unfolding table_in
 returns-then-has_table c =
-    let a = (start c.before).args in
-    rw (curve c.before) (c.table_at.ensures ∙ ap (λ n. table_at a.tables.now (33 * n)) c.tables_before-n.ensures)
+    rw ((sym c.has_table.ensures ∙ c.if-has_table.true)) (c.table_at.ensures ∙ ap (λ n. table_at c.args.tables.now (33 * n)) c.tables_before-n.ensures)
 
 pub returns : goal.returns
 unfolding table_in

@@ -5,23 +5,19 @@ use Rattle.path_storing.proofs.Judged.{cubic-drawn, cubic-undrawn, cubic-laid, m
 use Rattle.path_storing.proofs.direct.cubic_to.Tie as tie
 use Rattle.path_storing.proofs.direct.cubic_to.Goals as goal
 
--- ---- the points
-abbrev start : tie.After-store_segment → tie.Start
-start p = p.before.before.before.before.before.before.before.before.before.before.before.before.before.before
-
 -- ---- the answers
 pub store_segment-length-requires : goal.store_segment-length-requires
 store_segment-length-requires c =
     room-counts (room_at (cubic-drawn _ c.if-pen.true _ _ _) c.requires.1)
 
 pub overflow_add-result : goal.overflow_add-result
-overflow_add-result c = omega (arith, (start c.before.before.before.before.before.before.before.before.before.before.before.before).requires.0.segments)
+overflow_add-result c = omega (arith, c.requires.0.segments)
 
 pub overflow_add-result-then-pen : goal.overflow_add-result-then-pen
-overflow_add-result-then-pen c = let few = (start c.before.before.before.before.before.before.before.before.before.before.before.before.before).requires.0 in omega (arith, few.segments, few.fields-1)
+overflow_add-result-then-pen c = omega (arith, c.requires.0.segments, c.requires.0.fields-1)
 
 pub overflow_add-result-then-pen-2 : goal.overflow_add-result-then-pen-2
-overflow_add-result-then-pen-2 c = let few = (start c.before.before.before.before.before.before.before.before.before.before.before.before.before.before).requires.0 in omega (arith, few.segments, few.tables-1)
+overflow_add-result-then-pen-2 c = omega (arith, c.requires.0.segments, c.requires.0.tables-1)
 
 pub returns-then-pen : goal.returns-then-pen
 returns-then-pen c =

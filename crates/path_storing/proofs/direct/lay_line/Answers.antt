@@ -9,13 +9,6 @@ use borrow.Author.Rules.{rules}
 use Rattle.path_storing.proofs.direct.lay_line.Tie as tie
 use Rattle.path_storing.proofs.direct.lay_line.Goals as goal
 
--- ---- the points
-abbrev start : tie.After-put_point → tie.Start
-start p = p.before.before.before.before.before.before.before.before.before
-
-abbrev first : tie.After-put_point2 → tie.After-put_point
-first p = p.before.before.before.before
-
 -- ---- the answers
 pub bounds-kinds-index : goal.bounds-kinds-index
 bounds-kinds-index c = kind_fits c.requires.1
@@ -24,18 +17,16 @@ pub put_point-requires : goal.put_point-requires
 put_point-requires c = omega (arith, line-fits c.requires.1)
 
 pub put_point-requires-2 : goal.put_point-requires-2
-put_point-requires-2 c = omega (arith, line-fits (start c.before.before.before).requires.1)
+put_point-requires-2 c = omega (arith, line-fits c.requires.1)
 
 pub bounds-lengths-index : goal.bounds-lengths-index
-bounds-lengths-index c = length-fits (start (first c.before.before.before.before)).requires.1
+bounds-lengths-index c = length-fits c.requires.1
 
 pub bounds-commands-index : goal.bounds-commands-index
-bounds-commands-index c = command-fits (start (first c.before.before.before.before)).requires.1
+bounds-commands-index c = command-fits c.requires.1
 
 pub returns : goal.returns
 unfolding line_length_of
 returns c =
-    let one = first c.before.before.before.before.before in
-    let a = (start one).args in
-    let put = four-put a.fields-1.now a.site.fields a.site.pen.current.x a.site.pen.current.y a.end.x a.end.y one.put_point.last.0 _ one.put_point.ensures c.put_point-2.ensures in
+    let put = four-put c.args.fields-1.now c.args.site.fields c.args.site.pen.current.x c.args.site.pen.current.y c.args.end.x c.args.end.y c.put_point.last.0 _ c.put_point.ensures c.put_point-2.ensures in
     line-laid put (ap (add binary32 _) c.distance.ensures) c.drawn.ensures

@@ -8,29 +8,16 @@ use Rattle.path_segment.proofs.Tables.{table-most, table_counted}
 use Rattle.path_storing.specs.Tallies.{counted_of}
 use Rattle.path_storing.proofs.Tallying.{grown-counted}
 use borrow.Author.Rules.{rules}
-use Rattle.path_storing.proofs.tallies.count_any.Tie as tie
 use Rattle.path_storing.proofs.tallies.count_any.Goals as goal
-
--- ---- the points, and what is counted there
-abbrev drawn : goal.After-table_width-more → tie.After-segment
-drawn p = p.before.before.before.before.before.before
-
-own : (p : goal.After-table_width-more) → p.width-own.result ≡ length (fields_of (drawn p).segment.given.0.0)
-own p = fields-counted (drawn p).segment.given.0.0 p.width-own.ensures p.kind-byte.ensures
-
-more : (p : goal.After-table_width-more) → p.table_width-more.result ≡ length (table_stored (drawn p).segment.given.0.0)
-more p = table_counted (drawn p).segment.given.0.0 p.table_width-more.ensures p.kind-byte.ensures
 
 -- ---- the answers
 pub grown-requires : goal.grown-requires
 grown-requires c =
-    let d = drawn c in
-    (d.pre, omega (arith, own c, fields-most d.in-Segment.segment), omega (arith, more c, table-most d.in-Segment.segment))
+    (c.requires, omega (arith, (let own_here : c.width-own.result ≡ length (fields_of c.in-Segment.segment) = fields-counted c.in-Segment.segment c.width-own.ensures c.kind-byte.ensures in own_here), fields-most c.in-Segment.segment), omega (arith, (let more_here : c.table_width-more.result ≡ length (table_stored c.in-Segment.segment) = table_counted c.in-Segment.segment c.table_width-more.ensures c.kind-byte.ensures in more_here), table-most c.in-Segment.segment))
 
 pub returns-then-is_bounded : goal.returns-then-is_bounded
 returns-then-is_bounded c =
-    let d = drawn c.before in
-    grown-counted _ (sym d.draw.ensures ∙ d.in-Segment.is) (sym c.is_bounded.ensures ∙ c.if-is_bounded.true) (own c.before) (more c.before) c.grown.ensures
+    grown-counted _ (sym c.draw.ensures ∙ c.in-Segment.is) (sym c.is_bounded.ensures ∙ c.if-is_bounded.true) ((let own_here : c.width-own.result ≡ length (fields_of c.in-Segment.segment) = fields-counted c.in-Segment.segment c.width-own.ensures c.kind-byte.ensures in own_here)) ((let more_here : c.table_width-more.result ≡ length (table_stored c.in-Segment.segment) = table_counted c.in-Segment.segment c.table_width-more.ensures c.kind-byte.ensures in more_here)) c.grown.ensures
 
 pub returns-in-Moved : goal.returns-in-Moved
 unfolding counted_of

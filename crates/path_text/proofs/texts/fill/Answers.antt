@@ -11,76 +11,60 @@ use Rattle.path_text.proofs.Steps.{Storing, storing-none, stored-kinds, stored-f
 use Rattle.path_text.proofs.texts.fill.Tie as tie
 use Rattle.path_text.proofs.texts.fill.Goals as goal
 
--- ---- the points of the code that the answers look back to
-abbrev start : goal.At-loop-command → (tie.Start goal.the-invariant-loop-command goal.the-decreases-loop-command)
-start l = l.before.before.before.before.before.before.before.before.before
-
-abbrev told : (tie.After-lay goal.the-invariant-loop-command goal.the-decreases-loop-command) → (tie.After-command goal.the-invariant-loop-command goal.the-decreases-loop-command)
-told p = p.before.before.before.before.before.before.before
-
-abbrev stepped : (tie.After-command goal.the-invariant-loop-command goal.the-decreases-loop-command) → (tie.After-read_step goal.the-invariant-loop-command goal.the-decreases-loop-command)
-stepped p = p.before.before
-
 -- ---- the answers
 pub loop-command-init : goal.loop-command-init
 loop-command-init c = rw (c.fresh-reader.ensures, c.start-site.ensures) (storing-none _ _)
 
 pub shape_of-kinds-in-Done : goal.shape_of-kinds-in-Done
-shape_of-kinds-in-Done c = stored-kinds c.loop-command.invariant (start c.before.before.before).requires
+shape_of-kinds-in-Done c = stored-kinds c.loop-command.invariant c.requires
 
 pub shape_of-fields-in-Done : goal.shape_of-fields-in-Done
-shape_of-fields-in-Done c = stored-fields c.loop-command.invariant (start c.before.before.before).requires
+shape_of-fields-in-Done c = stored-fields c.loop-command.invariant c.requires
 
 pub shape_of-tables-in-Done : goal.shape_of-tables-in-Done
-shape_of-tables-in-Done c = stored-tables c.loop-command.invariant (start c.before.before.before).requires
+shape_of-tables-in-Done c = stored-tables c.loop-command.invariant c.requires
 
 pub shape_of-lengths-in-Done : goal.shape_of-lengths-in-Done
-shape_of-lengths-in-Done c = stored-lengths c.loop-command.invariant (start c.before.before.before).requires
+shape_of-lengths-in-Done c = stored-lengths c.loop-command.invariant c.requires
 
 pub shape_of-commands-in-Done : goal.shape_of-commands-in-Done
-shape_of-commands-in-Done c = stored-commands c.loop-command.invariant (start c.before.before.before).requires
+shape_of-commands-in-Done c = stored-commands c.loop-command.invariant c.requires
 
 pub returns-in-Done : goal.returns-in-Done
 returns-in-Done c =
-    stored-all c.loop-command.invariant (start c.before.before.before).requires (sym c.Read-step.ensures ∙ c.in-Done.is)
+    stored-all c.loop-command.invariant c.requires (sym c.Read-step.ensures ∙ c.in-Done.is)
 
 pub shape_of-kinds-in-Refused : goal.shape_of-kinds-in-Refused
-shape_of-kinds-in-Refused c = stored-kinds c.loop-command.invariant (start c.before.before.before).requires
+shape_of-kinds-in-Refused c = stored-kinds c.loop-command.invariant c.requires
 
 pub shape_of-fields-in-Refused : goal.shape_of-fields-in-Refused
-shape_of-fields-in-Refused c = stored-fields c.loop-command.invariant (start c.before.before.before).requires
+shape_of-fields-in-Refused c = stored-fields c.loop-command.invariant c.requires
 
 pub shape_of-tables-in-Refused : goal.shape_of-tables-in-Refused
-shape_of-tables-in-Refused c = stored-tables c.loop-command.invariant (start c.before.before.before).requires
+shape_of-tables-in-Refused c = stored-tables c.loop-command.invariant c.requires
 
 pub shape_of-lengths-in-Refused : goal.shape_of-lengths-in-Refused
-shape_of-lengths-in-Refused c = stored-lengths c.loop-command.invariant (start c.before.before.before).requires
+shape_of-lengths-in-Refused c = stored-lengths c.loop-command.invariant c.requires
 
 pub shape_of-commands-in-Refused : goal.shape_of-commands-in-Refused
-shape_of-commands-in-Refused c = stored-commands c.loop-command.invariant (start c.before.before.before).requires
+shape_of-commands-in-Refused c = stored-commands c.loop-command.invariant c.requires
 
 pub returns-in-Refused : goal.returns-in-Refused
 returns-in-Refused c =
-    absurd (storing-unread c.loop-command.invariant (start c.before.before.before).requires (sym c.Read-step.ensures ∙ c.in-Refused.is))
+    absurd (storing-unread c.loop-command.invariant c.requires (sym c.Read-step.ensures ∙ c.in-Refused.is))
 
 pub lay-site-requires : goal.lay-site-requires
 lay-site-requires c =
-    let step = stepped c.before.before.before.before.before.before in
-    storing-room step.loop-command.inv (start step.before).pre (sym step.Read-step.ensures ∙ c.in-Command.is)
+    storing-room c.loop-command.invariant c.requires (sym c.Read-step.ensures ∙ c.in-Command.is)
 
 pub overflow_add-number : goal.overflow_add-number
 overflow_add-number c =
-    let t = told c.before.before.before.before.before.before.before.before.before.before in
-    let step = stepped t in
-    omega (arith, storing-number step.loop-command.inv (start step.before).pre (sym step.Read-step.ensures ∙ t.in-Command.is))
+    omega (arith, storing-number c.loop-command.invariant c.requires (sym c.Read-step.ensures ∙ c.in-Command.is))
 
 pub loop-command-smaller : goal.loop-command-smaller
 loop-command-smaller c =
-    let t = told c.before.before.before.before.before.before.before.before.before.before in
-    omega (arith, step-ahead _ _ _ _ (sym (stepped t).Read-step.ensures ∙ t.in-Command.is))
+    omega (arith, step-ahead _ _ _ _ (sym c.Read-step.ensures ∙ c.in-Command.is))
 
 pub loop-command-preserved : goal.loop-command-preserved
 loop-command-preserved c =
-    let t = told c.before.before.before.before.before.before.before.before.before.before in
-    let step = stepped t in
-    storing-more step.loop-command.inv (start step.before).pre (sym step.Read-step.ensures ∙ t.in-Command.is) c.lay-site.ensures
+    storing-more c.loop-command.invariant c.requires (sym c.Read-step.ensures ∙ c.in-Command.is) c.lay-site.ensures

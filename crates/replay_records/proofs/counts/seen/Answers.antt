@@ -6,4 +6,4 @@ pub returns-then-agrees : goal.returns-then-agrees
 returns-then-agrees c = rw (c.wrapping_add_u32-replayed.ensures, c.if-agrees.true)
 
 pub returns-else-agrees : goal.returns-else-agrees
-returns-else-agrees c = rw (c.wrapping_add_u32.ensures, c.wrapping_add_u32-replayed.ensures, c.if-agrees.false)
+returns-else-agrees c = rw (c.wrapping_add_u32-replayed.ensures, c.wrapping_add_u32-replayed.ensures, c.if-agrees.false)

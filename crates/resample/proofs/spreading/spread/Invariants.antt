@@ -9,7 +9,7 @@ use Rattle.floats.specs.Floats.{zero_f}
 use Rattle.resample.proofs.spreading.spread.Given as goal
 
 abbrev pub invariant-loop-i : goal.invariant-loop-i
-invariant-loop-i l = Spreading l.points l.count l.total l.last l.out l.stretch l.i
+invariant-loop-i l = Spreading l.points l.count l.total l.initial.out l.out l.stretch l.i
 
 abbrev pub decreases-loop-i : goal.decreases-loop-i
 decreases-loop-i l = l.count - l.i

@@ -11,9 +11,6 @@ use Rattle.season_plan.proofs.Reading.{number-row, number-tallied, letters-few, 
 use Rattle.season_plan.proofs.plans.fly.Tie as tie
 use Rattle.season_plan.proofs.plans.fly.Goals as goal
 
-abbrev start : tie.After-build_path → tie.Start
-start b = b.before.before.before.before.before.before.before.before.before
-
 -- ---- the buffers
 pub slice_bounds-build_path-end : goal.slice_bounds-build_path-end
 slice_bounds-build_path-end c = search rules
@@ -33,9 +30,8 @@ slice_bounds-build_path-end-5 c = search rules
 -- ---- a refusal
 pub bump-requires : goal.bump-requires
 bump-requires c =
-    let s = start c.before.before.before.before.before.before.before.before.before.before in
     let h : c.number.result < 25 = subst (λ (n : ℕ). n < 25) (sym c.number.ensures) (number-row c.in-Refused.refusal) in
-    (omega (arith, h, s.pre.0), roomy-less s.pre.1 (omega arith))
+    (omega (arith, h, c.requires.0), roomy-less c.requires.1 (omega arith))
 
 pub shape_of-counts-in-Refused : goal.shape_of-counts-in-Refused
 shape_of-counts-in-Refused c = ap length c.bump.ensures ∙ marked-length _ _
@@ -43,15 +39,15 @@ shape_of-counts-in-Refused c = ap length c.bump.ensures ∙ marked-length _ _
 pub returns-in-Refused : goal.returns-in-Refused
 returns-in-Refused c text k =
     number-tallied (unbuilt-counted k (not-built k c.build_path.ensures
-    (full (kinds-long c.before.before.before.before.before.before.before.before.before.before.before.before.before.before.before.before.before.before) (fields-long c.before.before.before.before.before.before.before.before.before.before.before.before.before.before.before.before.before) (tables-long c.before.before.before.before.before.before.before.before.before.before.before.before.before.before.before.before) (lengths-long c.before.before.before.before.before.before.before.before.before.before.before.before.before.before.before) (commands-long c.before.before.before.before.before.before.before.before.before.before.before.before.before.before))
+    (full (kinds-long c.before) (fields-long c.before) (tables-long c.before) (lengths-long c.before) (commands-long c.before))
     c.in-Refused.is))
     c.number.ensures c.bump.ensures
 
 -- ---- a path
 pub slice_bounds-lengths-end : goal.slice_bounds-lengths-end
 slice_bounds-lengths-end c =
-    let u = used (start c.before.before.before.before.before.before.before.before).requires.2.is c.build_path.ensures
-    (full (kinds-long c.before.before.before.before.before.before.before.before.before.before.before.before.before) (fields-long c.before.before.before.before.before.before.before.before.before.before.before.before) (tables-long c.before.before.before.before.before.before.before.before.before.before.before) (lengths-long c.before.before.before.before.before.before.before.before.before.before) (commands-long c.before.before.before.before.before.before.before.before.before))
+    let u = used c.requires.2.is c.build_path.ensures
+    (full (kinds-long c.before) (fields-long c.before) (tables-long c.before) (lengths-long c.before) (commands-long c.before))
     c.in-Built.is in
     omega (arith, u.0)
 
@@ -60,8 +56,8 @@ slice_bounds-total-end c = sym (length-take-le _ _ (lengths-few c.before))
 
 pub slice_bounds-kinds-end : goal.slice_bounds-kinds-end
 slice_bounds-kinds-end c =
-    let u = used (start c.before.before.before.before.before.before.before.before.before.before).requires.2.is c.build_path.ensures
-    (full (kinds-long c.before.before.before.before.before.before.before.before.before.before.before.before.before.before.before) (fields-long c.before.before.before.before.before.before.before.before.before.before.before.before.before.before) (tables-long c.before.before.before.before.before.before.before.before.before.before.before.before.before) (lengths-long c.before.before.before.before.before.before.before.before.before.before.before.before) (commands-long c.before.before.before.before.before.before.before.before.before.before.before))
+    let u = used c.requires.2.is c.build_path.ensures
+    (full (kinds-long c.before) (fields-long c.before) (tables-long c.before) (lengths-long c.before) (commands-long c.before))
     c.in-Built.is in
     omega (arith, u.0)
 
@@ -70,11 +66,11 @@ slice_bounds-weigh-end c = sym (length-take-le _ _ (kinds-few c.before))
 
 pub weigh-requires : goal.weigh-requires
 weigh-requires c =
-    let u = used (start c.before.before.before.before.before.before.before.before.before.before.before.before).requires.2.is c.build_path.ensures
-    (full (kinds-long c.before.before.before.before.before.before.before.before.before.before.before.before.before.before.before.before.before) (fields-long c.before.before.before.before.before.before.before.before.before.before.before.before.before.before.before.before) (tables-long c.before.before.before.before.before.before.before.before.before.before.before.before.before.before.before) (lengths-long c.before.before.before.before.before.before.before.before.before.before.before.before.before.before) (commands-long c.before.before.before.before.before.before.before.before.before.before.before.before.before))
+    let u = used c.requires.2.is c.build_path.ensures
+    (full (kinds-long c.before) (fields-long c.before) (tables-long c.before) (lengths-long c.before) (commands-long c.before))
     c.in-Built.is in
     let n = kinds-used c.before in
-    ((start c.before.before.before.before.before.before.before.before.before.before.before.before).requires.0, (start c.before.before.before.before.before.before.before.before.before.before.before.before).requires.1, letters-few (start c.before.before.before.before.before.before.before.before.before.before.before.before).requires.2.is, omega (arith, n, u.0))
+    (c.requires.0, c.requires.1, letters-few c.requires.2.is, omega (arith, n, u.0))
 
 pub shape_of-counts-in-Built : goal.shape_of-counts-in-Built
 shape_of-counts-in-Built c = ap length c.weigh.ensures.counts ∙ marked-length _ _
@@ -82,6 +78,6 @@ shape_of-counts-in-Built c = ap length c.weigh.ensures.counts ∙ marked-length 
 pub returns-in-Built : goal.returns-in-Built
 returns-in-Built c text k =
     flown-as k (flight k c.build_path.ensures
-    (full (kinds-long c.before.before.before.before.before.before.before.before.before.before.before.before.before.before.before.before.before.before.before.before) (fields-long c.before.before.before.before.before.before.before.before.before.before.before.before.before.before.before.before.before.before.before) (tables-long c.before.before.before.before.before.before.before.before.before.before.before.before.before.before.before.before.before.before) (lengths-long c.before.before.before.before.before.before.before.before.before.before.before.before.before.before.before.before.before) (commands-long c.before.before.before.before.before.before.before.before.before.before.before.before.before.before.before.before))
+    (full (kinds-long c.before) (fields-long c.before) (tables-long c.before) (lengths-long c.before) (commands-long c.before))
     c.in-Built.is) c.total-total.ensures
     c.weigh.ensures

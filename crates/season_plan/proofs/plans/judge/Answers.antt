@@ -11,9 +11,6 @@ use Rattle.season_plan.proofs.Reading.{number-row, number-tallied, unread-counte
 use Rattle.season_plan.proofs.plans.judge.Tie as tie
 use Rattle.season_plan.proofs.plans.judge.Goals as goal
 
-abbrev start : tie.After-read_lean → tie.Start
-start p = p.before.before.before.before.before.before
-
 -- ---- the buffers
 pub slice_bounds-read_lean-end : goal.slice_bounds-read_lean-end
 slice_bounds-read_lean-end c = search rules
@@ -27,9 +24,8 @@ slice_bounds-read_lean-end-3 c = search rules
 -- ---- a refusal
 pub bump-requires : goal.bump-requires
 bump-requires c =
-    let s = start c.before.before.before.before.before.before.before.before in
     let h : c.number.result < 25 = subst (λ (n : ℕ). n < 25) (sym c.number.ensures) (number-row c.in-Refused.refusal) in
-    (omega (arith, h, s.pre.0), roomy-less s.pre.1 (omega arith))
+    (omega (arith, h, c.requires.0), roomy-less c.requires.1 (omega arith))
 
 pub shape_of-counts-in-Refused : goal.shape_of-counts-in-Refused
 shape_of-counts-in-Refused c = ap length c.bump.ensures ∙ marked-length _ _
@@ -37,16 +33,16 @@ shape_of-counts-in-Refused c = ap length c.bump.ensures ∙ marked-length _ _
 pub returns-in-Refused : goal.returns-in-Refused
 returns-in-Refused c =
     number-tallied
-    (unread-counted _ (start c.before.before.before.before.before.before.before.before.before.before.before).requires.2
-    (not-read _ (start c.before.before.before.before.before.before.before.before.before.before.before).requires.2 c.read_lean.ensures
-    (spare (letters-long c.before.before.before.before.before.before.before.before.before.before.before.before.before.before) (numbers-long c.before.before.before.before.before.before.before.before.before.before.before.before.before) (offsets-long c.before.before.before.before.before.before.before.before.before.before.before.before))
+    (unread-counted _ c.requires.2
+    (not-read _ c.requires.2 c.read_lean.ensures
+    (spare (letters-long c.before) (numbers-long c.before) (offsets-long c.before))
     c.in-Refused.is))
     c.number.ensures c.bump.ensures
 
 -- ---- a list
 pub slice_bounds-letters-end : goal.slice_bounds-letters-end
 slice_bounds-letters-end c =
-    let most = letters-most _ (start c.before.before.before.before.before.before).requires.2 c.read_lean.ensures (spare (letters-long c.before.before.before.before.before.before.before.before.before) (numbers-long c.before.before.before.before.before.before.before.before) (offsets-long c.before.before.before.before.before.before.before)) c.in-Read.is in
+    let most = letters-most _ c.requires.2 c.read_lean.ensures (spare (letters-long c.before) (numbers-long c.before) (offsets-long c.before)) c.in-Read.is in
     omega (arith, most)
 
 pub slice_bounds-fly-end : goal.slice_bounds-fly-end
@@ -54,7 +50,7 @@ slice_bounds-fly-end c = sym (length-take-le _ _ (letters-few c.before))
 
 pub slice_bounds-numbers-end : goal.slice_bounds-numbers-end
 slice_bounds-numbers-end c =
-    let most = numbers-most _ (start c.before.before.before.before.before.before.before).requires.2 c.read_lean.ensures (spare (letters-long c.before.before.before.before.before.before.before.before.before.before) (numbers-long c.before.before.before.before.before.before.before.before.before) (offsets-long c.before.before.before.before.before.before.before.before)) c.in-Read.is in
+    let most = numbers-most _ c.requires.2 c.read_lean.ensures (spare (letters-long c.before) (numbers-long c.before) (offsets-long c.before)) c.in-Read.is in
     omega (arith, most)
 
 pub slice_bounds-fly-end-in-Read : goal.slice_bounds-fly-end-in-Read
@@ -63,12 +59,12 @@ slice_bounds-fly-end-in-Read c = sym (length-take-le _ _ (numbers-few c.before))
 pub fly-requires : goal.fly-requires
 fly-requires c =
     (
-      (start c.before.before.before.before.before.before.before.before.before).requires.0,
-      (start c.before.before.before.before.before.before.before.before.before).requires.1,
+      c.requires.0,
+      c.requires.1,
       record {
-        text = (start c.before.before.before.before.before.before.before.before.before).args.text.now;
-        is = held _ (start c.before.before.before.before.before.before.before.before.before).requires.2 c.read_lean.ensures
-            (spare (letters-long c.before.before.before.before.before.before.before.before.before.before.before.before) (numbers-long c.before.before.before.before.before.before.before.before.before.before.before) (offsets-long c.before.before.before.before.before.before.before.before.before.before))
+        text = c.args.text.now;
+        is = held _ c.requires.2 c.read_lean.ensures
+            (spare (letters-long c.before) (numbers-long c.before) (offsets-long c.before))
             c.in-Read.is;
       },
     )
@@ -77,13 +73,13 @@ pub shape_of-counts-in-Read : goal.shape_of-counts-in-Read
 shape_of-counts-in-Read c =
     ap length
     (c.fly.ensures _
-    (held _ (start c.before.before.before.before.before.before.before.before.before.before.before.before).requires.2 c.read_lean.ensures
-    (spare (letters-long c.before.before.before.before.before.before.before.before.before.before.before.before.before.before.before) (numbers-long c.before.before.before.before.before.before.before.before.before.before.before.before.before.before) (offsets-long c.before.before.before.before.before.before.before.before.before.before.before.before.before))
+    (held _ c.requires.2 c.read_lean.ensures
+    (spare (letters-long c.before) (numbers-long c.before) (offsets-long c.before))
     c.in-Read.is)).counts ∙ marked-length _ _
 
 pub returns-in-Read : goal.returns-in-Read
 returns-in-Read c =
     c.fly.ensures _
-    (held _ (start c.before.before.before.before.before.before.before.before.before.before.before.before).requires.2 c.read_lean.ensures
-    (spare (letters-long c.before.before.before.before.before.before.before.before.before.before.before.before.before.before.before) (numbers-long c.before.before.before.before.before.before.before.before.before.before.before.before.before.before) (offsets-long c.before.before.before.before.before.before.before.before.before.before.before.before.before))
+    (held _ c.requires.2 c.read_lean.ensures
+    (spare (letters-long c.before) (numbers-long c.before) (offsets-long c.before))
     c.in-Read.is)

@@ -10,7 +10,7 @@ use Rattle.season_sheet.proofs.Rows.{row-some, row-none}
 use Rattle.season_sheet.proofs.lines.put_rows.Given as goal
 
 abbrev pub invariant-loop-k : goal.invariant-loop-k
-invariant-loop-k l = (l.k ≤ l.initial.out) × PutTo (λ i. row_line l.from (l.many + i)) 40 l.k l.counts l.start l.out l.at
+invariant-loop-k l = (l.k ≤ l.many) × PutTo (λ i. row_line l.counts (l.from + i)) 40 l.k l.start l.initial.out l.out l.at
 
 abbrev pub decreases-loop-k : goal.decreases-loop-k
-decreases-loop-k l = l.initial.out - l.k
+decreases-loop-k l = l.many - l.k

@@ -6,7 +6,7 @@ use Rattle.spline_table.proofs.RowLaws.{Storing, row_step, storing-start, storin
 use Rattle.spline_table.proofs.rows.fill_row.Given as goal
 
 abbrev pub invariant-loop-i : goal.invariant-loop-i
-invariant-loop-i l = Storing (spline_sample_of l.points) l.last l.k l.previous l.total l.table l.i
+invariant-loop-i l = Storing (spline_sample_of l.points) l.last l.k l.initial.table l.total l.table l.i
 
 abbrev pub decreases-loop-i : goal.decreases-loop-i
 decreases-loop-i l = 16 - l.i

@@ -9,16 +9,12 @@ use Rattle.spline_table.proofs.Laying.{drawn, drawn-row}
 use Rattle.spline_table.proofs.Formulas.{leg-across, leg-along}
 use Rattle.spline_table.proofs.rows.leg_row.Goals as goal
 
--- the sample after the row
-next-is : (c : goal.After-sample-next) → c.sample-next.result ≡ sample_at (spline_sample_of c.args.points.now) c.args.last (c.args.k + 16)
-unfolding sample_at
-next-is c = c.sample-next.ensures ∙ ap (spline_sample_of _) c.mark.ensures
-
 pub returns : goal.returns
+unfolding sample_at
 returns c =
     drawn-row (spline_sample_of c.args.points.now) c.args.last c.args.k c.leg_samples-across.result c.leg_samples-along.result _ _ _
-    (drawn (λ (p : Point). p.x) (spline_sample_of c.args.points.now) c.args.last c.args.k c.leg_samples-across.ensures (ap (λ (p : Point). p.x) c.requires.0.here) (ap (λ (p : Point). p.x) (next-is c.before.before.before.before.before.before.before.before.before.before.before))
+    (drawn (λ (p : Point). p.x) (spline_sample_of c.args.points.now) c.args.last c.args.k c.leg_samples-across.ensures (ap (λ (p : Point). p.x) c.requires.0.here) (ap (λ (p : Point). p.x) ((let next_is_here : c.sample-next.result ≡ sample_at (spline_sample_of c.args.points.now) c.args.last (c.args.k + 16) = c.sample-next.ensures ∙ ap (spline_sample_of _) c.mark.ensures in next_is_here)))
     (λ i some less. leg-across c.args.points.now c.args.last (c.args.k + i) c.requires.1 _ _ c.point_at-a.ensures c.point_at-b.ensures _ (c.clamped_marks-own.ensures i less)))
-    (drawn (λ (p : Point). p.y) (spline_sample_of c.args.points.now) c.args.last c.args.k c.leg_samples-along.ensures (ap (λ (p : Point). p.y) c.requires.0.here) (ap (λ (p : Point). p.y) (next-is c.before.before.before.before.before.before.before.before.before.before.before))
+    (drawn (λ (p : Point). p.y) (spline_sample_of c.args.points.now) c.args.last c.args.k c.leg_samples-along.ensures (ap (λ (p : Point). p.y) c.requires.0.here) (ap (λ (p : Point). p.y) ((let next_is_here : c.sample-next.result ≡ sample_at (spline_sample_of c.args.points.now) c.args.last (c.args.k + 16) = c.sample-next.ensures ∙ ap (spline_sample_of _) c.mark.ensures in next_is_here)))
     (λ i some less. leg-along c.args.points.now c.args.last (c.args.k + i) c.requires.1 _ _ c.point_at-a.ensures c.point_at-b.ensures _ (c.clamped_marks-own.ensures i less)))
-    c.differences_of-x.ensures c.differences_of-y.ensures (next-is c.before.before.before.before.before.before.before.before.before.before.before)
+    c.differences_of-x.ensures c.differences_of-y.ensures ((let next_is_here : c.sample-next.result ≡ sample_at (spline_sample_of c.args.points.now) c.args.last (c.args.k + 16) = c.sample-next.ensures ∙ ap (spline_sample_of _) c.mark.ensures in next_is_here))

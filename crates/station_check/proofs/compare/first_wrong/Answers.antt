@@ -16,21 +16,9 @@ use Rattle.station_check.proofs.compare.first_wrong.Goals as goal
 abbrev Loop : Type 0
 Loop = (tie.At-loop goal.the-invariant-loop-i goal.the-decreases-loop-i)
 
-abbrev start : Loop → (tie.Start goal.the-invariant-loop-i goal.the-decreases-loop-i)
-start l = l.before.before.before
-
-abbrev wanted_of : Loop → List ℕ
-wanted_of l = (start l).args.wanted.now
-
-abbrev given_of : Loop → List ℕ
-given_of l = (start l).args.given.now
-
 -- what follows tells the answer
 told : (l : Loop) (n : ℕ) → by_each_byte (drop l.loop-i.i (wanted_of l)) (drop l.loop-i.i (given_of l)) ≡ n → passed l.loop-i.line n ≡ first_wrong (lines_of (wanted_of l)) (lines_of (given_of l))
-told l n e = sym (by_bytes (wanted_of l) (given_of l) ∙ l.loop-i.inv.2 ∙ ap (passed l.loop-i.line) e)
-
-here : (l : Loop) → by_each_byte (drop l.loop-i.i (wanted_of l)) (drop l.loop-i.i (given_of l)) ≡ 1 → l.loop-i.line ≡ first_wrong (lines_of (wanted_of l)) (lines_of (given_of l))
-here l e = sym (passed_here l.loop-i.line) ∙ told l 1 e
+told l n e = sym (by_bytes (wanted_of l) (given_of l) ∙ l.loop-i.invariant.2 ∙ ap (passed l.loop-i.line) e)
 
 one_at_most : (b : Bool) → cond b 1 0 ≤ 1
 one_at_most true = omega arith
@@ -40,7 +28,7 @@ pub loop-i-init : goal.loop-i-init
 loop-i-init c = (omega arith, omega arith, sym (passed_first _))
 
 pub returns-then-given-i : goal.returns-then-given-i
-returns-then-given-i c = here c.before.before (step-missing (wanted_of c.before.before) (given_of c.before.before) c.loop-i.i c.loop-i-test.true c.if-given-i.true)
+returns-then-given-i c = (let here_here : by_each_byte (drop c.loop-i.i (c.args.wanted.now)) (drop c.loop-i.i (c.args.given.now)) ≡ 1 → c.loop-i.line ≡ first_wrong (lines_of (c.args.wanted.now)) (lines_of (c.args.given.now)) = λ e. sym (passed_here c.loop-i.line) ∙ (let told_here : (n : ℕ) → by_each_byte (drop c.loop-i.i (c.args.wanted.now)) (drop c.loop-i.i (c.args.given.now)) ≡ n → passed c.loop-i.line n ≡ first_wrong (lines_of (c.args.wanted.now)) (lines_of (c.args.given.now)) = λ n e. sym (by_bytes (c.args.wanted.now) (c.args.given.now) ∙ c.loop-i.invariant.2 ∙ ap (passed c.loop-i.line) e) in told_here) 1 e in here_here) (step-missing (c.args.wanted.now) (c.args.given.now) c.loop-i.i c.loop-i-test.true c.if-given-i.true)
 
 pub bounds-wanted-i : goal.bounds-wanted-i
 bounds-wanted-i c = search rules
@@ -50,38 +38,28 @@ bounds-given-i c = omega (arith, c.if-given-i.false)
 
 pub returns-then-own-given : goal.returns-then-own-given
 returns-then-own-given c =
-    here c.before.before.before.before.before (step_other (wanted_of c.before.before.before.before.before) (given_of c.before.before.before.before.before) c.loop-i.i c.loop-i-test.true c.if-given-i.false c.if-own-given.true)
-
--- past both tests
-abbrev test : goal.After-line_end-line → (tie.Else1 goal.the-invariant-loop-i goal.the-decreases-loop-i)
-test c = c.before.before.before.before
-
-ends-at-most : (c : goal.After-line_end-line) → c.line_end-line.result ≤ 1
-ends-at-most c = omega (arith, c.line_end-line.ensures, one_at_most (eqb (get_or (wanted_of (test c).before.before) (test c).before.before.loop.i 0) line_end))
+    (let here_here : by_each_byte (drop c.loop-i.i (c.args.wanted.now)) (drop c.loop-i.i (c.args.given.now)) ≡ 1 → c.loop-i.line ≡ first_wrong (lines_of (c.args.wanted.now)) (lines_of (c.args.given.now)) = λ e. sym (passed_here c.loop-i.line) ∙ (let told_here : (n : ℕ) → by_each_byte (drop c.loop-i.i (c.args.wanted.now)) (drop c.loop-i.i (c.args.given.now)) ≡ n → passed c.loop-i.line n ≡ first_wrong (lines_of (c.args.wanted.now)) (lines_of (c.args.given.now)) = λ n e. sym (by_bytes (c.args.wanted.now) (c.args.given.now) ∙ c.loop-i.invariant.2 ∙ ap (passed c.loop-i.line) e) in told_here) 1 e in here_here) (step_other (c.args.wanted.now) (c.args.given.now) c.loop-i.i c.loop-i-test.true c.if-given-i.false c.if-own-given.true)
 
 pub overflow_add-line : goal.overflow_add-line
 overflow_add-line c =
-    let t = (test c).before in
-    let good = (start t.before).good in
-    record { fits = omega (arith, ends-at-most c, t.loop-i.inv.1, t.loop-i-test.taken) }
+    record { fits = omega (arith, (let ends_at_most_here : c.line_end-line.result ≤ 1 = omega (arith, c.line_end-line.ensures, one_at_most (eqb (get_or (c.args.wanted.now) c.loop-i.i 0) line_end)) in ends_at_most_here), c.loop-i.invariant.1, c.loop-i-test.true) }
 
 pub overflow_add-i : goal.overflow_add-i
-overflow_add-i c = let t = (test c).before in omega (arith, t.loop-i-test.taken)
+overflow_add-i c = omega (arith, c.loop-i-test.true)
 
 pub loop-i-smaller : goal.loop-i-smaller
-loop-i-smaller c = let t = (test c).before in omega (arith, t.loop-i-test.taken)
+loop-i-smaller c = omega (arith, c.loop-i-test.true)
 
 pub loop-i-preserved : goal.loop-i-preserved
 loop-i-preserved c =
-    let e = test c in
     (
-      omega (arith, e.loop-i-test.taken),
-      omega (arith, ends-at-most c, e.loop-i.inv.1),
-      e.loop-i.inv.2 ∙ step_same (wanted_of e.before.before) (given_of e.before.before) e.loop-i.i e.loop-i.line c.line_end-line.result e.loop-i-test.taken e.if-given-i.left c.if-own-given.false c.line_end-line.ensures,
+      omega (arith, c.loop-i-test.true),
+      omega (arith, (let ends_at_most_here : c.line_end-line.result ≤ 1 = omega (arith, c.line_end-line.ensures, one_at_most (eqb (get_or (c.args.wanted.now) c.loop-i.i 0) line_end)) in ends_at_most_here), c.loop-i.invariant.1),
+      c.loop-i.invariant.2 ∙ step_same (c.args.wanted.now) (c.args.given.now) c.loop-i.i c.loop-i.line c.line_end-line.result c.loop-i-test.true c.if-given-i.false c.if-own-given.false c.line_end-line.ensures,
     )
 
 pub returns-then-i-given : goal.returns-then-i-given
-returns-then-i-given c = here c.before.before (step-extra (wanted_of c.before.before) (given_of c.before.before) c.loop-i.i c.loop-i-test.false c.if-i-given.true)
+returns-then-i-given c = (let here_here : by_each_byte (drop c.loop-i.i (c.args.wanted.now)) (drop c.loop-i.i (c.args.given.now)) ≡ 1 → c.loop-i.line ≡ first_wrong (lines_of (c.args.wanted.now)) (lines_of (c.args.given.now)) = λ e. sym (passed_here c.loop-i.line) ∙ (let told_here : (n : ℕ) → by_each_byte (drop c.loop-i.i (c.args.wanted.now)) (drop c.loop-i.i (c.args.given.now)) ≡ n → passed c.loop-i.line n ≡ first_wrong (lines_of (c.args.wanted.now)) (lines_of (c.args.given.now)) = λ n e. sym (by_bytes (c.args.wanted.now) (c.args.given.now) ∙ c.loop-i.invariant.2 ∙ ap (passed c.loop-i.line) e) in told_here) 1 e in here_here) (step-extra (c.args.wanted.now) (c.args.given.now) c.loop-i.i c.loop-i-test.false c.if-i-given.true)
 
 pub returns : goal.returns
-returns c = told c.before.before 0 (step-done (wanted_of c.before.before) (given_of c.before.before) c.loop-i.i c.loop-i-test.false c.if-i-given.false)
+returns c = (let told_here : (n : ℕ) → by_each_byte (drop c.loop-i.i (c.args.wanted.now)) (drop c.loop-i.i (c.args.given.now)) ≡ n → passed c.loop-i.line n ≡ first_wrong (lines_of (c.args.wanted.now)) (lines_of (c.args.given.now)) = λ n e. sym (by_bytes (c.args.wanted.now) (c.args.given.now) ∙ c.loop-i.invariant.2 ∙ ap (passed c.loop-i.line) e) in told_here) 0 (step-done (c.args.wanted.now) (c.args.given.now) c.loop-i.i c.loop-i-test.false c.if-i-given.false)

@@ -8,7 +8,7 @@ use Rattle.station_commands.proofs.PlanLaws.{Listing, step-as, listing_none, sam
 use Rattle.station_commands.proofs.listing.list.Given as goal
 
 abbrev pub invariant-loop-command : goal.invariant-loop-command
-invariant-loop-command l = Listing (drop l.start l.input) l.from l.out l.initial.out l.reader l.at
+invariant-loop-command l = Listing (drop l.start l.input) l.initial.out l.out l.from l.reader l.at
 
 abbrev pub decreases-loop-command : goal.decreases-loop-command
 decreases-loop-command l = length (drop l.start l.input) - l.reader.at

@@ -9,6 +9,6 @@ pub returns : goal.returns
 returns c =
     within-as 63 _
     (within-then c.put_point-past_radii.ensures
-    (within-then c.put_bits-past_rotation.ensures (within-then c.put_flag-past_large.ensures (within-then c.put_flag-past_sweep.ensures c.put_point.ensures)))
+    (within-then c.put_bits-past_rotation.ensures (within-then c.put_flag-past_large.ensures (within-then c.put_flag-past_sweep.ensures c.put_point-past_radii.ensures)))
     ).put
     (arc-fields _ _ _ _ _) (omega arith)

@@ -14,7 +14,7 @@ returns c =
     within-as 70 _
     (within-then (one_byte (put_same c.put_byte-past_letter.ensures _ (ap (λ (b : ℕ). b ∷ []) c.letter.ensures)))
     (within-then c.put_arguments-past_numbers.ensures
-    (within-then c.put_offset-past_offset.ensures (one_byte c.put_byte.ensures)))
+    (within-then c.put_offset-past_offset.ensures (one_byte c.put_byte-past_letter.ensures)))
     ).put
     refl
     (omega arith)

@@ -17,4 +17,4 @@ returns-in-Segment c =
 pub returns-in-Nothing : goal.returns-in-Nothing
 unfolding segment_field
 returns-in-Nothing c =
-    rw c.in-Nothing.is (within-as 4 _ (within-then (one_byte c.put_byte-past_space.ensures) (one_byte c.put_byte.ensures)).put refl (omega arith))
+    rw c.in-Nothing.is (within-as 4 _ (within-then (one_byte c.put_byte-past_space.ensures) (one_byte c.put_byte-past_space.ensures)).put refl (omega arith))

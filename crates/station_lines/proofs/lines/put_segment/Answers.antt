@@ -13,7 +13,7 @@ returns c =
     within-as 22 _
     (within-then c.put_kind-past_kind.ensures
     (within-then c.put_bits-past_length.ensures
-    (within-then (one_byte c.put_byte-past_space.ensures) (within-then c.put_small-past_command.ensures (one_byte c.put_byte.ensures))))
+    (within-then (one_byte c.put_byte-past_space.ensures) (within-then c.put_small-past_command.ensures (one_byte c.put_byte-past_space.ensures))))
     ).put
     refl
     (omega arith)

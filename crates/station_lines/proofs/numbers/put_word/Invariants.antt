@@ -8,7 +8,7 @@ use Rattle.station_lines.proofs.Putting.{put-none, put-length, put_next, put_all
 use Rattle.station_lines.proofs.numbers.put_word.Given as goal
 
 abbrev pub invariant-loop-i : goal.invariant-loop-i
-invariant-loop-i l = (l.i ≤ length l.initial.out) × Put (take l.i l.initial.out) l.word l.at l.out l.past
+invariant-loop-i l = (l.i ≤ length l.word) × Put (take l.i l.word) l.at l.initial.out l.out l.past
 
 abbrev pub decreases-loop-i : goal.decreases-loop-i
-decreases-loop-i l = length l.initial.out - l.i
+decreases-loop-i l = length l.word - l.i

@@ -7,17 +7,6 @@ use Rattle.station_listing.proofs.Lent.{full, sized, unbuilt, flight, used, read
 use Rattle.station_listing.proofs.flights.fly.Tie as tie
 use Rattle.station_listing.proofs.flights.fly.Goals as goal
 
--- ---- the points
-abbrev start : tie.After-build_path → tie.Start
-start p = p.before.before.before.before.before.before.before.before.before.before
-
-abbrev built : goal.After-print-arg-1 → tie.After-build_path
-built p = p.before.before.before.before.before.before.before.before.before
-
--- the path is to be listed
-abbrev kept : goal.After-commands-in-Built-1 → goal.After-print-arg-1
-kept p = p.before.before.before.before.before
-
 -- ---- the buffers
 pub slice_bounds-build_path-end : goal.slice_bounds-build_path-end
 slice_bounds-build_path-end c = search rules
@@ -36,16 +25,15 @@ slice_bounds-build_path-end-5 c = search rules
 
 pub returns-in-Refused : goal.returns-in-Refused
 returns-in-Refused c =
-    unbuilt (start c.before.before.before.before.before.before.before.before.before.before.before.before).requires.0 c.build_path.ensures
-    (full (kinds-long c.before.before.before.before.before.before.before.before.before.before.before.before.before.before.before.before.before) (fields-long c.before.before.before.before.before.before.before.before.before.before.before.before.before.before.before.before) (tables-long c.before.before.before.before.before.before.before.before.before.before.before.before.before.before.before) (lengths-long c.before.before.before.before.before.before.before.before.before.before.before.before.before.before) (commands-long c.before.before.before.before.before.before.before.before.before.before.before.before.before))
+    unbuilt c.requires.0 c.build_path.ensures
+    (full (kinds-long c.before) (fields-long c.before) (tables-long c.before) (lengths-long c.before) (commands-long c.before))
     c.in-Refused.is _ c.put_refusal.ensures
 
 -- ---- the places in use
 pub slice_bounds-kinds-end : goal.slice_bounds-kinds-end
 slice_bounds-kinds-end c =
-    let b = built c in
-    let u = used (start b).pre.0 b.build_path.ensures
-    (full (kinds-long b.before.before.before.before.before) (fields-long b.before.before.before.before) (tables-long b.before.before.before) (lengths-long b.before.before) (commands-long b.before))
+    let u = used c.requires.0 c.build_path.ensures
+    (full (kinds-long c.before) (fields-long c.before) (tables-long c.before) (lengths-long c.before) (commands-long c.before))
     c.in-Built.is in
     omega (arith, u.0)
 
@@ -54,9 +42,8 @@ slice_bounds-print-end c = sym (length-take-le _ _ (kinds-few c.before))
 
 pub slice_bounds-fields-end : goal.slice_bounds-fields-end
 slice_bounds-fields-end c =
-    let b = built c.before in
-    let u = used (start b).pre.0 b.build_path.ensures
-    (full (kinds-long b.before.before.before.before.before) (fields-long b.before.before.before.before) (tables-long b.before.before.before) (lengths-long b.before.before) (commands-long b.before))
+    let u = used c.requires.0 c.build_path.ensures
+    (full (kinds-long c.before) (fields-long c.before) (tables-long c.before) (lengths-long c.before) (commands-long c.before))
     c.in-Built.is in
     omega (arith, u.1)
 
@@ -65,9 +52,8 @@ slice_bounds-print-end-in-Built c = sym (length-take-le _ _ (fields-few c.before
 
 pub slice_bounds-tables-end : goal.slice_bounds-tables-end
 slice_bounds-tables-end c =
-    let b = built c.before.before in
-    let u = used (start b).pre.0 b.build_path.ensures
-    (full (kinds-long b.before.before.before.before.before) (fields-long b.before.before.before.before) (tables-long b.before.before.before) (lengths-long b.before.before) (commands-long b.before))
+    let u = used c.requires.0 c.build_path.ensures
+    (full (kinds-long c.before) (fields-long c.before) (tables-long c.before) (lengths-long c.before) (commands-long c.before))
     c.in-Built.is in
     omega (arith, u.2)
 
@@ -76,9 +62,8 @@ slice_bounds-print-end-in-Built-2 c = sym (length-take-le _ _ (tables-few c.befo
 
 pub slice_bounds-lengths-end : goal.slice_bounds-lengths-end
 slice_bounds-lengths-end c =
-    let b = built c.before.before.before in
-    let u = used (start b).pre.0 b.build_path.ensures
-    (full (kinds-long b.before.before.before.before.before) (fields-long b.before.before.before.before) (tables-long b.before.before.before) (lengths-long b.before.before) (commands-long b.before))
+    let u = used c.requires.0 c.build_path.ensures
+    (full (kinds-long c.before) (fields-long c.before) (tables-long c.before) (lengths-long c.before) (commands-long c.before))
     c.in-Built.is in
     omega (arith, u.0)
 
@@ -87,9 +72,8 @@ slice_bounds-print-end-in-Built-3 c = sym (length-take-le _ _ (lengths-few c.bef
 
 pub slice_bounds-commands-end : goal.slice_bounds-commands-end
 slice_bounds-commands-end c =
-    let b = built c.before.before.before.before in
-    let u = used (start b).pre.0 b.build_path.ensures
-    (full (kinds-long b.before.before.before.before.before) (fields-long b.before.before.before.before) (tables-long b.before.before.before) (lengths-long b.before.before) (commands-long b.before))
+    let u = used c.requires.0 c.build_path.ensures
+    (full (kinds-long c.before) (fields-long c.before) (tables-long c.before) (lengths-long c.before) (commands-long c.before))
     c.in-Built.is in
     omega (arith, u.0)
 
@@ -99,18 +83,14 @@ slice_bounds-print-end-in-Built-4 c = sym (length-take-le _ _ (commands-few c.be
 -- ---- the listing
 pub print-requires : goal.print-requires
 print-requires c =
-    let b = built (kept c) in
-    let pre = (start b).pre in
-    let flown = flight pre.0 b.build_path.ensures
-    (full (kinds-long b.before.before.before.before.before) (fields-long b.before.before.before.before) (tables-long b.before.before.before) (lengths-long b.before.before) (commands-long b.before))
-    (kept c).before.before.segments.given.1 in
-    (sized pre.0, ready pre.0 flown pre.1 pre.2)
+    let flown = flight c.requires.0 c.build_path.ensures
+    (full (kinds-long c.before) (fields-long c.before) (tables-long c.before) (lengths-long c.before) (commands-long c.before))
+    c.in-Built.is in
+    (sized c.requires.0, ready c.requires.0 flown c.requires.1 c.requires.2)
 
 pub returns-in-Built : goal.returns-in-Built
 returns-in-Built c =
-    let p = kept c.before.before.before in
-    let b = built p in
-    let flown = flight (start b).pre.0 b.build_path.ensures
-    (full (kinds-long b.before.before.before.before.before) (fields-long b.before.before.before.before) (tables-long b.before.before.before) (lengths-long b.before.before) (commands-long b.before))
-    p.in-Built.is in
-    listed (start b).pre.0 flown c.print.ensures
+    let flown = flight c.requires.0 c.build_path.ensures
+    (full (kinds-long c.before) (fields-long c.before) (tables-long c.before) (lengths-long c.before) (commands-long c.before))
+    c.in-Built.is in
+    listed c.requires.0 flown c.print.ensures

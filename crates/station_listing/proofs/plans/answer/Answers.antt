@@ -8,14 +8,6 @@ use Rattle.station_listing.proofs.Texts.{spare}
 use Rattle.station_listing.proofs.plans.answer.Tie as tie
 use Rattle.station_listing.proofs.plans.answer.Goals as goal
 
--- ---- the points
-abbrev start : tie.After-read_lean → tie.Start
-start p = p.before.before.before.before.before.before.before.before
-
--- the list is to be flown
-abbrev read : goal.After-fly-arg-1 → tie.After-read_lean
-read p = p.before.before.before.before.before.before.before
-
 -- ---- the buffers
 pub slice_bounds-read_lean-end-2 : goal.slice_bounds-read_lean-end-2
 slice_bounds-read_lean-end-2 c = search rules
@@ -33,17 +25,14 @@ returns-then-input-start-gt4096 c =
 
 pub returns-in-Refused : goal.returns-in-Refused
 returns-in-Refused c =
-    let a = (start c.before.before.before.before.before.before.before.before.before.before).args in
-    not-read a.input.now a.start c.if-input-start-gt4096.false c.read_lean.ensures
-    (spare (letters-long c.before.before.before.before.before.before.before.before.before.before.before.before.before) (numbers-long c.before.before.before.before.before.before.before.before.before.before.before.before) (offsets-long c.before.before.before.before.before.before.before.before.before.before.before))
+    not-read c.args.input.now c.args.start c.if-input-start-gt4096.false c.read_lean.ensures
+    (spare (letters-long c.before) (numbers-long c.before) (offsets-long c.before))
     _ c.in-Refused.is c.put_refusal-in-Refused.ensures
 
 pub slice_bounds-letters-end : goal.slice_bounds-letters-end
 slice_bounds-letters-end c =
-    let p = read c in
-    let a = (start p).args in
-    let most = letters-most a.input.now a.start p.if-input-start-gt4096.left p.read_lean.ensures
-    (spare (letters-long p.before.before.before) (numbers-long p.before.before) (offsets-long p.before))
+    let most = letters-most c.args.input.now c.args.start c.if-input-start-gt4096.false c.read_lean.ensures
+    (spare (letters-long c.before) (numbers-long c.before) (offsets-long c.before))
     c.in-Read.is in
     omega (arith, most)
 
@@ -52,10 +41,8 @@ slice_bounds-fly-end c = sym (length-take-le _ _ (letters-few c.before))
 
 pub slice_bounds-numbers-end : goal.slice_bounds-numbers-end
 slice_bounds-numbers-end c =
-    let p = read c.before in
-    let a = (start p).args in
-    let most = numbers-most a.input.now a.start p.if-input-start-gt4096.left p.read_lean.ensures
-    (spare (letters-long p.before.before.before) (numbers-long p.before.before) (offsets-long p.before))
+    let most = numbers-most c.args.input.now c.args.start c.if-input-start-gt4096.false c.read_lean.ensures
+    (spare (letters-long c.before) (numbers-long c.before) (offsets-long c.before))
     c.in-Read.is in
     omega (arith, most)
 
@@ -64,14 +51,12 @@ slice_bounds-fly-end-in-Read c = sym (length-take-le _ _ (numbers-few c.before))
 
 pub fly-requires : goal.fly-requires
 fly-requires c =
-    let p = read c.before.before in
-    let a = (start p).args in
-    let pre = (start p).pre in (
-      held a.input.now a.start p.if-input-start-gt4096.left p.read_lean.ensures
-          (spare (letters-long p.before.before.before) (numbers-long p.before.before) (offsets-long p.before))
+    (
+      held c.args.input.now c.args.start c.if-input-start-gt4096.false c.read_lean.ensures
+          (spare (letters-long c.before) (numbers-long c.before) (offsets-long c.before))
           c.in-Read.is,
-      pre.1,
-      pre.2,
+      c.requires.1,
+      c.requires.2,
     )
 
 pub returns-in-Read : goal.returns-in-Read

@@ -8,7 +8,7 @@ use Rattle.station_sections.proofs.LinesTo.{PutTo, to_none, to-length, to-more, 
 use Rattle.station_sections.proofs.putting.put_stations.Given as goal
 
 abbrev pub invariant-loop-number : goal.invariant-loop-number
-invariant-loop-number l = (l.number ≤ l.kinds) × PutTo (λ k. station_of (buffers l.fields l.tables l.lengths l.commands l.initial.out) l.kinds k) 44 l.number l.count l.from l.out l.at
+invariant-loop-number l = (l.number ≤ l.count) × PutTo (λ k. station_of (buffers l.kinds l.fields l.tables l.lengths l.commands) l.count k) 44 l.number l.from l.initial.out l.out l.at
 
 abbrev pub decreases-loop-number : goal.decreases-loop-number
-decreases-loop-number l = l.kinds - l.number
+decreases-loop-number l = l.count - l.number

@@ -15,7 +15,7 @@ use Rattle.strict.proofs.Rests.{Rest, ended, set_out, goes-forth, goes_back, gap
 use Rattle.strict.proofs.texts.matches.Given as goal
 
 abbrev pub invariant-loop-at : goal.invariant-loop-at
-invariant-loop-at l = (Matches l.edition l.text → Rest l.edition l.text l.initial.at l.begun l.at) × (Rest l.edition l.text l.initial.at l.begun l.at → Matches l.edition l.text)
+invariant-loop-at l = (Matches l.edition l.text → Rest l.edition l.text l.alone l.begun l.at) × (Rest l.edition l.text l.alone l.begun l.at → Matches l.edition l.text)
 
 abbrev pub decreases-loop-at : goal.decreases-loop-at
 decreases-loop-at l = length l.text - l.at

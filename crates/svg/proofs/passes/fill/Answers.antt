@@ -13,16 +13,6 @@ use Rattle.svg.proofs.Holding.{full-of-letters, full-of-numbers, full-of-offsets
 use Rattle.svg.proofs.passes.fill.Tie as tie
 use Rattle.svg.proofs.passes.fill.Goals as goal
 
--- ---- the points of the code that the answers look back to
-abbrev loop-start : goal.At-loop-refusal → (tie.Start goal.the-invariant-loop-refusal goal.the-decreases-loop-refusal)
-loop-start l = l.before.before.before.before.before
-
-abbrev looped : (tie.After-width goal.the-invariant-loop-refusal goal.the-decreases-loop-refusal) → goal.At-loop-refusal
-looped w = w.before.before.before.before.before
-
-abbrev sized : goal.After-struct_known-1 → (tie.After-width goal.the-invariant-loop-refusal goal.the-decreases-loop-refusal)
-sized c = c.before.before.before.before.before.before.before.before.before.before.before
-
 -- ---- the answers
 pub loop-refusal-init : goal.loop-refusal-init
 loop-refusal-init c = c.requires.1
@@ -52,90 +42,78 @@ pub returns-in-Refused : goal.returns-in-Refused
 returns-in-Refused c = held-refused c.loop-refusal.invariant _ (sym c.Read-step.ensures ∙ c.in-Refused.is)
 
 pub shape_of-letters-then-letters-letter_at : goal.shape_of-letters-then-letters-letter_at
-shape_of-letters-then-letters-letter_at c = held-letters (looped c.before).loop.inv
+shape_of-letters-then-letters-letter_at c = held-letters c.loop-refusal.invariant
 
 pub shape_of-numbers-then-letters-letter_at : goal.shape_of-numbers-then-letters-letter_at
-shape_of-numbers-then-letters-letter_at c = held-numbers (looped c.before).loop.inv
+shape_of-numbers-then-letters-letter_at c = held-numbers c.loop-refusal.invariant
 
 pub shape_of-offsets-then-letters-letter_at : goal.shape_of-offsets-then-letters-letter_at
-shape_of-offsets-then-letters-letter_at c = held-offsets (looped c.before).loop.inv
+shape_of-offsets-then-letters-letter_at c = held-offsets c.loop-refusal.invariant
 
 pub returns-then-letters-letter_at : goal.returns-then-letters-letter_at
 returns-then-letters-letter_at c =
-    full-of-letters (looped c.before).loop.invariant _ _ (sym c.Read-step.ensures ∙ c.in-Command.is) c.if-letters-letter_at.true
+    full-of-letters c.loop-refusal.invariant _ _ (sym c.Read-step.ensures ∙ c.in-Command.is) c.if-letters-letter_at.true
 
 pub overflow_sub-numbers : goal.overflow_sub-numbers
-overflow_sub-numbers c = omega (arith, held-within (looped c.before).loop.inv)
+overflow_sub-numbers c = omega (arith, held-within c.loop-refusal.invariant)
 
 pub shape_of-letters-then-numbers-at : goal.shape_of-letters-then-numbers-at
-shape_of-letters-then-numbers-at c = held-letters (looped c.before.before).loop.inv
+shape_of-letters-then-numbers-at c = held-letters c.loop-refusal.invariant
 
 pub shape_of-numbers-then-numbers-at : goal.shape_of-numbers-then-numbers-at
-shape_of-numbers-then-numbers-at c = held-numbers (looped c.before.before).loop.inv
+shape_of-numbers-then-numbers-at c = held-numbers c.loop-refusal.invariant
 
 pub shape_of-offsets-then-numbers-at : goal.shape_of-offsets-then-numbers-at
-shape_of-offsets-then-numbers-at c = held-offsets (looped c.before.before).loop.inv
+shape_of-offsets-then-numbers-at c = held-offsets c.loop-refusal.invariant
 
 pub returns-then-numbers-at : goal.returns-then-numbers-at
 returns-then-numbers-at c =
-    let l = looped c.before.before in
-    full-of-numbers l.loop-refusal.inv _ _ (sym c.Read-step.ensures ∙ c.in-Command.is) _ c.width-more.ensures (omega (arith, c.if-numbers-at.true, held-within l.loop-refusal.inv))
+    full-of-numbers c.loop-refusal.invariant _ _ (sym c.Read-step.ensures ∙ c.in-Command.is) _ c.width-more.ensures (omega (arith, c.if-numbers-at.true, held-within c.loop-refusal.invariant))
 
 pub shape_of-letters-then-offsets-letter_at : goal.shape_of-letters-then-offsets-letter_at
-shape_of-letters-then-offsets-letter_at c = held-letters (looped c.before.before.before).loop.inv
+shape_of-letters-then-offsets-letter_at c = held-letters c.loop-refusal.invariant
 
 pub shape_of-numbers-then-offsets-letter_at : goal.shape_of-numbers-then-offsets-letter_at
-shape_of-numbers-then-offsets-letter_at c = held-numbers (looped c.before.before.before).loop.inv
+shape_of-numbers-then-offsets-letter_at c = held-numbers c.loop-refusal.invariant
 
 pub shape_of-offsets-then-offsets-letter_at : goal.shape_of-offsets-then-offsets-letter_at
-shape_of-offsets-then-offsets-letter_at c = held-offsets (looped c.before.before.before).loop.inv
+shape_of-offsets-then-offsets-letter_at c = held-offsets c.loop-refusal.invariant
 
 pub returns-then-offsets-letter_at : goal.returns-then-offsets-letter_at
 returns-then-offsets-letter_at c =
-    full-of-offsets (looped c.before.before.before).loop.invariant _ _ (sym c.Read-step.ensures ∙ c.in-Command.is) c.if-offsets-letter_at.true
+    full-of-offsets c.loop-refusal.invariant _ _ (sym c.Read-step.ensures ∙ c.in-Command.is) c.if-offsets-letter_at.true
 
 pub store-requires : goal.store-requires
 store-requires c =
     (
       omega (arith, c.if-letters-letter_at.false),
-      omega (arith, c.if-numbers-at.false, c.width-more.ensures, held-within (looped c.before.before.before.before.before).loop.invariant),
+      omega (arith, c.if-numbers-at.false, c.width-more.ensures, held-within c.loop-refusal.invariant),
     )
 
 pub overflow_cast-offsets : goal.overflow_cast-offsets
 overflow_cast-offsets c =
-    let w = sized c in
-    let l = looped w in
-    omega (arith, held-offset l.loop-refusal.inv _ _ (sym w.Read-step.ensures ∙ w.in-Command.is), (loop-start l).pre.0)
+    omega (arith, held-offset c.loop-refusal.invariant _ _ (sym c.Read-step.ensures ∙ c.in-Command.is), c.requires.0)
 
 pub offset_bounds-offsets-letter_at : goal.offset_bounds-offsets-letter_at
 offset_bounds-offsets-letter_at c =
-    let w = sized c in
-    let l = looped w in
-    omega (arith, held_small l.loop-refusal.inv _ _ (sym w.Read-step.ensures ∙ w.in-Command.is), (loop-start l).pre.0)
+    omega (arith, held_small c.loop-refusal.invariant _ _ (sym c.Read-step.ensures ∙ c.in-Command.is), c.requires.0)
 
 pub bounds-offsets-letter_at : goal.bounds-offsets-letter_at
 bounds-offsets-letter_at c = omega (arith, c.if-offsets-letter_at.false)
 
 pub overflow_add-at : goal.overflow_add-at
 overflow_add-at c =
-    let w = sized c in
-    let l = looped w in
-    omega (arith, held_small l.loop-refusal.inv _ _ (sym w.Read-step.ensures ∙ w.in-Command.is), w.width-more.ensures, (loop-start l).pre.0)
+    omega (arith, held_small c.loop-refusal.invariant _ _ (sym c.Read-step.ensures ∙ c.in-Command.is), c.width-more.ensures, c.requires.0)
 
 pub overflow_add-letter_at : goal.overflow_add-letter_at
 overflow_add-letter_at c =
-    let w = sized c in
-    let l = looped w in
-    omega (arith, held_small l.loop-refusal.inv _ _ (sym w.Read-step.ensures ∙ w.in-Command.is), (loop-start l).pre.0)
+    omega (arith, held_small c.loop-refusal.invariant _ _ (sym c.Read-step.ensures ∙ c.in-Command.is), c.requires.0)
 
 pub loop-refusal-smaller : goal.loop-refusal-smaller
 loop-refusal-smaller c =
-    let w = sized c in
-    omega (arith, step-ahead _ _ _ _ (sym w.Read-step.ensures ∙ w.in-Command.is))
+    omega (arith, step-ahead _ _ _ _ (sym c.Read-step.ensures ∙ c.in-Command.is))
 
 pub loop-refusal-preserved : goal.loop-refusal-preserved
 loop-refusal-preserved c =
-    let w = sized c in
-    let l = looped w in
-    holding-more l.loop-refusal.inv _ _ (sym w.Read-step.ensures ∙ w.in-Command.is) _ w.width-more.ensures
-    (omega (arith, c.if-letters-letter_at.false)) (omega (arith, c.if-numbers-at.false, held-within l.loop-refusal.inv)) (omega (arith, c.if-offsets-letter_at.false)) c.store.ensures
+    holding-more c.loop-refusal.invariant _ _ (sym c.Read-step.ensures ∙ c.in-Command.is) _ c.width-more.ensures
+    (omega (arith, c.if-letters-letter_at.false)) (omega (arith, c.if-numbers-at.false, held-within c.loop-refusal.invariant)) (omega (arith, c.if-offsets-letter_at.false)) c.store.ensures

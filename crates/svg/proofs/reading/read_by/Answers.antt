@@ -7,67 +7,57 @@ use Rattle.svg.proofs.Holding.{holding-none, told-refused, whole-within, whole-h
 use Rattle.svg.proofs.reading.read_by.Tie as tie
 use Rattle.svg.proofs.reading.read_by.Goals as goal
 
--- ---- the points of the code that the answers look back to
-abbrev start : tie.After-fill → tie.Start
-start h = h.before.before.before.before.before.before.before.before.before.before.before.before
-
-abbrev whole : goal.In-Whole → tie.After-fill
-whole t = t.before.before.before.before.before.before.before.before.before
-
-abbrev full : goal.In-Full → tie.After-fill
-full t = t.before.before.before.before.before.before.before.before.before
-
 -- ---- the answers
 pub fill-requires : goal.fill-requires
 fill-requires c = (c.requires, rw c.fresh.ensures (holding-none _ _))
 
 pub returns-in-Refused : goal.returns-in-Refused
 returns-in-Refused c =
-    unread _ _ (start c.before.before.before.before.before.before.before.before.before).requires _ (told-refused c.fill.ensures c.in-Refused.is)
+    unread _ _ c.requires _ (told-refused c.fill.ensures c.in-Refused.is)
 
 pub slice_bounds-give-end : goal.slice_bounds-give-end
-slice_bounds-give-end t = (whole-within (whole t).fill.ensures t.in-Whole.is).0
+slice_bounds-give-end t = (whole-within t.fill.ensures t.in-Whole.is).0
 
 pub slice_bounds-give-end-in-Whole : goal.slice_bounds-give-end-in-Whole
 slice_bounds-give-end-in-Whole c = sym (length-take-le _ _ (slice-reshare-prefix-give c.before))
 
 pub slice_bounds-give-end-in-Whole-2 : goal.slice_bounds-give-end-in-Whole-2
-slice_bounds-give-end-in-Whole-2 c = (whole-within (whole c.before).fill.ensures c.in-Whole.is).1
+slice_bounds-give-end-in-Whole-2 c = (whole-within c.fill.ensures c.in-Whole.is).1
 
 pub slice_bounds-give-end-in-Whole-3 : goal.slice_bounds-give-end-in-Whole-3
 slice_bounds-give-end-in-Whole-3 c = sym (length-take-le _ _ (slice-reshare-prefix-give-2 c.before))
 
 pub slice_bounds-give-end-in-Whole-4 : goal.slice_bounds-give-end-in-Whole-4
-slice_bounds-give-end-in-Whole-4 c = (whole-within (whole c.before.before).fill.ensures c.in-Whole.is).2
+slice_bounds-give-end-in-Whole-4 c = (whole-within c.fill.ensures c.in-Whole.is).2
 
 pub slice_bounds-give-end-in-Whole-5 : goal.slice_bounds-give-end-in-Whole-5
 slice_bounds-give-end-in-Whole-5 c = sym (length-take-le _ _ (slice-reshare-prefix-give-3 c.before))
 
 pub returns-in-Whole : goal.returns-in-Whole
 returns-in-Whole c =
-    c.give.ensures.said _ (start (whole c.before.before.before.before.before.before.before.before.before.before.before.before.before)).requires (whole-held (whole c.before.before.before.before.before.before.before.before.before.before.before.before.before).fill.ensures c.in-Whole.is)
+    c.give.ensures.said _ c.requires (whole-held c.fill.ensures c.in-Whole.is)
 
 pub slice_bounds-read_on-end : goal.slice_bounds-read_on-end
-slice_bounds-read_on-end t = (full-within (full t).fill.ensures t.in-Full.is).0
+slice_bounds-read_on-end t = (full-within t.fill.ensures t.in-Full.is).0
 
 pub slice_bounds-read_on-end-in-Full : goal.slice_bounds-read_on-end-in-Full
 slice_bounds-read_on-end-in-Full c = sym (length-take-le _ _ (slice-reshare-prefix-read-on c.before))
 
 pub slice_bounds-read_on-end-in-Full-2 : goal.slice_bounds-read_on-end-in-Full-2
-slice_bounds-read_on-end-in-Full-2 c = (full-within (full c.before).fill.ensures c.in-Full.is).1
+slice_bounds-read_on-end-in-Full-2 c = (full-within c.fill.ensures c.in-Full.is).1
 
 pub slice_bounds-read_on-end-in-Full-3 : goal.slice_bounds-read_on-end-in-Full-3
 slice_bounds-read_on-end-in-Full-3 c = sym (length-take-le _ _ (slice-reshare-prefix-read-on-2 c.before))
 
 pub slice_bounds-read_on-end-in-Full-4 : goal.slice_bounds-read_on-end-in-Full-4
-slice_bounds-read_on-end-in-Full-4 c = (full-within (full c.before.before).fill.ensures c.in-Full.is).2
+slice_bounds-read_on-end-in-Full-4 c = (full-within c.fill.ensures c.in-Full.is).2
 
 pub slice_bounds-read_on-end-in-Full-5 : goal.slice_bounds-read_on-end-in-Full-5
 slice_bounds-read_on-end-in-Full-5 c = sym (length-take-le _ _ (slice-reshare-prefix-read-on-3 c.before))
 
 pub read_on-requires : goal.read_on-requires
 read_on-requires c =
-    ((start (full c.before.before.before.before.before.before)).requires, full-begun (full c.before.before.before.before.before.before).fill.ensures c.in-Full.is)
+    (c.requires, full-begun c.fill.ensures c.in-Full.is)
 
 pub returns-in-Full : goal.returns-in-Full
 returns-in-Full c = c.read_on.ensures

@@ -21,21 +21,23 @@ returns-then-target-total c =
 pub first_from-segment-requires : goal.first_from-segment-requires
 first_from-segment-requires c = c.requires.0.sound
 
-found : (c : goal.After-first_from-segment) → Within c.args.lengths.now c.args.target c.first_from-segment.result
-unfolding zero_f
-found c =
-    rw c.first_from-segment.ensures
-    (path-within c.args.lengths.now c.args.target c.requires.0.sound c.requires.1 (failed c.if-target.false)
-    (failed (rw (path-total c.args.lengths.now c.requires.0.some) at c.if-target-total.false)))
-
 pub length_before-start-requires : goal.length_before-start-requires
-length_before-start-requires c = let w = found c in search rules
+unfolding zero_f
+length_before-start-requires c = let w = (let found_here : Within c.args.lengths.now c.args.target c.first_from-segment.result = rw c.first_from-segment.ensures
+    (path-within c.args.lengths.now c.args.target c.requires.0.sound c.requires.1 (failed c.if-target.false)
+    (failed (rw (path-total c.args.lengths.now c.requires.0.some) at c.if-target-total.false))) in found_here) in search rules
 
 pub offset_bounds-lengths-segment : goal.offset_bounds-lengths-segment
-offset_bounds-lengths-segment c = let w = found c.before in search rules
+unfolding zero_f
+offset_bounds-lengths-segment c = let w = (let found_here : Within c.args.lengths.now c.args.target c.first_from-segment.result = rw c.first_from-segment.ensures
+    (path-within c.args.lengths.now c.args.target c.requires.0.sound c.requires.1 (failed c.if-target.false)
+    (failed (rw (path-total c.args.lengths.now c.requires.0.some) at c.if-target-total.false))) in found_here) in search rules
 
 pub bounds-lengths-segment : goal.bounds-lengths-segment
-bounds-lengths-segment c = let w = found c.before.before in search rules
+unfolding zero_f
+bounds-lengths-segment c = let w = (let found_here : Within c.args.lengths.now c.args.target c.first_from-segment.result = rw c.first_from-segment.ensures
+    (path-within c.args.lengths.now c.args.target c.requires.0.sound c.requires.1 (failed c.if-target.false)
+    (failed (rw (path-total c.args.lengths.now c.requires.0.some) at c.if-target-total.false))) in found_here) in search rules
 
 pub returns : goal.returns
 unfolding spot_at zero_f

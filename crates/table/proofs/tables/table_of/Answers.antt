@@ -8,16 +8,12 @@ use Rattle.floats.specs.Floats.{zero_f}
 use Rattle.table.proofs.Sums.{Summing, summing_start, summing-more, summing-done}
 use Rattle.table.proofs.tables.table_of.Goals as goal
 
--- there are 31 steps
-size : (c : goal.Start) → length c.args.t1 ≡ 31
-size c = c.well_formed.0.1.0.1
-
 pub loop-k-init : goal.loop-k-init
 unfolding zero_f
-loop-k-init c = summing_start c.args.t1 _ (sym (ap suc (size c))) refl
+loop-k-init c = summing_start c.args.t1 _ (sym (ap suc ((let size_here : length c.args.t1 ≡ 31 = c.well_formed.0.1.0.1 in size_here)))) refl
 
 pub loop-k-preserved : goal.loop-k-preserved
-loop-k-preserved c = let n = size c.before.before in summing-more c.loop-k.invariant (search rules)
+loop-k-preserved c = let n = (let size_here : length c.args.t1 ≡ 31 = c.well_formed.0.1.0.1 in size_here) in summing-more c.loop-k.invariant (search rules)
 
 pub returns : goal.returns
-returns c = let n = size c.before.before in summing-done c.loop-k.invariant (search rules)
+returns c = let n = (let size_here : length c.args.t1 ≡ 31 = c.well_formed.0.1.0.1 in size_here) in summing-done c.loop-k.invariant (search rules)

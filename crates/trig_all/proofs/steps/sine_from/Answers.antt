@@ -4,7 +4,7 @@ use native.Mathlib.Omega.{arith}
 use native.Mathlib.Nat.{mul-le-mul}
 use Prim.Native.Nat.{ℕ, ◌+◌, ◌*◌, ◌%◌, ◌≤◌}
 use mathlib.Core.Path.{◌≡◌, sym, ap, ◌∙◌}
-use mathlib.Core.Bool.{true}
+use mathlib.Core.Bool.{not, true}
 use lib.Ieee.{Float, binary32, of_bits}
 use Rattle.trig_rule.specs.Rule.{in_the_reach}
 use Rattle.trig_rule.specs.Steps.{fixed_of, flip_of, rest_of, sign_bit, sine_at}
@@ -15,13 +15,13 @@ use Rattle.trig_all.proofs.Stepped.{stepped-main}
 use Rattle.trig_all.proofs.steps.sine_from.Goals as goal
 
 pub returns-then-not-in_reach : goal.returns-then-not-in_reach
-returns-then-not-in_reach c = none ∙ sym (sine-far c.args.x (outside _ _ c.in_reach.ensures c.if-not-in_reach.true))
+returns-then-not-in_reach c = none ∙ sym (sine-far c.args.x (outside _ _ c.in_reach.ensures (ap not c.if-not-in_reach.true)))
 
 pub float_to_bits-b : goal.float_to_bits-b
-float_to_bits-b c = number _ (inside _ _ c.in_reach.ensures c.if-not-in_reach.false)
+float_to_bits-b c = number _ (inside _ _ c.in_reach.ensures (ap not c.if-not-in_reach.false))
 
 pub returns-then-b-lt964689920 : goal.returns-then-b-lt964689920
-returns-then-b-lt964689920 c = sym (sine-tiny _ (inside _ _ c.in_reach.ensures c.if-not-in_reach.false) c.if-b-lt964689920.true)
+returns-then-b-lt964689920 c = sym (sine-tiny _ (inside _ _ c.in_reach.ensures (ap not c.if-not-in_reach.false)) c.if-b-lt964689920.true)
 
 pub overflow_mul-r : goal.overflow_mul-r
 overflow_mul-r c = record { fits = omega (arith, mul-le-mul c.dropped-s.ensures.2 c.gap.ensures.1) }
@@ -39,6 +39,6 @@ float_from_bits-result c = number-bits _ (omega (arith, c.pack-m.ensures.1))
 
 pub returns : goal.returns
 returns c =
-    let near : in_the_reach c.args.x ≡ true = inside _ _ c.in_reach.ensures c.if-not-in_reach.false in
+    let near : in_the_reach c.args.x ≡ true = inside _ _ c.in_reach.ensures (ap not c.if-not-in_reach.false) in
     let bits : (sign_bit c.args.x + c.args.flip + c.over.result) % 2 * 2147483648 + c.pack-m.result ≡ sine_at (sign_bit c.args.x + flip_for c.args.x) (rest_for c.args.x) = cc in
     ap (of_bits binary32) bits ∙ ap (λ (b : ℕ). of_bits binary32 (sine_at (sign_bit c.args.x + flip_of (fixed_of b)) (rest_of (fixed_of b)))) (stepped-main c.args.x near c.if-b-lt964689920.false) ∙ sym (sine-main c.args.x near c.if-b-lt964689920.false)
