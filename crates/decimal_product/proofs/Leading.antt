@@ -127,7 +127,7 @@ bracket w place moved p r num den W D R P H L =
     record {
       at_least = le_trans (lower num den w p r (10 ^ place) (10 ^ 64) (2 ^ height place) (2 ^ moved) (2 ^ 64) (2 ^ 208) (lit< tt) H.at_most P.at_least L.at_least) (le_of_eq deep);
       below = lt_of_le_of_lt (le_of_eq (sym deep)) (upper num den w p (r + 5) (10 ^ place) (10 ^ 64) (2 ^ height place) (2 ^ moved) (2 ^ 64) (2 ^ 208) (w + L.more) (suc p)
-          (mul-pos (mul-pos (some w L.more W) (pow_pos moved)) D) L.at_most P.Below-next (room w L.more (2 ^ moved) p r (2 ^ 64) H.near R.fits (more_room w moved p L.more R.fits P.small L.cut_off)));
+          (mul-pos (mul-pos (some w L.more W) (pow_pos moved)) D) L.at_most P.below_next (room w L.more (2 ^ moved) p r (2 ^ 64) H.near R.fits (more_room w moved p L.more R.fits P.small L.cut_off)));
     }
   where
     some : (w more : ℕ) → 0 < w → 0 < w + more

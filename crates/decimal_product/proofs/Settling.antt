@@ -28,7 +28,7 @@ module _ (s : Bool) (num den product b d : ℕ) (D : 0 < den) (B : Bracket produ
       le_trans (le_of_eq (mul_right_comm (2 ^ 277) den (2 ^ d) ∙ ap (λ (z : ℕ). z * den) (sym (pow-add 2 277 d))))
       (le_trans (mul-le-mul_right den (pow_mono l))
       (le_trans (le_of_eq (ap (λ (z : ℕ). z * den) (pow-add 2 (23 + r) b) ∙ mul_assoc (2 ^ (23 + r)) (2 ^ b) den))
-      (le_trans (mul-le-mul_right (2 ^ b * den) h) B.at_least_lem))) in
+      (le_trans (mul-le-mul_right (2 ^ b * den) h) B.at_least))) in
       (le_refl infinity_bits, infinite-far s num den D (le_of_mul-le-mul_right scaled (pow_pos d)) ∙ infinite-bits s)
 
   -- it is less than 2 ^ -150

@@ -20,7 +20,7 @@ use Rattle.atan2_rule.proofs.Meets.{atan2-meets-rule, atan2-both-zero, atan2-zer
 use Rattle.lengths.specs.Length.{length_of as length_by}
 use Rattle.lengths_nearest.proofs.Kept.{length-kept}
 use Rattle.math.specs.Math.{point_of, length_of}
-use Rattle.kihavute.specs.Kept.{RootKept, LengthBits, SineKept, CosineKept, Atan2Kept}
+use Rattle.kihavute.specs.Kept.{RootKept, RootSettled, LengthBits, SineKept, CosineKept, Atan2Kept, Atan2Settled}
 
 root-of-zero : (x : Float) → T (is_zero x) → sqrt_of x ≡ x
 unfolding sqrt_of
@@ -45,8 +45,8 @@ unfolding sqrt_of
 root-below-all = refl
 
 module _ (x : Float) (held : T (fits binary32 x)) {r : Float} where
-  pub root_kept : r ≡ sqrt_of x → RootKept x r
-  root_kept e =
+  pub root-settled : r ≡ sqrt_of x → RootSettled x r
+  root-settled e =
       record {
         near = λ above. subst (NearestRoot binary32 x) (sym e) (sqrt-nearest x held above);
         zero = λ z. e ∙ root-of-zero x z;
@@ -72,10 +72,15 @@ unfolding zero_f
 atan2-kept y x rise run e =
     record {
       rule = λ upper lower some. subst (Atan2Rule y x) (sym e) (atan2-meets-rule y x rise run upper lower some);
-      level-right = λ p X level right some. e ∙ atan2-zero-right y x p X level run some right;
-      level-left = λ p X level left some. subst (λ (a : Float). Is a p pi_units) (sym e) (atan2-zero-left y x p X level run some left);
       nowhere = λ level still. e ∙ atan2-both-zero y x rise run (zero-finite y level) (zero-finite x still) level still;
       endless = λ other. e ∙ atan2-not-finite y x other;
+    }
+
+pub atan2-settled : (y x : Float) → T (fits binary32 x) → {r : Float} → r ≡ atan2_of y x → Atan2Settled y x r
+atan2-settled y x run e =
+    record {
+      level-right = λ p X level right some. e ∙ atan2-zero-right y x p X level run some right;
+      level-left = λ p X level left some. subst (λ (a : Float). Is a p pi_units) (sym e) (atan2-zero-left y x p X level run some left);
     }
 
 -- the length of a vector

@@ -11,9 +11,13 @@ use Rattle.lengths_nearest.specs.Kept.{LengthKept}
 use Rattle.trig_rule.specs.Rule.{Is, in_the_reach, SineRule, CosineRule}
 use Rattle.atan2_rule.specs.Rule.{pi_units, Atan2Rule}
 
--- "The root is the nearest value to the exact root, ties to even, judged by squares of whole numbers; -0 and infinity give themselves, NaN and below zero NaN."
-pub record RootKept (x r : Float) : Type 0 where
-  pub near : T (positive x) → NearestRoot binary32 x r
+-- "The root is the nearest value to the exact root, ties to even, judged by squares of whole numbers"
+abbrev pub RootKept : Float → Float → Type 0
+RootKept x r = T (positive x) → NearestRoot binary32 x r
+
+-- and the rest of that sentence: "-0 and infinity give themselves, NaN and below zero NaN."
+pub record RootSettled (x r : Float) : Type 0 where
+  pub near : RootKept x r
   pub zero : T (is_zero x) → r ≡ x
   pub endless : x ≡ inf false → r ≡ x
   pub none : x ≡ nan → r ≡ nan
@@ -33,11 +37,13 @@ pub record CosineKept (angle r : Float) : Type 0 where
   pub near : T (in_the_reach angle) → CosineRule angle r
   pub far : in_the_reach angle ≡ false → r ≡ nan
 
--- "Atan2 of finite y, x, not both 0, is an a in [-PI, PI] ..", "for y zero it is zero with x above 0 and PI in size with x below. Both zero: 0.", "Not finite: NaN." A y zero has no units, an x
--- that is not has X; the zero is y itself, and PI has its sign.
+-- "Atan2 of finite y, x, not both 0, is an a in [-PI, PI] ..", "Both zero: 0.", "Not finite: NaN."
 pub record Atan2Kept (y x r : Float) : Type 0 where
   pub rule : T (finite y) → T (finite x) → T (not (is_zero y && is_zero x)) → Atan2Rule y x r
-  pub level-right : (p : Bool) (X : ℕ) → Is y p 0 → Is x false X → 0 < X → r ≡ y
-  pub level-left : (p : Bool) (X : ℕ) → Is y p 0 → Is x true X → 0 < X → Is r p pi_units
   pub nowhere : T (is_zero y) → T (is_zero x) → r ≡ zero_f
   pub endless : T (not (finite y && finite x)) → r ≡ nan
+
+-- "for y zero it is zero with x above 0 and PI in size with x below." A y zero has no units, an x that is not has X; the zero is y itself, and PI has its sign.
+pub record Atan2Settled (y x r : Float) : Type 0 where
+  pub level-right : (p : Bool) (X : ℕ) → Is y p 0 → Is x false X → 0 < X → r ≡ y
+  pub level-left : (p : Bool) (X : ℕ) → Is y p 0 → Is x true X → 0 < X → Is r p pi_units

@@ -5,9 +5,9 @@
 // kihavute_curves the curves, crate kihavute_paths the paths and the shapes.
 #![tactic(auto)]
 
-mod decimals;
-mod lookups;
-mod numbers;
-mod points;
-mod strict_reading;
-mod turns;
+pub mod decimals;
+pub mod lookups;
+pub mod numbers;
+pub mod points;
+pub mod strict_reading;
+pub mod turns;

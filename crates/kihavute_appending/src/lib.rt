@@ -1,4 +1,4 @@
 // The C interface's sixth part: segments appended to a stored path, one by one.
 #![tactic(auto)]
 
-mod appending;
+pub mod appending;

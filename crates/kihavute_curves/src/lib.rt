@@ -1,8 +1,8 @@
 // The C interface's third part: quads, cubics, lines, arcs and splines.
 #![tactic(auto)]
 
-mod arcs;
-mod curve_tables;
-mod curves;
-mod lone;
-mod splines;
+pub mod arcs;
+pub mod curve_tables;
+pub mod curves;
+pub mod lone;
+pub mod splines;

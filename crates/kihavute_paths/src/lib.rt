@@ -1,9 +1,9 @@
 // The C interface's fourth part: paths, built, stored and asked, the station tool, and shapes.
 #![tactic(auto)]
 
-mod batches;
-mod listings;
-mod morphs;
-mod paths;
-mod queries;
-mod stored_paths;
+pub mod batches;
+pub mod listings;
+pub mod morphs;
+pub mod paths;
+pub mod queries;
+pub mod stored_paths;

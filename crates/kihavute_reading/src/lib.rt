@@ -1,5 +1,5 @@
 // The C interface's second part: the permissive reader, twice, and the check of a command list.
 #![tactic(auto)]
 
-mod lean;
-mod reading;
+pub mod lean;
+pub mod reading;

@@ -1,4 +1,4 @@
 // The C interface's fifth part: the segments of a stored path, asked one by one.
 #![tactic(auto)]
 
-mod segments;
+pub mod segments;

@@ -19,7 +19,7 @@ use Rattle.path_stored.specs.Layout.{lengths_of_all}
 use Rattle.station_sections.specs.Sections.{progress_of}
 use Rattle.station_listing.specs.Ordered.{Accepted}
 use Rattle.station_listing.proofs.Asking.{asked}
-use Rattle.station_listing.proofs.Ordering.{built, listing-ordered}
+use Rattle.station_listing.proofs.Ordering.{built, listing-enclosed}
 use Rattle.received.specs.Stations.{StationsAt}
 
 whole : (n : ℕ) → n ≤ 2 ^ 24 → HasValue (of_int binary32 (pos n)) false n 1
@@ -38,4 +38,4 @@ module _ (n : ℕ) (least : 2 ≤ n) (most : n ≤ 1000) (k : ℕ) (inside : k <
 pub listing-stations : (input : List ℕ) (a : Accepted input) → 0 < length a.segments → T (lt epsilon_f (path_total (lengths_of_all a.segments))) → StationsAt (built a) a.count
 listing-stations input a some long =
     let ask = asked input a.count a.next 0 a.asks in
-    record { ordered = listing-ordered input a some long; nearest = λ k inside. station-nearest a.count ask.least ask.most k inside }
+    record { ordered = listing-enclosed input a some long; nearest = λ k inside. station-nearest a.count ask.least ask.most k inside }

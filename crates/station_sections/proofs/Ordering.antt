@@ -38,7 +38,7 @@ use Rattle.path_query.specs.Flights.{flown_of, flight_of}
 use Rattle.path_query.proofs.Answering.{some-kinds}
 use Rattle.station_lines.specs.Lines.{station_line}
 use Rattle.station_sections.specs.Sections.{progress_of, station_of}
-use Rattle.station_sections.specs.Ordered.{flown_by, OrderedStations}
+use Rattle.station_sections.specs.Ordered.{flown_by, OrderedStations, EnclosedStations}
 
 -- ---- the progress of a station
 
@@ -142,6 +142,13 @@ module _ {b : Buffers} (f : F32Stored b) (some : 0 < length b.kinds) (long : T (
         order = λ j k l inside. demand.order (progress_of n j) (progress_of n k) (clamp01-mono (progress_of n j) (progress_of n k) (progress-mono n least most j k l inside));
         starts = ap (place_at b.kinds b.tables) (spot-first path long first (progress-first n least most) ∙ sym (path-starts path long)) ∙ demand.starts;
         ends = ap (place_at b.kinds b.tables) (spot-last path long last (progress-last n least most) ∙ sym (path-ends path)) ∙ demand.ends;
+      }
+
+  pub stations-enclosed : (n : ℕ) → 2 ≤ n → n ≤ 1000 → EnclosedStations b n
+  stations-enclosed n least most =
+      let demand = demand-3 f some long in
+      record {
+        stations = stations-ordered n least most;
         enclosed = λ k. demand.enclosed (progress_of n k);
         swept = λ k. demand.swept (progress_of n k);
       }

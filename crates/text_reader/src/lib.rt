@@ -7,5 +7,5 @@ mod reader;
 mod steps;
 
 pub use line::{FirstLine, past};
-pub use reader::{TextReader, reader_at};
+pub use reader::{TextReader, first_line, path_step, reader_at};
 pub use steps::step_at;

@@ -1,8 +1,10 @@
 // The text reader: a lent text and a place in it.
 ghost use Rattle.std.specs.Prelude.{◌≡◌};
-ghost use Rattle.text_reader.specs.Plans.{first_line_of};
+ghost use Rattle.text_reader.specs.Plans.{first_line_of, step_of};
 
 use crate::line::{FirstLine, line_at};
+use crate::steps::step_at;
+use svg_step::{Reader, Step};
 
 #[derive(Clone, Copy)]
 pub struct TextReader<'a> {
@@ -11,6 +13,13 @@ pub struct TextReader<'a> {
 }
 
 // A reader at a place of a text.
+pub fn reader<'a>(text: &'a [u8], at: usize) -> TextReader<'a>
+    ensures { (result.text ≡ text.entry) × (result.at ≡ at) }
+{
+    TextReader { text, at }
+}
+
+// The same, by the name that no module has.
 pub fn reader_at<'a>(text: &'a [u8], at: usize) -> TextReader<'a>
     ensures { (result.text ≡ text.entry) × (result.at ≡ at) }
 {
@@ -25,6 +34,13 @@ impl<'a> TextReader<'a> {
         line_at(self.text, self.at)
     }
 
+    // One step of the path whose text starts at the reader's place.
+    pub fn step(self, state: Reader) -> Step
+        ensures { result ≡ step_of self.entry.text.now self.entry.at state }
+    {
+        step_at(self.text, self.at, state)
+    }
+
     // The reader moves to another place of its text.
     pub fn moved(self, at: usize) -> TextReader<'a>
         ensures { (result.text ≡ self.entry.text) × (result.at ≡ at) }
@@ -34,4 +50,19 @@ impl<'a> TextReader<'a> {
             at,
         }
     }
+}
+
+// The first line of a plan. This and the next make the reader themselves, so that no caller has to
+// keep one.
+pub fn first_line(text: &[u8]) -> FirstLine
+    ensures { result ≡ first_line_of text.now 0 }
+{
+    reader(text, 0).line()
+}
+
+// One step of the path of a plan, whose text starts at `at`.
+pub fn path_step(text: &[u8], at: usize, state: Reader) -> Step
+    ensures { result ≡ step_of text.now at state }
+{
+    reader(text, at).step(state)
 }

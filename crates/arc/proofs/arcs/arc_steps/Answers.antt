@@ -5,9 +5,9 @@ use Rattle.arc.proofs.Rows.{rows-steps}
 use Rattle.arc.proofs.arcs.arc_steps.Goals as goal
 
 pub put_points-requires : goal.put_points-requires
-put_points-requires c = (c.put_sines.ensures.0.size, c.put_sines.ensures.1.size)
+put_points-requires c = (c.put_sines.ensures.sines.size, c.put_sines.ensures.cosines.size)
 
 pub returns : goal.returns
 returns c =
-    rows-steps _ _ c.put_angles.ensures c.put_sines.ensures.0 c.put_sines.ensures.1 c.put_points.ensures.0 c.put_points.ensures.1
+    rows-steps _ _ c.put_angles.ensures c.put_sines.ensures.sines c.put_sines.ensures.cosines c.put_points.ensures.across c.put_points.ensures.along
     c.put_differences.ensures c.put_differences-2.ensures _ c.lengths.ensures

@@ -14,4 +14,4 @@ unfolding point_on
 own_turn shape turn e = ap (λ (t : SinCos). steps_of (point_turned shape t) 31) e
 
 pub returns : goal.returns
-returns c = table_is _ _ _ (c.arc_steps.ensures ∙ own_turn _ _ c.turn_of.ensures) c.table_of.ensures.0 c.table_of.ensures.1
+returns c = table_is _ _ _ (c.arc_steps.ensures ∙ own_turn _ _ c.turn_of.ensures) c.table_of.ensures.entries c.table_of.ensures.total

@@ -18,4 +18,4 @@ loop-i-preserved c =
     )
 
 pub returns : goal.returns
-returns c = (replacing-row c.loop-i.invariant.0 c.loop-i-test.false, replacing-row c.loop-i.invariant.1 c.loop-i-test.false)
+returns c = record { across = replacing-row c.loop-i.invariant.0 c.loop-i-test.false; along = replacing-row c.loop-i.invariant.1 c.loop-i-test.false }

@@ -13,29 +13,18 @@ use Rattle.decimal.specs.Bits.{Nearest}
 use Rattle.decimal.proofs.Capped.{Apart, under, past, near, capped-self}
 use Rattle.decimal.proofs.Scaled.{none-nearest, sized, placed, too-low, too-high, product-bits, product-between}
 use borrow.Author.Rules.{rules}
-use Rattle.decimal.proofs.magnitudes.magnitude.Tie as tie
 use Rattle.decimal.proofs.magnitudes.magnitude.Goals as goal
 
 -- the place among the powers of ten, for any exponents that are capped so
-module _ (c : tie.After-nearest) (up down : ℕ) (e : c.args.rise ≡ capped up) (f : c.args.fall ≡ capped down)
-    (one : (up ≡ 0) ⊎ (down ≡ 0)) where
-  abbrev start : tie.Start
-  start = c.before.before.before.before.before.before.before
-
-  abbrev place : ℕ
-  place = c.sum-up.result - c.sum-down.result
-
-  apart : Apart (start.args.dropped + 64) up start.args.places down place
-  apart =
-      let x = c.sum-up.ensures up e in
-      let y = c.sum-down.ensures down f in
-      subst (λ (i : ℕ). Apart (start.args.dropped + 64) up start.args.places down i) (sym (ap (λ (i : ℕ). i - c.sum-down.result) x ∙ ap (λ (i : ℕ). capped (start.args.dropped + 64 + up) - i) y))
-      (near (start.args.dropped + 64) up start.args.places down ((let low_dropped_here : start.args.dropped + 64 < 2 ^ 63 + 64 = omega (arith, start.requires.few-dropped) in low_dropped_here)) ((let low_places_here : start.args.places < 2 ^ 63 = omega (arith, start.requires.few) in low_places_here)) one
-      (subst (λ (i : ℕ). capped (start.args.places + down) ≤ i) x (subst (λ (i : ℕ). i ≤ c.sum-up.result) y c.if-up-down.false))
-      (subst (λ (i : ℕ). i - capped (start.args.places + down) ≤ 102) x (subst (λ (i : ℕ). c.sum-up.result - i ≤ 102) y c.if-up-down-gt102.false)))
-
-  leading : Leading start.args.w place (val (digits_among start.args.part.now) * 10 ^ up) (10 ^ (start.args.places + down))
-  leading = placed start.args.w (start.args.dropped + 64 + up) _ (start.args.places + down) (sized _ _ _ up start.requires.leads) place apart.at-or-past
+apart :
+    (dropped places up down x y : ℕ) → dropped < 2 ^ 63 → places < 2 ^ 63 → (up ≡ 0) ⊎ (down ≡ 0)
+    → x ≡ capped (dropped + 64 + up) → y ≡ capped (places + down) → y ≤ x → x - y ≤ 102
+    → Apart (dropped + 64) up places down (x - y)
+apart dropped places up down x y low few one e f le within =
+    subst (λ (i : ℕ). Apart (dropped + 64) up places down i) (sym (ap (λ (i : ℕ). i - y) e ∙ ap (λ (i : ℕ). capped (dropped + 64 + up) - i) f))
+    (near (dropped + 64) up places down (let h : dropped + 64 < 2 ^ 63 + 64 = omega arith in h) few one
+    (subst (λ (i : ℕ). capped (places + down) ≤ i) e (subst (λ (i : ℕ). i ≤ x) f le))
+    (subst (λ (i : ℕ). i - capped (places + down) ≤ 102) e (subst (λ (i : ℕ). x - i ≤ 102) f within)))
 
 pub returns-then-w-eq0 : goal.returns-then-w-eq0
 returns-then-w-eq0 c =
@@ -72,23 +61,30 @@ pub between-requires : goal.between-requires
 between-requires c =
     let rise = capped-self _ c.requires.rise-le in
     let fall = capped-self _ c.requires.fall-le in
-    let cell = product-between c.nearest.ensures _ _ (ten-pos _) (leading c.before.before.before _ _ rise fall c.requires.one_way) c.in-Between.is in
-    let at = (apart c.before.before.before _ _ rise fall c.requires.one_way).at-or-past in
-    (cell.few, cell.low, ⊎_elim (λ h. omega (arith, c.requires.few)) (λ h. omega (arith, c.requires.few, at, c.if-up-down-gt102.false)) c.requires.one_way)
+    let at : Apart (c.args.dropped + 64) c.args.rise c.args.places c.args.fall (c.sum-up.result - c.sum-down.result) = apart c.args.dropped c.args.places c.args.rise c.args.fall c.sum-up.result c.sum-down.result c.requires.few-dropped (omega (arith, c.requires.few)) c.requires.one_way (c.sum-up.ensures c.args.rise rise) (c.sum-down.ensures c.args.fall fall) c.if-up-down.false c.if-up-down-gt102.false in
+    let leading : Leading c.args.w (c.sum-up.result - c.sum-down.result) (val (digits_among c.args.part.now) * 10 ^ c.args.rise) (10 ^ (c.args.places + c.args.fall)) = placed c.args.w (c.args.dropped + 64 + c.args.rise) _ (c.args.places + c.args.fall) (sized _ _ _ c.args.rise c.requires.leads) (c.sum-up.result - c.sum-down.result) at.at-or-past in
+    let cell = product-between c.nearest.ensures _ _ (ten-pos _) leading c.in-Between.is in
+    (cell.few, cell.low, ⊎_elim (λ h. omega (arith, c.requires.few)) (λ h. omega (arith, c.requires.few, at.at-or-past, c.if-up-down-gt102.false)) c.requires.one_way)
 
 pub returns-in-Bits : goal.returns-in-Bits
 returns-in-Bits c =
-    record { bits = λ up down e f one. product-bits c.nearest.ensures _ _ (ten-pos _) (leading c.before.before.before up down e f one) c.in-Bits.is }
+    record {
+      bits = λ up down e f one.
+          let at : Apart (c.args.dropped + 64) up c.args.places down (c.sum-up.result - c.sum-down.result) = apart c.args.dropped c.args.places up down c.sum-up.result c.sum-down.result c.requires.few-dropped (omega (arith, c.requires.few)) one (c.sum-up.ensures up e) (c.sum-down.ensures down f) c.if-up-down.false c.if-up-down-gt102.false in
+          let leading : Leading c.args.w (c.sum-up.result - c.sum-down.result) (val (digits_among c.args.part.now) * 10 ^ up) (10 ^ (c.args.places + down)) = placed c.args.w (c.args.dropped + 64 + up) _ (c.args.places + down) (sized _ _ _ up c.requires.leads) (c.sum-up.result - c.sum-down.result) at.at-or-past in
+          product-bits c.nearest.ensures _ _ (ten-pos _) leading c.in-Bits.is;
+    }
 
 pub returns-in-Between : goal.returns-in-Between
 returns-in-Between c =
     let ds = digits_among c.args.part.now in
     record {
       bits = λ up down e f one.
-          let at = apart c.before.before.before.before up down e f one in
+          let at : Apart (c.args.dropped + 64) up c.args.places down (c.sum-up.result - c.sum-down.result) = apart c.args.dropped c.args.places up down c.sum-up.result c.sum-down.result c.requires.few-dropped (omega (arith, c.requires.few)) one (c.sum-up.ensures up e) (c.sum-down.ensures down f) c.if-up-down.false c.if-up-down-gt102.false in
+          let leading : Leading c.args.w (c.sum-up.result - c.sum-down.result) (val (digits_among c.args.part.now) * 10 ^ up) (10 ^ (c.args.places + down)) = placed c.args.w (c.args.dropped + 64 + up) _ (c.args.places + down) (sized _ _ _ up c.requires.leads) (c.sum-up.result - c.sum-down.result) at.at-or-past in
           let rises = e ∙ at.up-exact in
           let falls = f ∙ at.down-exact in
-          let cell = product-between c.nearest.ensures _ _ (ten-pos _) (leading c.before.before.before.before up down e f one) c.in-Between.is in
+          let cell = product-between c.nearest.ensures _ _ (ten-pos _) leading c.in-Between.is in
           subst (λ (u : ℕ). Nearest (val ds * 10 ^ u) (10 ^ (c.args.places + down)) c.between.result) rises
           (subst (λ (d : ℕ). Nearest (val ds * 10 ^ c.args.rise) (10 ^ (c.args.places + d)) c.between.result) falls
           (c.between.ensures.bits c.args.places c.requires.in_all

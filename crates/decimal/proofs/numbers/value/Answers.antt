@@ -7,7 +7,7 @@ use native.Mathlib.Omega.{arith}
 use lib.Dec.{eqb}
 use lib.Ieee.{binary32, of_bits}
 use borrow.Author.Rules.{rules}
-use borrow.Author.Tests.{leb-true, ltb-true, eqb-true}
+use borrow.Author.Tests.{leb-true, ltb-true, eqb-true, eq-eqb, ne_eqb}
 use Rattle.floats.specs.Patterns.{sign_place}
 use Rattle.decimal_rounding.proofs.Wide.{no-nan-single}
 use Rattle.decimal_digits.proofs.Values.{ten-pos}
@@ -62,10 +62,10 @@ float_from_bits-result-else-negative c = no-nan-single _ ((let nearest_here : Ne
 
 pub returns-then-negative : goal.returns-then-negative
 returns-then-negative c =
-    value-signed _ _ _ _ _ _ c.requires _ true (sym (ap (λ (n : ℕ). eqb n minus) (sym c.byte_at-negative.ensures) ∙ c.if-negative.true))
+    value-signed _ _ _ _ _ _ c.requires _ true (sym (eq-eqb _ _ (sym c.byte_at-negative.ensures ∙ c.if-negative.true)))
     (ap (λ (n : ℕ). of_bits binary32 n) (add_comm c.magnitude-bits.result sign_place) ∙ sym (((let nearest_here : Nearest (numerator c.args.text.now c.args.parts.places) (denominator c.args.text.now c.args.parts.places) c.magnitude-bits.result = c.magnitude-bits.ensures.bits _ _ c.requires.rises c.requires.drops (one_way _ _) in nearest_here)).is true))
 
 pub returns-else-negative : goal.returns-else-negative
 returns-else-negative c =
-    value-signed _ _ _ _ _ _ c.requires _ false (sym (ap (λ (n : ℕ). eqb n minus) (sym c.byte_at-negative.ensures) ∙ c.if-negative.false))
+    value-signed _ _ _ _ _ _ c.requires _ false (sym (ne_eqb _ _ (λ e. c.if-negative.false (c.byte_at-negative.ensures ∙ e))))
     (ap (λ (n : ℕ). of_bits binary32 n) (sym (zero-add c.magnitude-bits.result)) ∙ sym (((let nearest_here : Nearest (numerator c.args.text.now c.args.parts.places) (denominator c.args.text.now c.args.parts.places) c.magnitude-bits.result = c.magnitude-bits.ensures.bits _ _ c.requires.rises c.requires.drops (one_way _ _) in nearest_here)).is false))

@@ -21,7 +21,7 @@ overflow_add-at c = record { fits = omega (arith, (let inside_here : c.args.at <
 
 pub returns-then-is_sign : goal.returns-then-is_sign
 returns-then-is_sign c =
-    (one_byte signs c.args.text.now _ no_zero ((let is_one_here : among (get_or c.args.text.now c.args.at 0) signs ≡ true = ap (λ (b : ℕ). among b signs) (sym c.byte_at-byte.ensures) ∙ sym c.is_sign.ensures ∙ c.if-is_sign.true in is_one_here)), c.byte_at-byte.ensures)
+    (one_byte signs c.args.text.now _ no_zero ((let is_one_here : among (get_or c.args.text.now c.args.at 0) signs ≡ true = ap (λ (b : ℕ). among b signs) (sym c.byte_at-byte.ensures) ∙ sym c.is_sign.ensures ∙ c.if-is_sign.true in is_one_here)), c.byte_at.ensures)
 
 pub returns : goal.returns
 returns c =

@@ -49,7 +49,7 @@ returns c h =
     let settled = c.settle-2.ensures h in
     let before-few : c.whole_digits-first.result.w < 2 ^ 53 = omega (arith, c.fraction_digits-all.ensures.takes.grows, settled.few) in
     let after = fills-all c.args.text.now (c.whole_digits-first.result.at + 1) c.whole_digits-first.result.w c.fraction_digits-all.result c.fraction_digits-all.ensures settled.few in
-    let no-mark = ap (λ (b : ℕ). among b exponent_marks) (sym c.byte_at-negative.ensures) ∙ sym c.is_exponent_mark-2.ensures ∙ c.if-is_exponent_mark.false in
+    let no-mark = ap (λ (b : ℕ). among b exponent_marks) (sym c.byte_at.ensures) ∙ sym c.is_exponent_mark-2.ensures ∙ c.if-is_exponent_mark.false in
     quick-read _ _ settled
     (quick-number c.args.at c.lead-led.ensures.0 (fills-all c.args.text.now c.lead-led.result.at 0 c.whole_digits-first.result c.whole_digits-first.ensures before-few)
     (one_byte points c.args.text.now c.whole_digits-first.result.at no_zero (alone-is _ 46 ((let is_point_here : get_or c.args.text.now c.whole_digits-first.result.at 0 ≡ 46 = sym c.byte_at-byte.ensures ∙ search c.if-byte-ne46.false in is_point_here)))) after c.if-whole-point-2.false (plain_at (c.whole_digits-first.result.at + 1) after.passed no-mark) settled.few)

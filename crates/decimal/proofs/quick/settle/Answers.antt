@@ -41,7 +41,7 @@ signed-requires c = ((let near_here : Nearest c.args.w (10 ^ c.args.places) c.na
 pub returns-then-tells : goal.returns-then-tells
 returns-then-tells c h =
     record {
-      c.before.before.before.before.before.before = omega (arith, c.if-w-ge9007199254740992.false);
+      few = omega (arith, c.if-w-ge9007199254740992.false);
       ends = refl;
       stored = set-one c.args.out.now _ c.requires ∙ ap (λ (x : Float). x ∷ []) (c.signed.ensures ∙ sym (((let near_here : Nearest c.args.w (10 ^ c.args.places) c.narrow.result = subst (λ (n : ℕ). Nearest c.args.w (10 ^ c.args.places) n) (sym c.narrow.ensures)
     (quotient-bits _ _ (ten-pos _) (small _ (omega (arith, c.if-places-gt8.false))) (c.tells.ensures c.if-tells.true) _

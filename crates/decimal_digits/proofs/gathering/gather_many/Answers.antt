@@ -8,18 +8,6 @@ use Rattle.decimal_digits.specs.Leading.{Takes}
 use Rattle.decimal_digits.proofs.Taking.{takes_none, takes-on, takes_run, run-ended, run-bounds, Bounds, gathers-on, gathers-none}
 use Rattle.decimal_digits.proofs.gathering.gather_many.Goals as goal
 
--- with the run's digits
-taken : (c : goal.After-power)
-    → Takes c.args.text.now c.args.from
-    c.args.w
-    (c.loop-held.at + c.run_at-run.result.count)
-    (c.loop-held.held * c.power.result + c.run_at-run.result.value)
-taken c =
-    let inside = c.has.ensures (not-false _ (ap not c.if-not-has.false)) in
-    takes-on c.args.text.now _ _ c.loop-held.at c.loop-held.held _ _ c.loop-held.invariant
-    (subst (λ (p : ℕ). Takes c.args.text.now c.loop-held.at c.loop-held.held (c.loop-held.at + c.run_at-run.result.count) (c.loop-held.held * p + c.run_at-run.result.value)) (sym c.power.ensures)
-    (takes_run c.args.text.now c.loop-held.at inside c.run_at-run.result.count c.run_at-run.ensures.count c.loop-held.held c.run_at-run.result.value c.loop-held-test.true c.run_at-run.ensures.value))
-
 pub loop-held-init : goal.loop-held-init
 loop-held-init c = takes_none _ _ _
 

@@ -17,5 +17,5 @@ overflow_add-result c = record { fits = omega (arith, c.requires.0, c.past_many_
 
 pub returns : goal.returns
 returns c =
-    subst (λ (end : ℕ). Gathers c.args.text.now c.args.taken.at c.args.taken.w c.args.dropped (record { c.args.taken.at = end; c.args.taken.w = c.args.taken.w; c.args.dropped = c.args.dropped + (end - c.args.taken.at) })) (sym c.past_many_digits-end.ensures)
+    subst (λ (end : ℕ). Gathers c.args.text.now c.args.taken.at c.args.taken.w c.args.dropped (record { at = end; w = c.args.taken.w; dropped = c.args.dropped + (end - c.args.taken.at) })) (sym c.past_many_digits-end.ensures)
     (gathers-rest c.args.text.now c.args.taken.at c.args.taken.w c.args.dropped c.if-w-lt1000000000000000000.false c.requires.0)

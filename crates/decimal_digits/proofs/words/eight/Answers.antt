@@ -4,4 +4,4 @@ use Rattle.std.proofs.Common.{rules}
 use Rattle.decimal_digits.proofs.words.eight.Goals as goal
 
 pub returns : goal.returns
-returns c = eight_is _ _ _ _ c.join-pairs.ensures c.join-fours.ensures c.join-pairs.ensures
+returns c = eight_is _ _ _ _ c.join-pairs.ensures c.join-fours.ensures c.join.ensures

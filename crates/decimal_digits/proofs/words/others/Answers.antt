@@ -6,4 +6,4 @@ use Rattle.decimal_digits.proofs.words.others.Goals as goal
 
 pub returns : goal.returns
 unfolding each others_of
-returns c = ap (λ (z : ℕ). bit_and (bit_or z c.args.x) 9259542123273814144) c.wrapping_add_u64.ensures
+returns c = ap (λ (z : ℕ). bit_and (bit_or z c.args.x) 9259542123273814144) c.wrapping_add_u64.ensures.value

@@ -6,13 +6,6 @@ use Rattle.decimal_digits.specs.Words.{laid, eight_of, begun, each, Below}
 use Rattle.decimal_digits.proofs.Lanes.{eight-below, none_other, some-other, whole-value, part-value}
 use Rattle.decimal_digits.proofs.words.run_at.Goals as goal
 
--- the lowest mark
-first : (c : goal.Else-marks-eq0)
-    → (count_trailing_zeros 64 c.others-marks.result ≡ 8 * count_of c.before.before.before.before.before + 7) × (count_of c.before.before.before.before.before < 8)
-first c =
-    let s = some-other _ refl (bytes c.before.before.before.before) _ (lanes-are c.before.before) (λ z. c.if-marks-eq0.false (c.others-marks.ensures ∙ z)) in
-    (ap (count_trailing_zeros 64) c.others-marks.ensures ∙ s.0, s.1)
-
 pub returns-then-marks-eq0 : goal.returns-then-marks-eq0
 returns-then-marks-eq0 c =
     let all = none_other _ refl ((let bytes_here : Below 256 (eight_of c.args.text.now c.args.at) = eight-below c.args.text.now c.args.at (λ i. omega (arith, c.shared_slice_known-1.given i)) in bytes_here)) _ ((let lanes_are_here : c.values-x.result ≡ bit_xor (laid 8 (eight_of c.args.text.now c.args.at)) (each 48 8) = c.values-x.ensures ∙ ap (λ (z : ℕ). bit_xor z (each 48 8)) c.word_at.ensures in lanes_are_here)) (sym c.others-marks.ensures ∙ c.if-marks-eq0.true) in

@@ -34,26 +34,32 @@ digit-d-requires c = digit-range _ (sym c.is_digit.ensures ∙ not-false _ (ap n
 pub times_ten-t-requires : goal.times_ten-t-requires
 times_ten-t-requires c = (c.loop-i.invariant.0, omega arith)
 
--- the digit that was read is the first of those from i on
-read_first :
-    (c : goal.After-digit-d)
-    → against (c.digit-d.result ∷ digits_among (drop (c.loop-i.i + 1) c.args.part.now)) (wide_of c.loop-i.w) ≡ against (digits_among (drop c.args.from c.args.part.now)) (wide_of c.args.f)
-read_first c =
-    let c.before.before.before.before.before.before = c.before.before.before.before.before.before in
+pub returns-then-d-t : goal.returns-then-d-t
+returns-then-d-t c =
     let is_one = sym c.is_digit.ensures ∙ not-false _ (ap not c.if-not-is_digit.false) in
+    let read_first : against (c.digit-d.result ∷ digits_among (drop (c.loop-i.i + 1) c.args.part.now)) (wide_of c.loop-i.w) ≡ against (digits_among (drop c.args.from c.args.part.now)) (wide_of c.args.f) =
     ap (λ (d : ℕ). against (d ∷ digits_among (drop (c.loop-i.i + 1) c.args.part.now)) (wide_of c.loop-i.w)) c.digit-d.ensures
     ∙ ap (λ (ds : List ℕ). against ds (wide_of c.loop-i.w)) (sym (digit-first c.args.part.now c.loop-i.i c.loop-i-test.true is_one))
-    ∙ c.loop-i.invariant.1
-
-pub returns-then-d-t : goal.returns-then-d-t
-returns-then-d-t c = sym (against-lt _ _ _ _ c.times_ten-t.ensures (val-lt _) c.if-d-t.true) ∙ read_first c.before.before.before
+    ∙ c.loop-i.invariant.1 in
+    sym (against-lt _ _ _ _ c.times_ten-t.ensures (val-lt _) c.if-d-t.true) ∙ read_first
 
 pub returns-then-t-d : goal.returns-then-t-d
-returns-then-t-d c = sym (against-gt _ _ _ _ c.times_ten-t.ensures (val-lt _) c.if-t-d.true) ∙ read_first c.before.before.before.before.before
+returns-then-t-d c =
+    let is_one = sym c.is_digit.ensures ∙ not-false _ (ap not c.if-not-is_digit.false) in
+    let read_first : against (c.digit-d.result ∷ digits_among (drop (c.loop-i.i + 1) c.args.part.now)) (wide_of c.loop-i.w) ≡ against (digits_among (drop c.args.from c.args.part.now)) (wide_of c.args.f) =
+    ap (λ (d : ℕ). against (d ∷ digits_among (drop (c.loop-i.i + 1) c.args.part.now)) (wide_of c.loop-i.w)) c.digit-d.ensures
+    ∙ ap (λ (ds : List ℕ). against ds (wide_of c.loop-i.w)) (sym (digit-first c.args.part.now c.loop-i.i c.loop-i-test.true is_one))
+    ∙ c.loop-i.invariant.1 in
+    sym (against-gt _ _ _ _ c.times_ten-t.ensures (val-lt _) c.if-t-d.true) ∙ read_first
 
 pub loop-i-preserved : goal.loop-i-preserved
 loop-i-preserved c =
-    (c.times_ten-t.ensures.small, sym (against-on _ _ _ _ c.times_ten-t.ensures (val-lt _) (omega (arith, c.if-t-d.false, c.if-d-t.false))) ∙ read_first c.before.before.before.before.before.before)
+    let is_one = sym c.is_digit.ensures ∙ not-false _ (ap not c.if-not-is_digit.false) in
+    let read_first : against (c.digit-d.result ∷ digits_among (drop (c.loop-i.i + 1) c.args.part.now)) (wide_of c.loop-i.w) ≡ against (digits_among (drop c.args.from c.args.part.now)) (wide_of c.args.f) =
+    ap (λ (d : ℕ). against (d ∷ digits_among (drop (c.loop-i.i + 1) c.args.part.now)) (wide_of c.loop-i.w)) c.digit-d.ensures
+    ∙ ap (λ (ds : List ℕ). against ds (wide_of c.loop-i.w)) (sym (digit-first c.args.part.now c.loop-i.i c.loop-i-test.true is_one))
+    ∙ c.loop-i.invariant.1 in
+    (c.times_ten-t.ensures.small, sym (against-on _ _ _ _ c.times_ten-t.ensures (val-lt _) (omega (arith, c.if-t-d.false, c.if-d-t.false))) ∙ read_first)
 
 pub compare_wide-requires : goal.compare_wide-requires
 compare_wide-requires c = (none-small, c.loop-i.invariant.0)

@@ -11,7 +11,7 @@ use Rattle.decimal_tie.proofs.Weighed.{lower-beyond, lower-on, lower-end}
 use Rattle.decimal_tie.proofs.scales.lower.Given as goal
 
 abbrev pub invariant-loop-more : goal.invariant-loop-more
-invariant-loop-more l = Small l.w × ((v l : ℕ) → v < l → compare (v * 2 ^ 150) (wide_of l.initial.w * (10 ^ l.zeros * l)) ≡ compare (v * 2 ^ 150) (wide_of l.w * (10 ^ l.more * l)))
+invariant-loop-more l = Small l.w × ((v b : ℕ) → v < b → compare (v * 2 ^ 150) (wide_of l.initial.w * (10 ^ l.zeros * b)) ≡ compare (v * 2 ^ 150) (wide_of l.w * (10 ^ l.more * b)))
 
 abbrev pub decreases-loop-more : goal.decreases-loop-more
 decreases-loop-more l = l.more

@@ -26,6 +26,6 @@ returns c =
       at_c = omega arith;
       at_b = omega arith;
       at_a = omega arith;
-      c.requires.0 = record { a_lt = omega arith; b_lt = omega arith; c_lt = omega arith };
+      small = record { a_lt = omega arith; b_lt = omega arith; c_lt = omega arith };
       out-lt = zl;
     }

@@ -19,28 +19,27 @@ loop-more-init c = (none-small, λ s. refl)
 pub times_ten-t-requires : goal.times_ten-t-requires
 times_ten-t-requires c = (c.loop-more.invariant.0, c.take-d.ensures.small)
 
--- one digit more of the whole ones
-onward :
-    (c : goal.After-take-d) (s : ℕ)
-    → partly 0 (digits_among c.args.part.now) c.args.count s
-    ≡ partly (wide_of c.loop-more.w * 10 + c.take-d.result.digit) (digits_among (drop c.take-d.result.at c.args.part.now)) (c.loop-more.more - 1) s
-onward c s =
+pub returns-then-t-gt0 : goal.returns-then-t-gt0
+returns-then-t-gt0 c =
+    let onward : (s : ℕ) → partly 0 (digits_among c.args.part.now) c.args.count s ≡ partly (wide_of c.loop-more.w * 10 + c.take-d.result.digit) (digits_among (drop c.take-d.result.at c.args.part.now)) (c.loop-more.more - 1) s = λ s.
     c.loop-more.invariant.1 s
     ∙ partly-on _ _ _ s c.loop-more-test.true
     ∙ ap (λ (d : ℕ). partly (wide_of c.loop-more.w * 10 + d) (others (digits_among (drop c.loop-more.at c.args.part.now))) (c.loop-more.more - 1) s) (sym c.take-d.ensures.digit-is)
-    ∙ ap (λ (ds : List ℕ). partly (wide_of c.loop-more.w * 10 + c.take-d.result.digit) ds (c.loop-more.more - 1) s) (sym c.take-d.ensures.rest-is)
-
-pub returns-then-t-gt0 : goal.returns-then-t-gt0
-returns-then-t-gt0 c =
+    ∙ ap (λ (ds : List ℕ). partly (wide_of c.loop-more.w * 10 + c.take-d.result.digit) ds (c.loop-more.more - 1) s) (sym c.take-d.ensures.rest-is) in
     record {
-      said = λ s h. onward c.before.before.before s ∙ partly-beyond _ _ _ s (tens-past _ _ _ c.times_ten-t.ensures c.if-t-gt0.true) h;
+      said = λ s h. onward s ∙ partly-beyond _ _ _ s (tens-past _ _ _ c.times_ten-t.ensures c.if-t-gt0.true) h;
     }
 
 pub loop-more-preserved : goal.loop-more-preserved
 loop-more-preserved c =
+    let onward : (s : ℕ) → partly 0 (digits_among c.args.part.now) c.args.count s ≡ partly (wide_of c.loop-more.w * 10 + c.take-d.result.digit) (digits_among (drop c.take-d.result.at c.args.part.now)) (c.loop-more.more - 1) s = λ s.
+    c.loop-more.invariant.1 s
+    ∙ partly-on _ _ _ s c.loop-more-test.true
+    ∙ ap (λ (d : ℕ). partly (wide_of c.loop-more.w * 10 + d) (others (digits_among (drop c.loop-more.at c.args.part.now))) (c.loop-more.more - 1) s) (sym c.take-d.ensures.digit-is)
+    ∙ ap (λ (ds : List ℕ). partly (wide_of c.loop-more.w * 10 + c.take-d.result.digit) ds (c.loop-more.more - 1) s) (sym c.take-d.ensures.rest-is) in
     let rest = digits_among (drop c.take-d.result.at c.args.part.now) in (
       c.times_ten-t.ensures.small,
-      λ s. onward c.before.before.before.before s ∙ ap (λ (w : ℕ). partly w rest (c.loop-more.more - 1) s) (tens-none _ _ _ c.times_ten-t.ensures c.if-t-gt0.false),
+      λ s. onward s ∙ ap (λ (w : ℕ). partly w rest (c.loop-more.more - 1) s) (tens-none _ _ _ c.times_ten-t.ensures c.if-t-gt0.false),
     )
 
 pub returns : goal.returns

@@ -2,8 +2,8 @@
 use borrow.Author.Rules.{rules}
 use mathlib.Core.Path.{◌∙◌}
 use denote.Floats.{passes}
-use Rattle.kihavute.proofs.Keeping.{root_kept}
+use Rattle.kihavute.proofs.Keeping.{root-settled}
 use Rattle.kihavute.proofs.numbers.kihavute_sqrt.Goals as goal
 
 pub returns : goal.returns
-returns c = let same = c.tidy.ensures ∙ c.sqrt.ensures in (same, root_kept _ (passes _ c.well_formed.0.1) same)
+returns c = let same = c.tidy.ensures ∙ c.sqrt.ensures in let settled = root-settled _ (passes _ c.well_formed.0.1) same in (same, settled.near, settled)

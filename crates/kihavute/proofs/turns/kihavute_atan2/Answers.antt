@@ -2,10 +2,12 @@
 use borrow.Author.Rules.{rules}
 use mathlib.Core.Path.{◌∙◌}
 use denote.Floats.{passes}
-use Rattle.kihavute.proofs.Keeping.{atan2-kept}
+use Rattle.kihavute.proofs.Keeping.{atan2-kept, atan2-settled}
 use Rattle.kihavute.proofs.turns.kihavute_atan2.Goals as goal
 
 pub returns : goal.returns
 returns c =
     let same = c.tidy.ensures ∙ c.atan2.ensures in
-    (same, atan2-kept _ _ (passes _ c.well_formed.0.1) (passes _ c.well_formed.1.0.1) same)
+    let rise = passes _ c.well_formed.0.1 in
+    let run = passes _ c.well_formed.1.0.1 in
+    (same, atan2-kept _ _ rise run same, atan2-settled _ _ run same)

@@ -15,7 +15,10 @@ loop-i-init c = walked_none _ _ _ _ (before-zero _ _)
 
 pub segment_at-requires : goal.segment_at-requires
 segment_at-requires c =
-    (c.requires.known c.loop-i.i c.loop-i-test.true, omega (arith, segment-fields c.requires c.loop-i.i c.loop-i-test.true, c.loop-i.invariant.here))
+    record {
+      kind_bound = c.requires.known c.loop-i.i c.loop-i-test.true;
+      kind_in_bounds = omega (arith, segment-fields c.requires c.loop-i.i c.loop-i-test.true, c.loop-i.invariant.here);
+    }
 
 pub overflow_mul-legs : goal.overflow_mul-legs
 overflow_mul-legs c = omega (arith, walked-few c.loop-i.invariant, c.requires.few, c.loop-i-test.true)

@@ -14,6 +14,7 @@ use Rattle.floats.proofs.Order.{lt→le, le-real-l}
 use Rattle.decimal_rounding.proofs.Wide.{pattern-positive}
 use Rattle.lengths.proofs.Sizes.{clamped-bits}
 use Rattle.lengths.proofs.passes.clamped.Goals as goal
+use Rattle.lengths.proofs.passes.clamped.Goals.{then-g, else-g}
 
 abbrev least : Float
 least = of_bits binary64 0x3870000000000000
@@ -41,7 +42,7 @@ fixed h e = (subst (λ (z : Float). T (fits binary64 z)) (sym e) (of_bits-fits b
 pub returns-then-h : goal.returns-then-h
 returns-then-h c =
     let f = passes _ c.well_formed.0.1 in
-    let k = ⊎_elim (λ w. taken _ _ f (passed w.0.taken) w.1) (λ w. fixed _ w.1) c.if-g.branch in
+    let k : T (fits binary64 c.if-g.h) × T (le least c.if-g.h) = elim c.if-g.branch [ then-g w ↦ taken _ _ f (passed w.if-g.true) w.h-is | else-g w ↦ fixed _ w.h-is ] in
     bounded _ k.0 k.1 (lt→le _ _ (passed c.if-h.true))
 
 pub returns-else-h : goal.returns-else-h

@@ -6,6 +6,7 @@ use Prim.Native.Nat.{◌-◌}
 use Rattle.floats.specs.Floats.{zero_f}
 use Rattle.lengths.proofs.Lists.{measured, Settling, settling-start, settling-put, settling-keep}
 use Rattle.lengths.proofs.rows.settle.Goals as goal
+use Rattle.lengths.proofs.rows.settle.Goals.{then-out-j, else-out-j}
 
 pub loop-j-init : goal.loop-j-init
 loop-j-init c = settling-start c.requires
@@ -15,7 +16,7 @@ unfolding zero_f
 loop-j-preserved c =
     let i = c.loop-j.invariant in
     let t = c.loop-j-test.true in
-    ⊎_elim (λ w. settling-put i t _ w.3.ensures w.4) (λ w. settling-keep i t w.0.left w.1) c.if-out-j.branch
+    elim c.if-out-j.branch [ then-out-j w ↦ settling-put i t _ w.length.ensures w.out-is | else-out-j w ↦ settling-keep i t w.if-out-j.false w.out-is ]
 
 pub returns : goal.returns
 returns c = measured _ _ c.loop-j.invariant.measured c.loop-j-test.false

@@ -4,4 +4,4 @@ use mathlib.Core.Path.{◌∙◌}
 use Rattle.morph.proofs.evaluating.fill_between.Goals as goal
 
 pub returns-then-put_numbers : goal.returns-then-put_numbers
-returns-then-put_numbers c = c.tidy_numbers.ensures ∙ c.put_numbers.ensures.1
+returns-then-put_numbers c = c.tidy_numbers.ensures ∙ c.put_numbers.ensures.memory

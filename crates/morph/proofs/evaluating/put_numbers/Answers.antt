@@ -35,4 +35,4 @@ pub shape_of-out : goal.shape_of-out
 shape_of-out c = c.loop-j.invariant.size
 
 pub returns : goal.returns
-returns c = (filling-seen c.loop-j.invariant c.loop-j-test.false, filling-done c.loop-j.invariant c.loop-j-test.false)
+returns c = record { answer = filling-seen c.loop-j.invariant c.loop-j-test.false; memory = filling-done c.loop-j.invariant c.loop-j-test.false }

@@ -4,12 +4,7 @@ use mathlib.Core.Path.{◌≡◌, sym, ◌∙◌}
 use Rattle.polyline.specs.Judging.{judge_two_of}
 use Rattle.polyline.specs.declared.judging.Judged.TheVariants.{Fine}
 use Rattle.morph.proofs.Answers.{at_count, Planning, shapes-refused, count_long, plans-refused, no-first, no_second, room-first, room-second, both-filled}
-use Rattle.morph.proofs.morphing.morph.Tie as tie
 use Rattle.morph.proofs.morphing.morph.Goals as goal
-
--- the shapes are fine
-fine : (p : tie.After-at_least_two) → judge_two_of p.args.from.now p.args.to.now ≡ Fine
-fine p = sym p.judge_two.ensures ∙ p.in-Fine.is
 
 -- ---- the answers
 pub returns-in-Refused : goal.returns-in-Refused
@@ -26,7 +21,7 @@ pub returns-then-out_from-places : goal.returns-then-out_from-places
 returns-then-out_from-places c = at_count c.at_least_two-count.ensures (no-first ((let planning_here : Planning c.args.from.now c.args.to.now c.at_least_two-count.result c.in-Both.first c.in-Both.second c.needed-places.result c.needed-others.result = record {
       fine = (let fine_here : judge_two_of c.args.from.now c.args.to.now ≡ Fine = sym c.judge_two.ensures ∙ c.in-Fine.is in fine_here);
       few = c.if-count-gt4096.false;
-      c.first-1.given.0 = sym c.plan_both.ensures ∙ c.in-Both.is;
+      both = sym c.plan_both.ensures ∙ c.in-Both.is;
       need-first = c.needed-places.ensures;
       need-second = c.needed-others.ensures;
     } in planning_here)) c.if-out_from-places.true)
@@ -35,7 +30,7 @@ pub returns-then-out_to-others : goal.returns-then-out_to-others
 returns-then-out_to-others c = at_count c.at_least_two-count.ensures (no_second ((let planning_here : Planning c.args.from.now c.args.to.now c.at_least_two-count.result c.in-Both.first c.in-Both.second c.needed-places.result c.needed-others.result = record {
       fine = (let fine_here : judge_two_of c.args.from.now c.args.to.now ≡ Fine = sym c.judge_two.ensures ∙ c.in-Fine.is in fine_here);
       few = c.if-count-gt4096.false;
-      c.first-1.given.0 = sym c.plan_both.ensures ∙ c.in-Both.is;
+      both = sym c.plan_both.ensures ∙ c.in-Both.is;
       need-first = c.needed-places.ensures;
       need-second = c.needed-others.ensures;
     } in planning_here)) c.if-out_from-places.false c.if-out_to-others.true)
@@ -44,7 +39,7 @@ pub fill-requires : goal.fill-requires
 fill-requires c = room-first ((let planning_here : Planning c.args.from.now c.args.to.now c.at_least_two-count.result c.in-Both.first c.in-Both.second c.needed-places.result c.needed-others.result = record {
       fine = (let fine_here : judge_two_of c.args.from.now c.args.to.now ≡ Fine = sym c.judge_two.ensures ∙ c.in-Fine.is in fine_here);
       few = c.if-count-gt4096.false;
-      c.first-1.given.0 = sym c.plan_both.ensures ∙ c.in-Both.is;
+      both = sym c.plan_both.ensures ∙ c.in-Both.is;
       need-first = c.needed-places.ensures;
       need-second = c.needed-others.ensures;
     } in planning_here)) _ c.if-out_from-places.false
@@ -53,7 +48,7 @@ pub fill-requires-in-Both : goal.fill-requires-in-Both
 fill-requires-in-Both c = room-second ((let planning_here : Planning c.args.from.now c.args.to.now c.at_least_two-count.result c.in-Both.first c.in-Both.second c.needed-places.result c.needed-others.result = record {
       fine = (let fine_here : judge_two_of c.args.from.now c.args.to.now ≡ Fine = sym c.judge_two.ensures ∙ c.in-Fine.is in fine_here);
       few = c.if-count-gt4096.false;
-      c.first-1.given.0 = sym c.plan_both.ensures ∙ c.in-Both.is;
+      both = sym c.plan_both.ensures ∙ c.in-Both.is;
       need-first = c.needed-places.ensures;
       need-second = c.needed-others.ensures;
     } in planning_here)) _ c.if-out_to-others.false
@@ -63,7 +58,7 @@ returns-in-Both c =
     at_count c.at_least_two-count.ensures (both-filled ((let planning_here : Planning c.args.from.now c.args.to.now c.at_least_two-count.result c.in-Both.first c.in-Both.second c.needed-places.result c.needed-others.result = record {
       fine = (let fine_here : judge_two_of c.args.from.now c.args.to.now ≡ Fine = sym c.judge_two.ensures ∙ c.in-Fine.is in fine_here);
       few = c.if-count-gt4096.false;
-      c.first-1.given.0 = sym c.plan_both.ensures ∙ c.in-Both.is;
+      both = sym c.plan_both.ensures ∙ c.in-Both.is;
       need-first = c.needed-places.ensures;
       need-second = c.needed-others.ensures;
     } in planning_here)) c.if-out_from-places.false c.if-out_to-others.false c.fill.ensures c.fill-in-Both.ensures)

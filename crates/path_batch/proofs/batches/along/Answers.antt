@@ -18,30 +18,30 @@ use Rattle.path_batch.proofs.batches.along.Goals as goal
 pub returns-then-total : goal.returns-then-total
 unfolding epsilon_f one_f
 returns-then-total c =
-    along-short _ _ (rw (path-total c.args.lengths.now c.requires.0.some) at c.if-total.true)
+    along-short _ _ (rw (path-total c.args.lengths.now c.requires.sound_path.some) at c.if-total.true)
 
 pub returns-then-target : goal.returns-then-target
 unfolding zero_f target_of epsilon_f
 returns-then-target c =
-    along-low _ _ ((let long_here : le (path_total c.args.lengths.now) epsilon_f ≡ false = rw (path-total c.args.lengths.now c.requires.0.some) at c.if-total.false in long_here)) (rw (c.clamp01.ensures, path-total c.args.lengths.now c.requires.0.some) at c.if-target.true)
+    along-low _ _ ((let long_here : le (path_total c.args.lengths.now) epsilon_f ≡ false = rw (path-total c.args.lengths.now c.requires.sound_path.some) at c.if-total.false in long_here)) (rw (c.clamp01.ensures, path-total c.args.lengths.now c.requires.sound_path.some) at c.if-target.true)
 
 pub returns-then-target-total : goal.returns-then-target-total
 unfolding one_f target_of epsilon_f zero_f
 returns-then-target-total c =
-    along-high _ _ ((let long_here : le (path_total c.args.lengths.now) epsilon_f ≡ false = rw (path-total c.args.lengths.now c.requires.0.some) at c.if-total.false in long_here)) ((let low_here : le ((target_of (path_total c.args.lengths.now) c.args.progress.value)) zero_f ≡ false = rw (c.clamp01.ensures, path-total c.args.lengths.now c.requires.0.some) at c.if-target.false in low_here)) (rw (c.clamp01.ensures, path-total c.args.lengths.now c.requires.0.some) at c.if-target-total.true)
+    along-high _ _ ((let long_here : le (path_total c.args.lengths.now) epsilon_f ≡ false = rw (path-total c.args.lengths.now c.requires.sound_path.some) at c.if-total.false in long_here)) ((let low_here : le ((target_of (path_total c.args.lengths.now) c.args.progress.value)) zero_f ≡ false = rw (c.clamp01.ensures, path-total c.args.lengths.now c.requires.sound_path.some) at c.if-target.false in low_here)) (rw (c.clamp01.ensures, path-total c.args.lengths.now c.requires.sound_path.some) at c.if-target-total.true)
 
 pub length_before-start-requires : goal.length_before-start-requires
-length_before-start-requires c = let h = (let inside_here : c.args.segment < length c.args.lengths.now = let h = spot-inside c.args.lengths.now c.requires.0 c.args.progress.value in omega (arith, c.requires.1) in inside_here) in search rules
+length_before-start-requires c = let h = (let inside_here : c.args.segment < length c.args.lengths.now = let h = spot-inside c.args.lengths.now c.requires.sound_path c.args.progress.value in omega (arith, c.requires.segment_value) in inside_here) in search rules
 
 pub offset_bounds-lengths-segment : goal.offset_bounds-lengths-segment
-offset_bounds-lengths-segment c = let h = (let inside_here : c.args.segment < length c.args.lengths.now = let h = spot-inside c.args.lengths.now c.requires.0 c.args.progress.value in omega (arith, c.requires.1) in inside_here) in search rules
+offset_bounds-lengths-segment c = let h = (let inside_here : c.args.segment < length c.args.lengths.now = let h = spot-inside c.args.lengths.now c.requires.sound_path c.args.progress.value in omega (arith, c.requires.segment_value) in inside_here) in search rules
 
 pub bounds-lengths-segment : goal.bounds-lengths-segment
-bounds-lengths-segment c = let h = (let inside_here : c.args.segment < length c.args.lengths.now = let h = spot-inside c.args.lengths.now c.requires.0 c.args.progress.value in omega (arith, c.requires.1) in inside_here) in search rules
+bounds-lengths-segment c = let h = (let inside_here : c.args.segment < length c.args.lengths.now = let h = spot-inside c.args.lengths.now c.requires.sound_path c.args.progress.value in omega (arith, c.requires.segment_value) in inside_here) in search rules
 
 pub returns : goal.returns
 unfolding target_of epsilon_f zero_f
 returns c =
-    let total = path-total c.args.lengths.now c.requires.0.some in
+    let total = path-total c.args.lengths.now c.requires.sound_path.some in
     let high = rw (c.clamp01.ensures, total) at c.if-target-total.false in
-    rw (c.share.ensures, c.length_before-start.ensures, c.clamp01.ensures, total) (along-within _ _ ((let long_here : le (path_total c.args.lengths.now) epsilon_f ≡ false = rw (path-total c.args.lengths.now c.requires.0.some) at c.if-total.false in long_here)) ((let low_here : le ((target_of (path_total c.args.lengths.now) c.args.progress.value)) zero_f ≡ false = rw (c.clamp01.ensures, path-total c.args.lengths.now c.requires.0.some) at c.if-target.false in low_here)) high _ c.requires.1)
+    rw (c.share.ensures, c.length_before-start.ensures, c.clamp01.ensures, total) (along-within _ _ ((let long_here : le (path_total c.args.lengths.now) epsilon_f ≡ false = rw (path-total c.args.lengths.now c.requires.sound_path.some) at c.if-total.false in long_here)) ((let low_here : le ((target_of (path_total c.args.lengths.now) c.args.progress.value)) zero_f ≡ false = rw (c.clamp01.ensures, path-total c.args.lengths.now c.requires.sound_path.some) at c.if-target.false in low_here)) high _ c.requires.segment_value)

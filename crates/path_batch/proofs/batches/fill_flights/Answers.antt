@@ -66,7 +66,7 @@ pub offset_bounds-segments-k : goal.offset_bounds-segments-k
 offset_bounds-segments-k c = omega (arith, (let more_here : c.loop-k.k < length c.args.progresses.now = omega (arith, c.loop-k-test.true) in more_here), (let few_here : length c.args.progresses.now * 4 < 9223372036854775808 = omega arith in few_here))
 
 pub bounds-segments-k : goal.bounds-segments-k
-bounds-segments-k c = omega (arith, (let more_here : c.loop-k.k < length c.args.progresses.now = omega (arith, c.loop-k-test.true) in more_here), ap length c.fill_segments.ensures, (let found_segments_here : length (written (found_for ((lent c.args.kinds c.args.fields c.args.tables c.args.lengths c.args.commands)).lengths c.args.progresses.now) c.args.segments.now) ≡ length c.args.segments.now = each-filled (λ p. (spot_of ((lent c.args.kinds c.args.fields c.args.tables c.args.lengths c.args.commands)).lengths p).segment) c.args.progresses.now c.args.segments-1.now c.requires.places.segments_room in found_segments_here), c.requires.places.segments_room)
+bounds-segments-k c = omega (arith, (let more_here : c.loop-k.k < length c.args.progresses.now = omega (arith, c.loop-k-test.true) in more_here), ap length c.fill_segments.ensures, (let found_segments_here : length (written (found_for ((lent c.args.kinds c.args.fields c.args.tables c.args.lengths c.args.commands)).lengths c.args.progresses.now) c.args.segments.now) ≡ length c.args.segments.now = each-filled (λ p. (spot_of ((lent c.args.kinds c.args.fields c.args.tables c.args.lengths c.args.commands)).lengths p).segment) c.args.progresses.now c.args.segments.now c.requires.places.segments_room in found_segments_here), c.requires.places.segments_room)
 
 pub offset_bounds-progresses-k : goal.offset_bounds-progresses-k
 offset_bounds-progresses-k c = omega (arith, (let more_here : c.loop-k.k < length c.args.progresses.now = omega (arith, c.loop-k-test.true) in more_here), (let few_here : length c.args.progresses.now * 4 < 9223372036854775808 = omega arith in few_here))
@@ -138,7 +138,7 @@ pub overflow_mul-k : goal.overflow_mul-k
 overflow_mul-k c = omega (arith, (let more_here : c.loop-k.k < length c.args.progresses.now = omega (arith, c.loop-k-test.true) in more_here), (let few_here : length c.args.progresses.now * 4 < 9223372036854775808 = omega arith in few_here))
 
 pub put_numbers-requires : goal.put_numbers-requires
-put_numbers-requires c = omega (arith, (let more_here : c.loop-k.k < length c.args.progresses.now = omega (arith, c.loop-k-test.true) in more_here), (let out_size_here : length c.loop-k.out ≡ length c.args.out.now = ap length c.loop-k.invariant.3 ∙ numbers-size ((lent c.args.kinds c.args.fields c.args.tables c.args.lengths c.args.commands)) c.args.progresses.now c.args.out-1.now c.loop-k.k c.loop-k.invariant.0.upto c.requires.out_room in out_size_here), c.requires.out_room)
+put_numbers-requires c = omega (arith, (let more_here : c.loop-k.k < length c.args.progresses.now = omega (arith, c.loop-k-test.true) in more_here), (let out_size_here : length c.loop-k.out ≡ length c.args.out.now = ap length c.loop-k.invariant.3 ∙ numbers-size ((lent c.args.kinds c.args.fields c.args.tables c.args.lengths c.args.commands)) c.args.progresses.now c.args.out.now c.loop-k.k c.loop-k.invariant.0.upto c.requires.out_room in out_size_here), c.requires.out_room)
 
 pub overflow_add-k : goal.overflow_add-k
 overflow_add-k c = omega (arith, (let more_here : c.loop-k.k < length c.args.progresses.now = omega (arith, c.loop-k-test.true) in more_here), (let few_here : length c.args.progresses.now * 4 < 9223372036854775808 = omega arith in few_here))
@@ -175,17 +175,17 @@ loop-k-preserved c =
     ))
     c.if-is_step_on.came in ready_here)).1,
       c.put_numbers.ensures
-          ∙ numbers-next ((lent c.args.kinds c.args.fields c.args.tables c.args.lengths c.args.commands)) c.args.progresses.now c.args.out-1.now c.loop-k.out c.loop-k.k _ ((let more_here : c.loop-k.k < length c.args.progresses.now = omega (arith, c.loop-k-test.true) in more_here)) c.requires.out_room c.loop-k.invariant.3 (ap numbers_of flown),
+          ∙ numbers-next ((lent c.args.kinds c.args.fields c.args.tables c.args.lengths c.args.commands)) c.args.progresses.now c.args.out.now c.loop-k.out c.loop-k.k _ ((let more_here : c.loop-k.k < length c.args.progresses.now = omega (arith, c.loop-k-test.true) in more_here)) c.requires.out_room c.loop-k.invariant.3 (ap numbers_of flown),
     )
 
 pub shape_of-segments : goal.shape_of-segments
-shape_of-segments c = ap length c.fill_segments.ensures ∙ (let found_segments_here : length (written (found_for ((lent c.args.kinds c.args.fields c.args.tables c.args.lengths c.args.commands)).lengths c.args.progresses.now) c.args.segments.now) ≡ length c.args.segments.now = each-filled (λ p. (spot_of ((lent c.args.kinds c.args.fields c.args.tables c.args.lengths c.args.commands)).lengths p).segment) c.args.progresses.now c.args.segments-1.now c.requires.places.segments_room in found_segments_here)
+shape_of-segments c = ap length c.fill_segments.ensures ∙ (let found_segments_here : length (written (found_for ((lent c.args.kinds c.args.fields c.args.tables c.args.lengths c.args.commands)).lengths c.args.progresses.now) c.args.segments.now) ≡ length c.args.segments.now = each-filled (λ p. (spot_of ((lent c.args.kinds c.args.fields c.args.tables c.args.lengths c.args.commands)).lengths p).segment) c.args.progresses.now c.args.segments.now c.requires.places.segments_room in found_segments_here)
 
 pub shape_of-raws : goal.shape_of-raws
 shape_of-raws c = (let raws_size_here : length c.loop-k.raws ≡ length c.args.raws.now = ap length c.loop-k.invariant.1 ∙ each-size ((let raw_of_here : Float → Float = λ p. (flight_of ((lent c.args.kinds c.args.fields c.args.tables c.args.lengths c.args.commands)) p).raw.value in raw_of_here)) c.args.progresses.now c.args.raws.now c.loop-k.k c.loop-k.invariant.0.upto c.requires.places.raws_room in raws_size_here)
 
 pub shape_of-out : goal.shape_of-out
-shape_of-out c = (let out_size_here : length c.loop-k.out ≡ length c.args.out.now = ap length c.loop-k.invariant.3 ∙ numbers-size ((lent c.args.kinds c.args.fields c.args.tables c.args.lengths c.args.commands)) c.args.progresses.now c.args.out-1.now c.loop-k.k c.loop-k.invariant.0.upto c.requires.out_room in out_size_here)
+shape_of-out c = (let out_size_here : length c.loop-k.out ≡ length c.args.out.now = ap length c.loop-k.invariant.3 ∙ numbers-size ((lent c.args.kinds c.args.fields c.args.tables c.args.lengths c.args.commands)) c.args.progresses.now c.args.out.now c.loop-k.k c.loop-k.invariant.0.upto c.requires.out_room in out_size_here)
 
 pub returns : goal.returns
 returns c =
@@ -195,9 +195,9 @@ returns c =
           record {
             segments_are =
                 c.fill_segments.ensures
-                ∙ ap (λ (xs : List _). written xs c.args.segments-1.now)
+                ∙ ap (λ (xs : List _). written xs c.args.segments.now)
                 (each-equal (λ p. (spot_of ((lent c.args.kinds c.args.fields c.args.tables c.args.lengths c.args.commands)).lengths p).segment) (λ p. segment_given (flight_of ((lent c.args.kinds c.args.fields c.args.tables c.args.lengths c.args.commands)) p).segment) (λ p. segment-there ((lent c.args.kinds c.args.fields c.args.tables c.args.lengths c.args.commands)) p c.requires.places.path.some refl) c.args.progresses.now);
             raws_are = c.loop-k.invariant.1 ∙ ap (λ (ps : List Float). written (raws_for ((lent c.args.kinds c.args.fields c.args.tables c.args.lengths c.args.commands)) ps) c.args.raws.now) all;
           };
-      out_is = c.loop-k.invariant.3 ∙ ap (λ (ps : List Float). written (numbers_for ((lent c.args.kinds c.args.fields c.args.tables c.args.lengths c.args.commands)) ps) c.args.out-1.now) all;
+      out_is = c.loop-k.invariant.3 ∙ ap (λ (ps : List Float). written (numbers_for ((lent c.args.kinds c.args.fields c.args.tables c.args.lengths c.args.commands)) ps) c.args.out.now) all;
     }

@@ -65,7 +65,7 @@ pub offset_bounds-segments-i : goal.offset_bounds-segments-i
 offset_bounds-segments-i c = omega (arith, (let more_here : c.loop-i.i < length c.args.progresses.now = omega (arith, c.loop-i-test.true) in more_here), (let few_here : length c.args.progresses.now * 4 < 9223372036854775808 = omega arith in few_here))
 
 pub bounds-segments-i : goal.bounds-segments-i
-bounds-segments-i c = omega (arith, (let more_here : c.loop-i.i < length c.args.progresses.now = omega (arith, c.loop-i-test.true) in more_here), ap length c.fill_segments.ensures, (let found_segments_here : length (written (found_for ((lent c.args.kinds c.args.fields c.args.tables c.args.lengths c.args.commands)).lengths c.args.progresses.now) c.args.segments.now) ≡ length c.args.segments.now = each-filled (λ p. (spot_of ((lent c.args.kinds c.args.fields c.args.tables c.args.lengths c.args.commands)).lengths p).segment) c.args.progresses.now c.args.segments-1.now c.requires.segments_room in found_segments_here), c.requires.segments_room)
+bounds-segments-i c = omega (arith, (let more_here : c.loop-i.i < length c.args.progresses.now = omega (arith, c.loop-i-test.true) in more_here), ap length c.fill_segments.ensures, (let found_segments_here : length (written (found_for ((lent c.args.kinds c.args.fields c.args.tables c.args.lengths c.args.commands)).lengths c.args.progresses.now) c.args.segments.now) ≡ length c.args.segments.now = each-filled (λ p. (spot_of ((lent c.args.kinds c.args.fields c.args.tables c.args.lengths c.args.commands)).lengths p).segment) c.args.progresses.now c.args.segments.now c.requires.segments_room in found_segments_here), c.requires.segments_room)
 
 pub offset_bounds-progresses-i : goal.offset_bounds-progresses-i
 offset_bounds-progresses-i c = omega (arith, (let more_here : c.loop-i.i < length c.args.progresses.now = omega (arith, c.loop-i-test.true) in more_here), (let few_here : length c.args.progresses.now * 4 < 9223372036854775808 = omega arith in few_here))
@@ -167,7 +167,7 @@ loop-i-preserved c =
     )
 
 pub shape_of-segments : goal.shape_of-segments
-shape_of-segments c = ap length c.fill_segments.ensures ∙ (let found_segments_here : length (written (found_for ((lent c.args.kinds c.args.fields c.args.tables c.args.lengths c.args.commands)).lengths c.args.progresses.now) c.args.segments.now) ≡ length c.args.segments.now = each-filled (λ p. (spot_of ((lent c.args.kinds c.args.fields c.args.tables c.args.lengths c.args.commands)).lengths p).segment) c.args.progresses.now c.args.segments-1.now c.requires.segments_room in found_segments_here)
+shape_of-segments c = ap length c.fill_segments.ensures ∙ (let found_segments_here : length (written (found_for ((lent c.args.kinds c.args.fields c.args.tables c.args.lengths c.args.commands)).lengths c.args.progresses.now) c.args.segments.now) ≡ length c.args.segments.now = each-filled (λ p. (spot_of ((lent c.args.kinds c.args.fields c.args.tables c.args.lengths c.args.commands)).lengths p).segment) c.args.progresses.now c.args.segments.now c.requires.segments_room in found_segments_here)
 
 pub shape_of-raws : goal.shape_of-raws
 shape_of-raws c = (let raws_size_here : length c.loop-i.raws ≡ length c.args.raws.now = ap length c.loop-i.invariant.1 ∙ each-size ((let raw_of_here : Float → Float = λ p. (flight_of ((lent c.args.kinds c.args.fields c.args.tables c.args.lengths c.args.commands)) p).raw.value in raw_of_here)) c.args.progresses.now c.args.raws.now c.loop-i.i c.loop-i.invariant.0.upto c.requires.raws_room in raws_size_here)
@@ -178,7 +178,7 @@ returns c =
     record {
       segments_are =
           c.fill_segments.ensures
-          ∙ ap (λ (xs : List _). written xs c.args.segments-1.now)
+          ∙ ap (λ (xs : List _). written xs c.args.segments.now)
           (each-equal (λ p. (spot_of ((lent c.args.kinds c.args.fields c.args.tables c.args.lengths c.args.commands)).lengths p).segment) (λ p. segment_given (flight_of ((lent c.args.kinds c.args.fields c.args.tables c.args.lengths c.args.commands)) p).segment) (λ p. segment-there ((lent c.args.kinds c.args.fields c.args.tables c.args.lengths c.args.commands)) p c.requires.path.some refl) c.args.progresses.now);
       raws_are = c.loop-i.invariant.1 ∙ ap (λ (ps : List Float). written (raws_for ((lent c.args.kinds c.args.fields c.args.tables c.args.lengths c.args.commands)) ps) c.args.raws.now) all;
     }

@@ -7,8 +7,8 @@ use Rattle.path_query.proofs.queries.rotation_deg.Goals as goal
 
 pub returns-in-At : goal.returns-in-At
 unfolding turned_of
-returns-in-At c = rw (sym c.flight.ensures.0 ∙ c.in-At.is) (ap Turned.Degrees (c.tidy.ensures ∙ c.rotation_deg.ensures))
+returns-in-At c = rw (sym c.flight.ensures.value ∙ c.in-At.is) (ap Turned.Degrees (c.tidy.ensures ∙ c.rotation_deg.ensures))
 
 pub returns-in-Refused : goal.returns-in-Refused
 unfolding turned_of
-returns-in-Refused c = rw (sym c.flight.ensures.0 ∙ c.in-Refused.is)
+returns-in-Refused c = rw (sym c.flight.ensures.value ∙ c.in-Refused.is)

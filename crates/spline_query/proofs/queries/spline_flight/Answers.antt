@@ -14,8 +14,11 @@ flight-requires c = tested-sound _ _ _ c.spline_is_sound.ensures c.if-spline_is_
 pub returns-then-spline_is_sound : goal.returns-then-spline_is_sound
 unfolding spline_flown_of
 returns-then-spline_is_sound c =
-    (ap Flown.At c.flight.ensures ∙ taken _ _ _ c.spline_is_sound.ensures _ _ c.if-spline_is_sound.true, spline-in-order _ _ (passed (sym c.spline_is_sound.ensures ∙ c.if-spline_is_sound.true)) c.shared_slice_known-2-1.given)
+    record {
+      value = ap Flown.At c.flight.ensures ∙ taken _ _ _ c.spline_is_sound.ensures _ _ c.if-spline_is_sound.true;
+      spline_ordered = spline-in-order _ _ (passed (sym c.spline_is_sound.ensures ∙ c.if-spline_is_sound.true)) c.shared_slice_known-2-1.given;
+    }
 
 pub returns : goal.returns
 unfolding spline_flown_of
-returns c = (refused _ _ _ c.spline_is_sound.ensures _ _ c.if-spline_is_sound.false, tt)
+returns c = record { value = refused _ _ _ c.spline_is_sound.ensures _ _ c.if-spline_is_sound.false; spline_ordered = tt }

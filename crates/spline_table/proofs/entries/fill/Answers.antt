@@ -31,7 +31,7 @@ fill_row-walk-requires c =
 
 pub loop-k-preserved : goal.loop-k-preserved
 loop-k-preserved c =
-    (filling-row c.loop-k.invariant.0 c.fill_row-walk.ensures.0 (c.fill_row-walk.ensures.1 _ c.loop-k.invariant.0.filled), omega (arith, c.loop-k.invariant.1))
+    (filling-row c.loop-k.invariant.0 c.fill_row-walk.ensures.walked (c.fill_row-walk.ensures.stored _ c.loop-k.invariant.0.filled), omega (arith, c.loop-k.invariant.1))
 
 pub bounds-table-k : goal.bounds-table-k
 bounds-table-k c = omega (arith, filling-length c.loop-k.invariant.0, c.loop-k.invariant.0.room, c.loop-k.invariant.0.walking.upto)

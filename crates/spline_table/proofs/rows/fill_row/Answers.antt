@@ -16,4 +16,4 @@ loop-i-preserved c =
 pub returns : goal.returns
 returns c =
     let s = storing-ends c.loop-i.invariant c.loop-i-test.false in
-    (record { upto = c.requires.whole; here = c.differences-row.ensures.next; sum = s.sum }, s.entered)
+    record { walked = record { upto = c.requires.whole; here = c.differences-row.ensures.next; sum = s.sum }; stored = s.entered }

@@ -13,8 +13,8 @@ pub returns : goal.returns
 unfolding sample_at
 returns c =
     drawn-row (spline_sample_of c.args.points.now) c.args.last c.args.k c.leg_samples-across.result c.leg_samples-along.result _ _ _
-    (drawn (λ (p : Point). p.x) (spline_sample_of c.args.points.now) c.args.last c.args.k c.leg_samples-across.ensures (ap (λ (p : Point). p.x) c.requires.0.here) (ap (λ (p : Point). p.x) ((let next_is_here : c.sample-next.result ≡ sample_at (spline_sample_of c.args.points.now) c.args.last (c.args.k + 16) = c.sample-next.ensures ∙ ap (spline_sample_of _) c.mark.ensures in next_is_here)))
-    (λ i some less. leg-across c.args.points.now c.args.last (c.args.k + i) c.requires.1 _ _ c.point_at-a.ensures c.point_at-b.ensures _ (c.clamped_marks-own.ensures i less)))
-    (drawn (λ (p : Point). p.y) (spline_sample_of c.args.points.now) c.args.last c.args.k c.leg_samples-along.ensures (ap (λ (p : Point). p.y) c.requires.0.here) (ap (λ (p : Point). p.y) ((let next_is_here : c.sample-next.result ≡ sample_at (spline_sample_of c.args.points.now) c.args.last (c.args.k + 16) = c.sample-next.ensures ∙ ap (spline_sample_of _) c.mark.ensures in next_is_here)))
-    (λ i some less. leg-along c.args.points.now c.args.last (c.args.k + i) c.requires.1 _ _ c.point_at-a.ensures c.point_at-b.ensures _ (c.clamped_marks-own.ensures i less)))
+    (drawn (λ (p : Point). p.x) (spline_sample_of c.args.points.now) c.args.last c.args.k c.leg_samples-across.ensures (ap (λ (p : Point). p.x) c.requires.ahead.here) (ap (λ (p : Point). p.x) ((let next_is_here : c.sample-next.result ≡ sample_at (spline_sample_of c.args.points.now) c.args.last (c.args.k + 16) = c.sample-next.ensures ∙ ap (spline_sample_of _) c.mark.ensures in next_is_here)))
+    (λ i some less. leg-across c.args.points.now c.args.last (c.args.k + i) c.requires.points_value _ _ c.point_at-a.ensures c.point_at-b.ensures _ (c.clamped_marks-own.ensures i less)))
+    (drawn (λ (p : Point). p.y) (spline_sample_of c.args.points.now) c.args.last c.args.k c.leg_samples-along.ensures (ap (λ (p : Point). p.y) c.requires.ahead.here) (ap (λ (p : Point). p.y) ((let next_is_here : c.sample-next.result ≡ sample_at (spline_sample_of c.args.points.now) c.args.last (c.args.k + 16) = c.sample-next.ensures ∙ ap (spline_sample_of _) c.mark.ensures in next_is_here)))
+    (λ i some less. leg-along c.args.points.now c.args.last (c.args.k + i) c.requires.points_value _ _ c.point_at-a.ensures c.point_at-b.ensures _ (c.clamped_marks-own.ensures i less)))
     c.differences_of-x.ensures c.differences_of-y.ensures ((let next_is_here : c.sample-next.result ≡ sample_at (spline_sample_of c.args.points.now) c.args.last (c.args.k + 16) = c.sample-next.ensures ∙ ap (spline_sample_of _) c.mark.ensures in next_is_here))

@@ -15,7 +15,7 @@ raw_parameter-requires c = passed (sym c.table_is_sound.ensures ∙ c.if-table_i
 
 pub returns-then-table_is_sound : goal.returns-then-table_is_sound
 returns-then-table_is_sound c =
-    let size : length c.args.table.entries ≡ 32 = sym (mapped-length c.args.table.entries) ∙ c.well_formed.0.1.1.0.1.0.1 in
+    let size : length c.args.table.entries ≡ 32 = search rules in
     let few : length c.args.table.entries ≤ most_entries = omega arith in
     looked-at c.args.table.entries c.args.table.total c.args.progress.value c.raw_parameter.result few (sym c.table_is_sound.ensures ∙ c.if-table_is_sound.true) c.raw_parameter.ensures
 

@@ -16,13 +16,19 @@ loop-size-init c =
     subst (λ (k : ℕ). Bracket c.args.lengths.now c.args.target 0 k) e (bracket-start c.args.lengths.now c.args.target)
 
 pub overflow_mul-base : goal.overflow_mul-base
-overflow_mul-base c = omega (arith, ((let step_here : Quarter c.args.lengths.now c.args.target c.loop-size.base c.loop-size.size (c.loop-size.size / 4) c.quarters_below.result = let c.loop-size = c.loop-size in quartered (c.loop-size.size / 4) c.requires c.loop-size.invariant (omega arith) (omega arith) _ c.quarters_below.ensures in step_here)).upto, ((let step_here : Quarter c.args.lengths.now c.args.target c.loop-size.base c.loop-size.size (c.loop-size.size / 4) c.quarters_below.result = let c.loop-size = c.loop-size in quartered (c.loop-size.size / 4) c.requires c.loop-size.invariant (omega arith) (omega arith) _ c.quarters_below.ensures in step_here)).order)
+overflow_mul-base c =
+    let next : Quarter c.args.lengths.now c.args.target c.loop-size.base c.loop-size.size (c.loop-size.size / 4) c.quarters_below.result =
+    quartered (c.loop-size.size / 4) c.requires c.loop-size.invariant (omega arith) (omega arith) _ c.quarters_below.ensures in
+    omega (arith, next.upto, next.order)
 
 pub overflow_add-base : goal.overflow_add-base
-overflow_add-base c = omega (arith, ((let step_here : Quarter c.args.lengths.now c.args.target c.loop-size.base c.loop-size.size (c.loop-size.size / 4) c.quarters_below.result = let c.loop-size = c.loop-size in quartered (c.loop-size.size / 4) c.requires c.loop-size.invariant (omega arith) (omega arith) _ c.quarters_below.ensures in step_here)).upto, ((let step_here : Quarter c.args.lengths.now c.args.target c.loop-size.base c.loop-size.size (c.loop-size.size / 4) c.quarters_below.result = let c.loop-size = c.loop-size in quartered (c.loop-size.size / 4) c.requires c.loop-size.invariant (omega arith) (omega arith) _ c.quarters_below.ensures in step_here)).order)
+overflow_add-base c =
+    let next : Quarter c.args.lengths.now c.args.target c.loop-size.base c.loop-size.size (c.loop-size.size / 4) c.quarters_below.result =
+    quartered (c.loop-size.size / 4) c.requires c.loop-size.invariant (omega arith) (omega arith) _ c.quarters_below.ensures in
+    omega (arith, next.upto, next.order)
 
 pub loop-size-preserved : goal.loop-size-preserved
-loop-size-preserved c = (let step_here : Quarter c.args.lengths.now c.args.target c.loop-size.base c.loop-size.size (c.loop-size.size / 4) c.quarters_below.result = let c.loop-size = c.loop-size in quartered (c.loop-size.size / 4) c.requires c.loop-size.invariant (omega arith) (omega arith) _ c.quarters_below.ensures in step_here)
+loop-size-preserved c = quartered (c.loop-size.size / 4) c.requires c.loop-size.invariant (omega arith) (omega arith) _ c.quarters_below.ensures
 
 pub count_below-requires : goal.count_below-requires
 count_below-requires c =
@@ -30,9 +36,12 @@ count_below-requires c =
 
 pub overflow_add-result : goal.overflow_add-result
 overflow_add-result c =
-    omega (arith, (let exact_here : c.loop-size.base + c.count_below.result ≡ first_not_below c.args.target c.args.lengths.now = let c.loop-size = c.loop-size in
-    ap (λ (n : ℕ). c.loop-size.base + n) c.count_below.ensures ∙ bracket-counted c.loop-size.base (c.loop-size.base + c.loop-size.size) (c.loop-size.base + c.loop-size.size - c.loop-size.base) c.loop-size.invariant refl in exact_here), first-upto c.args.lengths.now c.args.target (length c.args.lengths.now) (bracket-start c.args.lengths.now c.args.target).above)
+    let exact : c.loop-size.base + c.count_below.result ≡ first_not_below c.args.target c.args.lengths.now =
+    ap (λ (n : ℕ). c.loop-size.base + n) c.count_below.ensures ∙ bracket-counted c.loop-size.base (c.loop-size.base + c.loop-size.size) (c.loop-size.base + c.loop-size.size - c.loop-size.base) c.loop-size.invariant refl in
+    omega (arith, exact, first-upto c.args.lengths.now c.args.target (length c.args.lengths.now) (bracket-start c.args.lengths.now c.args.target).above)
 
 pub returns : goal.returns
-returns c = omega (arith, (let exact_here : c.loop-size.base + c.count_below.result ≡ first_not_below c.args.target c.args.lengths.now = let c.loop-size = c.loop-size in
-    ap (λ (n : ℕ). c.loop-size.base + n) c.count_below.ensures ∙ bracket-counted c.loop-size.base (c.loop-size.base + c.loop-size.size) (c.loop-size.base + c.loop-size.size - c.loop-size.base) c.loop-size.invariant refl in exact_here))
+returns c =
+    let exact : c.loop-size.base + c.count_below.result ≡ first_not_below c.args.target c.args.lengths.now =
+    ap (λ (n : ℕ). c.loop-size.base + n) c.count_below.ensures ∙ bracket-counted c.loop-size.base (c.loop-size.base + c.loop-size.size) (c.loop-size.base + c.loop-size.size - c.loop-size.base) c.loop-size.invariant refl in
+    omega (arith, exact)

@@ -13,7 +13,7 @@ returns-then-total c = rw c.if-total.true c.clamp01-t.ensures
 pub raw_at-requires : goal.raw_at-requires
 unfolding target_of
 raw_at-requires c =
-    (c.requires, rw c.clamp01-t.ensures (target_real c.args.total c.args.progress.value (total-nonneg (table-sound c.args.entries.now c.args.total c.requires.sound))))
+    record { sound_table = c.requires; t = rw c.clamp01-t.ensures (target_real c.args.total c.args.progress.value (total-nonneg (table-sound c.args.entries.now c.args.total c.requires.sound))) }
 
 pub returns : goal.returns
 unfolding raw_of epsilon_f target_of

@@ -15,32 +15,32 @@ returns-then-target c = rw c.if-target.true
 pub returns-then-target-total : goal.returns-then-target-total
 unfolding spot_at zero_f one_f
 returns-then-target-total c =
-    let past = rw (path-total c.args.lengths.now c.requires.0.some) at c.if-target-total.true in
+    let past = rw (path-total c.args.lengths.now c.requires.sound_path.some) at c.if-target-total.true in
     rw (c.if-target.false, past)
 
 pub first_from-segment-requires : goal.first_from-segment-requires
-first_from-segment-requires c = c.requires.0.sound
+first_from-segment-requires c = c.requires.sound_path.sound
 
 pub length_before-start-requires : goal.length_before-start-requires
 unfolding zero_f
 length_before-start-requires c = let w = (let found_here : Within c.args.lengths.now c.args.target c.first_from-segment.result = rw c.first_from-segment.ensures
-    (path-within c.args.lengths.now c.args.target c.requires.0.sound c.requires.1 (failed c.if-target.false)
-    (failed (rw (path-total c.args.lengths.now c.requires.0.some) at c.if-target-total.false))) in found_here) in search rules
+    (path-within c.args.lengths.now c.args.target c.requires.sound_path.sound c.requires.t (failed c.if-target.false)
+    (failed (rw (path-total c.args.lengths.now c.requires.sound_path.some) at c.if-target-total.false))) in found_here) in search rules
 
 pub offset_bounds-lengths-segment : goal.offset_bounds-lengths-segment
 unfolding zero_f
 offset_bounds-lengths-segment c = let w = (let found_here : Within c.args.lengths.now c.args.target c.first_from-segment.result = rw c.first_from-segment.ensures
-    (path-within c.args.lengths.now c.args.target c.requires.0.sound c.requires.1 (failed c.if-target.false)
-    (failed (rw (path-total c.args.lengths.now c.requires.0.some) at c.if-target-total.false))) in found_here) in search rules
+    (path-within c.args.lengths.now c.args.target c.requires.sound_path.sound c.requires.t (failed c.if-target.false)
+    (failed (rw (path-total c.args.lengths.now c.requires.sound_path.some) at c.if-target-total.false))) in found_here) in search rules
 
 pub bounds-lengths-segment : goal.bounds-lengths-segment
 unfolding zero_f
 bounds-lengths-segment c = let w = (let found_here : Within c.args.lengths.now c.args.target c.first_from-segment.result = rw c.first_from-segment.ensures
-    (path-within c.args.lengths.now c.args.target c.requires.0.sound c.requires.1 (failed c.if-target.false)
-    (failed (rw (path-total c.args.lengths.now c.requires.0.some) at c.if-target-total.false))) in found_here) in search rules
+    (path-within c.args.lengths.now c.args.target c.requires.sound_path.sound c.requires.t (failed c.if-target.false)
+    (failed (rw (path-total c.args.lengths.now c.requires.sound_path.some) at c.if-target-total.false))) in found_here) in search rules
 
 pub returns : goal.returns
 unfolding spot_at zero_f
 returns c =
-    let short = rw (path-total c.args.lengths.now c.requires.0.some) at c.if-target-total.false in
+    let short = rw (path-total c.args.lengths.now c.requires.sound_path.some) at c.if-target-total.false in
     rw (c.share-along.ensures, c.length_before-start.ensures, c.if-target.false, short, ← c.first_from-segment.ensures)

@@ -10,7 +10,7 @@ use Rattle.table.proofs.searches.spot_near.Goals as goal
 pub spot_toward-requires : goal.spot_toward-requires
 unfolding target_of
 spot_toward-requires c =
-    (c.requires, rw (c.clamp01-t.ensures, path-total c.args.lengths.now c.requires.some) (target_real _ c.args.progress.value (total-nonneg (path-sound c.args.lengths.now c.requires.sound))))
+    record { sound_path = c.requires; t = rw (c.clamp01-t.ensures, path-total c.args.lengths.now c.requires.some) (target_real _ c.args.progress.value (total-nonneg (path-sound c.args.lengths.now c.requires.sound))) }
 
 pub returns : goal.returns
 unfolding spot_of target_of

@@ -7,10 +7,10 @@ use Rattle.table.proofs.searches.spot_toward.Goals as goal
 pub returns-then-total : goal.returns-then-total
 unfolding epsilon_f one_f
 returns-then-total c =
-    rw (rw (path-total c.args.lengths.now c.requires.0.some) at c.if-total.true)
+    rw (rw (path-total c.args.lengths.now c.requires.sound_path.some) at c.if-total.true)
 
 pub returns : goal.returns
 unfolding epsilon_f
 returns c =
-    let total = path-total c.args.lengths.now c.requires.0.some in
+    let total = path-total c.args.lengths.now c.requires.sound_path.some in
     rw (rw total at c.if-total.false) c.spot_at.ensures

@@ -10,10 +10,12 @@ use Rattle.table.proofs.tables.table_of.Goals as goal
 
 pub loop-k-init : goal.loop-k-init
 unfolding zero_f
-loop-k-init c = summing_start c.args.t1 _ (sym (ap suc ((let size_here : length c.args.t1 ≡ 31 = c.well_formed.0.1.0.1 in size_here)))) refl
+loop-k-init c = summing_start c.args.steps _ (sym (ap suc ((let size_here : length c.args.steps ≡ 31 = search rules in size_here)))) refl
 
 pub loop-k-preserved : goal.loop-k-preserved
-loop-k-preserved c = let n = (let size_here : length c.args.t1 ≡ 31 = c.well_formed.0.1.0.1 in size_here) in summing-more c.loop-k.invariant (search rules)
+loop-k-preserved c = let n = (let size_here : length c.args.steps ≡ 31 = search rules in size_here) in summing-more c.loop-k.invariant (search rules)
 
 pub returns : goal.returns
-returns c = let n = (let size_here : length c.args.t1 ≡ 31 = c.well_formed.0.1.0.1 in size_here) in summing-done c.loop-k.invariant (search rules)
+returns c = let n = (let size_here : length c.args.steps ≡ 31 = search rules in size_here) in
+    let all = summing-done c.loop-k.invariant (search rules) in
+    record { entries = all.0; total = all.1 }

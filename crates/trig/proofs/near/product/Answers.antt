@@ -28,5 +28,5 @@ float_to_bits-head c =
 
 pub returns : goal.returns
 returns c =
-    subst (λ (w : ℕ). (w % narrow_step ≡ narrow_half → ⊥) → Stands w (sine_from c.args.turned c.args.r c.args.sides.plus c.args.sides.minus)) (sym c.wrapping_add_u64.ensures)
+    subst (λ (w : ℕ). (w % narrow_step ≡ narrow_half → ⊥) → Stands w (sine_from c.args.turned c.args.r c.args.sides.plus c.args.sides.minus)) (sym c.wrapping_add_u64.ensures.value)
     (product-stands c.args.r c.args.sides.plus c.args.sides.minus c.requires.0 c.requires.1 c.requires.2 c.requires.3 c.args.turned)

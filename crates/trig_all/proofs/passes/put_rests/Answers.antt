@@ -15,4 +15,4 @@ loop-i-preserved c =
     (row_more c.loop-i.invariant.0 l _ (c.reduce-rest.ensures.0 ∙ ap rest_of bits), row_more c.loop-i.invariant.1 l _ (c.reduce-rest.ensures.1 ∙ ap flip_of bits))
 
 pub returns : goal.returns
-returns c = (row-whole c.loop-i.invariant.0 c.loop-i-test.false, row-whole c.loop-i.invariant.1 c.loop-i-test.false)
+returns c = record { rests = row-whole c.loop-i.invariant.0 c.loop-i-test.false; flips = row-whole c.loop-i.invariant.1 c.loop-i-test.false }

@@ -14,20 +14,20 @@ of-place : (f : Float → ℕ) {n : ℕ} {x y : Float} → y ≡ x → n ≡ f x
 of-place f same e = e ∙ ap f (sym same)
 
 pub loop-i-init : goal.loop-i-init
-loop-i-init c = (run-start c.requires.0.2, omega arith)
+loop-i-init c = (run-start c.requires.places.2, omega arith)
 
 pub sine_from-requires : goal.sine_from-requires
 sine_from-requires c =
     let same = run-here c.loop-i.invariant.0 in (
-      of-place flip_for same (c.requires.1.0.1.each c.loop-i.i c.loop-i-test.true),
-      of-place rest_for same (c.requires.1.0.0.each c.loop-i.i c.loop-i-test.true),
-      of-place (λ (x : Float). sine_plus (rest_for x)) same (c.requires.1.1.0.each c.loop-i.i c.loop-i-test.true),
-      of-place (λ (x : Float). sine_minus (rest_for x)) same (c.requires.1.1.1.each c.loop-i.i c.loop-i-test.true),
+      of-place flip_for same (c.requires.rests.1.each c.loop-i.i c.loop-i-test.true),
+      of-place rest_for same (c.requires.rests.0.each c.loop-i.i c.loop-i-test.true),
+      of-place (λ (x : Float). sine_plus (rest_for x)) same (c.requires.sums.0.each c.loop-i.i c.loop-i-test.true),
+      of-place (λ (x : Float). sine_minus (rest_for x)) same (c.requires.sums.1.each c.loop-i.i c.loop-i-test.true),
     )
 
 pub loop-i-preserved : goal.loop-i-preserved
 loop-i-preserved c =
-    (run_more c.loop-i.invariant.0 (omega (arith, c.loop-i-test.true, c.requires.0.1)) _ (c.sine_from.ensures ∙ ap sine_of (run-here c.loop-i.invariant.0)), omega (arith, c.loop-i-test.true))
+    (run_more c.loop-i.invariant.0 (omega (arith, c.loop-i-test.true, c.requires.places.1)) _ (c.sine_from.ensures ∙ ap sine_of (run-here c.loop-i.invariant.0)), omega (arith, c.loop-i-test.true))
 
 pub returns : goal.returns
 returns c = run-whole c.loop-i.invariant.0 c.loop-i-test.false c.loop-i.invariant.1

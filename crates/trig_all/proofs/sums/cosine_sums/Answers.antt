@@ -19,7 +19,7 @@ times_squares-requires c =
 
 pub returns : goal.returns
 returns c =
-    (
-      plus-row 268435456 2863311530 436314138 9402055 55103 cosine_plus c.args.r.now c.requires.4 c.ladder.ensures cosine-plus,
-      minus-row 2147483648 1527099483 77566957 826554 2881 cosine_minus c.args.r.now c.requires.4 c.ladder-2.ensures c.times_squares.ensures cosine-minus,
-    )
+    record {
+      plus = plus-row 268435456 2863311530 436314138 9402055 55103 cosine_plus c.args.r.now c.requires.4 c.ladder.ensures cosine-plus;
+      minus = minus-row 2147483648 1527099483 77566957 826554 2881 cosine_minus c.args.r.now c.requires.4 c.ladder-2.ensures c.times_squares.ensures cosine-minus;
+    }

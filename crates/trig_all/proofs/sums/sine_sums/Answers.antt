@@ -19,7 +19,7 @@ times_squares-requires c =
 
 pub returns : goal.returns
 returns c =
-    (
-      plus-row 1073741824 2290649224 193917394 2892940 12965 sine_plus c.args.r.now c.requires.4 c.ladder.ensures sine-plus,
-      minus-row 2863311530 872628276 28206166 220414 0 sine_minus c.args.r.now c.requires.4 c.ladder-2.ensures c.times_squares.ensures sine-minus,
-    )
+    record {
+      plus = plus-row 1073741824 2290649224 193917394 2892940 12965 sine_plus c.args.r.now c.requires.4 c.ladder.ensures sine-plus;
+      minus = minus-row 2863311530 872628276 28206166 220414 0 sine_minus c.args.r.now c.requires.4 c.ladder-2.ensures c.times_squares.ensures sine-minus;
+    }
