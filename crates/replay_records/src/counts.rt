@@ -52,5 +52,8 @@ pub fn kind(reader: &mut impl Read) -> io::Result<u8> {
 // Prints the count of a kind.
 pub fn tell(rt: &impl Print, kind: &[u8], count: Count) -> io::Result<()> {
     rt.write_all(kind)?;
-    println!(rt; ": replayed {}, different {}", count.replayed, count.different)
+    println!(rt;
+        ": replayed {}, different {}",
+        count.replayed, count.different
+    )
 }
