@@ -56,6 +56,9 @@ module _ (x : Float) (held : T (fits binary32 x)) {r : Float} where
         below_all = λ z. e ∙ ap sqrt_of z ∙ root-below-all;
       }
 
+  pub root_kept : r ≡ sqrt_of x → RootKept x r
+  root_kept e = (root-settled e).near
+
   pub sine-kept : r ≡ sine_of x → SineKept x r
   sine-kept e = record { near = λ reach. subst (SineRule x) (sym e) (sine-keeps-rule x held reach); far = λ beyond. e ∙ sine-far x beyond }
 

@@ -2,7 +2,7 @@
 // the refusals of `push_segment`.
 ghost use Rattle.std.specs.Prelude.{◌≡◌};
 ghost use Rattle.arc.specs.Lines.{line_of};
-ghost use Rattle.path_stored.specs.Buffers.{after, before};
+ghost use Rattle.path_stored.specs.Buffers.{after, before_mut};
 ghost use Rattle.path_append.specs.Appending.{Append, arc_segment};
 
 use crate::pushing::{Appended, push_segment};
@@ -23,7 +23,7 @@ pub fn line_to(
     start: Point,
     end: Point,
 ) -> Appended
-    ensures { Append (before kinds numbers tables lengths commands) count command (PathSegment.Line (line_of start end)) result (after kinds numbers tables lengths commands) }
+    ensures { Append (before_mut kinds numbers tables lengths commands) count command (PathSegment.Line (line_of start end)) result (after kinds numbers tables lengths commands) }
 {
     let segment = PathSegment::Line(LineSegment { start, end });
     push_segment(
@@ -44,7 +44,7 @@ pub fn quad_to(
     control: Point,
     end: Point,
 ) -> Appended
-    ensures { Append (before kinds numbers tables lengths commands) count command (PathSegment.Quad start control end) result (after kinds numbers tables lengths commands) }
+    ensures { Append (before_mut kinds numbers tables lengths commands) count command (PathSegment.Quad start control end) result (after kinds numbers tables lengths commands) }
 {
     let segment = PathSegment::Quad {
         start,
@@ -70,7 +70,7 @@ pub fn cubic_to(
     control2: Point,
     end: Point,
 ) -> Appended
-    ensures { Append (before kinds numbers tables lengths commands) count command (PathSegment.Cubic start control1 control2 end) result (after kinds numbers tables lengths commands) }
+    ensures { Append (before_mut kinds numbers tables lengths commands) count command (PathSegment.Cubic start control1 control2 end) result (after kinds numbers tables lengths commands) }
 {
     let segment = PathSegment::Cubic {
         start,
@@ -104,7 +104,7 @@ pub fn arc_to(
     command: u32,
     chord: Chord,
 ) -> Appended
-    ensures { Append (before kinds numbers tables lengths commands) count command (arc_segment chord) result (after kinds numbers tables lengths commands) }
+    ensures { Append (before_mut kinds numbers tables lengths commands) count command (arc_segment chord) result (after kinds numbers tables lengths commands) }
 {
     push_segment(
         kinds,

@@ -1,6 +1,6 @@
 // Appending one segment.
 ghost use Rattle.std.specs.Prelude.{◌≡◌, ◌≤◌, ◌<◌, length};
-ghost use Rattle.path_stored.specs.Buffers.{after, before};
+ghost use Rattle.path_stored.specs.Buffers.{after, before, before_mut};
 ghost use Rattle.path_stored.specs.Stored.{most_segments};
 ghost use Rattle.path_append.specs.Appending.{may_turn, fitting_of, appended_of, Append};
 
@@ -119,7 +119,7 @@ pub fn push_segment(
     command: u32,
     segment: PathSegment,
 ) -> Appended
-    ensures { Append (before kinds numbers tables lengths commands) count command segment result (after kinds numbers tables lengths commands) }
+    ensures { Append (before_mut kinds numbers tables lengths commands) count command segment result (after kinds numbers tables lengths commands) }
 {
     let answer = judge(
         kinds, numbers, tables, lengths, commands, count, command, segment,

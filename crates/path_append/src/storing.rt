@@ -1,6 +1,6 @@
 // A segment stored after those in use.
 ghost use Rattle.std.specs.Prelude.{◌≡◌};
-ghost use Rattle.path_stored.specs.Buffers.{after, before, lent};
+ghost use Rattle.path_stored.specs.Buffers.{after, before_mut, lent_mut};
 ghost use Rattle.path_append.specs.Appending.{Room, stored_at};
 
 use crate::used::{numbers_used, tables_used};
@@ -20,8 +20,8 @@ pub(crate) fn store(
     command: u32,
     segment: PathSegment,
 )
-    requires { Room (lent kinds numbers tables lengths commands) count segment }
-    ensures { after kinds numbers tables lengths commands ≡ stored_at (before kinds numbers tables lengths commands) count command segment }
+    requires { Room (lent_mut kinds numbers tables lengths commands) count segment }
+    ensures { after kinds numbers tables lengths commands ≡ stored_at (before_mut kinds numbers tables lengths commands) count command segment }
 {
     let n = numbers_used(kinds, count);
     let m = tables_used(kinds, count);

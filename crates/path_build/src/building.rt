@@ -1,5 +1,5 @@
 // The entry over a command list.
-ghost use Rattle.path_stored.specs.Buffers.{after, before};
+ghost use Rattle.path_stored.specs.Buffers.{after, before_mut};
 ghost use Rattle.path_build.specs.Lists.{given_list};
 ghost use Rattle.path_build.specs.Paths.{BuildPath};
 
@@ -17,7 +17,7 @@ pub fn build_path(
     lengths: &mut [f32],
     commands: &mut [u32],
 ) -> Building
-    ensures { BuildPath (given_list letters numbers) (before kinds fields tables lengths commands) result (after kinds fields tables lengths commands) }
+    ensures { BuildPath (given_list letters numbers) (before_mut kinds fields tables lengths commands) result (after kinds fields tables lengths commands) }
 {
     let lent = Counts {
         kinds: kinds.len(),

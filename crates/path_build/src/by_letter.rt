@@ -1,7 +1,7 @@
 // One command of a list, stored from its letter and its numbers.
 ghost use Rattle.std.specs.Prelude.{◌≡◌, ◌+◌, ◌≤◌, length, drop};
 ghost use Rattle.commands.specs.Listed.{command_of};
-ghost use Rattle.path_stored.specs.Buffers.{after, before, lent};
+ghost use Rattle.path_stored.specs.Buffers.{after, before_mut, lent_mut};
 ghost use Rattle.path_storing.specs.Sites.{FewAt, Room, Laid};
 ghost use Rattle.path_build.specs.Letters.{stride_of, drawn_at};
 
@@ -38,9 +38,9 @@ pub(crate) fn lay_at(
     commands: &mut [u32],
 ) -> Site
     requires { (at + stride_of letter ≤ length numbers.now) × FewAt site
-        × Room site (drawn_at site.pen (command_of letter (drop at numbers.now))) (lent kinds fields tables lengths commands) }
+        × Room site (drawn_at site.pen (command_of letter (drop at numbers.now))) (lent_mut kinds fields tables lengths commands) }
     ensures { Laid site number (drawn_at site.pen (command_of letter (drop at numbers.now)))
-        (before kinds fields tables lengths commands) result (after kinds fields tables lengths commands) }
+        (before_mut kinds fields tables lengths commands) result (after kinds fields tables lengths commands) }
 {
     match letter {
         b'L' => {

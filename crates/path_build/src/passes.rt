@@ -1,6 +1,6 @@
 // The two passes over a command list: the first counts, and measures only where it must, the second stores.
 ghost use Rattle.std.specs.Prelude.{◌≡◌};
-ghost use Rattle.path_stored.specs.Buffers.{after, before, lent};
+ghost use Rattle.path_stored.specs.Buffers.{after, before_mut, lent_mut};
 ghost use Rattle.path_build.specs.Lists.{lent_list, given_list, WellFormed};
 ghost use Rattle.path_build.specs.Answers.{measure_of, Foretells, Holding, Filled};
 ghost use Rattle.path_build.specs.Paths.{build_list_of, drawers_list_of};
@@ -139,9 +139,9 @@ pub(crate) fn fill(
     lengths: &mut [f32],
     commands: &mut [u32],
 )
-    requires { Holding (build_list_of (lent_list letters numbers)) (lent kinds fields tables lengths commands) }
+    requires { Holding (build_list_of (lent_list letters numbers)) (lent_mut kinds fields tables lengths commands) }
     ensures { Filled (build_list_of (given_list letters numbers)) (drawers_list_of (given_list letters numbers))
-        (before kinds fields tables lengths commands) (after kinds fields tables lengths commands) }
+        (before_mut kinds fields tables lengths commands) (after kinds fields tables lengths commands) }
 {
     let count = letters.len();
     let mut site = start();

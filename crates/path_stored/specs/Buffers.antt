@@ -1,7 +1,7 @@
 -- The five buffers of a stored path as one value (document 01, "Lengths, tables and lookup"; document 02, L5): kinds, fields, tables, running lengths and command numbers travel together in
 -- every contract. The code stays on slices. Definitions only.
 use Rattle.std.specs.Prelude.{ℕ, List, Float}
-use Rattle.std.specs.Borrow.{Bor}
+use Rattle.std.specs.Borrow.{Bor, MutBor}
 use denote.Triple.Both.{Both}
 
 pub record Buffers : Type 0 where
@@ -19,6 +19,9 @@ buffers kinds fields tables lengths commands = record { kinds = kinds; fields = 
 abbrev pub lent : Bor (List ℕ) → Bor (List Float) → Bor (List Float) → Bor (List Float) → Bor (List ℕ) → Buffers
 lent kinds fields tables lengths commands = buffers kinds.now fields.now tables.now lengths.now commands.now
 
+abbrev pub lent_mut : MutBor (List ℕ) → MutBor (List Float) → MutBor (List Float) → MutBor (List Float) → MutBor (List ℕ) → Buffers
+lent_mut kinds fields tables lengths commands = buffers kinds.now fields.now tables.now lengths.now commands.now
+
 -- and what an `ensures` does: what they hold as a function is entered, and as it returns
 abbrev Lent : Type 0 → Type 0
 Lent A = Both (Bor (List A)) (Bor (List A))
@@ -26,5 +29,12 @@ Lent A = Both (Bor (List A)) (Bor (List A))
 abbrev pub before : Lent ℕ → Lent Float → Lent Float → Lent Float → Lent ℕ → Buffers
 before kinds fields tables lengths commands = lent kinds.entry fields.entry tables.entry lengths.entry commands.entry
 
-abbrev pub after : Lent ℕ → Lent Float → Lent Float → Lent Float → Lent ℕ → Buffers
-after kinds fields tables lengths commands = lent kinds.exit fields.exit tables.exit lengths.exit commands.exit
+-- the same of slices that the function may write
+abbrev LentMut : Type 0 → Type 0
+LentMut A = Both (MutBor (List A)) (MutBor (List A))
+
+abbrev pub before_mut : LentMut ℕ → LentMut Float → LentMut Float → LentMut Float → LentMut ℕ → Buffers
+before_mut kinds fields tables lengths commands = lent_mut kinds.entry fields.entry tables.entry lengths.entry commands.entry
+
+abbrev pub after : LentMut ℕ → LentMut Float → LentMut Float → LentMut Float → LentMut ℕ → Buffers
+after kinds fields tables lengths commands = lent_mut kinds.exit fields.exit tables.exit lengths.exit commands.exit

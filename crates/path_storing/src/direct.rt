@@ -3,7 +3,7 @@ ghost use Rattle.std.specs.Prelude.{◌≡◌, [], ◌∷◌, ◌+◌, ◌≤◌
 ghost use Rattle.std.proofs.lemmas.List.Edits.{sets};
 ghost use Rattle.arc.specs.Lines.{line_of};
 ghost use Rattle.commands.specs.declared.command.PathCommand.TheVariants.{LineTo, QuadTo, CubicTo};
-ghost use Rattle.path_stored.specs.Buffers.{after, before, lent};
+ghost use Rattle.path_stored.specs.Buffers.{after, before_mut, lent_mut};
 ghost use Rattle.path_segment.specs.declared.segments.PathSegment.TheVariants.{Line};
 ghost use Rattle.path_drawing.specs.Drawing.{drawn_of, draw_of};
 ghost use Rattle.path_drawing.specs.declared.strokes.Drawn.TheVariants.{Segment};
@@ -36,9 +36,9 @@ fn lay_line(
     lengths: &mut [f32],
     commands: &mut [u32],
 ) -> Site
-    requires { FewAt site × Room site (Segment (Line (line_of site.pen.current end)) (drawn_of site.pen end)) (lent kinds fields tables lengths commands) }
+    requires { FewAt site × Room site (Segment (Line (line_of site.pen.current end)) (drawn_of site.pen end)) (lent_mut kinds fields tables lengths commands) }
     ensures { Laid site number (Segment (Line (line_of site.pen.current end)) (drawn_of site.pen end))
-        (before kinds fields tables lengths commands) result (after kinds fields tables lengths commands) }
+        (before_mut kinds fields tables lengths commands) result (after kinds fields tables lengths commands) }
 {
     let pen = site.pen;
     let start = pen.current;
@@ -70,8 +70,8 @@ pub fn line_to(
     lengths: &mut [f32],
     commands: &mut [u32],
 ) -> Site
-    requires { FewAt site × Room site (draw_of site.pen (LineTo end)) (lent kinds fields tables lengths commands) }
-    ensures { Laid site number (draw_of site.pen (LineTo end)) (before kinds fields tables lengths commands) result (after kinds fields tables lengths commands) }
+    requires { FewAt site × Room site (draw_of site.pen (LineTo end)) (lent_mut kinds fields tables lengths commands) }
+    ensures { Laid site number (draw_of site.pen (LineTo end)) (before_mut kinds fields tables lengths commands) result (after kinds fields tables lengths commands) }
 {
     let pen = site.pen;
     if pen.placed {
@@ -92,8 +92,8 @@ pub fn quad_to(
     lengths: &mut [f32],
     commands: &mut [u32],
 ) -> Site
-    requires { FewAt site × Room site (draw_of site.pen (QuadTo control end)) (lent kinds fields tables lengths commands) }
-    ensures { Laid site number (draw_of site.pen (QuadTo control end)) (before kinds fields tables lengths commands) result (after kinds fields tables lengths commands) }
+    requires { FewAt site × Room site (draw_of site.pen (QuadTo control end)) (lent_mut kinds fields tables lengths commands) }
+    ensures { Laid site number (draw_of site.pen (QuadTo control end)) (before_mut kinds fields tables lengths commands) result (after kinds fields tables lengths commands) }
 {
     let pen = site.pen;
     if pen.placed {
@@ -140,8 +140,8 @@ pub fn cubic_to(
     lengths: &mut [f32],
     commands: &mut [u32],
 ) -> Site
-    requires { FewAt site × Room site (draw_of site.pen (CubicTo control1 control2 end)) (lent kinds fields tables lengths commands) }
-    ensures { Laid site number (draw_of site.pen (CubicTo control1 control2 end)) (before kinds fields tables lengths commands) result (after kinds fields tables lengths commands) }
+    requires { FewAt site × Room site (draw_of site.pen (CubicTo control1 control2 end)) (lent_mut kinds fields tables lengths commands) }
+    ensures { Laid site number (draw_of site.pen (CubicTo control1 control2 end)) (before_mut kinds fields tables lengths commands) result (after kinds fields tables lengths commands) }
 {
     let pen = site.pen;
     if pen.placed {

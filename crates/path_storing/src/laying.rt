@@ -1,6 +1,6 @@
 // A command at a site: judged and counted, and then stored. The callers know that there are few segments.
 ghost use Rattle.std.specs.Prelude.{◌≡◌};
-ghost use Rattle.path_stored.specs.Buffers.{after, before, lent};
+ghost use Rattle.path_stored.specs.Buffers.{after, before_mut, lent_mut};
 ghost use Rattle.path_drawing.specs.Drawing.{fresh_of, draw_of};
 ghost use Rattle.path_drawing.specs.Building.{length_after};
 ghost use Rattle.path_drawing.specs.declared.strokes.Drawn.TheVariants.{Segment};
@@ -79,8 +79,8 @@ pub(crate) fn store_segment(
     lengths: &mut [f32],
     commands: &mut [u32],
 ) -> f32
-    requires { Room (site_at passed index own more) (Segment segment fresh_of) (lent kinds fields tables lengths commands) }
-    ensures { SegmentLaid (site_at passed index own more) number segment (before kinds fields tables lengths commands) result (after kinds fields tables lengths commands) }
+    requires { Room (site_at passed index own more) (Segment segment fresh_of) (lent_mut kinds fields tables lengths commands) }
+    ensures { SegmentLaid (site_at passed index own more) number segment (before_mut kinds fields tables lengths commands) result (after kinds fields tables lengths commands) }
 {
     kinds[index] = kind(segment);
     put_segment(fields, own, segment);
@@ -102,8 +102,8 @@ fn lay_segment(
     lengths: &mut [f32],
     commands: &mut [u32],
 ) -> Site
-    requires { FewAt site × Room site (Segment segment pen) (lent kinds fields tables lengths commands) }
-    ensures { Laid site number (Segment segment pen) (before kinds fields tables lengths commands) result (after kinds fields tables lengths commands) }
+    requires { FewAt site × Room site (Segment segment pen) (lent_mut kinds fields tables lengths commands) }
+    ensures { Laid site number (Segment segment pen) (before_mut kinds fields tables lengths commands) result (after kinds fields tables lengths commands) }
 {
     let length = store_segment(
         site.length,
@@ -132,8 +132,8 @@ pub fn lay_any(
     lengths: &mut [f32],
     commands: &mut [u32],
 ) -> Site
-    requires { FewAt site × Room site (draw_of site.pen command) (lent kinds fields tables lengths commands) }
-    ensures { Laid site number (draw_of site.pen command) (before kinds fields tables lengths commands) result (after kinds fields tables lengths commands) }
+    requires { FewAt site × Room site (draw_of site.pen command) (lent_mut kinds fields tables lengths commands) }
+    ensures { Laid site number (draw_of site.pen command) (before_mut kinds fields tables lengths commands) result (after kinds fields tables lengths commands) }
 {
     let pen = site.pen;
     match draw(pen, command) {
@@ -159,8 +159,8 @@ pub fn lay(
     lengths: &mut [f32],
     commands: &mut [u32],
 ) -> Site
-    requires { FewAt site × Room site (draw_of site.pen command) (lent kinds fields tables lengths commands) }
-    ensures { Laid site number (draw_of site.pen command) (before kinds fields tables lengths commands) result (after kinds fields tables lengths commands) }
+    requires { FewAt site × Room site (draw_of site.pen command) (lent_mut kinds fields tables lengths commands) }
+    ensures { Laid site number (draw_of site.pen command) (before_mut kinds fields tables lengths commands) result (after kinds fields tables lengths commands) }
 {
     if let PathCommand::LineTo(end) = command {
         return line_to(site, number, end, kinds, fields, tables, lengths, commands);

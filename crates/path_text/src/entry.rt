@@ -1,6 +1,6 @@
 // The entry over a text.
 ghost use Rattle.std.specs.Prelude.{◌≡◌};
-ghost use Rattle.path_stored.specs.Buffers.{after, before};
+ghost use Rattle.path_stored.specs.Buffers.{after, before_mut};
 ghost use Rattle.path_build.specs.Answers.{measure_of};
 ghost use Rattle.path_text.specs.Builds.{build_read_of, BuildFromText};
 
@@ -49,7 +49,7 @@ pub fn build_from_text(
     lengths: &mut [f32],
     commands: &mut [u32],
 ) -> Building
-    ensures { BuildFromText text.now (before kinds fields tables lengths commands) result (after kinds fields tables lengths commands) }
+    ensures { BuildFromText text.now (before_mut kinds fields tables lengths commands) result (after kinds fields tables lengths commands) }
 {
     let lent = Counts {
         kinds: kinds.len(),

@@ -1,7 +1,7 @@
 // The two passes over a text: the first counts, and measures only where it must, the second stores.
 ghost use Rattle.std.specs.Prelude.{◌≡◌, ◌≤◌, length};
 ghost use Rattle.svg.specs.Texts.{commands_of};
-ghost use Rattle.path_stored.specs.Buffers.{after, before, lent};
+ghost use Rattle.path_stored.specs.Buffers.{after, before_mut, lent_mut};
 ghost use Rattle.path_build.specs.Answers.{measure_of, Foretells, Holding, Filled};
 ghost use Rattle.path_text.specs.Builds.{built_from, build_read_of, drawers_text_of, Finds};
 ghost use Rattle.path_text.specs.declared.texts.Found.TheVariants.{Unbuilt};
@@ -145,9 +145,9 @@ pub(crate) fn fill(
     lengths: &mut [f32],
     commands: &mut [u32],
 )
-    requires { Holding (build_read_of text.now) (lent kinds fields tables lengths commands) }
+    requires { Holding (build_read_of text.now) (lent_mut kinds fields tables lengths commands) }
     ensures { Filled (build_read_of text.now) (drawers_text_of text.now)
-        (before kinds fields tables lengths commands) (after kinds fields tables lengths commands) }
+        (before_mut kinds fields tables lengths commands) (after kinds fields tables lengths commands) }
 {
     let mut reader = fresh();
     let mut site = start();

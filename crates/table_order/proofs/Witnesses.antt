@@ -190,7 +190,8 @@ clamped-other-bits :
     × OtherBits (by_share (fused_share product_offset)) three_five (bits 0x40a0_0000) half (bits 0x3cdc_370d) (bits 0x3cdc_370e)
     × OtherBits (by_share (fused_share quotient_offset)) three_five (bits 0x40a0_0000) half (bits 0x3cdc_370d) (bits 0x3cdc_370e)
     × OtherBits (by_contraction contracted_clamped) short three (bits 0x3eaa_aaad) (bits 0x3d84_2108) (bits 0x3d77_bdef)
-unfolding table_is_sound starts_at_zero lengths_are_sound all_finite climbs fused_of sum round target_of clamp01_of clamp_of zero_f one_f epsilon_f of_bits le lt eq ne mul first_not_below share_of sub max_of div of_int add neg raw_of raw_at raw_in_part
+unfolding table_is_sound starts_at_zero lengths_are_sound all_finite climbs fused_of sum round target_of clamp01_of clamp_of zero_f one_f epsilon_f of_bits le lt eq ne
+    mul first_not_below share_of sub max_of div of_int add neg raw_of raw_at raw_in_part
 clamped-other-bits = (
   record { sound = tt; lookup = refl; other = refl; apart = tt },
   record { sound = tt; lookup = refl; other = refl; apart = tt },
@@ -213,7 +214,8 @@ abbrev paused : List Float
 paused = zero_f ∷ one_f ∷ one_f ∷ one_f ∷ replicate 28 two
 
 above-skips-equal-lengths : OtherBits by_above paused two half (bits 0x3d04_2108) (bits 0x3dc6_318c) × (mark_of 31 1 ≡ bits 0x3d04_2108) × (mark_of 31 3 ≡ bits 0x3dc6_318c)
-unfolding table_is_sound starts_at_zero lengths_are_sound all_finite climbs sum round target_of clamp01_of clamp_of zero_f one_f epsilon_f of_bits le lt eq ne mul first_not_below share_of sub max_of div of_int add neg raw_of raw_at raw_in_part first_above mark_of
+unfolding table_is_sound starts_at_zero lengths_are_sound all_finite climbs sum round target_of clamp01_of clamp_of zero_f one_f epsilon_f of_bits le lt eq ne mul
+    first_not_below share_of sub max_of div of_int add neg raw_of raw_at raw_in_part first_above mark_of
 above-skips-equal-lengths = (record { sound = tt; lookup = refl; other = refl; apart = tt }, refl, refl)
 
 -- Over a path: running lengths 1, 1, 2, so that the middle segment has no length. At the half the target is 1. The strict search gives the end of segment 0, the other the start of segment 2,

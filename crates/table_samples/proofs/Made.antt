@@ -6,7 +6,7 @@ use Prim.Native.Nat.{ℕ, zero, suc, ◌<◌}
 use mathlib.Core.List.{List, [], ◌∷◌}
 use lib.ListN.{length}
 use lib.Dec.{T}
-use lib.Ieee.{Float, nan, binary32, add, fits, is_nan, lt}
+use lib.Ieee.{Float, nan, inf, fin, binary32, add, fits, is_nan, lt}
 use lib.Ieee.Bits.{of_bits-fits}
 use lib.Ieee.Fits.{add-fits, nan-fits}
 use lib.Ieee.Scale.{finite}
@@ -28,6 +28,8 @@ use Rattle.table_samples.proofs.Steps.{steps-count, step_is}
 nan-not-below : (x y : Float) → T (is_nan x) → T (not (lt x y))
 unfolding is_nan lt
 nan-not-below nan y h = tt
+nan-not-below (inf _) y h = elim h [ ]
+nan-not-below (fin _ _ _) y h = elim h [ ]
 
 length-not-below : (x y : Float) → T (not (lt (lengths.length_of x y) zero_f))
 unfolding zero_f

@@ -4,7 +4,7 @@ use mathlib.Core.Path.{sym, ap, ◌∙◌}
 use Rattle.math.specs.Math.{rad_to_deg_of}
 use Rattle.angles.proofs.Heading.{at_rest, moving-x, moving-y}
 use Rattle.angles.proofs.rotation_deg.Goals as goal
-use Rattle.angles.proofs.rotation_deg.Goals.{then-x, else-x}
+use Rattle.angles.proofs.rotation_deg.Goals.{then-x+else-y, else-x}
 
 pub returns-then-y : goal.returns-then-y
 returns-then-y c = sym (at_rest c.args.tangent c.if-x.true c.if-y.true)
@@ -15,5 +15,5 @@ returns c =
     ∙ ap rad_to_deg_of c.atan2.ensures
     ∙ sym
     (elim c.if-x.branch [
-       then-x w ↦ moving-y c.args.tangent w.if-x.true w.if-y.false
+       then-x+else-y w ↦ moving-y c.args.tangent w.if-x.true w.if-y.false
      | else-x w ↦ moving-x c.args.tangent w.if-x.false ])

@@ -12,16 +12,23 @@ use Rattle.answers.proofs.Writing.{written-more}
 use Rattle.answers.proofs.reporting.put.Goals as goal
 
 pub returns-in-One : goal.returns-in-One
-returns-in-One c = rw c.in-One.is ((let stored_here : (values : List ℕ) → length values ≤ 5 → sets c.args.answer.now 0 values ≡ written values c.args.answer.now = λ values few. written-more [] values c.args.answer.now (omega (arith, c.requires)) in stored_here) (c.in-One.a ∷ []) (omega arith))
+returns-in-One c = rw c.in-One.is ((let stored_here : (values : List ℕ) → length values ≤ 5 →
+    sets c.args.answer.now 0 values ≡ written values c.args.answer.now = λ values few. written-more [] values c.args.answer.now (omega (arith, c.requires)) in stored_here) (c.in-One.a ∷ []) (omega arith))
 
 pub returns-in-Two : goal.returns-in-Two
-returns-in-Two c = rw c.in-Two.is ((let stored_here : (values : List ℕ) → length values ≤ 5 → sets c.args.answer.now 0 values ≡ written values c.args.answer.now = λ values few. written-more [] values c.args.answer.now (omega (arith, c.requires)) in stored_here) (c.in-Two.a ∷ c.in-Two.b ∷ []) (omega arith))
+returns-in-Two c = rw c.in-Two.is ((let stored_here : (values : List ℕ) → length values ≤ 5 →
+    sets c.args.answer.now 0 values ≡ written values c.args.answer.now = λ values few. written-more [] values c.args.answer.now (omega (arith, c.requires)) in stored_here) (c.in-Two.a ∷ c.in-Two.b ∷ []) (omega arith))
 
 pub returns-in-Three : goal.returns-in-Three
-returns-in-Three c = rw c.in-Three.is ((let stored_here : (values : List ℕ) → length values ≤ 5 → sets c.args.answer.now 0 values ≡ written values c.args.answer.now = λ values few. written-more [] values c.args.answer.now (omega (arith, c.requires)) in stored_here) (c.in-Three.a ∷ c.in-Three.b ∷ c.in-Three.c ∷ []) (omega arith))
+returns-in-Three c = rw c.in-Three.is ((let stored_here : (values : List ℕ) → length values ≤ 5 →
+    sets c.args.answer.now 0 values ≡ written values c.args.answer.now = λ values few. written-more [] values c.args.answer.now (omega (arith, c.requires)) in stored_here) (c.in-Three.a ∷ c.in-Three.b ∷ c.in-Three.c ∷ []) (omega arith))
 
 pub returns-in-Four : goal.returns-in-Four
-returns-in-Four c = rw c.in-Four.is ((let stored_here : (values : List ℕ) → length values ≤ 5 → sets c.args.answer.now 0 values ≡ written values c.args.answer.now = λ values few. written-more [] values c.args.answer.now (omega (arith, c.requires)) in stored_here) (c.in-Four.a ∷ c.in-Four.b ∷ c.in-Four.c ∷ c.in-Four.d ∷ []) (omega arith))
+returns-in-Four c = rw c.in-Four.is ((let stored_here : (values : List ℕ) → length values ≤ 5 →
+    sets c.args.answer.now 0 values ≡ written values c.args.answer.now = λ values few. written-more [] values c.args.answer.now (omega (arith, c.requires)) in
+    stored_here) (c.in-Four.a ∷ c.in-Four.b ∷ c.in-Four.c ∷ c.in-Four.d ∷ []) (omega arith))
 
 pub returns-in-Five : goal.returns-in-Five
-returns-in-Five c = rw c.in-Five.is ((let stored_here : (values : List ℕ) → length values ≤ 5 → sets c.args.answer.now 0 values ≡ written values c.args.answer.now = λ values few. written-more [] values c.args.answer.now (omega (arith, c.requires)) in stored_here) (c.in-Five.a ∷ c.in-Five.b ∷ c.in-Five.c ∷ c.in-Five.d ∷ c.in-Five.e ∷ []) (omega arith))
+returns-in-Five c = rw c.in-Five.is ((let stored_here : (values : List ℕ) → length values ≤ 5 →
+    sets c.args.answer.now 0 values ≡ written values c.args.answer.now = λ values few. written-more [] values c.args.answer.now (omega (arith, c.requires)) in
+    stored_here) (c.in-Five.a ∷ c.in-Five.b ∷ c.in-Five.c ∷ c.in-Five.d ∷ c.in-Five.e ∷ []) (omega arith))

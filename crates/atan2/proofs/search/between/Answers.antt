@@ -34,9 +34,8 @@ returns-then-ahead_at c =
     (at_last c.args.u c.args.v c.args.left c.args.from c.args.to (sym c.ahead_at.ensures ∙ not-false _ (ap not c.if-not-ahead_at.false)) (sym c.ahead_at-2.ensures ∙ c.if-ahead_at.true), omega arith)
 
 pub returns : goal.returns
-returns c =
-    (
-      c.nearer.ensures.0 ∙ ap (nearer c.args.u c.args.v c.args.left) c.climb.ensures.0
-          ∙ inside c.args.u c.args.v c.args.left c.args.from c.args.to (sym c.ahead_at.ensures ∙ not-false _ (ap not c.if-not-ahead_at.false)) (sym c.ahead_at-2.ensures ∙ c.if-ahead_at.false),
-      omega arith,
-    )
+returns c = (
+  c.nearer.ensures.0 ∙ ap (nearer c.args.u c.args.v c.args.left) c.climb.ensures.0
+      ∙ inside c.args.u c.args.v c.args.left c.args.from c.args.to (sym c.ahead_at.ensures ∙ not-false _ (ap not c.if-not-ahead_at.false)) (sym c.ahead_at-2.ensures ∙ c.if-ahead_at.false),
+  omega arith,
+)

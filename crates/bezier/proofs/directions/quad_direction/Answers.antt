@@ -16,7 +16,7 @@ returns-then-is_nothing c =
     let further = c.raw_parameter_in-further.ensures ∙ ap (raw_of c.args.entries.now c.args.total) c.ahead.ensures in
     let there = c.quad_sample-there.ensures ∙ ap (quad_sample_of c.args.start c.args.control c.args.end) further in
     let apart = c.sub.ensures ∙ ap (λ (p : Point). sub_of p c.quad_sample-here.result) there ∙ ap (sub_of _) c.quad_sample-here.ensures in
-    c.normalize-first.ensures ∙ ap normalize_of apart
+    c.normalize.ensures ∙ ap normalize_of apart
     ∙ tried-second _ _ _ (c.is_nothing.ensures ∙ ap is_nothing ((let first_here : c.normalize-first.result ≡ normalize_of (quad_derivative_of c.args.start c.args.control c.args.end c.args.raw.value) = c.normalize-first.ensures ∙ ap normalize_of c.quad_derivative.ensures in first_here))) c.if-is_nothing.true
 
 pub returns : goal.returns

@@ -2,7 +2,6 @@
 use borrow.Author.Rules.{rules}
 use mathlib.Core.Path.{sym, ◌∙◌}
 use Rattle.commands.proofs.Decoding.{arc-flagged, arc-large, arc-sweep}
-use Rattle.commands.proofs.encoding.arc_at.Tie as tie
 use Rattle.commands.proofs.encoding.arc_at.Goals as goal
 
 -- ---- the answers

@@ -29,19 +29,19 @@ returns-then-left-lt7 c = short-arc _ ((drop c.args.at c.args.numbers.now)) c.in
 
 pub returns-else-left-lt2 : goal.returns-else-left-lt2
 returns-else-left-lt2 c =
-    is_move _ ((drop c.args.at c.args.numbers.now)) _ ((let first_here : {p : Point} → p ≡ point_at c.args.numbers.now c.args.at → p ≡ point_at ((drop c.args.at c.args.numbers.now)) 0 = λ e. point-first c.args.numbers.now c.args.at e in first_here) c.point_at.ensures) c.in-77.is (simp length-drop (omega arith))
+    is_move _ ((drop c.args.at c.args.numbers.now)) _ (point-first c.args.numbers.now c.args.at c.point_at.ensures) c.in-77.is (simp length-drop (omega arith))
 
 pub returns-else-left-lt2-2 : goal.returns-else-left-lt2-2
 returns-else-left-lt2-2 c =
-    is-line _ ((drop c.args.at c.args.numbers.now)) _ ((let first_here : {p : Point} → p ≡ point_at c.args.numbers.now c.args.at → p ≡ point_at ((drop c.args.at c.args.numbers.now)) 0 = λ e. point-first c.args.numbers.now c.args.at e in first_here) c.point_at-in-76.ensures) c.in-76.is (simp length-drop (omega arith))
+    is-line _ ((drop c.args.at c.args.numbers.now)) _ (point-first c.args.numbers.now c.args.at c.point_at-in-76.ensures) c.in-76.is (simp length-drop (omega arith))
 
 pub returns-else-left-lt4 : goal.returns-else-left-lt4
 returns-else-left-lt4 c =
-    is-quad _ ((drop c.args.at c.args.numbers.now)) _ _ ((let first_here : {p : Point} → p ≡ point_at c.args.numbers.now c.args.at → p ≡ point_at ((drop c.args.at c.args.numbers.now)) 0 = λ e. point-first c.args.numbers.now c.args.at e in first_here) c.point_at-in-81.ensures) ((let later_here : (i : ℕ) {p : Point} → p ≡ point_at c.args.numbers.now (c.args.at + i) → p ≡ point_at ((drop c.args.at c.args.numbers.now)) i = λ i e. point-later c.args.numbers.now c.args.at i e in later_here) 2 c.point_at-in-81-2.ensures) c.in-81.is (simp length-drop (omega arith))
+    is-quad _ ((drop c.args.at c.args.numbers.now)) _ _ (point-first c.args.numbers.now c.args.at c.point_at-in-81.ensures) (point-later c.args.numbers.now c.args.at 2 c.point_at-in-81-2.ensures) c.in-81.is (simp length-drop (omega arith))
 
 pub returns-else-left-lt6 : goal.returns-else-left-lt6
 returns-else-left-lt6 c =
-    is-cubic _ ((drop c.args.at c.args.numbers.now)) _ _ _ ((let first_here : {p : Point} → p ≡ point_at c.args.numbers.now c.args.at → p ≡ point_at ((drop c.args.at c.args.numbers.now)) 0 = λ e. point-first c.args.numbers.now c.args.at e in first_here) c.point_at-in-67.ensures) ((let later_here : (i : ℕ) {p : Point} → p ≡ point_at c.args.numbers.now (c.args.at + i) → p ≡ point_at ((drop c.args.at c.args.numbers.now)) i = λ i e. point-later c.args.numbers.now c.args.at i e in later_here) 2 c.point_at-in-67-2.ensures) ((let later_here : (i : ℕ) {p : Point} → p ≡ point_at c.args.numbers.now (c.args.at + i) → p ≡ point_at ((drop c.args.at c.args.numbers.now)) i = λ i e. point-later c.args.numbers.now c.args.at i e in later_here) 4 c.point_at-in-67-3.ensures)
+    is-cubic _ ((drop c.args.at c.args.numbers.now)) _ _ _ (point-first c.args.numbers.now c.args.at c.point_at-in-67.ensures) (point-later c.args.numbers.now c.args.at 2 c.point_at-in-67-2.ensures) (point-later c.args.numbers.now c.args.at 4 c.point_at-in-67-3.ensures)
     c.in-67.is (simp length-drop (omega arith))
 
 pub returns-else-left-lt7 : goal.returns-else-left-lt7

@@ -5,4 +5,4 @@ use Rattle.commands.proofs.encoding.put_quad.Goals as goal
 
 pub returns : goal.returns
 returns c =
-    four-put c.args.numbers.now c.args.at c.args.control.x c.args.control.y c.args.end.x c.args.end.y c.put_two.new.0 _ c.put_two.ensures c.put_two-2.ensures
+    four-put c.args.numbers.now c.args.at c.args.control.x c.args.control.y c.args.end.x c.args.end.y c.put_two.new.numbers _ c.put_two.ensures c.put_two-2.ensures

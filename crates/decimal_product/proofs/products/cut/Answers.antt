@@ -18,13 +18,16 @@ pub overflow_sub-rest : goal.overflow_sub-rest
 overflow_sub-rest c = let p = (let known_here : Parts c.args.product c.args.dropped = parts c.args.product c.args.dropped c.ranges.product.fits c.requires.0 c.requires.1 c.requires.3 in known_here) in omega (arith, p.back, p.under)
 
 pub is_above-above-requires : goal.is_above-above-requires
-is_above-above-requires c = let p = (let known_here : Parts c.args.product c.args.dropped = parts c.args.product c.args.dropped c.ranges.product.fits c.requires.0 c.requires.1 c.requires.3 in known_here) in (omega (arith, p.back, p.rest_lt, p.twice, p.narrow), omega (arith, p.half, p.narrow))
+is_above-above-requires c = let p = (let known_here : Parts c.args.product c.args.dropped = parts c.args.product c.args.dropped c.ranges.product.fits c.requires.0
+    c.requires.1 c.requires.3 in known_here) in (omega (arith, p.back, p.rest_lt, p.twice, p.narrow), omega (arith, p.half, p.narrow))
 
 pub overflow_add-rest : goal.overflow_add-rest
-overflow_add-rest c = let p = (let known_here : Parts c.args.product c.args.dropped = parts c.args.product c.args.dropped c.ranges.product.fits c.requires.0 c.requires.1 c.requires.3 in known_here) in record { fits = omega (arith, p.back, p.rest_lt, p.twice, p.narrow) }
+overflow_add-rest c = let p = (let known_here : Parts c.args.product c.args.dropped = parts c.args.product c.args.dropped c.ranges.product.fits c.requires.0 c.requires.1
+    c.requires.3 in known_here) in record { fits = omega (arith, p.back, p.rest_lt, p.twice, p.narrow) }
 
 pub is_above-reaches-requires : goal.is_above-reaches-requires
-is_above-reaches-requires c = let p = (let known_here : Parts c.args.product c.args.dropped = parts c.args.product c.args.dropped c.ranges.product.fits c.requires.0 c.requires.1 c.requires.3 in known_here) in (omega (arith, p.back, p.rest_lt, p.twice, p.narrow), omega (arith, p.half, p.narrow))
+is_above-reaches-requires c = let p = (let known_here : Parts c.args.product c.args.dropped = parts c.args.product c.args.dropped c.ranges.product.fits c.requires.0
+    c.requires.1 c.requires.3 in known_here) in (omega (arith, p.back, p.rest_lt, p.twice, p.narrow), omega (arith, p.half, p.narrow))
 
 pub returns-then-above-reaches : goal.returns-then-above-reaches
 returns-then-above-reaches c =
@@ -39,7 +42,8 @@ pub overflow_add-result : goal.overflow_add-result
 overflow_add-result c = record { fits = omega (arith, ((let known_here : Parts c.args.product c.args.dropped = parts c.args.product c.args.dropped c.ranges.product.fits c.requires.0 c.requires.1 c.requires.3 in known_here)).few) }
 
 pub overflow_add-result-2 : goal.overflow_add-result-2
-overflow_add-result-2 c = record { fits = omega (arith, ((let known_here : Parts c.args.product c.args.dropped = parts c.args.product c.args.dropped c.ranges.product.fits c.requires.0 c.requires.1 c.requires.3 in known_here)).few, c.is_above-above.ensures.0) }
+overflow_add-result-2 c = record { fits = omega (arith, ((let known_here : Parts c.args.product c.args.dropped = parts c.args.product c.args.dropped
+    c.ranges.product.fits c.requires.0 c.requires.1 c.requires.3 in known_here)).few, c.is_above-above.ensures.0) }
 
 -- neither or both reach above the half
 pub returns : goal.returns

@@ -12,5 +12,5 @@ returns c =
       c.angle_between-2.ensures,
       c.angle_between.ensures,
       c.center-center.ensures,
-      c.Way-of.ensures,
+      c.way_of-way.ensures,
     )

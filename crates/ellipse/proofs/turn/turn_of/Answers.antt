@@ -8,6 +8,6 @@ use Rattle.ellipse.proofs.turn.turn_of.Goals as goal
 
 pub returns : goal.returns
 returns c =
-    let sine : c.sin_cos.result.sin ≡ sine_of (phi_of c.args.x-axis-rotation) = cc in
-    let cosine : c.sin_cos.result.cos ≡ cosine_of (phi_of c.args.x-axis-rotation) = cc in
+    let sine : c.sin_cos.result.sin ≡ sine_of (phi_of c.args.x_axis_rotation) = cc in
+    let cosine : c.sin_cos.result.cos ≡ cosine_of (phi_of c.args.x_axis_rotation) = cc in
     λ i. record { sin = sine i; cos = cosine i }

@@ -10,7 +10,7 @@ returns-then-is_within c = rw (c.in-Cubic.is, sym c.is_within-in-Cubic.ensures â
 
 pub returns-in-Quad : goal.returns-in-Quad
 unfolding is_flat
-returns-in-Quad c = rw c.in-Quad.is c.is_Within.ensures
+returns-in-Quad c = rw c.in-Quad.is c.is_within.ensures
 
 pub returns-else-is_within : goal.returns-else-is_within
 unfolding is_flat

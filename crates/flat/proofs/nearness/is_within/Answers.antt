@@ -14,6 +14,6 @@ returns c =
       c.foot.ensures,
       c.dot-reach.ensures,
       c.dot-len2.ensures,
-      c.sub-along.ensures,
+      c.sub.ensures,
       c.sub-along.ensures,
     )

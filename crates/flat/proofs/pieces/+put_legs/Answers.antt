@@ -41,3 +41,12 @@ overflow_add-legs t c =
 
 pub returns : goal.returns
 returns t c = put-halved _ _ _ (sym c.is_flat.ensures ∙ c.if-is_flat.false) c.if-left-eq0.false _ c.halved-both.ensures c.put_legs-first.ensures c.put_legs-second.ensures
+
+pub shape_of-out-then-is_flat : goal.shape_of-out-then-is_flat
+shape_of-out-then-is_flat t c = piece-length c.put_piece.ensures
+
+pub shape_of-out-then-left-eq0 : goal.shape_of-out-then-left-eq0
+shape_of-out-then-left-eq0 t c = piece-length c.put_piece-then-left-eq0.ensures
+
+pub shape_of-out : goal.shape_of-out
+shape_of-out t c = put-length c.put_legs-second.ensures ∙ put-length c.put_legs-first.ensures

@@ -74,4 +74,4 @@ shape_of-out-else-legs-le1024 c = search rules
 pub returns-else-legs-le1024 : goal.returns-else-legs-le1024
 returns-else-legs-le1024 c =
     flown-put _ _ _ (sym c.check_path.ensures ∙ not-false _ (ap not c.if-not-check_path.false))
-    (sym c.is_distance.ensures ∙ not-false _ (ap not c.if-not-is_distance.false)) _ c.limit_of-limit.ensures _ c.put_path-told.ensures c.if-out-legs.false c.put_path-told.ensures
+    (sym c.is_distance.ensures ∙ not-false _ (ap not c.if-not-is_distance.false)) _ c.limit_of-limit.ensures _ c.put_path-told.ensures c.if-out-legs.false c.put_path.ensures

@@ -13,4 +13,4 @@ point_at-requires c = in-second c.args.from.now c.args.to.now _ c.requires
 
 pub returns : goal.returns
 unfolding between_at
-returns c = rw (c.lerp_point.ensures, c.point_at-start.ensures, c.point_at-start.ensures) refl
+returns c = rw (c.lerp_point.ensures, c.point_at.ensures, c.point_at-start.ensures) refl

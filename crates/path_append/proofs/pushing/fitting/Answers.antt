@@ -11,29 +11,38 @@ use Rattle.path_append.proofs.pushing.fitting.Goals as goal
 -- ---- the answers
 pub overflow_add-n : goal.overflow_add-n
 overflow_add-n c =
-    omega (arith, numbers-bound c.args.kinds.now c.args.count, width-most c.kind-own.result, c.numbers_used.ensures, c.width.ensures, c.requires.0)
+    omega (arith, numbers-bound c.args.kinds.now c.args.count, width-most c.kind-own.result, c.numbers_used.ensures, c.width.ensures, c.requires.count_lt_most_segments)
 
 pub overflow_add-m : goal.overflow_add-m
 overflow_add-m c =
-    omega (arith, tables-bound c.args.kinds.now c.args.count, tables-most c.kind-own.result, c.tables_used.ensures, c.table_width.ensures, c.requires.0)
+    omega (arith, tables-bound c.args.kinds.now c.args.count, tables-most c.kind-own.result, c.tables_used.ensures, c.table_width.ensures, c.requires.count_lt_most_segments)
 
 pub returns-then-kinds-count : goal.returns-then-kinds-count
-returns-then-kinds-count c = no_kind ((let counting_here : Counted (lent c.args.kinds c.args.numbers c.args.tables c.args.lengths c.args.commands) c.args.count c.args.segment (c.numbers_used.result + c.width.result) (c.tables_used.result + c.table_width.result) = let c.before = c.before in counted _ _ _ c.numbers_used.ensures c.width.ensures c.tables_used.ensures c.table_width.ensures c.kind-own.ensures in counting_here)) c.if-kinds-count.true
+returns-then-kinds-count c =
+    let counting : Counted (lent c.args.kinds c.args.numbers c.args.tables c.args.lengths c.args.commands) c.args.count c.args.segment (c.numbers_used.result + c.width.result) (c.tables_used.result + c.table_width.result) = counted _ _ _ c.numbers_used.ensures c.width.ensures c.tables_used.ensures c.table_width.ensures c.kind-own.ensures in
+    no_kind counting c.if-kinds-count.true
 
 pub returns-then-numbers-n : goal.returns-then-numbers-n
-returns-then-numbers-n c = no-numbers ((let counting_here : Counted (lent c.args.kinds c.args.numbers c.args.tables c.args.lengths c.args.commands) c.args.count c.args.segment (c.numbers_used.result + c.width.result) (c.tables_used.result + c.table_width.result) = let c.before = c.before in counted _ _ _ c.numbers_used.ensures c.width.ensures c.tables_used.ensures c.table_width.ensures c.kind-own.ensures in counting_here)) c.if-kinds-count.false c.if-numbers-n.true
+returns-then-numbers-n c =
+    let counting : Counted (lent c.args.kinds c.args.numbers c.args.tables c.args.lengths c.args.commands) c.args.count c.args.segment (c.numbers_used.result + c.width.result) (c.tables_used.result + c.table_width.result) = counted _ _ _ c.numbers_used.ensures c.width.ensures c.tables_used.ensures c.table_width.ensures c.kind-own.ensures in
+    no-numbers counting c.if-kinds-count.false c.if-numbers-n.true
 
 pub returns-then-tables-m : goal.returns-then-tables-m
-returns-then-tables-m c = no_table ((let counting_here : Counted (lent c.args.kinds c.args.numbers c.args.tables c.args.lengths c.args.commands) c.args.count c.args.segment (c.numbers_used.result + c.width.result) (c.tables_used.result + c.table_width.result) = let c.before = c.before in counted _ _ _ c.numbers_used.ensures c.width.ensures c.tables_used.ensures c.table_width.ensures c.kind-own.ensures in counting_here)) c.if-kinds-count.false c.if-numbers-n.false c.if-tables-m.true
+returns-then-tables-m c =
+    let counting : Counted (lent c.args.kinds c.args.numbers c.args.tables c.args.lengths c.args.commands) c.args.count c.args.segment (c.numbers_used.result + c.width.result) (c.tables_used.result + c.table_width.result) = counted _ _ _ c.numbers_used.ensures c.width.ensures c.tables_used.ensures c.table_width.ensures c.kind-own.ensures in
+    no_table counting c.if-kinds-count.false c.if-numbers-n.false c.if-tables-m.true
 
 pub returns-then-lengths-count : goal.returns-then-lengths-count
 returns-then-lengths-count c =
-    no_length ((let counting_here : Counted (lent c.args.kinds c.args.numbers c.args.tables c.args.lengths c.args.commands) c.args.count c.args.segment (c.numbers_used.result + c.width.result) (c.tables_used.result + c.table_width.result) = let c.before = c.before in counted _ _ _ c.numbers_used.ensures c.width.ensures c.tables_used.ensures c.table_width.ensures c.kind-own.ensures in counting_here)) c.if-kinds-count.false c.if-numbers-n.false c.if-tables-m.false c.if-lengths-count.true
+    let counting : Counted (lent c.args.kinds c.args.numbers c.args.tables c.args.lengths c.args.commands) c.args.count c.args.segment (c.numbers_used.result + c.width.result) (c.tables_used.result + c.table_width.result) = counted _ _ _ c.numbers_used.ensures c.width.ensures c.tables_used.ensures c.table_width.ensures c.kind-own.ensures in
+    no_length counting c.if-kinds-count.false c.if-numbers-n.false c.if-tables-m.false c.if-lengths-count.true
 
 pub returns-then-commands-count : goal.returns-then-commands-count
 returns-then-commands-count c =
-    no-command ((let counting_here : Counted (lent c.args.kinds c.args.numbers c.args.tables c.args.lengths c.args.commands) c.args.count c.args.segment (c.numbers_used.result + c.width.result) (c.tables_used.result + c.table_width.result) = let c.before = c.before in counted _ _ _ c.numbers_used.ensures c.width.ensures c.tables_used.ensures c.table_width.ensures c.kind-own.ensures in counting_here)) c.if-kinds-count.false c.if-numbers-n.false c.if-tables-m.false c.if-lengths-count.false c.if-commands-count.true
+    let counting : Counted (lent c.args.kinds c.args.numbers c.args.tables c.args.lengths c.args.commands) c.args.count c.args.segment (c.numbers_used.result + c.width.result) (c.tables_used.result + c.table_width.result) = counted _ _ _ c.numbers_used.ensures c.width.ensures c.tables_used.ensures c.table_width.ensures c.kind-own.ensures in
+    no-command counting c.if-kinds-count.false c.if-numbers-n.false c.if-tables-m.false c.if-lengths-count.false c.if-commands-count.true
 
 pub returns : goal.returns
 returns c =
-    roomy ((let counting_here : Counted (lent c.args.kinds c.args.numbers c.args.tables c.args.lengths c.args.commands) c.args.count c.args.segment (c.numbers_used.result + c.width.result) (c.tables_used.result + c.table_width.result) = let c.before = c.before in counted _ _ _ c.numbers_used.ensures c.width.ensures c.tables_used.ensures c.table_width.ensures c.kind-own.ensures in counting_here)) c.if-kinds-count.false c.if-numbers-n.false c.if-tables-m.false c.if-lengths-count.false c.if-commands-count.false
+    let counting : Counted (lent c.args.kinds c.args.numbers c.args.tables c.args.lengths c.args.commands) c.args.count c.args.segment (c.numbers_used.result + c.width.result) (c.tables_used.result + c.table_width.result) = counted _ _ _ c.numbers_used.ensures c.width.ensures c.tables_used.ensures c.table_width.ensures c.kind-own.ensures in
+    roomy counting c.if-kinds-count.false c.if-numbers-n.false c.if-tables-m.false c.if-lengths-count.false c.if-commands-count.false

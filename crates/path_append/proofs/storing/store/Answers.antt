@@ -24,8 +24,8 @@ put_segment-requires c =
 pub returns : goal.returns
 returns c =
     let kinds = ap (set c.args.kinds.now c.args.count) c.kind.ensures in
-    let fields = c.put_segment.ensures ∙ ap (λ x. sets c.args.numbers-1.now x (fields_of c.args.segment)) c.numbers_used-n.ensures in
-    let tables = c.store_table-own.ensures.tables_after ∙ ap (λ x. sets c.args.tables-1.now x (table_stored c.args.segment)) c.tables_used-m.ensures in
+    let fields = c.put_segment.ensures ∙ ap (λ x. sets c.args.numbers.now x (fields_of c.args.segment)) c.numbers_used-n.ensures in
+    let tables = c.store_table-own.ensures.tables_after ∙ ap (λ x. sets c.args.tables.now x (table_stored c.args.segment)) c.tables_used-m.ensures in
     let own = c.tidy.ensures ∙ grown-is c.args.lengths.now c.args.count c.args.segment _ _ c.length_before-before.ensures c.store_table-own.ensures.length_told in
     let lengths = ap (set c.args.lengths.now c.args.count) own in
     buffers-are kinds fields tables lengths refl

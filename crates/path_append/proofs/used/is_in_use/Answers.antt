@@ -25,11 +25,8 @@ pub returns-then-tables-m : goal.returns-then-tables-m
 returns-then-tables-m c = few-tables _ _ c.if-kinds-count.false (omega (arith, c.if-tables-m.true, c.tables_used-m.ensures))
 
 -- ---- the parts that the check is lent
-abbrev part : goal.?After-check-path-arg → goal.Else-commands-count
-part p = p.before.before.before.before.before
-
 pub slice_bounds-check_path-end : goal.slice_bounds-check_path-end
-slice_bounds-check_path-end c = sym (length-take-le _ _ (part c).before.before.before.if1.false)
+slice_bounds-check_path-end c = sym (length-take-le _ _ c.if-kinds-count.false)
 
 pub slice_bounds-check_path-end-2 : goal.slice_bounds-check_path-end-2
 slice_bounds-check_path-end-2 c = sym (length-take-le _ _ c.if-numbers-n.false)
@@ -38,11 +35,11 @@ pub slice_bounds-check_path-end-3 : goal.slice_bounds-check_path-end-3
 slice_bounds-check_path-end-3 c = sym (length-take-le _ _ c.if-tables-m.false)
 
 pub slice_bounds-check_path-end-4 : goal.slice_bounds-check_path-end-4
-slice_bounds-check_path-end-4 c = sym (length-take-le _ _ (part c.before.before.before).before.if3.false)
+slice_bounds-check_path-end-4 c = sym (length-take-le _ _ c.if-lengths-count.false)
 
 pub slice_bounds-check_path-end-5 : goal.slice_bounds-check_path-end-5
-slice_bounds-check_path-end-5 c = sym (length-take-le _ _ (part c.before.before.before.before).if4.false)
+slice_bounds-check_path-end-5 c = sym (length-take-le _ _ c.if-commands-count.false)
 
 pub returns : goal.returns
 returns c =
-    checked _ _ _ _ _ c.numbers_used-n.ensures c.tables_used-m.ensures (part c.before.before.before.before.before).before.before.before.if1.false c.check_path.ensures
+    checked _ _ _ _ _ c.numbers_used-n.ensures c.tables_used-m.ensures c.if-kinds-count.false c.check_path.ensures

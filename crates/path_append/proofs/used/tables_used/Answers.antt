@@ -11,13 +11,13 @@ use borrow.Author.Rules.{rules}
 use Rattle.path_append.proofs.used.tables_used.Goals as goal
 
 pub slice_bounds-tables_before-end : goal.slice_bounds-tables_before-end
-slice_bounds-tables_before-end c = sym (length-take-le _ _ c.requires.0)
+slice_bounds-tables_before-end c = sym (length-take-le _ _ c.requires.count_in_bounds)
 
 pub tables_before-requires : goal.tables_before-requires
-tables_before-requires c = let e = length-take-le c.args.count c.args.kinds.now c.requires.0 in (omega arith, omega arith)
+tables_before-requires c = let e = length-take-le c.args.count c.args.kinds.now c.requires.count_in_bounds in record { kinds_len_bound = omega arith; i_in_bounds = omega arith }
 
 pub overflow_mul-result : goal.overflow_mul-result
-overflow_mul-result c = omega (arith, tables-at-most (take c.args.count c.args.kinds.now) c.args.count, c.tables_before.ensures, c.requires.1)
+overflow_mul-result c = omega (arith, tables-at-most (take c.args.count c.args.kinds.now) c.args.count, c.tables_before.ensures, c.requires.count_le_most_segments)
 
 pub returns : goal.returns
 returns c = ap (λ n. 33 * n) (c.tables_before.ensures ∙ before-take tables_of c.args.kinds.now c.args.count)

@@ -17,13 +17,15 @@ loop-i-init c = (omega arith, omega arith, zero-add _)
 
 pub overflow_add-count : goal.overflow_add-count
 overflow_add-count c =
-    omega (arith, c.loop-i.invariant.0, c.loop-i.invariant.1, c.requires, c.one_if-count.ensures, (let most_here : one_if (eqb (get_or c.args.letters.now c.loop-i.i 0) c.args.letter) ≤ 1 = let c.args = c.args in one-most (eqb (get_or c.args.letters.now c.loop-i.i 0) c.args.letter) in most_here))
+    let most : one_if (eqb (get_or c.args.letters.now c.loop-i.i 0) c.args.letter) ≤ 1 = one-most (eqb (get_or c.args.letters.now c.loop-i.i 0) c.args.letter) in
+    omega (arith, c.loop-i.invariant.0, c.loop-i.invariant.1, c.requires, c.one_if-count.ensures, most)
 
 pub loop-i-preserved : goal.loop-i-preserved
 loop-i-preserved c =
+    let most : one_if (eqb (get_or c.args.letters.now c.loop-i.i 0) c.args.letter) ≤ 1 = one-most (eqb (get_or c.args.letters.now c.loop-i.i 0) c.args.letter) in
     (
       omega (arith, c.loop-i-test.true),
-      omega (arith, c.loop-i.invariant.1, c.one_if-count.ensures, (let most_here : one_if (eqb (get_or c.args.letters.now c.loop-i.i 0) c.args.letter) ≤ 1 = let c.args = c.args in one-most (eqb (get_or c.args.letters.now c.loop-i.i 0) c.args.letter) in most_here)),
+      omega (arith, c.loop-i.invariant.1, c.one_if-count.ensures, most),
       omega (arith, c.loop-i.invariant.2, c.one_if-count.ensures, count_next c.args.letters.now c.args.letter c.loop-i.i c.loop-i-test.true),
     )
 

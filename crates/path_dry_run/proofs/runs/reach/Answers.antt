@@ -12,15 +12,15 @@ use Rattle.path_dry_run.proofs.Toward.{toward-inside}
 use Rattle.path_dry_run.proofs.runs.reach.Goals as goal
 
 pub spot_toward-spot-requires : goal.spot_toward-spot-requires
-spot_toward-spot-requires c = (some-path c.requires.0.path, c.requires.1)
+spot_toward-spot-requires c = record { sound_path = some-path c.requires.reachable.path; t = c.requires.t }
 
 pub moved-at-requires : goal.moved-at-requires
-moved-at-requires c = moving c.requires.0.path c.requires.0.is c.requires.0.inside ((let among_here : c.spot_toward-spot.result.segment < length c.args.kinds.now = let same = ap (λ (spot : Spot). spot.segment) c.spot_toward-spot.ensures in
-    omega (arith, same, toward-inside c.args.lengths.now (some-path c.requires.0.path) c.args.target c.requires.1) in among_here))
+moved-at-requires c = moving c.requires.reachable.path c.requires.reachable.is c.requires.reachable.inside ((let among_here : c.spot_toward-spot.result.segment < length c.args.kinds.now = let same = ap (λ (spot : Spot). spot.segment) c.spot_toward-spot.ensures in
+    omega (arith, same, toward-inside c.args.lengths.now (some-path c.requires.reachable.path) c.args.target c.requires.t) in among_here))
 
 pub raw_within-raw-requires : goal.raw_within-raw-requires
-raw_within-raw-requires c = standing c.requires.0.path c.moved-at.ensures ((let among_here : c.spot_toward-spot.result.segment < length c.args.kinds.now = let same = ap (λ (spot : Spot). spot.segment) c.spot_toward-spot.ensures in
-    omega (arith, same, toward-inside c.args.lengths.now (some-path c.requires.0.path) c.args.target c.requires.1) in among_here))
+raw_within-raw-requires c = standing c.requires.reachable.path c.moved-at.ensures ((let among_here : c.spot_toward-spot.result.segment < length c.args.kinds.now = let same = ap (λ (spot : Spot). spot.segment) c.spot_toward-spot.ensures in
+    omega (arith, same, toward-inside c.args.lengths.now (some-path c.requires.reachable.path) c.args.target c.requires.t) in among_here))
 
 pub returns : goal.returns
 returns c =
@@ -31,5 +31,5 @@ returns c =
           ∙ ap (λ (i : ℕ). raw_within c.args.kinds.now c.args.tables.now i c.spot_toward-spot.result.progress.value) (cursor-own c.args.kinds.now c.spot_toward-spot.result.segment c.moved-at.ensures).0
           ∙ ap (λ (spot : Spot). raw_within c.args.kinds.now c.args.tables.now spot.segment spot.progress.value) c.spot_toward-spot.ensures;
       inside = subst (λ (spot : Spot). spot.segment < length c.args.kinds.now) c.spot_toward-spot.ensures ((let among_here : c.spot_toward-spot.result.segment < length c.args.kinds.now = let same = ap (λ (spot : Spot). spot.segment) c.spot_toward-spot.ensures in
-    omega (arith, same, toward-inside c.args.lengths.now (some-path c.requires.0.path) c.args.target c.requires.1) in among_here));
+    omega (arith, same, toward-inside c.args.lengths.now (some-path c.requires.reachable.path) c.args.target c.requires.t) in among_here));
     }

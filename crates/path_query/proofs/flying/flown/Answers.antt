@@ -12,12 +12,14 @@ use Rattle.path_query.proofs.flying.flown.Goals as goal
 
 pub cursor_at-at-requires : goal.cursor_at-at-requires
 cursor_at-at-requires c =
-    let among = (let inside_here : {spot : Spot} → spot ≡ spot_of c.args.lengths.now c.args.progress.value → spot.segment < length c.args.kinds.now = λ {spot} e. rw e (spot-among (some-place c.requires) c.args.progress.value) in inside_here) c.spot-found.ensures in
-    (omega arith, omega arith)
+    let inside : {spot : Spot} → spot ≡ spot_of c.args.lengths.now c.args.progress.value → spot.segment < length c.args.kinds.now = λ {spot} e. rw e (spot-among (some-place c.requires) c.args.progress.value) in
+    let among = inside c.spot-found.ensures in
+    record { kinds_len_bound = omega arith; segment_in_bounds = omega arith }
 
 pub flown_within-requires : goal.flown_within-requires
 flown_within-requires c =
-    seated c.requires c.cursor_at-at.ensures ((let inside_here : {spot : Spot} → spot ≡ spot_of c.args.lengths.now c.args.progress.value → spot.segment < length c.args.kinds.now = λ {spot} e. rw e (spot-among (some-place c.requires) c.args.progress.value) in inside_here) c.spot-found.ensures)
+    let inside : {spot : Spot} → spot ≡ spot_of c.args.lengths.now c.args.progress.value → spot.segment < length c.args.kinds.now = λ {spot} e. rw e (spot-among (some-place c.requires) c.args.progress.value) in
+    seated c.requires c.cursor_at-at.ensures (inside c.spot-found.ensures)
 
 pub returns : goal.returns
 returns c =

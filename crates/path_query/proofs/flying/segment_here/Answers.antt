@@ -11,10 +11,10 @@ use Rattle.path_query.proofs.flying.segment_here.Goals as goal
 
 pub segment_at-requires : goal.segment_at-requires
 segment_at-requires c =
-    (
-      c.requires.fielded.known c.args.at.segment c.requires.standing.inside,
-      subst (λ (n : ℕ). n + width_of (get_or c.args.kinds.now c.args.at.segment 0) ≤ length c.args.fields.now) (sym (cursor-fields _ _ c.requires.standing.is)) (segment-fields c.requires.fielded c.args.at.segment c.requires.standing.inside),
-    )
+    record {
+      kind_bound = c.requires.fielded.known c.args.at.segment c.requires.standing.inside;
+      kind_in_bounds = subst (λ (n : ℕ). n + width_of (get_or c.args.kinds.now c.args.at.segment 0) ≤ length c.args.fields.now) (sym (cursor-fields _ _ c.requires.standing.is)) (segment-fields c.requires.fielded c.args.at.segment c.requires.standing.inside);
+    }
 
 pub returns : goal.returns
 unfolding segment_in

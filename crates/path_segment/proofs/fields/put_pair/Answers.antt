@@ -5,4 +5,4 @@ use Rattle.path_segment.proofs.fields.put_pair.Goals as goal
 
 pub returns : goal.returns
 returns c =
-    four-put c.args.fields.now c.args.at c.args.p.x c.args.p.y c.args.q.x c.args.q.y c.put_two.new.0 _ c.put_two.ensures c.put_two-2.ensures
+    four-put c.args.fields.now c.args.at c.args.p.x c.args.p.y c.args.q.x c.args.q.y c.put_two.new.numbers _ c.put_two.ensures c.put_two-2.ensures

@@ -12,12 +12,12 @@ use Rattle.path_segment.proofs.fields.put_shape.Goals as goal
 
 -- ---- the answers
 pub shape_of-fields : goal.shape_of-fields
-shape_of-fields c = simp length-set (c.put_two.auto.0 ∙ c.put_cubic.auto.0)
+shape_of-fields c = simp length-set (c.put_two.auto.numbers ∙ c.put_cubic.auto.fields)
 
 pub returns : goal.returns
 returns c =
     let points = xy c.args.shape.start (xy c.args.shape.end (xy c.args.shape.center (xy c.args.shape.radii []))) in
     let angles = c.args.shape.x_axis_rotation ∷ c.args.shape.start_angle ∷ [] in
-    let put = then-put c.args.fields-1.now c.args.at points angles c.put_cubic.ensures refl c.put_two.ensures in
-    then-put c.args.fields-1.now c.args.at (points ++ angles) (c.tidy.result ∷ []) {j = c.args.at + 10} put refl refl
-    ∙ ap (λ z. sets c.args.fields-1.now c.args.at (points ++ angles ++ z ∷ [])) c.tidy.ensures
+    let put = then-put c.args.fields.now c.args.at points angles c.put_cubic.ensures refl c.put_two.ensures in
+    then-put c.args.fields.now c.args.at (points ++ angles) (c.tidy.result ∷ []) {j = c.args.at + 10} put refl refl
+    ∙ ap (λ z. sets c.args.fields.now c.args.at (points ++ angles ++ z ∷ [])) c.tidy.ensures

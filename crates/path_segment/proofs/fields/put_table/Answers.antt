@@ -10,17 +10,23 @@ use Rattle.path_segment.proofs.fields.put_table.Goals as goal
 
 -- ---- the answers
 pub bounds-tables-at : goal.bounds-tables-at
-bounds-tables-at c = omega (arith, (let kept_here : length c.loop-k.tables ≡ length c.args.tables.now = ap length c.loop-k.invariant.2 ∙ length-sets c.args.tables.now c.args.at (take c.loop-k.k c.args.table.entries) in kept_here))
+bounds-tables-at c =
+    let kept : length c.loop-k.tables ≡ length c.args.tables.now = ap length c.loop-k.invariant.2 ∙ length-sets c.args.tables.now c.args.at (take c.loop-k.k c.args.table.entries) in
+    omega (arith, kept)
 
 pub loop-k-preserved : goal.loop-k-preserved
 loop-k-preserved c =
     (omega arith, c.loop-k.invariant.1, put_next c.args.table.entries c.args.tables.now c.args.at c.loop-k.k c.loop-k.tables _ (omega arith) c.loop-k.invariant.2 c.tidy.ensures)
 
 pub bounds-tables-at-2 : goal.bounds-tables-at-2
-bounds-tables-at-2 c = omega (arith, (let kept_here : length c.loop-k.tables ≡ length c.args.tables.now = ap length c.loop-k.invariant.2 ∙ length-sets c.args.tables.now c.args.at (take c.loop-k.k c.args.table.entries) in kept_here))
+bounds-tables-at-2 c =
+    let kept : length c.loop-k.tables ≡ length c.args.tables.now = ap length c.loop-k.invariant.2 ∙ length-sets c.args.tables.now c.args.at (take c.loop-k.k c.args.table.entries) in
+    omega (arith, kept)
 
 pub shape_of-tables : goal.shape_of-tables
-shape_of-tables c = simp length-set ((let kept_here : length c.loop-k.tables ≡ length c.args.tables.now = ap length c.loop-k.invariant.2 ∙ length-sets c.args.tables.now c.args.at (take c.loop-k.k c.args.table.entries) in kept_here))
+shape_of-tables c =
+    let kept : length c.loop-k.tables ≡ length c.args.tables.now = ap length c.loop-k.invariant.2 ∙ length-sets c.args.tables.now c.args.at (take c.loop-k.k c.args.table.entries) in
+    simp length-set kept
 
 pub returns : goal.returns
 returns c =

@@ -8,47 +8,47 @@ use Rattle.path_segment.proofs.fields.segment_at.Goals as goal
 
 pub point_at-start-requires : goal.point_at-start-requires
 unfolding width_of
-point_at-start-requires c = omega (arith, room _ 0 _ _ c.in-0.is c.requires.1)
+point_at-start-requires c = omega (arith, room _ 0 _ _ c.in-0.is c.requires.kind_in_bounds)
 
 pub point_at-end-requires : goal.point_at-end-requires
 unfolding width_of
-point_at-end-requires c = omega (arith, room _ 0 _ _ c.in-0.is c.requires.1)
+point_at-end-requires c = omega (arith, room _ 0 _ _ c.in-0.is c.requires.kind_in_bounds)
 
 pub point_at-requires : goal.point_at-requires
 unfolding width_of
-point_at-requires c = omega (arith, room _ 1 _ _ c.in-1.is c.requires.1)
+point_at-requires c = omega (arith, room _ 1 _ _ c.in-1.is c.requires.kind_in_bounds)
 
 pub point_at-requires-in-1 : goal.point_at-requires-in-1
 unfolding width_of
-point_at-requires-in-1 c = omega (arith, room _ 1 _ _ c.in-1.is c.requires.1)
+point_at-requires-in-1 c = omega (arith, room _ 1 _ _ c.in-1.is c.requires.kind_in_bounds)
 
 pub point_at-requires-in-1-2 : goal.point_at-requires-in-1-2
 unfolding width_of
-point_at-requires-in-1-2 c = omega (arith, room _ 1 _ _ c.in-1.is c.requires.1)
+point_at-requires-in-1-2 c = omega (arith, room _ 1 _ _ c.in-1.is c.requires.kind_in_bounds)
 
 pub point_at-requires-in-2 : goal.point_at-requires-in-2
 unfolding width_of
-point_at-requires-in-2 c = omega (arith, room _ 2 _ _ c.in-2.is c.requires.1)
+point_at-requires-in-2 c = omega (arith, room _ 2 _ _ c.in-2.is c.requires.kind_in_bounds)
 
 pub point_at-requires-in-2-2 : goal.point_at-requires-in-2-2
 unfolding width_of
-point_at-requires-in-2-2 c = omega (arith, room _ 2 _ _ c.in-2.is c.requires.1)
+point_at-requires-in-2-2 c = omega (arith, room _ 2 _ _ c.in-2.is c.requires.kind_in_bounds)
 
 pub point_at-requires-in-2-3 : goal.point_at-requires-in-2-3
 unfolding width_of
-point_at-requires-in-2-3 c = omega (arith, room _ 2 _ _ c.in-2.is c.requires.1)
+point_at-requires-in-2-3 c = omega (arith, room _ 2 _ _ c.in-2.is c.requires.kind_in_bounds)
 
 pub point_at-requires-in-2-4 : goal.point_at-requires-in-2-4
 unfolding width_of
-point_at-requires-in-2-4 c = omega (arith, room _ 2 _ _ c.in-2.is c.requires.1)
+point_at-requires-in-2-4 c = omega (arith, room _ 2 _ _ c.in-2.is c.requires.kind_in_bounds)
 
 pub shape_at-requires : goal.shape_at-requires
 unfolding width_of
-shape_at-requires c = omega (arith, room _ 3 _ _ c.in-3.is c.requires.1)
+shape_at-requires c = omega (arith, room _ 3 _ _ c.in-3.is c.requires.kind_in_bounds)
 
 pub shape_at-requires-in_default : goal.shape_at-requires-in_default
 unfolding width_of
-shape_at-requires-in_default c = omega (arith, room _ 4 _ _ (fifth _ c.in_default.in_default-own.rest.0.0.0.1 c.in_default.in_default-own.rest.0.0.1 c.in_default.in_default-own.rest.0.1 c.in_default.in_default-own.rest.1 c.requires.0) c.requires.1)
+shape_at-requires-in_default c = omega (arith, room _ 4 _ _ (fifth _ c.in_default.in_default-own.rest.0.0.0.1 c.in_default.in_default-own.rest.0.0.1 c.in_default.in_default-own.rest.0.1 c.in_default.in_default-own.rest.1 c.requires.kind_bound) c.requires.kind_in_bounds)
 
 pub returns-in-0 : goal.returns-in-0
 returns-in-0 c =
@@ -56,7 +56,7 @@ returns-in-0 c =
 
 pub returns-in-1 : goal.returns-in-1
 returns-in-1 c =
-    quad_at c.args.fields.now c.args.at c.point_at-start.ensures c.point_at-in-1.ensures c.point_at-in-1-2.ensures c.in-1.is
+    quad_at c.args.fields.now c.args.at c.point_at.ensures c.point_at-in-1.ensures c.point_at-in-1-2.ensures c.in-1.is
 
 pub returns-in-2 : goal.returns-in-2
 returns-in-2 c =
@@ -68,4 +68,4 @@ returns-in-3 c = arc-at _ c.shape_at.ensures c.in-3.is
 
 pub returns-in_default : goal.returns-in_default
 returns-in_default c =
-    fallback-at _ c.shape_at-in_default.ensures (fifth _ c.in_default.in_default-own.rest.0.0.0.1 c.in_default.in_default-own.rest.0.0.1 c.in_default.in_default-own.rest.0.1 c.in_default.in_default-own.rest.1 c.requires.0)
+    fallback-at _ c.shape_at-in_default.ensures (fifth _ c.in_default.in_default-own.rest.0.0.0.1 c.in_default.in_default-own.rest.0.0.1 c.in_default.in_default-own.rest.0.1 c.in_default.in_default-own.rest.1 c.requires.kind_bound)

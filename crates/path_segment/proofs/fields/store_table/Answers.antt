@@ -19,10 +19,10 @@ returns-then-has_table c =
       length_told = c.tidy.ensures ∙ ap (λ t. t.total) c.segment_table-table.ensures ∙ total-is c.args.segment curve;
       tables_after =
           c.put_table.ensures
-          ∙ ap (λ t. sets c.args.tables-1.now c.args.at (table_numbers t)) c.segment_table-table.ensures
-          ∙ ap (sets c.args.tables-1.now c.args.at) (sym (stored_some c.args.segment curve));
+          ∙ ap (λ t. sets c.args.tables.now c.args.at (table_numbers t)) c.segment_table-table.ensures
+          ∙ ap (sets c.args.tables.now c.args.at) (sym (stored_some c.args.segment curve));
     }
 
 pub returns : goal.returns
 returns c =
-    record { length_told = c.segment_length.ensures; tables_after = ap (sets c.args.tables-1.now c.args.at) (sym (table_none c.args.segment ((ap has_table (sym c.kind.ensures) ∙ sym c.has_table.ensures) ∙ c.if-has_table.false))) }
+    record { length_told = c.segment_length.ensures; tables_after = ap (sets c.args.tables.now c.args.at) (sym (table_none c.args.segment ((ap has_table (sym c.kind.ensures) ∙ sym c.has_table.ensures) ∙ c.if-has_table.false))) }

@@ -15,11 +15,14 @@ unfolding tables_are_sound
 loop-j-init c = (omega arith, refl)
 
 pub loop-j-preserved : goal.loop-j-preserved
-loop-j-preserved c = (omega arith, sound-next _ c.loop-j.j c.loop-j.invariant.1 ((let judged_here : sound_at c.args.tables.now c.loop-j.j ≡ c.row_is_sound.result = sym (row-part c.args.tables.now c.loop-j.j (search rules)) ∙ sym c.row_is_sound.ensures in judged_here) ∙ c.if-row_is_sound.true))
+loop-j-preserved c =
+    let judged : sound_at c.args.tables.now c.loop-j.j ≡ c.row_is_sound.result = sym (row-part c.args.tables.now c.loop-j.j (search rules)) ∙ sym c.row_is_sound.ensures in
+    (omega arith, sound-next _ c.loop-j.j c.loop-j.invariant.1 (judged ∙ c.if-row_is_sound.true))
 
 pub returns-else-row_is_sound : goal.returns-else-row_is_sound
 returns-else-row_is_sound c =
-    sound-stop _ c.loop-j.j c.args.n c.loop-j-test.true c.loop-j.invariant.1 ((let judged_here : sound_at c.args.tables.now c.loop-j.j ≡ c.row_is_sound.result = sym (row-part c.args.tables.now c.loop-j.j (search rules)) ∙ sym c.row_is_sound.ensures in judged_here) ∙ c.if-row_is_sound.false)
+    let judged : sound_at c.args.tables.now c.loop-j.j ≡ c.row_is_sound.result = sym (row-part c.args.tables.now c.loop-j.j (search rules)) ∙ sym c.row_is_sound.ensures in
+    sound-stop _ c.loop-j.j c.args.n c.loop-j-test.true c.loop-j.invariant.1 (judged ∙ c.if-row_is_sound.false)
 
 pub returns : goal.returns
 returns c = let e : c.loop-j.j ≡ c.args.n = omega arith in sym (rw e at c.loop-j.invariant.1)

@@ -17,11 +17,14 @@ tables_of_few-sum-requires c =
 
 pub overflow_add-sum : goal.overflow_add-sum
 overflow_add-sum c =
+    let more : Adds tables_of c.args.kinds.now c.args.from c.short_end-end.result (c.loop-at.sum + c.tables_of_few-sum.result) = omega (arith, c.loop-at.invariant.2, c.tables_of_few-sum.ensures) in
     let few : c.short_end-end.result ≤ 65536 = omega (arith, c.short_end-end.ensures.within, c.requires.inside, c.requires.few) in
-    omega (arith, adds-most tables_of tables-under _ _ _ _ few ((let more_here : Adds tables_of c.args.kinds.now c.args.from c.short_end-end.result (c.loop-at.sum + c.tables_of_few-sum.result) = omega (arith, c.loop-at.invariant.2, c.tables_of_few-sum.ensures) in more_here)))
+    omega (arith, adds-most tables_of tables-under _ _ _ _ few (more))
 
 pub loop-at-preserved : goal.loop-at-preserved
-loop-at-preserved c = (omega arith, c.short_end-end.ensures.within, (let more_here : Adds tables_of c.args.kinds.now c.args.from c.short_end-end.result (c.loop-at.sum + c.tables_of_few-sum.result) = omega (arith, c.loop-at.invariant.2, c.tables_of_few-sum.ensures) in more_here))
+loop-at-preserved c =
+    let more : Adds tables_of c.args.kinds.now c.args.from c.short_end-end.result (c.loop-at.sum + c.tables_of_few-sum.result) = omega (arith, c.loop-at.invariant.2, c.tables_of_few-sum.ensures) in
+    (omega arith, c.short_end-end.ensures.within, more)
 
 pub returns : goal.returns
 returns c =

@@ -12,14 +12,14 @@ pub loop-j-init : goal.loop-j-init
 loop-j-init c = (omega arith, c.requires.span.order, tabling-start c.args.kinds.now c.args.from)
 
 pub overflow_add-sum : goal.overflow_add-sum
-overflow_add-sum c = omega (arith, ((let more_here : Tabling c.args.kinds.now c.args.from (c.loop-j.j + 1) (c.loop-j.sum + c.one_table-sum.result) = let c.loop-j = c.loop-j in
-    let c.before.before.before.before.before = c.before.before.before.before.before in
-    tabling-more c.one_table-sum.result c.loop-j.invariant.2 c.loop-j.invariant.0 (omega (arith, c.requires.span.inside)) c.one_table-sum.ensures in more_here)).few, c.requires.short)
+overflow_add-sum c =
+    let more : Tabling c.args.kinds.now c.args.from (c.loop-j.j + 1) (c.loop-j.sum + c.one_table-sum.result) = tabling-more c.one_table-sum.result c.loop-j.invariant.2 c.loop-j.invariant.0 (omega (arith, c.requires.span.inside)) c.one_table-sum.ensures in
+    omega (arith, more.few, c.requires.short)
 
 pub loop-j-preserved : goal.loop-j-preserved
-loop-j-preserved c = (omega arith, omega arith, (let more_here : Tabling c.args.kinds.now c.args.from (c.loop-j.j + 1) (c.loop-j.sum + c.one_table-sum.result) = let c.loop-j = c.loop-j in
-    let c.before.before.before.before.before = c.before.before.before.before.before in
-    tabling-more c.one_table-sum.result c.loop-j.invariant.2 c.loop-j.invariant.0 (omega (arith, c.requires.span.inside)) c.one_table-sum.ensures in more_here))
+loop-j-preserved c =
+    let more : Tabling c.args.kinds.now c.args.from (c.loop-j.j + 1) (c.loop-j.sum + c.one_table-sum.result) = tabling-more c.one_table-sum.result c.loop-j.invariant.2 c.loop-j.invariant.0 (omega (arith, c.requires.span.inside)) c.one_table-sum.ensures in
+    (omega arith, omega arith, more)
 
 pub returns : goal.returns
 returns c =

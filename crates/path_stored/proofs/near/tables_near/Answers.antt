@@ -8,21 +8,25 @@ use Rattle.path_stored.proofs.near.tables_near.Goals as goal
 
 pub tables_of_last-high-requires : goal.tables_of_last-high-requires
 tables_of_last-high-requires c =
-    record { word = record { enough = omega arith; inside = c.requires.inside }; short = ((let parts_here : Halves (c.args.to - c.args.from) c.at_most_eight-last.result = halves _ _ c.at_most_eight-last.ensures (omega arith) in parts_here)).short; known = c.requires.known }
+    let parts : Halves (c.args.to - c.args.from) c.at_most_eight-last.result = halves _ _ c.at_most_eight-last.ensures (omega arith) in
+    record { word = record { enough = omega arith; inside = c.requires.inside }; short = parts.short; known = c.requires.known }
 
 pub overflow_sub-few-2 : goal.overflow_sub-few-2
-overflow_sub-few-2 c = let h = (let parts_here : Halves (c.args.to - c.args.from) c.at_most_eight-last.result = halves _ _ c.at_most_eight-last.ensures (omega arith) in parts_here) in omega arith
+overflow_sub-few-2 c =
+    let parts : Halves (c.args.to - c.args.from) c.at_most_eight-last.result = halves _ _ c.at_most_eight-last.ensures (omega arith) in
+    omega arith
 
 pub tables_of_last-low-requires : goal.tables_of_last-low-requires
 tables_of_last-low-requires c =
-    record { word = record { enough = omega arith; inside = omega arith }; short = ((let parts_here : Halves (c.args.to - c.args.from) c.at_most_eight-last.result = halves _ _ c.at_most_eight-last.ensures (omega arith) in parts_here)).rest; known = c.requires.known }
+    let parts : Halves (c.args.to - c.args.from) c.at_most_eight-last.result = halves _ _ c.at_most_eight-last.ensures (omega arith) in
+    record { word = record { enough = omega arith; inside = omega arith }; short = parts.rest; known = c.requires.known }
 
 -- no number of eight lanes is large
 pub overflow_add-result : goal.overflow_add-result
 overflow_add-result c =
-    let h = (let parts_here : Halves (c.args.to - c.args.from) c.at_most_eight-last.result = halves _ _ c.at_most_eight-last.ensures (omega arith) in parts_here) in
-    let high = lanes-most tables_of tables-few c.args.kinds.now c.requires.known _ _ _ h.short (omega arith) c.tables_of_last-high.ensures in
-    let low = lanes-most tables_of tables-few c.args.kinds.now c.requires.known _ _ _ h.rest (omega arith) c.tables_of_last-low.ensures in
+    let parts : Halves (c.args.to - c.args.from) c.at_most_eight-last.result = halves _ _ c.at_most_eight-last.ensures (omega arith) in
+    let high = lanes-most tables_of tables-few c.args.kinds.now c.requires.known _ _ _ parts.short (omega arith) c.tables_of_last-high.ensures in
+    let low = lanes-most tables_of tables-few c.args.kinds.now c.requires.known _ _ _ parts.rest (omega arith) c.tables_of_last-low.ensures in
     record { fits = omega arith }
 
 pub returns : goal.returns

@@ -7,10 +7,14 @@ use Rattle.path_stored.proofs.Lanes.{lanes-most, table-lanes}
 use Rattle.path_stored.proofs.near.tables_of_last.Goals as goal
 
 pub overflow_mul-result : goal.overflow_mul-result
-overflow_mul-result c = record { fits = omega (arith, (let most_here : c.last_few.result ≤ 506381209866536711 = lanes-most itself (λ kind known. omega arith) c.args.kinds.now c.requires.known _ _ _ c.requires.short (omega arith) c.last_few.ensures in most_here)) }
+overflow_mul-result c =
+    let most : c.last_few.result ≤ 506381209866536711 = lanes-most itself (λ kind known. omega arith) c.args.kinds.now c.requires.known _ _ _ c.requires.short (omega arith) c.last_few.ensures in
+    record { fits = omega (arith, most) }
 
 pub overflow_add-result : goal.overflow_add-result
-overflow_add-result c = record { fits = omega (arith, (let most_here : c.last_few.result ≤ 506381209866536711 = lanes-most itself (λ kind known. omega arith) c.args.kinds.now c.requires.known _ _ _ c.requires.short (omega arith) c.last_few.ensures in most_here)) }
+overflow_add-result c =
+    let most : c.last_few.result ≤ 506381209866536711 = lanes-most itself (λ kind known. omega arith) c.args.kinds.now c.requires.known _ _ _ c.requires.short (omega arith) c.last_few.ensures in
+    record { fits = omega (arith, most) }
 
 pub returns : goal.returns
 returns c =

@@ -10,7 +10,10 @@ use Rattle.path_stored.proofs.parts.segment.Goals as goal
 
 pub segment_at-requires : goal.segment_at-requires
 segment_at-requires c =
-    (c.requires.0.known c.args.i c.requires.1, omega (arith, segment-fields c.requires.0 c.args.i c.requires.1, c.fields_before-at.ensures))
+    record {
+      kind_bound = c.requires.fielded.known c.args.i c.requires.i_in_bounds;
+      kind_in_bounds = omega (arith, segment-fields c.requires.fielded c.args.i c.requires.i_in_bounds, c.fields_before-at.ensures);
+    }
 
 pub returns : goal.returns
 unfolding segment_in

@@ -12,10 +12,10 @@ use borrow.Author.Rules.{rules}
 use Rattle.path_stored.proofs.parts.segment_table.Goals as goal
 
 pub overflow_mul-n : goal.overflow_mul-n
-overflow_mul-n c = omega (arith, tables-at-most c.args.kinds.now c.args.i, c.tables_before-n.ensures, c.requires.0.few, c.requires.1)
+overflow_mul-n c = omega (arith, tables-at-most c.args.kinds.now c.args.i, c.tables_before-n.ensures, c.requires.tabled.few, c.requires.i_in_bounds)
 
 pub table_at-requires : goal.table_at-requires
-table_at-requires c = omega (arith, segment-table c.requires.0 c.args.i c.requires.1 ((sym c.has_table.ensures ∙ c.if-has_table.true)), c.tables_before-n.ensures)
+table_at-requires c = omega (arith, segment-table c.requires.tabled c.args.i c.requires.i_in_bounds ((sym c.has_table.ensures ∙ c.if-has_table.true)), c.tables_before-n.ensures)
 
 pub returns-then-has_table : goal.returns-then-has_table
 unfolding table_in

@@ -9,11 +9,11 @@ use Rattle.path_stored.proofs.queries.segment.Goals as goal
 
 pub segment-requires : goal.segment-requires
 segment-requires c =
-    (stored-fielded _ (passed (sym c.check_path.ensures ∙ c.if-check_path.true)), c.if-i-kinds.true)
+    record { fielded = stored-fielded _ (passed (sym c.check_path.ensures ∙ c.if-check_path.true)); i_in_bounds = c.if-i-kinds.true }
 
 pub segment_table-table-requires : goal.segment_table-table-requires
 segment_table-table-requires c =
-    (stored-tabled _ (passed (sym c.check_path.ensures ∙ c.if-check_path.true)), c.if-i-kinds.true)
+    record { tabled = stored-tabled _ (passed (sym c.check_path.ensures ∙ c.if-check_path.true)); i_in_bounds = c.if-i-kinds.true }
 
 pub returns-then-i-kinds : goal.returns-then-i-kinds
 unfolding part_of

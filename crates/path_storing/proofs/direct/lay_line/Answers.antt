@@ -28,5 +28,5 @@ bounds-commands-index c = command-fits c.requires.1
 pub returns : goal.returns
 unfolding line_length_of
 returns c =
-    let put = four-put c.args.fields-1.now c.args.site.fields c.args.site.pen.current.x c.args.site.pen.current.y c.args.end.x c.args.end.y c.put_point.last.0 _ c.put_point.ensures c.put_point-2.ensures in
+    let put = four-put c.args.fields.now c.args.site.fields c.args.site.pen.current.x c.args.site.pen.current.y c.args.end.x c.args.end.y c.put_point.last.0 _ c.put_point.ensures c.put_point-2.ensures in
     line-laid put (ap (add binary32 _) c.distance.ensures) c.drawn.ensures

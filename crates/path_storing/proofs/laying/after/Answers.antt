@@ -14,10 +14,17 @@ pub overflow_add-result : goal.overflow_add-result
 overflow_add-result c = omega (arith, c.requires.0.segments)
 
 pub overflow_add-result-2 : goal.overflow_add-result-2
-overflow_add-result-2 c = omega (arith, c.requires.0.segments, c.requires.0.fields, (let own_here : c.width-own.result ≡ length (fields_of c.args.segment) = fields-counted c.args.segment c.width-own.ensures c.kind-byte.ensures in own_here), fields-most c.args.segment)
+overflow_add-result-2 c =
+    let own : c.width-own.result ≡ length (fields_of c.args.segment) = fields-counted c.args.segment c.width-own.ensures c.kind-byte.ensures in
+    omega (arith, c.requires.0.segments, c.requires.0.fields, own, fields-most c.args.segment)
 
 pub overflow_add-result-3 : goal.overflow_add-result-3
-overflow_add-result-3 c = omega (arith, c.requires.0.segments, c.requires.0.tables, (let more_here : c.table_width-more.result ≡ length (table_stored c.args.segment) = table_counted c.args.segment c.table_width-more.ensures c.kind-byte.ensures in more_here), table-most c.args.segment)
+overflow_add-result-3 c =
+    let more : c.table_width-more.result ≡ length (table_stored c.args.segment) = table_counted c.args.segment c.table_width-more.ensures c.kind-byte.ensures in
+    omega (arith, c.requires.0.segments, c.requires.0.tables, more, table-most c.args.segment)
 
 pub returns : goal.returns
-returns c = after_is c.args.site c.args.segment ((let own_here : c.width-own.result ≡ length (fields_of c.args.segment) = fields-counted c.args.segment c.width-own.ensures c.kind-byte.ensures in own_here)) ((let more_here : c.table_width-more.result ≡ length (table_stored c.args.segment) = table_counted c.args.segment c.table_width-more.ensures c.kind-byte.ensures in more_here)) c.requires.1 refl
+returns c =
+    let more : c.table_width-more.result ≡ length (table_stored c.args.segment) = table_counted c.args.segment c.table_width-more.ensures c.kind-byte.ensures in
+    let own : c.width-own.result ≡ length (fields_of c.args.segment) = fields-counted c.args.segment c.width-own.ensures c.kind-byte.ensures in
+    after_is c.args.site c.args.segment own more c.requires.1 refl

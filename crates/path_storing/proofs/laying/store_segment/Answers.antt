@@ -24,4 +24,5 @@ bounds-commands-index c = command-fits c.requires
 
 pub returns : goal.returns
 returns c =
-    segment-stored c.kind.ensures c.put_segment.ensures c.store_table.ensures.tables_after ((let running_here : c.tidy-length.result ≡ length_after c.args.passed c.args.segment = c.tidy-length.ensures ∙ ap (add binary32 _) c.store_table.ensures.length_told in running_here))
+    let running : c.tidy-length.result ≡ length_after c.args.passed c.args.segment = c.tidy-length.ensures ∙ ap (add binary32 _) c.store_table.ensures.length_told in
+    segment-stored c.kind.ensures c.put_segment.ensures c.store_table.ensures.tables_after running

@@ -13,11 +13,15 @@ use Rattle.path_storing.proofs.tallies.count_any.Goals as goal
 -- ---- the answers
 pub grown-requires : goal.grown-requires
 grown-requires c =
-    (c.requires, omega (arith, (let own_here : c.width-own.result ≡ length (fields_of c.in-Segment.segment) = fields-counted c.in-Segment.segment c.width-own.ensures c.kind-byte.ensures in own_here), fields-most c.in-Segment.segment), omega (arith, (let more_here : c.table_width-more.result ≡ length (table_stored c.in-Segment.segment) = table_counted c.in-Segment.segment c.table_width-more.ensures c.kind-byte.ensures in more_here), table-most c.in-Segment.segment))
+    let more : c.table_width-more.result ≡ length (table_stored c.in-Segment.segment) = table_counted c.in-Segment.segment c.table_width-more.ensures c.kind-byte.ensures in
+    let own : c.width-own.result ≡ length (fields_of c.in-Segment.segment) = fields-counted c.in-Segment.segment c.width-own.ensures c.kind-byte.ensures in
+    (c.requires, omega (arith, own, fields-most c.in-Segment.segment), omega (arith, more, table-most c.in-Segment.segment))
 
 pub returns-then-is_bounded : goal.returns-then-is_bounded
 returns-then-is_bounded c =
-    grown-counted _ (sym c.draw.ensures ∙ c.in-Segment.is) (sym c.is_bounded.ensures ∙ c.if-is_bounded.true) ((let own_here : c.width-own.result ≡ length (fields_of c.in-Segment.segment) = fields-counted c.in-Segment.segment c.width-own.ensures c.kind-byte.ensures in own_here)) ((let more_here : c.table_width-more.result ≡ length (table_stored c.in-Segment.segment) = table_counted c.in-Segment.segment c.table_width-more.ensures c.kind-byte.ensures in more_here)) c.grown.ensures
+    let more : c.table_width-more.result ≡ length (table_stored c.in-Segment.segment) = table_counted c.in-Segment.segment c.table_width-more.ensures c.kind-byte.ensures in
+    let own : c.width-own.result ≡ length (fields_of c.in-Segment.segment) = fields-counted c.in-Segment.segment c.width-own.ensures c.kind-byte.ensures in
+    grown-counted _ (sym c.draw.ensures ∙ c.in-Segment.is) (sym c.is_bounded.ensures ∙ c.if-is_bounded.true) own more c.grown.ensures
 
 pub returns-in-Moved : goal.returns-in-Moved
 unfolding counted_of

@@ -1,7 +1,7 @@
 -- `path_text::build_from_text` meets its contract: the first pass tells what is built, the second stores it. Assumes nothing.
 use borrow.Author.Rules.{rules}
 use mathlib.Core.Path.{sym, ◌∙◌}
-use Rattle.path_stored.specs.Buffers.{lent}
+use Rattle.path_stored.specs.Buffers.{lent_mut}
 use Rattle.path_build.proofs.Answering.{ended-refused, ended-holding, ended-built}
 use Rattle.path_text.proofs.entry.build_from_text.Tie as tie
 use Rattle.path_text.proofs.entry.build_from_text.Goals as goal
@@ -12,7 +12,7 @@ returns-in-Refused c = ended-refused _ _ c.type_size.ensures (sym c.room.ensures
 
 pub fill-requires : goal.fill-requires
 fill-requires c =
-    ended-holding (lent c.args.kinds c.args.fields c.args.tables c.args.lengths c.args.commands) _ c.type_size.ensures (sym c.room.ensures ∙ c.in-Built.is)
+    ended-holding (lent_mut c.args.kinds c.args.fields c.args.tables c.args.lengths c.args.commands) _ c.type_size.ensures (sym c.room.ensures ∙ c.in-Built.is)
 
 pub returns-in-Built : goal.returns-in-Built
 returns-in-Built c =

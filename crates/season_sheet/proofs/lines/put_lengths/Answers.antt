@@ -24,7 +24,7 @@ put_amount-requires c =
 
 pub shape_of-out : goal.shape_of-out
 shape_of-out c =
-    put-length c.put_amount-past_shortest.ensures.put
+    put-length c.put_amount.ensures.put
     ∙ put-length c.put_amount-past_longest.ensures.put
     ∙ put-length c.put_amount-past_shortest.ensures.put
     ∙ put-length c.put_header-past_word.ensures.put
@@ -32,5 +32,5 @@ shape_of-out c =
 pub returns : goal.returns
 unfolding lengths_of
 returns c =
-    let all = within-then c.put_header-past_word.ensures (within-then c.put_amount-past_shortest.ensures (within-then c.put_amount-past_longest.ensures c.put_amount-past_shortest.ensures)) in
+    let all = within-then c.put_header-past_word.ensures (within-then c.put_amount-past_shortest.ensures (within-then c.put_amount-past_longest.ensures c.put_amount.ensures)) in
     rw (ne_eqb _ 0 c.if-read-eq0.false) (within-as 92 _ all.put refl (omega (arith, all.within)))

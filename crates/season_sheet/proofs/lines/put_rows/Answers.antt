@@ -2,12 +2,12 @@
 use borrow.Author.Rules.{rules}
 use Prim.Native.Nat.{◌+◌, ◌-◌, ◌≤◌}
 use mathlib.Core.Path.{◌≡◌}
-use mathlib.Core.Logic.{⊎_elim}
 use native.Mathlib.Omega.{arith}
 use Rattle.station_sections.proofs.LinesTo.{PutTo, to_none, to-length, to-more, to-all}
 use Rattle.season_sheet.specs.Sheet.{row_line, row_lines}
 use Rattle.season_sheet.proofs.Rows.{row-some, row-none}
 use Rattle.season_sheet.proofs.lines.put_rows.Goals as goal
+use Rattle.season_sheet.proofs.lines.put_rows.Goals.{then-count-ne0, else-count-ne0}
 
 pub loop-k-init : goal.loop-k-init
 loop-k-init c = (omega arith, to_none _ _ _ _)
@@ -18,10 +18,10 @@ put_row-at-requires c =
 
 pub loop-k-preserved : goal.loop-k-preserved
 loop-k-preserved c =
-    ⊎_elim
-    (λ w. (omega arith, rw (w.5, w.6) (to-more _ 40 _ _ _ _ _ c.loop-k.invariant.1 _ _ (row-some _ _ _ w.0.taken w.2.ensures))))
-    (λ w. (omega arith, rw (w.1, w.2) (to-more _ 40 _ _ _ _ _ c.loop-k.invariant.1 _ _ (row-none _ _ _ _ w.0.left))))
-    c.if-count-ne0.branch
+    elim c.if-count-ne0.branch [
+      then-count-ne0 w ↦ (omega arith, rw (w.out-is, w.at-is) (to-more _ 40 _ _ _ _ _ c.loop-k.invariant.1 _ _ (row-some _ _ _ w.if-count-ne0.true w.put_row-at.ensures)))
+    | else-count-ne0 w ↦ (omega arith, rw (w.out-is, w.at-is) (to-more _ 40 _ _ _ _ _ c.loop-k.invariant.1 _ _ (row-none _ _ _ _ w.if-count-ne0.false)))
+    ]
 
 pub shape_of-out : goal.shape_of-out
 shape_of-out c = to-length _ _ _ _ _ _ _ c.loop-k.invariant.1

@@ -2,22 +2,22 @@
 use borrow.Author.Rules.{rules}
 use Prim.Native.Nat.{◌-◌, ◌≤◌}
 use mathlib.Core.Path.{◌≡◌, ap, ◌∙◌}
-use mathlib.Core.Logic.{⊎_elim}
 use native.Mathlib.Omega.{arith}
 use lib.ListN.{length}
 use Rattle.season_sheet.specs.Sheet.{used_in}
 use Rattle.season_sheet.proofs.Rows.{used-none, used-more, used-same}
 use Rattle.season_sheet.proofs.lines.used.Goals as goal
+use Rattle.season_sheet.proofs.lines.used.Goals.{then-counts-from-ne0, else-counts-from-ne0}
 
 pub loop-k-init : goal.loop-k-init
 loop-k-init c = (omega arith, used-none _ _, omega arith)
 
 pub loop-k-preserved : goal.loop-k-preserved
 loop-k-preserved c =
-    ⊎_elim
-    (λ w. (omega arith, w.1 ∙ used-more _ _ _ _ c.loop-k.invariant.1 w.0.taken, omega (arith, w.1, c.loop-k.invariant.2)))
-    (λ w. (omega arith, w.1 ∙ used-same _ _ _ _ c.loop-k.invariant.1 w.0.left, omega (arith, w.1, c.loop-k.invariant.2)))
-    c.if-counts-from-ne0.branch
+    elim c.if-counts-from-ne0.branch [
+      then-counts-from-ne0 w ↦ (omega arith, w.found-is ∙ used-more _ _ _ _ c.loop-k.invariant.1 w.if-counts-from-ne0.true, omega (arith, w.found-is, c.loop-k.invariant.2))
+    | else-counts-from-ne0 w ↦ (omega arith, w.found-is ∙ used-same _ _ _ _ c.loop-k.invariant.1 w.if-counts-from-ne0.false, omega (arith, w.found-is, c.loop-k.invariant.2))
+    ]
 
 pub returns : goal.returns
 returns c =

@@ -8,4 +8,4 @@ use Rattle.spline_table.proofs.entries.first_not_finite.Goals as goal
 
 pub returns-then-all_near : goal.returns-then-all_near
 returns-then-all_near c =
-    near-finite _ _ (passed (sym c.all_Near.ensures ∙ c.if-all_near.true)) c.requires.few (omega (arith, c.requires.few, c.requires.counted))
+    near-finite _ _ (passed (sym c.all_near.ensures ∙ c.if-all_near.true)) c.requires.few (omega (arith, c.requires.few, c.requires.counted))

@@ -19,7 +19,7 @@ unfolding read_arc_of
 returns-in-Refused-read_flags c =
     let one = sym c.read_pair.ensures ∙ ap pair_of c.in-Taken.is in
     let two = sym c.read_number.ensures ∙ c.in-Value.is in
-    let three = sym c.read-Flags.ensures ∙ c.in-Refused-read_flags.is in
+    let three = sym c.read_flags.ensures ∙ c.in-Refused-read_flags.is in
     rw (one, two, three)
 
 pub returns-in-Refused-read_pair : goal.returns-in-Refused-read_pair
@@ -27,7 +27,7 @@ unfolding read_arc_of
 returns-in-Refused-read_pair c =
     let one = sym c.read_pair.ensures ∙ ap pair_of c.in-Taken.is in
     let two = sym c.read_number.ensures ∙ c.in-Value.is in
-    let three = sym c.read-Flags.ensures ∙ c.in-Taken-read_flags.is in
+    let three = sym c.read_flags.ensures ∙ c.in-Taken-read_flags.is in
     let four = sym c.read_pair-in-Taken-read_flags.ensures ∙ ap pair_of c.in-Refused-read_pair.is in
     rw (one, two, three, four)
 
@@ -36,6 +36,6 @@ unfolding read_arc_of
 returns-in-Taken-read_pair c =
     let one = sym c.read_pair.ensures ∙ ap pair_of c.in-Taken.is in
     let two = sym c.read_number.ensures ∙ c.in-Value.is in
-    let three = sym c.read-Flags.ensures ∙ c.in-Taken-read_flags.is in
+    let three = sym c.read_flags.ensures ∙ c.in-Taken-read_flags.is in
     let four = sym c.read_pair-in-Taken-read_flags.ensures ∙ ap pair_of c.in-Taken-read_pair.is in
     rw (one, two, three, four)

@@ -18,7 +18,7 @@ unfolding pass_arc_of
 returns-in-Refused-read_flags c =
     let one = sym c.pass_pair.ensures ∙ c.in-To.is in
     let two = sym c.pass_number.ensures ∙ c.in-To-pass_number.is in
-    let three = sym c.read-Flags.ensures ∙ c.in-Refused-read_flags.is in
+    let three = sym c.read_flags.ensures ∙ c.in-Refused-read_flags.is in
     rw (one, two, three)
 
 pub returns-in-Taken : goal.returns-in-Taken
@@ -26,5 +26,5 @@ unfolding pass_arc_of
 returns-in-Taken c =
     let one = sym c.pass_pair.ensures ∙ c.in-To.is in
     let two = sym c.pass_number.ensures ∙ c.in-To-pass_number.is in
-    let three = sym c.read-Flags.ensures ∙ c.in-Taken.is in
+    let three = sym c.read_flags.ensures ∙ c.in-Taken.is in
     rw (one, two, three) c.pass_pair-in-Taken.ensures
