@@ -5,6 +5,8 @@ use flight::{Placed, Turned};
 use replay_records::{
     Count, float, has_bits, number_of, pattern, point, same_answers, same_numbers, seen,
 };
+use std::io;
+use std::io::Read;
 use table::{Progress, Table};
 
 // A block is a curve and five progresses. Its first line has a letter (q or c), the refusal's number or
@@ -19,10 +21,10 @@ const LINE: usize = 49;
 
 const LINES: usize = 5;
 
-pub fn replay(count: Count) -> Count {
+pub fn replay(reader: &mut impl Read, count: Count) -> io::Result<Count> {
     let mut block = [0u8; BLOCK];
-    let n = io::read_full(0, &mut block);
-    replay_block(count, &block[..n])
+    let n = input::read_full(reader, &mut block)?;
+    Ok(replay_block(count, &block[..n]))
 }
 
 // One answer for each line.

@@ -2,6 +2,8 @@
 ghost use Rattle.std.specs.Prelude.{◌+◌, ◌≤◌};
 
 use replay_records::{Count, float, has_bits, lent, pattern, read_numbers, seen};
+use std::io;
+use std::io::Read;
 use table::{Looked, Progress, Spotted, Table};
 
 // A block has running lengths and 16 lookups. Its first line has a letter (t: a table by value, e: a
@@ -16,10 +18,10 @@ const LINE: usize = 36;
 
 const LINES: usize = 16;
 
-pub fn replay(count: Count) -> Count {
+pub fn replay(reader: &mut impl Read, count: Count) -> io::Result<Count> {
     let mut block = [0u8; BLOCK];
-    let n = io::read_full(0, &mut block);
-    replay_block(count, &block[..n])
+    let n = input::read_full(reader, &mut block)?;
+    Ok(replay_block(count, &block[..n]))
 }
 
 // One answer for each line.

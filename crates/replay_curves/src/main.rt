@@ -10,30 +10,32 @@ mod shapes;
 mod splines;
 
 use replay_records::{kind, none, tell};
+use std::io;
 
 // More blocks than there are.
 const MOST: u32 = 2048;
 
-fn main() {
+fn main(rt: HostRuntime) -> io::Result<()> {
+    let mut reader = rt.stdin();
     let mut table = none();
     let mut bezier = none();
     let mut arc = none();
     let mut spline = none();
     let mut morph = none();
     for _ in 0..MOST {
-        match kind() {
-            b't' => table = lookups::replay(table),
-            b'b' => bezier = curves::replay(bezier),
-            b'a' => arc = segments::replay(arc),
-            b's' => spline = splines::replay(spline),
-            b'm' => morph = shapes::replay(morph),
-            b'd' => morph = shapes::replay_default(morph),
+        match kind(&mut reader)? {
+            b't' => table = lookups::replay(&mut reader, table)?,
+            b'b' => bezier = curves::replay(&mut reader, bezier)?,
+            b'a' => arc = segments::replay(&mut reader, arc)?,
+            b's' => spline = splines::replay(&mut reader, spline)?,
+            b'm' => morph = shapes::replay(&mut reader, morph)?,
+            b'd' => morph = shapes::replay_default(&mut reader, morph)?,
             _ => {}
         }
     }
-    tell(b"table", table);
-    tell(b"bezier", bezier);
-    tell(b"arc", arc);
-    tell(b"spline", spline);
-    tell(b"morph", morph);
+    tell(&rt, b"table", table)?;
+    tell(&rt, b"bezier", bezier)?;
+    tell(&rt, b"arc", arc)?;
+    tell(&rt, b"spline", spline)?;
+    tell(&rt, b"morph", morph)
 }

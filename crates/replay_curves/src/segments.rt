@@ -7,6 +7,8 @@ use flight::{Placed, Turned};
 use replay_records::{
     Count, float, has_bits, number_of, pattern, point, same_answers, same_numbers, seen,
 };
+use std::io;
+use std::io::Read;
 use table::Progress;
 
 // A block is a segment and six progresses. Its first line has a letter (a or l), the refusal's number or
@@ -22,10 +24,10 @@ const LINE: usize = 49;
 
 const LINES: usize = 6;
 
-pub fn replay(count: Count) -> Count {
+pub fn replay(reader: &mut impl Read, count: Count) -> io::Result<Count> {
     let mut block = [0u8; BLOCK];
-    let n = io::read_full(0, &mut block);
-    replay_block(count, &block[..n])
+    let n = input::read_full(reader, &mut block)?;
+    Ok(replay_block(count, &block[..n]))
 }
 
 // One answer for each line.

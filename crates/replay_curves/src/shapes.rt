@@ -5,6 +5,8 @@ use answers::{Refusal, Values};
 use morph::{Bounded, Evaluated, Morphed};
 use replay_records::{Count, float, has_bits, lent, pattern, read_numbers, same_numbers, seen};
 use resample::Resampled;
+use std::io;
+use std::io::Read;
 
 // A line has a letter (r: resample, m: a morph with a resolution, e: evaluate, b: bounds) and patterns
 // of eight hexadecimal digits: the counts of the two lists' numbers, the count, the progress, the lists
@@ -36,16 +38,16 @@ const WIDE_SECOND: usize = 7013;
 // What stands in an output before a call.
 const BEFORE: u32 = 0xc2f6_e979;
 
-pub fn replay(count: Count) -> Count {
+pub fn replay(reader: &mut impl Read, count: Count) -> io::Result<Count> {
     let mut line = [0u8; LINE];
-    let n = io::read_full(0, &mut line);
-    seen(count, agrees(&line[..n]))
+    let n = input::read_full(reader, &mut line)?;
+    Ok(seen(count, agrees(&line[..n])))
 }
 
-pub fn replay_default(count: Count) -> Count {
+pub fn replay_default(reader: &mut impl Read, count: Count) -> io::Result<Count> {
     let mut line = [0u8; WIDE];
-    let n = io::read_full(0, &mut line);
-    seen(count, morphed_by_default(&line[..n]))
+    let n = input::read_full(reader, &mut line)?;
+    Ok(seen(count, morphed_by_default(&line[..n])))
 }
 
 // Whether the call of a whole line gives what is recorded.

@@ -7,6 +7,8 @@ use replay_records::{
 };
 use spline_query::Measured;
 use spline_table::Tabled;
+use std::io;
+use std::io::Read;
 use table::{Progress, number_of};
 
 // A block has points and five answers. Its first line has the count of the points' numbers, nine
@@ -23,10 +25,10 @@ const LINE: usize = 81;
 
 const LINES: usize = 4;
 
-pub fn replay(count: Count) -> Count {
+pub fn replay(reader: &mut impl Read, count: Count) -> io::Result<Count> {
     let mut block = [0u8; BLOCK];
-    let n = io::read_full(0, &mut block);
-    replay_block(count, &block[..n])
+    let n = input::read_full(reader, &mut block)?;
+    Ok(replay_block(count, &block[..n]))
 }
 
 // One answer for the table, and one for each of the last lines.

@@ -6,17 +6,19 @@
 mod rows;
 
 use replay_records::{kind, none, tell};
+use std::io;
 
 // More records than there are.
 const MOST: u32 = 512;
 
-fn main() {
+fn main(rt: HostRuntime) -> io::Result<()> {
+    let mut reader = rt.stdin();
     let mut legs = none();
     for _ in 0..MOST {
-        match kind() {
-            b'l' => legs = rows::replay(legs),
+        match kind(&mut reader)? {
+            b'l' => legs = rows::replay(&mut reader, legs)?,
             _ => {}
         }
     }
-    tell(b"legs", legs);
+    tell(&rt, b"legs", legs)
 }

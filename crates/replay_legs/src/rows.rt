@@ -3,6 +3,8 @@ ghost use Rattle.std.specs.Prelude.{◌<◌, length};
 
 use legs::Flattened;
 use replay_records::{Count, first_of, float, lent, one, pattern, read_numbers, seen, two};
+use std::io;
+use std::io::Read;
 
 // The bytes of a record: the kinds as two digits; 22 fields; how many of them there are, how many numbers of tables, all 0, the
 // distance and the length of the output; the refusal's number, or 0, as two digits; the count of legs, or the value that the refusal
@@ -13,10 +15,10 @@ const RECORD: usize = 230;
 // An odd factor, so that no difference is lost on the way.
 const FACTOR: u64 = 16777619;
 
-pub fn replay(count: Count) -> Count {
+pub fn replay(reader: &mut impl Read, count: Count) -> io::Result<Count> {
     let mut record = [0u8; RECORD];
-    let n = io::read_full(0, &mut record);
-    seen(count, agrees(&record[..n]))
+    let n = input::read_full(reader, &mut record)?;
+    Ok(seen(count, agrees(&record[..n])))
 }
 
 // Whether a whole record holds what is answered and written.

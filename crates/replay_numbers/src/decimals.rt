@@ -2,16 +2,17 @@
 use answers::Values;
 use decimal::Read;
 use replay_records::{Count, has_bits, pattern, seen, three};
+use std::io;
 
 // The bytes of a record: v and the value's pattern or r and the refusal's number, as eight
 // hexadecimal digits; the count of bytes taken or the refusal's offset, and the text's length, as
 // three digits each; the text, blanks up to 115 bytes, and a line's end.
 const RECORD: usize = 131;
 
-pub fn replay(count: Count) -> Count {
+pub fn replay(reader: &mut impl io::Read, count: Count) -> io::Result<Count> {
     let mut record = [0u8; RECORD];
-    let n = io::read_full(0, &mut record);
-    seen(count, agrees(&record[..n]))
+    let n = input::read_full(reader, &mut record)?;
+    Ok(seen(count, agrees(&record[..n])))
 }
 
 // Whether a whole record holds the answer of the proved reader.

@@ -1,9 +1,12 @@
 // The root and the helpers of math.rs: the Rust's answers.
 use crate::lines::{Line, next};
 use replay_records::{Count, has_bits, same_point, seen};
+use std::io;
+use std::io::Read;
 
-pub fn replay(count: Count) -> Count {
-    seen(count, agrees(next()))
+pub fn replay(reader: &mut impl Read, count: Count) -> io::Result<Count> {
+    let line = next(reader)?;
+    Ok(seen(count, agrees(line)))
 }
 
 // Whether a record holds what the proved crates answer.

@@ -2,6 +2,8 @@
 // hexadecimal digits, a space before each. Those that a function does not use are zeros.
 use math::Point;
 use replay_records::{float, pattern};
+use std::io;
+use std::io::Read;
 
 const RECORD: usize = 65;
 
@@ -36,8 +38,8 @@ fn read(text: &[u8]) -> Line {
 }
 
 // The next record.
-pub fn next() -> Line {
+pub fn next(reader: &mut impl Read) -> io::Result<Line> {
     let mut record = [0u8; RECORD];
-    let n = io::read_full(0, &mut record);
-    read(&record[..n])
+    let n = input::read_full(reader, &mut record)?;
+    Ok(read(&record[..n]))
 }

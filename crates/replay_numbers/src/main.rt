@@ -8,23 +8,25 @@ mod lines;
 mod turns;
 
 use replay_records::{kind, none, tell};
+use std::io;
 
 // More blocks than there are.
 const MOST: u32 = 2048;
 
-fn main() {
+fn main(rt: HostRuntime) -> io::Result<()> {
+    let mut reader = rt.stdin();
     let mut math = none();
     let mut trig = none();
     let mut decimal = none();
     for _ in 0..MOST {
-        match kind() {
-            b'm' => math = helpers::replay(math),
-            b't' => trig = turns::replay(trig),
-            b'd' => decimal = decimals::replay(decimal),
+        match kind(&mut reader)? {
+            b'm' => math = helpers::replay(&mut reader, math)?,
+            b't' => trig = turns::replay(&mut reader, trig)?,
+            b'd' => decimal = decimals::replay(&mut reader, decimal)?,
             _ => {}
         }
     }
-    tell(b"math", math);
-    tell(b"trig", trig);
-    tell(b"decimal", decimal);
+    tell(&rt, b"math", math)?;
+    tell(&rt, b"trig", trig)?;
+    tell(&rt, b"decimal", decimal)
 }

@@ -2,10 +2,13 @@
 // library.
 use crate::lines::{Line, next};
 use replay_records::{Count, has_bits, seen};
+use std::io;
+use std::io::Read;
 use trig::SinCos;
 
-pub fn replay(count: Count) -> Count {
-    seen(count, agrees(next()))
+pub fn replay(reader: &mut impl Read, count: Count) -> io::Result<Count> {
+    let line = next(reader)?;
+    Ok(seen(count, agrees(line)))
 }
 
 // Whether a record holds what the proved crates answer.

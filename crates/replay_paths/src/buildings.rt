@@ -4,6 +4,8 @@ ghost use Rattle.std.specs.Prelude.{◌+◌, ◌≤◌, ◌<◌, length};
 use answers::Values;
 use path_build::Building;
 use replay_records::{Count, pattern, same_bytes, seen, three, two};
+use std::io;
+use std::io::Read;
 
 // The bytes of a record: the text's length as two digits; the text, which has at most 90 bytes, and
 // blanks up to 90; the refusal's number, or 0, as two digits, and three values as three digits each,
@@ -15,10 +17,10 @@ const RECORD: usize = 128;
 // An odd factor, so that no difference is lost on the way.
 const FACTOR: u64 = 16777619;
 
-pub fn replay(count: Count) -> Count {
+pub fn replay(reader: &mut impl Read, count: Count) -> io::Result<Count> {
     let mut record = [0u8; RECORD];
-    let n = io::read_full(0, &mut record);
-    seen(count, agrees(&record[..n]))
+    let n = input::read_full(reader, &mut record)?;
+    Ok(seen(count, agrees(&record[..n])))
 }
 
 // Whether a whole record holds what building answers and writes. The buffers have room for 8 segments

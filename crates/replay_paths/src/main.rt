@@ -7,20 +7,22 @@ mod buildings;
 mod queries;
 
 use replay_records::{kind, none, tell};
+use std::io;
 
 // More blocks than there are.
 const MOST: u32 = 2048;
 
-fn main() {
+fn main(rt: HostRuntime) -> io::Result<()> {
+    let mut reader = rt.stdin();
     let mut path = none();
     let mut query = none();
     for _ in 0..MOST {
-        match kind() {
-            b'b' => path = buildings::replay(path),
-            b'q' => query = queries::replay(query),
+        match kind(&mut reader)? {
+            b'b' => path = buildings::replay(&mut reader, path)?,
+            b'q' => query = queries::replay(&mut reader, query)?,
             _ => {}
         }
     }
-    tell(b"path", path);
-    tell(b"query", query);
+    tell(&rt, b"path", path)?;
+    tell(&rt, b"query", query)
 }

@@ -5,6 +5,8 @@ use flight::{Flown, Found, Turned};
 use path_batch::Batch;
 use path_build::Building;
 use replay_records::{Count, float, has_bits, pattern, same_point, seen, turned, two};
+use std::io;
+use std::io::Read;
 use table::Progress;
 
 // A block is a path and six progresses. Its first line has the text's length as two digits, the text, which has at most 90 bytes,
@@ -19,10 +21,10 @@ const LINE: usize = 65;
 
 const LINES: usize = 6;
 
-pub fn replay(count: Count) -> Count {
+pub fn replay(reader: &mut impl Read, count: Count) -> io::Result<Count> {
     let mut block = [0u8; BLOCK];
-    let n = io::read_full(0, &mut block);
-    replay_block(count, &block[..n])
+    let n = input::read_full(reader, &mut block)?;
+    Ok(replay_block(count, &block[..n]))
 }
 
 // One answer for each line.

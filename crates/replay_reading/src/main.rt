@@ -8,23 +8,25 @@ mod readings;
 mod verdicts;
 
 use replay_records::{kind, none, tell};
+use std::io;
 
 // More texts than there are.
 const MOST: u32 = 2048;
 
-fn main() {
+fn main(rt: HostRuntime) -> io::Result<()> {
+    let mut reader = rt.stdin();
     let mut svg = none();
     let mut strict = none();
     let mut stations = none();
     for _ in 0..MOST {
-        match kind() {
-            b'r' => svg = readings::replay(svg),
-            b's' => strict = verdicts::replay(strict),
-            b'p' => stations = plans::replay(stations),
+        match kind(&mut reader)? {
+            b'r' => svg = readings::replay(&mut reader, svg)?,
+            b's' => strict = verdicts::replay(&mut reader, strict)?,
+            b'p' => stations = plans::replay(&rt, &mut reader, stations)?,
             _ => {}
         }
     }
-    tell(b"svg", readings::replay_spaces(svg));
-    tell(b"strict", strict);
-    tell(b"stations", stations);
+    tell(&rt, b"svg", readings::replay_spaces(svg))?;
+    tell(&rt, b"strict", strict)?;
+    tell(&rt, b"stations", stations)
 }

@@ -3,34 +3,44 @@
 ghost use Rattle.std.specs.Prelude.{◌+◌, ◌≤◌, ◌<◌, length};
 
 use replay_records::{Count, seen, two};
+use std::io;
+use std::io::Read;
 
 // A plan stands after its count of bytes, four digits, and has at most this many.
 const MOST: usize = 9999;
 
 // Prints one listing more.
-pub fn replay(count: Count) -> Count {
+pub fn replay(rt: &impl Print, reader: &mut impl Read, count: Count) -> io::Result<Count> {
     let mut size = [b'0'; 4];
-    io::read_full(0, &mut size);
+    input::read_full(reader, &mut size)?;
     let mut plan = [0u8; MOST];
-    let n = io::count(four(&size, 0) as isize, &plan);
-    let mut listing = io::large_buffer();
-    seen(count, fly(&mut plan[..n], &mut listing))
+    let n = four(&size, 0);
+    let mut listing = [0u8; 65536];
+    let whole = fly(rt, reader, &mut plan[..n], &mut listing)?;
+    Ok(seen(count, whole))
 }
 
 // Whether a plan fills these places and its listing was printed.
-fn fly(plan: &mut [u8], listing: &mut [u8]) -> bool {
-    let n = io::read_full(0, plan);
+fn fly(
+    rt: &impl Print,
+    reader: &mut impl Read,
+    plan: &mut [u8],
+    listing: &mut [u8],
+) -> io::Result<bool> {
+    let n = input::read_full(reader, plan)?;
     let count = station_listing::stations(&plan[..n], listing);
     let whole = n == plan.len();
-    print(listing, count) & whole
+    let printed = print(rt, listing, count)?;
+    Ok(printed & whole)
 }
 
 // The first bytes of a listing, as many as it has.
-fn print(listing: &[u8], count: usize) -> bool {
+fn print(rt: &impl Print, listing: &[u8], count: usize) -> io::Result<bool> {
     if listing.len() < count {
-        return false;
+        return Ok(false);
     }
-    io::write_all(1, &listing[..count])
+    rt.write_all(&listing[..count])?;
+    Ok(true)
 }
 
 // The number that four digits stand for.

@@ -3,6 +3,8 @@ ghost use Rattle.std.specs.Prelude.{◌+◌, ◌≤◌, length};
 
 use answers::Values;
 use replay_records::{Count, first_of, one, same_bytes, same_numbers, seen, three, two};
+use std::io;
+use std::io::Read;
 use svg::Reading;
 
 // The bytes of a record: the text's length as two digits; the text, which has at most 32 bytes, and
@@ -11,10 +13,10 @@ use svg::Reading;
 // line's end.
 const RECORD: usize = 128;
 
-pub fn replay(count: Count) -> Count {
+pub fn replay(reader: &mut impl Read, count: Count) -> io::Result<Count> {
     let mut record = [0u8; RECORD];
-    let n = io::read_full(0, &mut record);
-    seen(count, agrees(&record[..n]))
+    let n = input::read_full(reader, &mut record)?;
+    Ok(seen(count, agrees(&record[..n])))
 }
 
 // Whether a whole record holds what the reader answers and writes. A place that is not written holds a

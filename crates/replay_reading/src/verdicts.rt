@@ -1,15 +1,17 @@
 // Strict reading: the verdicts of a general parser.
 use replay_records::{Count, seen, two};
+use std::io;
+use std::io::Read;
 use strict::Verdict;
 
 // The bytes of a record: the edition's number, y or n, the text's length as two digits, the text,
 // which has at most 59 bytes, blanks up to 59, and a line's end.
 const RECORD: usize = 64;
 
-pub fn replay(count: Count) -> Count {
+pub fn replay(reader: &mut impl Read, count: Count) -> io::Result<Count> {
     let mut record = [0u8; RECORD];
-    let n = io::read_full(0, &mut record);
-    seen(count, agrees(&record[..n]))
+    let n = input::read_full(reader, &mut record)?;
+    Ok(seen(count, agrees(&record[..n])))
 }
 
 // Whether a whole record holds the verdict of strict reading.

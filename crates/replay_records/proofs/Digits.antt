@@ -1,7 +1,7 @@
 -- What a digit of either base, a pattern and its float are, case by case as the code tests. Assumes nothing.
-use Rattle.std.proofs.Common.{◌≡◌, ℕ, ◌+◌, ◌-◌, ◌*◌, ◌/◌, ◌%◌, ◌<◌, ◌≤◌, List, length, get_or, refl, arith, le-ltb, lt-ltb, le-leb}
+use Rattle.std.proofs.Common.{◌≡◌, ℕ, ◌+◌, ◌-◌, ◌*◌, ◌%◌, ◌<◌, ◌≤◌, List, length, get_or, refl, arith, le-ltb, lt-ltb, le-leb}
 use borrow.Author.Tests.{lt-leb}
-use lib.Ieee.{Float, binary32, nan, of_bits}
+use lib.Ieee.{binary32, nan, of_bits}
 use Rattle.floats.specs.Patterns.{sign_place, infinity_bits}
 use Rattle.replay_records.specs.Records.{digit_of, half_of, pattern_of, float_of}
 use Rattle.replay_records.specs.Decimals.{decimal_of}

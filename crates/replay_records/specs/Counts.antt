@@ -1,5 +1,5 @@
 -- How many answers were replayed and how many differ, modulo 2 ^ 32. Definitions only.
-use Rattle.std.specs.Prelude.{ℕ, ◌+◌, ◌%◌, ◌^◌, Bool, cond}
+use Rattle.std.specs.Prelude.{◌+◌, ◌%◌, ◌^◌, Bool, cond}
 use Rattle.replay_records.specs.declared.counts.Count.{Count}
 
 abbrev pub none_yet : Count

@@ -2,11 +2,8 @@
 use Rattle.std.specs.Prelude.{ℕ, ◌+◌, Bool, ◌&&◌, List, ◌==◌}
 use Rattle.answers.specs.Answers.{number_of}
 use Rattle.flight.specs.declared.single.Verdict.{Verdict}
-use Rattle.flight.specs.declared.single.Verdict.TheVariants as Verdict
 use Rattle.flight.specs.declared.single.Placed.{Placed}
-use Rattle.flight.specs.declared.single.Placed.TheVariants as Placed
 use Rattle.flight.specs.declared.single.Turned.{Turned}
-use Rattle.flight.specs.declared.single.Turned.TheVariants as Turned
 use Rattle.replay_records.specs.Records.{pattern_of}
 use Rattle.replay_records.specs.Given.{has_bits, same_point}
 

@@ -3,6 +3,8 @@
 ghost use Rattle.std.specs.Prelude.{◌≡◌};
 ghost use Rattle.replay_records.specs.Counts.{none_yet, seen_as};
 
+use std::io;
+use std::io::Read;
 use std::num::wrapping_add_u32;
 
 // How many answers of a kind were replayed, and how many of them differ: modulo 2^32, which no list reaches.
@@ -41,18 +43,17 @@ pub fn seen(count: Count, agrees: bool) -> Count
 }
 
 // The letter of the next block's kind, and 0 past the last block.
-pub fn kind() -> u8 {
+pub fn kind(reader: &mut impl Read) -> io::Result<u8> {
     let mut letter = [0u8; 1];
-    io::read_full(0, &mut letter);
-    letter[0]
+    input::read_full(reader, &mut letter)?;
+    Ok(letter[0])
 }
 
 // Prints the count of a kind.
-pub fn tell(kind: &[u8], count: Count) {
-    io::write_all(1, kind);
-    io::write_all(1, b": replayed ");
-    io::print_decimal(1, count.replayed as u64);
-    io::write_all(1, b", different ");
-    io::print_decimal(1, count.different as u64);
-    io::write_all(1, b"\n");
+pub fn tell(rt: &impl Print, kind: &[u8], count: Count) -> io::Result<()> {
+    rt.write_all(kind)?;
+    println!(rt;
+        ": replayed {}, different {}",
+        count.replayed, count.different
+    )
 }

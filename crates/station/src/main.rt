@@ -2,17 +2,20 @@
 // a line's end and 4,097 bytes of path text; what stands past them changes nothing.
 #![tactic(auto)]
 
-fn main() {
+use std::io;
+
+fn main(rt: HostRuntime) -> io::Result<()> {
     let mut plan = [0u8; 4107];
-    let size = io::read_full(0, &mut plan);
+    let size = input::read_full(&mut rt.stdin(), &mut plan)?;
     let mut listing = [0u8; 69632];
     let count = station_listing::inner::stations_read(&plan, size, &mut listing);
-    print(&listing, count);
+    print(&rt, &listing, count)
 }
 
 // The first bytes of a listing, as many as it has.
-fn print(listing: &[u8], count: usize) {
+fn print(rt: &impl Print, listing: &[u8], count: usize) -> io::Result<()> {
     if count <= listing.len() {
-        io::write_all(1, &listing[..count]);
+        rt.write_all(&listing[..count])?;
     }
+    Ok(())
 }

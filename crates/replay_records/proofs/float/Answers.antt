@@ -1,5 +1,4 @@
 -- The test tells a NaN's pattern from the others. Assumes nothing.
-use Rattle.std.proofs.Common.{rules}
 use lib.Ieee.{binary32}
 use Rattle.decimal_rounding.proofs.Wide.{no-nan-plain}
 use Rattle.replay_records.proofs.Digits.{float-nan, float-number}

@@ -4,5 +4,7 @@ use Rattle.replay_records.proofs.Digits.{four-digits}
 use Rattle.replay_records.proofs.half.Goals as goal
 
 pub returns : goal.returns
-returns c =
-    (four-digits _ _ _ _ _ _ _ _ c.digit.ensures.0 c.digit-2.ensures.0 c.digit-3.ensures.0 c.digit-4.ensures.0, search rules)
+returns c = record {
+  value = four-digits _ _ _ _ _ _ _ _ c.digit.ensures.value c.digit-2.ensures.value c.digit-3.ensures.value c.digit-4.ensures.value;
+  upper_bound = search rules;
+}

@@ -10,4 +10,4 @@ pub returns-then-at-text : goal.returns-then-at-text
 returns-then-at-text c = text-ends _ _ (omega (arith, c.if-at-text.true, c.if-text-lt8.false))
 
 pub returns : goal.returns
-returns c = text-goes-on _ _ _ _ (search rules) c.half-high.ensures.0 c.half-low.ensures.0
+returns c = text-goes-on _ _ _ _ (search rules) c.half-high.ensures.value c.half-low.ensures.value

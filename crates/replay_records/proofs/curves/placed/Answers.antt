@@ -1,5 +1,5 @@
 -- The match says which case of the definition holds. Assumes nothing.
-use Rattle.std.proofs.Common.{refl, rules}
+use Rattle.std.proofs.Common.{refl}
 use Rattle.replay_records.proofs.curves.placed.Goals as goal
 
 pub returns-in-At : goal.returns-in-At

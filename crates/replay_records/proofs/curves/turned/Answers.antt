@@ -1,5 +1,5 @@
 -- The match says which case of the definition holds. Assumes nothing.
-use Rattle.std.proofs.Common.{refl, rules}
+use Rattle.std.proofs.Common.{refl}
 use Rattle.replay_records.proofs.curves.turned.Goals as goal
 
 pub returns-in-Degrees : goal.returns-in-Degrees

@@ -4,10 +4,10 @@ use Rattle.replay_records.proofs.Digits.{decimal-below, decimal-within, decimal-
 use Rattle.replay_records.proofs.decimals.decimal.Goals as goal
 
 pub returns-then-byte-lt48 : goal.returns-then-byte-lt48
-returns-then-byte-lt48 c = (decimal-below _ c.if-byte-lt48.true, search rules)
+returns-then-byte-lt48 c = record { value = decimal-below _ c.if-byte-lt48.true; upper_bound = search rules }
 
 pub returns-then-byte-le57 : goal.returns-then-byte-le57
-returns-then-byte-le57 c = (decimal-within _ (search rules) c.if-byte-le57.true, omega arith)
+returns-then-byte-le57 c = record { value = decimal-within _ (search rules) c.if-byte-le57.true; upper_bound = omega arith }
 
 pub returns-else-byte-le57 : goal.returns-else-byte-le57
-returns-else-byte-le57 c = (decimal-above _ c.if-byte-le57.false, search rules)
+returns-else-byte-le57 c = record { value = decimal-above _ c.if-byte-le57.false; upper_bound = search rules }

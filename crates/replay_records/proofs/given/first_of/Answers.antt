@@ -1,5 +1,4 @@
 -- `replay_records::given::first_of` meets its contract: in each arm the value that was matched is the arm's constructor. Assumes nothing.
-use Rattle.std.proofs.Common.{rules}
 use Rattle.replay_records.proofs.given.first_of.Goals as goal
 
 pub returns-in-One : goal.returns-in-One

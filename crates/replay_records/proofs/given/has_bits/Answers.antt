@@ -1,5 +1,4 @@
 -- The bits that are compared are those of the definition. Assumes nothing.
-use Rattle.std.proofs.Common.{rules}
 use Rattle.replay_records.proofs.given.has_bits.Goals as goal
 
 pub returns : goal.returns

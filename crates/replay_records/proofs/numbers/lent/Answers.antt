@@ -8,7 +8,7 @@ begins : (n : ℕ) (numbers : List Float) → n ≤ length numbers → Begins n 
 begins n numbers inside = (inside, sym (length-take-le n numbers inside))
 
 pub returns-then-wanted-numbers : goal.returns-then-wanted-numbers
-returns-then-wanted-numbers c = (begins _ _ (search rules), search rules)
+returns-then-wanted-numbers c = record { begins = begins _ _ (search rules); value = search rules }
 
 pub returns-else-wanted-numbers : goal.returns-else-wanted-numbers
-returns-else-wanted-numbers c = (begins _ _ (search rules), search rules)
+returns-else-wanted-numbers c = record { begins = begins _ _ (search rules); value = search rules }

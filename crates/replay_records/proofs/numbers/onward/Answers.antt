@@ -1,5 +1,5 @@
 -- The test decides. Assumes nothing.
-use Rattle.std.proofs.Common.{rules, le-ltb, lt-ltb}
+use Rattle.std.proofs.Common.{le-ltb, lt-ltb}
 use Rattle.replay_records.proofs.numbers.onward.Goals as goal
 
 pub returns-then-offset-text : goal.returns-then-offset-text

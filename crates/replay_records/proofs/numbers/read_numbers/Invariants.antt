@@ -1,7 +1,6 @@
 -- The invariant: the numbers before i are in, and the rest of the row belongs past them (`Reading`). The measure is the numbers left. Assumes nothing.
-use Rattle.std.proofs.Common.{◌-◌, length, ap, ◌∙◌, arith, rules}
-use Rattle.replay_records.specs.Records.{float_of}
-use Rattle.replay_records.proofs.Rows.{Reading, reading-start, reading-more, reading-done}
+use Rattle.std.proofs.Common.{◌-◌, length}
+use Rattle.replay_records.proofs.Rows.{Reading}
 use Rattle.replay_records.proofs.numbers.read_numbers.Given as goal
 
 abbrev pub invariant-loop-i : goal.invariant-loop-i

@@ -1,6 +1,5 @@
 -- The invariant: the bytes before i agree, and the rest decides (`Matching`). The measure is the bytes left. Assumes nothing.
-use Rattle.std.proofs.Common.{◌-◌, length, rules}
-use Rattle.replay_records.proofs.Rows.{Matching, matching-start, matching-more, matching-not, matching-done}
+use Rattle.replay_records.proofs.Rows.{matching-start, matching-more, matching-not, matching-done}
 use Rattle.replay_records.proofs.numbers.same_bytes.Goals as goal
 
 pub loop-i-init : goal.loop-i-init

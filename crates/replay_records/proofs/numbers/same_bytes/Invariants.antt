@@ -1,6 +1,6 @@
 -- The invariant: the bytes before i agree, and the rest decides (`Matching`). The measure is the bytes left. Assumes nothing.
-use Rattle.std.proofs.Common.{◌-◌, length, rules}
-use Rattle.replay_records.proofs.Rows.{Matching, matching-start, matching-more, matching-not, matching-done}
+use Rattle.std.proofs.Common.{◌-◌, length}
+use Rattle.replay_records.proofs.Rows.{Matching}
 use Rattle.replay_records.proofs.numbers.same_bytes.Given as goal
 
 abbrev pub invariant-loop-i : goal.invariant-loop-i

@@ -1,6 +1,5 @@
 -- The invariant: the numbers before i have their patterns, and the rest decides (`Agreeing`). The measure is the numbers left. Assumes nothing.
-use Rattle.std.proofs.Common.{◌-◌, length, rules}
-use Rattle.replay_records.proofs.Rows.{Agreeing, agreeing-start, agreeing-more, agreeing-not, agreeing-done}
+use Rattle.replay_records.proofs.Rows.{agreeing-start, agreeing-more, agreeing-not, agreeing-done}
 use Rattle.replay_records.proofs.numbers.same_numbers.Goals as goal
 
 pub loop-i-init : goal.loop-i-init

@@ -1,6 +1,6 @@
 -- The invariant: the numbers before i have their patterns, and the rest decides (`Agreeing`). The measure is the numbers left. Assumes nothing.
-use Rattle.std.proofs.Common.{◌-◌, length, rules}
-use Rattle.replay_records.proofs.Rows.{Agreeing, agreeing-start, agreeing-more, agreeing-not, agreeing-done}
+use Rattle.std.proofs.Common.{◌-◌, length}
+use Rattle.replay_records.proofs.Rows.{Agreeing}
 use Rattle.replay_records.proofs.numbers.same_numbers.Given as goal
 
 abbrev pub invariant-loop-i : goal.invariant-loop-i
