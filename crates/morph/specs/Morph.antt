@@ -1,8 +1,10 @@
 -- The two shapes of a morph (source document 004, `MorphPath::new`, `with_resolution`), and the answer: "with two shapes each step judges the first, then the second, and the count
 -- after both". Definitions only.
 use Rattle.std.specs.Prelude.{ℕ, max, ◌≡◌, ◌||◌, cond, List, [], ◌∷◌, ltb, length, Float}
+use Rattle.std.specs.Borrow.{MutBor}
+use denote.Triple.Both.{Both}
 use Rattle.answers.specs.Answers.{Answer, refused, accepted}
-use Rattle.answers.specs.Report.{Lent, written}
+use Rattle.answers.specs.Report.{written}
 use Rattle.answers.specs.declared.refusals.Values.TheVariants.{Two}
 use Rattle.answers.specs.declared.refusals.Refusal.{Refusal}
 use Rattle.answers.specs.declared.refusals.Refusal.TheVariants.{NoRoom, Range}
@@ -86,6 +88,10 @@ pub record Morph (from to : List Float) (count : ℕ) (one other : List Float) (
   pub answer : answer_of r ≡ answered (morph_of from to count (length one) (length other))
   pub from_shape : one' ≡ written (first_written (morph_of from to count (length one) (length other))) one
   pub to_shape : other' ≡ written (second_written (morph_of from to count (length one) (length other))) other
+
+-- a slice that is lent to be written, before and after
+abbrev Lent : Type 0 → Type 0
+Lent A = Both (MutBor (List A)) (MutBor (List A))
 
 -- the same over the two outputs that a call is lent
 abbrev pub MorphInto : List Float → List Float → ℕ → Lent Float → Lent Float → Morphed → Type 0

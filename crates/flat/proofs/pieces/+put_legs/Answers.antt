@@ -7,37 +7,37 @@ use Rattle.flat.proofs.Putting.{room-flat, room-last, room-first, room-second, p
 use Rattle.flat.proofs.pieces.+put_legs.Goals as goal
 
 pub put_piece-requires : goal.put_piece-requires
-put_piece-requires t c = room-flat _ _ _ _ _ (sym c.is_flat.ensures ∙ c.if-is_flat.true) c.requires.1
+put_piece-requires t c = room-flat _ _ _ _ _ (sym c.is_flat.ensures ∙ c.if-is_flat.true) c.requires
 
 pub returns-then-is_flat : goal.returns-then-is_flat
 returns-then-is_flat t c = put-flat _ _ _ (sym c.is_flat.ensures ∙ c.if-is_flat.true) c.put_piece.ensures
 
 pub put_piece-requires-then-left-eq0 : goal.put_piece-requires-then-left-eq0
-put_piece-requires-then-left-eq0 t c = room-last _ _ _ _ _ c.if-left-eq0.true (sym c.is_flat.ensures ∙ c.if-is_flat.false) c.requires.1
+put_piece-requires-then-left-eq0 t c = room-last _ _ _ _ _ c.if-left-eq0.true (sym c.is_flat.ensures ∙ c.if-is_flat.false) c.requires
 
 pub returns-then-left-eq0 : goal.returns-then-left-eq0
 returns-then-left-eq0 t c = put_last _ _ _ c.if-left-eq0.true (sym c.is_flat.ensures ∙ c.if-is_flat.false) c.put_piece-then-left-eq0.ensures
 
 pub put_legs-first-requires : goal.put_legs-first-requires
 put_legs-first-requires t c =
-    (omega (arith, c.requires.0, c.if-left-eq0.false), room-first _ _ _ (sym c.is_flat.ensures ∙ c.if-is_flat.false) c.if-left-eq0.false _ c.halved-both.ensures _ _ c.requires.1)
+    (omega arith, room-first _ _ _ (sym c.is_flat.ensures ∙ c.if-is_flat.false) c.if-left-eq0.false _ c.halved-both.ensures _ _ c.requires)
 
-pub overflow_mul-second : goal.overflow_mul-second
-overflow_mul-second t c =
-    omega (arith, room-second _ _ _ (sym c.is_flat.ensures ∙ c.if-is_flat.false) c.if-left-eq0.false _ c.halved-both.ensures _ _ c.put_legs-first.ensures c.requires.1)
+pub overflow_mul-first : goal.overflow_mul-first
+overflow_mul-first t c =
+    omega (arith, room-second _ _ _ (sym c.is_flat.ensures ∙ c.if-is_flat.false) c.if-left-eq0.false _ c.halved-both.ensures _ _ c.put_legs-first.ensures c.requires)
 
-pub overflow_add-second : goal.overflow_add-second
-overflow_add-second t c =
-    omega (arith, room-second _ _ _ (sym c.is_flat.ensures ∙ c.if-is_flat.false) c.if-left-eq0.false _ c.halved-both.ensures _ _ c.put_legs-first.ensures c.requires.1)
+pub overflow_add-at : goal.overflow_add-at
+overflow_add-at t c =
+    omega (arith, room-second _ _ _ (sym c.is_flat.ensures ∙ c.if-is_flat.false) c.if-left-eq0.false _ c.halved-both.ensures _ _ c.put_legs-first.ensures c.requires)
 
 pub put_legs-second-requires : goal.put_legs-second-requires
 put_legs-second-requires t c =
-    (omega (arith, c.requires.0, c.if-left-eq0.false), room-second _ _ _ (sym c.is_flat.ensures ∙ c.if-is_flat.false) c.if-left-eq0.false _ c.halved-both.ensures _ _ c.put_legs-first.ensures c.requires.1)
+    (omega arith, room-second _ _ _ (sym c.is_flat.ensures ∙ c.if-is_flat.false) c.if-left-eq0.false _ c.halved-both.ensures _ _ c.put_legs-first.ensures c.requires)
 
-pub overflow_add-legs : goal.overflow_add-legs
-overflow_add-legs t c =
+pub overflow_add-result : goal.overflow_add-result
+overflow_add-result t c =
     let whole = put-halved _ _ _ (sym c.is_flat.ensures ∙ c.if-is_flat.false) c.if-left-eq0.false _ c.halved-both.ensures c.put_legs-first.ensures c.put_legs-second.ensures in
-    omega (arith, ap (λ t. t.legs) whole.told, c.requires.1)
+    omega (arith, ap (λ t. t.legs) whole.told, c.requires)
 
 pub returns : goal.returns
 returns t c = put-halved _ _ _ (sym c.is_flat.ensures ∙ c.if-is_flat.false) c.if-left-eq0.false _ c.halved-both.ensures c.put_legs-first.ensures c.put_legs-second.ensures

@@ -9,7 +9,7 @@ use Rattle.polyline.proofs.Rows.{rows_none, rows_more, rows-size, rows_all}
 use Rattle.resample.proofs.spreading.copy.Given as goal
 
 abbrev pub invariant-loop-i : goal.invariant-loop-i
-invariant-loop-i l = (l.i ≤ l.count) × (l.out ≡ written (rows_of (λ l.i. point_at l.points 0) l.i) l.initial.out)
+invariant-loop-i l = (l.i ≤ l.count) × (l.out ≡ written (rows_of (λ i. point_at l.points 0) l.i) l.initial.out)
 
 abbrev pub decreases-loop-i : goal.decreases-loop-i
 decreases-loop-i l = l.count - l.i
