@@ -86,14 +86,14 @@ pub reached-here-requires : goal.reached-here-requires
 reached-here-requires c =
     let more : c.loop-k.k < length c.args.progresses.now = omega (arith, c.loop-k-test.true) in
     let segment_is : c.wide-segment.result ≡ (spot_of c.args.lengths.now (get_or c.args.progresses.now c.loop-k.k nan)).segment = c.wide-segment.ensures ∙ ap (λ (xs : List _). get_or xs c.loop-k.k 0) c.fill_segments.ensures ∙ each_at (λ p. (spot_of c.args.lengths.now p).segment) 0 _ c.args.progresses.now c.loop-k.k more in
-    let ready : let kinds = c.args.kinds.now in Moving kinds c.if-is_step_on.start c.wide-segment.result × Marks kinds c.if-is_step_on.shift c.if-is_step_on.field_marks c.if-is_step_on.table_marks = let kinds = c.args.kinds.now in elim c.if-is_step_on.branch [ then-is_step_on w ↦ ( subst (λ (cursor : Cursor). Moving kinds cursor c.wide-segment.result) (sym w.start-is) (looking-moves c.requires.places.path c.loop-k.invariant.0 (get_or c.args.progresses.now c.loop-k.k nan) segment_is), marks-same w.shift-is w.field_marks-is w.table_marks-is c.loop-k.invariant.2, ) | else-is_step_on w ↦ ( subst (λ (cursor : Cursor). Moving kinds cursor c.wide-segment.result) (sym w.start-is) w.nearest-start.ensures, marks-same w.shift-is w.field_marks-is w.table_marks-is w.marked-shift.ensures, ) ] in
+    let ready : let kinds = c.args.kinds.now in Moving kinds c.if-is_step_on.start c.wide-segment.result × Marks kinds c.if-is_step_on.shift c.if-is_step_on.field_marks c.if-is_step_on.table_marks = let kinds = c.args.kinds.now in elim c.if-is_step_on.branch [ then-is_step_on w ↦ (subst (λ (cursor : Cursor). Moving kinds cursor c.wide-segment.result) (sym w.start-is) (looking-moves c.requires.places.path c.loop-k.invariant.0 (get_or c.args.progresses.now c.loop-k.k nan) segment_is), marks-same w.shift-is w.field_marks-is w.table_marks-is c.loop-k.invariant.2) | else-is_step_on w ↦ (subst (λ (cursor : Cursor). Moving kinds cursor c.wide-segment.result) (sym w.start-is) w.nearest-start.ensures, marks-same w.shift-is w.field_marks-is w.table_marks-is w.marked-shift.ensures) ] in
     record { move = ready.0; short = c.is_near.ensures c.if-is_near.true; known = c.requires.places.path.path.known }
 
 pub moved-here-requires : goal.moved-here-requires
 moved-here-requires c =
     let more : c.loop-k.k < length c.args.progresses.now = omega (arith, c.loop-k-test.true) in
     let segment_is : c.wide-segment.result ≡ (spot_of c.args.lengths.now (get_or c.args.progresses.now c.loop-k.k nan)).segment = c.wide-segment.ensures ∙ ap (λ (xs : List _). get_or xs c.loop-k.k 0) c.fill_segments.ensures ∙ each_at (λ p. (spot_of c.args.lengths.now p).segment) 0 _ c.args.progresses.now c.loop-k.k more in
-    let ready : let kinds = c.args.kinds.now in Moving kinds c.if-is_step_on.start c.wide-segment.result × Marks kinds c.if-is_step_on.shift c.if-is_step_on.field_marks c.if-is_step_on.table_marks = let kinds = c.args.kinds.now in elim c.if-is_step_on.branch [ then-is_step_on w ↦ ( subst (λ (cursor : Cursor). Moving kinds cursor c.wide-segment.result) (sym w.start-is) (looking-moves c.requires.places.path c.loop-k.invariant.0 (get_or c.args.progresses.now c.loop-k.k nan) segment_is), marks-same w.shift-is w.field_marks-is w.table_marks-is c.loop-k.invariant.2, ) | else-is_step_on w ↦ ( subst (λ (cursor : Cursor). Moving kinds cursor c.wide-segment.result) (sym w.start-is) w.nearest-start.ensures, marks-same w.shift-is w.field_marks-is w.table_marks-is w.marked-shift.ensures, ) ] in
+    let ready : let kinds = c.args.kinds.now in Moving kinds c.if-is_step_on.start c.wide-segment.result × Marks kinds c.if-is_step_on.shift c.if-is_step_on.field_marks c.if-is_step_on.table_marks = let kinds = c.args.kinds.now in elim c.if-is_step_on.branch [ then-is_step_on w ↦ (subst (λ (cursor : Cursor). Moving kinds cursor c.wide-segment.result) (sym w.start-is) (looking-moves c.requires.places.path c.loop-k.invariant.0 (get_or c.args.progresses.now c.loop-k.k nan) segment_is), marks-same w.shift-is w.field_marks-is w.table_marks-is c.loop-k.invariant.2) | else-is_step_on w ↦ (subst (λ (cursor : Cursor). Moving kinds cursor c.wide-segment.result) (sym w.start-is) w.nearest-start.ensures, marks-same w.shift-is w.field_marks-is w.table_marks-is w.marked-shift.ensures) ] in
     ready.0
 
 pub flown_within-there-requires : goal.flown_within-there-requires
@@ -146,17 +146,17 @@ loop-k-preserved c =
     let more : c.loop-k.k < length c.args.progresses.now = omega (arith, c.loop-k-test.true) in
     let segment_is : c.wide-segment.result ≡ (spot_of c.args.lengths.now (get_or c.args.progresses.now c.loop-k.k nan)).segment = c.wide-segment.ensures ∙ ap (λ (xs : List _). get_or xs c.loop-k.k 0) c.fill_segments.ensures ∙ each_at (λ p. (spot_of c.args.lengths.now p).segment) 0 _ c.args.progresses.now c.loop-k.k more in
     let within : c.wide-segment.result < length c.args.kinds.now = among c.requires.places.path c.loop-k.invariant.0 (get_or c.args.progresses.now c.loop-k.k nan) segment_is in
-    let ready : let kinds = c.args.kinds.now in Moving kinds c.if-is_step_on.start c.wide-segment.result × Marks kinds c.if-is_step_on.shift c.if-is_step_on.field_marks c.if-is_step_on.table_marks = let kinds = c.args.kinds.now in elim c.if-is_step_on.branch [ then-is_step_on w ↦ ( subst (λ (cursor : Cursor). Moving kinds cursor c.wide-segment.result) (sym w.start-is) (looking-moves c.requires.places.path c.loop-k.invariant.0 (get_or c.args.progresses.now c.loop-k.k nan) segment_is), marks-same w.shift-is w.field_marks-is w.table_marks-is c.loop-k.invariant.2, ) | else-is_step_on w ↦ ( subst (λ (cursor : Cursor). Moving kinds cursor c.wide-segment.result) (sym w.start-is) w.nearest-start.ensures, marks-same w.shift-is w.field_marks-is w.table_marks-is w.marked-shift.ensures, ) ] in
+    let ready : let kinds = c.args.kinds.now in Moving kinds c.if-is_step_on.start c.wide-segment.result × Marks kinds c.if-is_step_on.shift c.if-is_step_on.field_marks c.if-is_step_on.table_marks = let kinds = c.args.kinds.now in elim c.if-is_step_on.branch [ then-is_step_on w ↦ (subst (λ (cursor : Cursor). Moving kinds cursor c.wide-segment.result) (sym w.start-is) (looking-moves c.requires.places.path c.loop-k.invariant.0 (get_or c.args.progresses.now c.loop-k.k nan) segment_is), marks-same w.shift-is w.field_marks-is w.table_marks-is c.loop-k.invariant.2) | else-is_step_on w ↦ (subst (λ (cursor : Cursor). Moving kinds cursor c.wide-segment.result) (sym w.start-is) w.nearest-start.ensures, marks-same w.shift-is w.field_marks-is w.table_marks-is w.marked-shift.ensures) ] in
     let landed : c.if-is_near.here ≡ cursor_of c.args.kinds.now c.wide-segment.result = elim c.if-is_near.branch [ then-is_near w ↦ w.here-is ∙ w.reached-here.ensures | else-is_near w ↦ w.here-is ∙ w.moved-here.ensures ] in
     let landed_there : c.if-is_near.here ≡ cursor_of c.args.kinds.now (spot_of c.args.lengths.now p).segment = landed ∙ ap (cursor_of c.args.kinds.now) segment_is in
     let along_is : c.along-local.result.value ≡ (spot_of c.args.lengths.now p).progress.value = ap (λ (local : Progress). local.value) c.along-local.ensures in
     let path = lent c.args.kinds c.args.fields c.args.tables c.args.lengths c.args.commands in
     let raw_of : Float → Float = λ x. (flight_of path x).raw.value in
     let flown =
-        c.flown_within-there.ensures
-        ∙ ap (flown_within c.args.kinds.now c.args.fields.now c.args.tables.now c.if-is_near.here.segment) along_is
-        ∙ flight-is path p (spot_of c.args.lengths.now p) c.if-is_near.here refl landed_there
-        ∙ flight-some path p c.requires.places.path.some in (
+    c.flown_within-there.ensures
+    ∙ ap (flown_within c.args.kinds.now c.args.fields.now c.args.tables.now c.if-is_near.here.segment) along_is
+    ∙ flight-is path p (spot_of c.args.lengths.now p) c.if-is_near.here refl landed_there
+    ∙ flight-some path p c.requires.places.path.some in (
       looking-next c.if-is_near.here c.wide-segment.result landed within more,
       each_next raw_of c.args.progresses.now _ c.loop-k.raws c.loop-k.k _ more c.requires.places.raws_room c.loop-k.invariant.1
           (c.tidy.ensures ∙ c.number_of.ensures ∙ ap (λ (flight : Flight). flight.raw.value) flown),

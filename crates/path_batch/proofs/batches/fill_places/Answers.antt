@@ -85,14 +85,14 @@ pub reached-here-requires : goal.reached-here-requires
 reached-here-requires c =
     let more : c.loop-i.i < length c.args.progresses.now = omega (arith, c.loop-i-test.true) in
     let segment_is : c.wide-segment.result ≡ (spot_of c.args.lengths.now (get_or c.args.progresses.now c.loop-i.i nan)).segment = c.wide-segment.ensures ∙ ap (λ (xs : List _). get_or xs c.loop-i.i 0) c.fill_segments.ensures ∙ each_at (λ p. (spot_of c.args.lengths.now p).segment) 0 _ c.args.progresses.now c.loop-i.i more in
-    let ready : let kinds = c.args.kinds.now in Moving kinds c.if-is_step_on.start c.wide-segment.result × Marks kinds c.if-is_step_on.shift c.if-is_step_on.field_marks c.if-is_step_on.table_marks = let kinds = c.args.kinds.now in elim c.if-is_step_on.branch [ then-is_step_on w ↦ ( subst (λ (cursor : Cursor). Moving kinds cursor c.wide-segment.result) (sym w.start-is) (looking-moves c.requires.path c.loop-i.invariant.0 (get_or c.args.progresses.now c.loop-i.i nan) segment_is), marks-same w.shift-is w.field_marks-is w.table_marks-is c.loop-i.invariant.2, ) | else-is_step_on w ↦ ( subst (λ (cursor : Cursor). Moving kinds cursor c.wide-segment.result) (sym w.start-is) w.nearest-start.ensures, marks-same w.shift-is w.field_marks-is w.table_marks-is w.marked-shift.ensures, ) ] in
+    let ready : let kinds = c.args.kinds.now in Moving kinds c.if-is_step_on.start c.wide-segment.result × Marks kinds c.if-is_step_on.shift c.if-is_step_on.field_marks c.if-is_step_on.table_marks = let kinds = c.args.kinds.now in elim c.if-is_step_on.branch [ then-is_step_on w ↦ (subst (λ (cursor : Cursor). Moving kinds cursor c.wide-segment.result) (sym w.start-is) (looking-moves c.requires.path c.loop-i.invariant.0 (get_or c.args.progresses.now c.loop-i.i nan) segment_is), marks-same w.shift-is w.field_marks-is w.table_marks-is c.loop-i.invariant.2) | else-is_step_on w ↦ (subst (λ (cursor : Cursor). Moving kinds cursor c.wide-segment.result) (sym w.start-is) w.nearest-start.ensures, marks-same w.shift-is w.field_marks-is w.table_marks-is w.marked-shift.ensures) ] in
     record { move = ready.0; short = c.is_near.ensures c.if-is_near.true; known = c.requires.path.path.known }
 
 pub moved-here-requires : goal.moved-here-requires
 moved-here-requires c =
     let more : c.loop-i.i < length c.args.progresses.now = omega (arith, c.loop-i-test.true) in
     let segment_is : c.wide-segment.result ≡ (spot_of c.args.lengths.now (get_or c.args.progresses.now c.loop-i.i nan)).segment = c.wide-segment.ensures ∙ ap (λ (xs : List _). get_or xs c.loop-i.i 0) c.fill_segments.ensures ∙ each_at (λ p. (spot_of c.args.lengths.now p).segment) 0 _ c.args.progresses.now c.loop-i.i more in
-    let ready : let kinds = c.args.kinds.now in Moving kinds c.if-is_step_on.start c.wide-segment.result × Marks kinds c.if-is_step_on.shift c.if-is_step_on.field_marks c.if-is_step_on.table_marks = let kinds = c.args.kinds.now in elim c.if-is_step_on.branch [ then-is_step_on w ↦ ( subst (λ (cursor : Cursor). Moving kinds cursor c.wide-segment.result) (sym w.start-is) (looking-moves c.requires.path c.loop-i.invariant.0 (get_or c.args.progresses.now c.loop-i.i nan) segment_is), marks-same w.shift-is w.field_marks-is w.table_marks-is c.loop-i.invariant.2, ) | else-is_step_on w ↦ ( subst (λ (cursor : Cursor). Moving kinds cursor c.wide-segment.result) (sym w.start-is) w.nearest-start.ensures, marks-same w.shift-is w.field_marks-is w.table_marks-is w.marked-shift.ensures, ) ] in
+    let ready : let kinds = c.args.kinds.now in Moving kinds c.if-is_step_on.start c.wide-segment.result × Marks kinds c.if-is_step_on.shift c.if-is_step_on.field_marks c.if-is_step_on.table_marks = let kinds = c.args.kinds.now in elim c.if-is_step_on.branch [ then-is_step_on w ↦ (subst (λ (cursor : Cursor). Moving kinds cursor c.wide-segment.result) (sym w.start-is) (looking-moves c.requires.path c.loop-i.invariant.0 (get_or c.args.progresses.now c.loop-i.i nan) segment_is), marks-same w.shift-is w.field_marks-is w.table_marks-is c.loop-i.invariant.2) | else-is_step_on w ↦ (subst (λ (cursor : Cursor). Moving kinds cursor c.wide-segment.result) (sym w.start-is) w.nearest-start.ensures, marks-same w.shift-is w.field_marks-is w.table_marks-is w.marked-shift.ensures) ] in
     ready.0
 
 pub raw_within-raw-requires : goal.raw_within-raw-requires
@@ -133,7 +133,7 @@ loop-i-preserved c =
     let more : c.loop-i.i < length c.args.progresses.now = omega (arith, c.loop-i-test.true) in
     let segment_is : c.wide-segment.result ≡ (spot_of c.args.lengths.now (get_or c.args.progresses.now c.loop-i.i nan)).segment = c.wide-segment.ensures ∙ ap (λ (xs : List _). get_or xs c.loop-i.i 0) c.fill_segments.ensures ∙ each_at (λ p. (spot_of c.args.lengths.now p).segment) 0 _ c.args.progresses.now c.loop-i.i more in
     let within : c.wide-segment.result < length c.args.kinds.now = among c.requires.path c.loop-i.invariant.0 (get_or c.args.progresses.now c.loop-i.i nan) segment_is in
-    let ready : let kinds = c.args.kinds.now in Moving kinds c.if-is_step_on.start c.wide-segment.result × Marks kinds c.if-is_step_on.shift c.if-is_step_on.field_marks c.if-is_step_on.table_marks = let kinds = c.args.kinds.now in elim c.if-is_step_on.branch [ then-is_step_on w ↦ ( subst (λ (cursor : Cursor). Moving kinds cursor c.wide-segment.result) (sym w.start-is) (looking-moves c.requires.path c.loop-i.invariant.0 (get_or c.args.progresses.now c.loop-i.i nan) segment_is), marks-same w.shift-is w.field_marks-is w.table_marks-is c.loop-i.invariant.2, ) | else-is_step_on w ↦ ( subst (λ (cursor : Cursor). Moving kinds cursor c.wide-segment.result) (sym w.start-is) w.nearest-start.ensures, marks-same w.shift-is w.field_marks-is w.table_marks-is w.marked-shift.ensures, ) ] in
+    let ready : let kinds = c.args.kinds.now in Moving kinds c.if-is_step_on.start c.wide-segment.result × Marks kinds c.if-is_step_on.shift c.if-is_step_on.field_marks c.if-is_step_on.table_marks = let kinds = c.args.kinds.now in elim c.if-is_step_on.branch [ then-is_step_on w ↦ (subst (λ (cursor : Cursor). Moving kinds cursor c.wide-segment.result) (sym w.start-is) (looking-moves c.requires.path c.loop-i.invariant.0 (get_or c.args.progresses.now c.loop-i.i nan) segment_is), marks-same w.shift-is w.field_marks-is w.table_marks-is c.loop-i.invariant.2) | else-is_step_on w ↦ (subst (λ (cursor : Cursor). Moving kinds cursor c.wide-segment.result) (sym w.start-is) w.nearest-start.ensures, marks-same w.shift-is w.field_marks-is w.table_marks-is w.marked-shift.ensures) ] in
     let landed : c.if-is_near.here ≡ cursor_of c.args.kinds.now c.wide-segment.result = elim c.if-is_near.branch [ then-is_near w ↦ w.here-is ∙ w.reached-here.ensures | else-is_near w ↦ w.here-is ∙ w.moved-here.ensures ] in
     let landed_there : c.if-is_near.here ≡ cursor_of c.args.kinds.now (spot_of c.args.lengths.now p).segment = landed ∙ ap (cursor_of c.args.kinds.now) segment_is in
     let along_is : c.along-local.result.value ≡ (spot_of c.args.lengths.now p).progress.value = ap (λ (local : Progress). local.value) c.along-local.ensures in

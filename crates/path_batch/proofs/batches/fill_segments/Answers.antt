@@ -52,8 +52,7 @@ loop-i-smaller c =
 
 pub loop-i-preserved : goal.loop-i-preserved
 loop-i-preserved c =
-    let more : c.loop-i.i < length c.args.progresses.now = omega (arith, c.loop-i-test.true) in
-    (
+    let more : c.loop-i.i < length c.args.progresses.now = omega (arith, c.loop-i-test.true) in (
       omega (arith, more),
       each_next (λ p. (spot_of c.args.lengths.now p).segment) c.args.progresses.now c.args.segments.now c.loop-i.segments c.loop-i.i _ more c.requires.segments_room c.loop-i.invariant.1 c.segment_near-segment.ensures,
     )

@@ -11,9 +11,9 @@ use Rattle.path_batch.proofs.batches.flights.Goals as goal
 
 pub returns-then-segments-count : goal.returns-then-segments-count
 returns-then-segments-count c = record {
-      flights = flights-short-segments _ _ _ _ _ (sym c.check_path.ensures ∙ c.if-check_path.true) c.if-segments-count.true;
-      ordered_flown = tt;
-    }
+  flights = flights-short-segments _ _ _ _ _ (sym c.check_path.ensures ∙ c.if-check_path.true) c.if-segments-count.true;
+  ordered_flown = tt;
+}
 
 pub returns-then-raws-count : goal.returns-then-raws-count
 returns-then-raws-count c =
@@ -63,6 +63,6 @@ returns-then-check_path c =
 
 pub returns : goal.returns
 returns c = record {
-      flights = flights-bad _ _ _ _ _ (sym c.check_path.ensures ∙ c.if-check_path.false);
-      ordered_flown = tt;
-    }
+  flights = flights-bad _ _ _ _ _ (sym c.check_path.ensures ∙ c.if-check_path.false);
+  ordered_flown = tt;
+}

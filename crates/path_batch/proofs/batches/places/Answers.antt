@@ -11,15 +11,15 @@ use Rattle.path_batch.proofs.batches.places.Goals as goal
 
 pub returns-then-segments-count : goal.returns-then-segments-count
 returns-then-segments-count c = record {
-      places = places-short-segments _ _ _ _ (sym c.check_path.ensures ∙ c.if-check_path.true) c.if-segments-count.true;
-      ordered_batch = tt;
-    }
+  places = places-short-segments _ _ _ _ (sym c.check_path.ensures ∙ c.if-check_path.true) c.if-segments-count.true;
+  ordered_batch = tt;
+}
 
 pub returns-then-raws-count : goal.returns-then-raws-count
 returns-then-raws-count c = record {
-      places = places-short-raws _ _ _ _ (sym c.check_path.ensures ∙ c.if-check_path.true) c.if-segments-count.false c.if-raws-count.true;
-      ordered_batch = tt;
-    }
+  places = places-short-raws _ _ _ _ (sym c.check_path.ensures ∙ c.if-check_path.true) c.if-segments-count.false c.if-raws-count.true;
+  ordered_batch = tt;
+}
 
 pub returns-then-kinds-eq0 : goal.returns-then-kinds-eq0
 returns-then-kinds-eq0 c =
@@ -49,6 +49,6 @@ returns-then-check_path c =
 
 pub returns : goal.returns
 returns c = record {
-      places = places-bad _ _ _ _ (sym c.check_path.ensures ∙ c.if-check_path.false);
-      ordered_batch = tt;
-    }
+  places = places-bad _ _ _ _ (sym c.check_path.ensures ∙ c.if-check_path.false);
+  ordered_batch = tt;
+}

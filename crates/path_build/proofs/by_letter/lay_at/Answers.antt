@@ -53,11 +53,10 @@ pub point_at-end-requires-in-67 : goal.point_at-end-requires-in-67
 point_at-end-requires-in-67 c = omega (arith, cubic-wide c.args.letter c.args.numbers.now c.args.at c.requires.0 c.in-67.is)
 
 pub cubic_to-requires : goal.cubic_to-requires
-cubic_to-requires c =
-    (
-      c.requires.1,
-      room_at (cubic-at _ _ _ c.requires.0 _ c.in-67.is _ _ _ c.point_at-control1.ensures c.point_at-control2.ensures c.point_at-end-in-67.ensures) c.requires.2,
-    )
+cubic_to-requires c = (
+  c.requires.1,
+  room_at (cubic-at _ _ _ c.requires.0 _ c.in-67.is _ _ _ c.point_at-control1.ensures c.point_at-control2.ensures c.point_at-end-in-67.ensures) c.requires.2,
+)
 
 pub returns-in-67 : goal.returns-in-67
 returns-in-67 c =

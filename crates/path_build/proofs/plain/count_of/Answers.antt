@@ -22,8 +22,7 @@ overflow_add-count c =
 
 pub loop-i-preserved : goal.loop-i-preserved
 loop-i-preserved c =
-    let most : one_if (eqb (get_or c.args.letters.now c.loop-i.i 0) c.args.letter) ≤ 1 = one-most (eqb (get_or c.args.letters.now c.loop-i.i 0) c.args.letter) in
-    (
+    let most : one_if (eqb (get_or c.args.letters.now c.loop-i.i 0) c.args.letter) ≤ 1 = one-most (eqb (get_or c.args.letters.now c.loop-i.i 0) c.args.letter) in (
       omega (arith, c.loop-i-test.true),
       omega (arith, c.loop-i.invariant.1, c.one_if-count.ensures, most),
       omega (arith, c.loop-i.invariant.2, c.one_if-count.ensures, count_next c.args.letters.now c.args.letter c.loop-i.i c.loop-i-test.true),

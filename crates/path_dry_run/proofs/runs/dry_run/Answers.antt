@@ -19,9 +19,9 @@ use Rattle.path_dry_run.proofs.runs.dry_run.Goals as goal
 -- ---- the answers
 pub returns-then-count-gt36000 : goal.returns-then-count-gt36000
 returns-then-count-gt36000 c = record {
-      dry_run = run_long _ _ _ _ (sym c.check_path.ensures ∙ c.if-check_path.true) c.if-count-gt36000.true;
-      ordered_run = tt;
-    }
+  dry_run = run_long _ _ _ _ (sym c.check_path.ensures ∙ c.if-check_path.true) c.if-count-gt36000.true;
+  ordered_run = tt;
+}
 
 pub returns-then-fast-gt100000 : goal.returns-then-fast-gt100000
 returns-then-fast-gt100000 c =
@@ -93,6 +93,6 @@ returns-then-check_path c =
 
 pub returns : goal.returns
 returns c = record {
-      dry_run = run-bad _ _ _ _ (sym c.check_path.ensures ∙ c.if-check_path.false);
-      ordered_run = tt;
-    }
+  dry_run = run-bad _ _ _ _ (sym c.check_path.ensures ∙ c.if-check_path.false);
+  ordered_run = tt;
+}

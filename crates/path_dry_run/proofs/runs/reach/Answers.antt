@@ -33,5 +33,5 @@ returns c =
           ∙ ap (λ (i : ℕ). raw_within c.args.kinds.now c.args.tables.now i c.spot_toward-spot.result.progress.value) (cursor-own c.args.kinds.now c.spot_toward-spot.result.segment c.moved-at.ensures).0
           ∙ ap (λ (spot : Spot). raw_within c.args.kinds.now c.args.tables.now spot.segment spot.progress.value) c.spot_toward-spot.ensures;
       inside = subst (λ (spot : Spot). spot.segment < length c.args.kinds.now) c.spot_toward-spot.ensures ((let among_here : c.spot_toward-spot.result.segment < length c.args.kinds.now = let same = ap (λ (spot : Spot). spot.segment) c.spot_toward-spot.ensures in
-    omega (arith, same, toward-inside c.args.lengths.now (some-path c.requires.reachable.path) c.args.target c.requires.t) in among_here));
+          omega (arith, same, toward-inside c.args.lengths.now (some-path c.requires.reachable.path) c.args.target c.requires.t) in among_here));
     }

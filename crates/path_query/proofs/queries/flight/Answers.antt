@@ -19,6 +19,6 @@ returns-then-check_path c =
 
 pub returns : goal.returns
 returns c = record {
-      value = flew-bad _ _ (sym c.check_path.ensures ∙ c.if-check_path.false);
-      ordered_by = tt;
-    }
+  value = flew-bad _ _ (sym c.check_path.ensures ∙ c.if-check_path.false);
+  ordered_by = tt;
+}

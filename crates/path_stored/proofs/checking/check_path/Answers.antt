@@ -32,8 +32,12 @@ overflow_mul-n c = let k = c.args.kinds.now in omega (arith, tables-at-most k (l
 pub returns-then-tables-n : goal.returns-then-tables-n
 unfolding is_stored
 returns-then-tables-n c =
-    simp (le-leb _ most_segments c.if-count-gt65536.false, sym c.are_known.ensures ∙ c.if-not-are_known.false, agrees _ _ _ c.if-fields-fields_before.false c.fields_before.ensures,
-    differs _ _ _ c.if-tables-n.true (ap (λ m. 33 * m) c.tables_before-n.ensures))
+    simp (
+      le-leb _ most_segments c.if-count-gt65536.false,
+      sym c.are_known.ensures ∙ c.if-not-are_known.false,
+      agrees _ _ _ c.if-fields-fields_before.false c.fields_before.ensures,
+      differs _ _ _ c.if-tables-n.true (ap (λ m. 33 * m) c.tables_before-n.ensures),
+    )
 
 pub tables_are_sound-requires : goal.tables_are_sound-requires
 tables_are_sound-requires c =
@@ -43,17 +47,25 @@ tables_are_sound-requires c =
 pub returns-then-not-tables_are_sound : goal.returns-then-not-tables_are_sound
 unfolding is_stored
 returns-then-not-tables_are_sound c =
-    simp (le-leb _ most_segments c.if-count-gt65536.false, sym c.are_known.ensures ∙ c.if-not-are_known.false, agrees _ _ _ c.if-fields-fields_before.false c.fields_before.ensures,
-    agrees _ _ _ c.if-tables-n.false (ap (λ m. 33 * m) c.tables_before-n.ensures),
-    ap (tables_are_sound c.args.tables.now) (sym c.tables_before-n.ensures) ∙ sym c.tables_are_sound.ensures ∙ c.if-not-tables_are_sound.true)
+    simp (
+      le-leb _ most_segments c.if-count-gt65536.false,
+      sym c.are_known.ensures ∙ c.if-not-are_known.false,
+      agrees _ _ _ c.if-fields-fields_before.false c.fields_before.ensures,
+      agrees _ _ _ c.if-tables-n.false (ap (λ m. 33 * m) c.tables_before-n.ensures),
+      ap (tables_are_sound c.args.tables.now) (sym c.tables_before-n.ensures) ∙ sym c.tables_are_sound.ensures ∙ c.if-not-tables_are_sound.true,
+    )
 
 pub returns-then-lengths-count : goal.returns-then-lengths-count
 unfolding is_stored
 returns-then-lengths-count c =
-    simp (le-leb _ most_segments c.if-count-gt65536.false, sym c.are_known.ensures ∙ c.if-not-are_known.false, agrees _ _ _ c.if-fields-fields_before.false c.fields_before.ensures,
-    agrees _ _ _ c.if-tables-n.false (ap (λ m. 33 * m) c.tables_before-n.ensures),
-    ap (tables_are_sound c.args.tables.now) (sym c.tables_before-n.ensures) ∙ sym c.tables_are_sound.ensures ∙ c.if-not-tables_are_sound.false,
-    ne_eqb _ _ c.if-lengths-count.true)
+    simp (
+      le-leb _ most_segments c.if-count-gt65536.false,
+      sym c.are_known.ensures ∙ c.if-not-are_known.false,
+      agrees _ _ _ c.if-fields-fields_before.false c.fields_before.ensures,
+      agrees _ _ _ c.if-tables-n.false (ap (λ m. 33 * m) c.tables_before-n.ensures),
+      ap (tables_are_sound c.args.tables.now) (sym c.tables_before-n.ensures) ∙ sym c.tables_are_sound.ensures ∙ c.if-not-tables_are_sound.false,
+      ne_eqb _ _ c.if-lengths-count.true,
+    )
 
 pub returns-then-not-lengths_are_sound : goal.returns-then-not-lengths_are_sound
 returns-then-not-lengths_are_sound c = fails _ (λ s. subst T (sym c.lengths_are_sound.ensures ∙ c.if-not-lengths_are_sound.true) s.rising)

@@ -30,13 +30,12 @@ overflow_add-from5 c =
     omega (arith, c.loop-j.invariant.2.few5, c.requires.short, one_at_most 5 (get_or c.args.kinds.now c.loop-j.j 0), c.one_from-from5.ensures)
 
 pub loop-j-preserved : goal.loop-j-preserved
-loop-j-preserved c =
-    (
-      omega arith,
-      omega arith,
-      fields-more _ _ _ _ c.loop-j.invariant.2 c.loop-j.invariant.0 (omega (arith, c.requires.span.inside))
-          c.one_from-from1.ensures c.one_from-from2.ensures c.one_from-from3.ensures c.one_from-from5.ensures,
-    )
+loop-j-preserved c = (
+  omega arith,
+  omega arith,
+  fields-more _ _ _ _ c.loop-j.invariant.2 c.loop-j.invariant.0 (omega (arith, c.requires.span.inside))
+      c.one_from-from1.ensures c.one_from-from2.ensures c.one_from-from3.ensures c.one_from-from5.ensures,
+)
 
 pub returns : goal.returns
 returns c =
