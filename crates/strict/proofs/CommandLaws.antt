@@ -1,9 +1,9 @@
 -- Commands by their letters: a letter, white space and a sequence of arguments; that each command has its letter and a byte; and what the
 -- reader's answer says of the production. Assumes nothing.
-use Prim.Native.Nat.{ℕ, ◌+◌, ◌≤◌, ◌<◌}
-use mathlib.Core.Path.{◌≡◌, refl, sym, subst, ◌∙◌, ap}
+use Prim.Native.Nat.{ℕ, ◌+◌, ◌<◌}
+use mathlib.Core.Path.{◌≡◌, refl, sym, subst}
 use mathlib.Core.Bool.{Bool, true, false}
-use mathlib.Core.List.{List, [], ◌∷◌}
+use mathlib.Core.List.{List}
 use mathlib.Core.Logic.{◌⊎◌, inl, inr, ⊎_elim}
 use native.Mathlib.Omega.{arith}
 use lib.Dec.{T}
@@ -12,10 +12,10 @@ use Rattle.scan.specs.Bytes.{among, number_starts}
 use Rattle.scan.specs.Runs.{stands}
 use Rattle.scan.proofs.ByteLaws.{withinb, clash, either_way}
 use Rattle.scan.proofs.RunLaws.{stands-within}
-use Rattle.strict_grammar.specs.Spans.{Span, Byte, ◌·◌, ◌∥◌, opt, star, none, more, longest, sequence, last, then}
-use Rattle.strict_grammar.specs.Grammar.{white_of, wsp, comma-wsp, moveto, moveto-argument-sequence, lineto, horizontal-lineto, vertical-lineto, curveto, smooth-curveto}
+use Rattle.strict_grammar.specs.Spans.{Span, Byte, ◌·◌, star, longest, last, then}
+use Rattle.strict_grammar.specs.Grammar.{white_of, wsp, moveto, moveto-argument-sequence, lineto, horizontal-lineto, vertical-lineto, curveto, smooth-curveto}
 use Rattle.strict_grammar.specs.Grammar.{quadratic-bezier-curveto, smooth-quadratic-bezier-curveto, closepath, elliptical-arc, drawto-command}
-use Rattle.strict_grammar.specs.Words.{Past, Lacks, Only, Goes, past_white_in}
+use Rattle.strict_grammar.specs.Words.{Past, Lacks, Goes, past_white_in}
 use Rattle.strict_grammar.specs.declared.Edition.{Edition}
 use Rattle.strict_grammar.proofs.SpanLaws.{standing, not_byte, not-both, other, wider, star-le, run-same, run-found}
 use Rattle.strict_grammar.proofs.Separators.{number-apart}

@@ -7,9 +7,8 @@ use mathlib.Core.Logic.{◌⊎◌, inl, inr, ⊎_elim}
 use lib.Dec.{T, eqb}
 use lib.ListN.{length, get_or}
 use Rattle.scan.specs.Bytes.{among}
-use Rattle.scan.specs.Runs.{stands}
 use Rattle.scan.proofs.ByteLaws.{apartb, withinb, clash, either-of}
-use Rattle.scan.proofs.RunLaws.{stands-inside, stands-among, stands-within}
+use Rattle.scan.proofs.RunLaws.{stands-inside, stands-among}
 use Rattle.strict_grammar.specs.Spans.{Byte}
 use Rattle.strict_grammar.proofs.SpanLaws.{inside}
 use Rattle.strict_argument.specs.declared.groups.Kind.{Kind}

@@ -1,9 +1,9 @@
 -- The grammar's groups laid flat: white space, and then commands with a gap after each, the first a moveto. `Rest alone begun i` says that the text
 -- can be read to its end from i, where a command is due; where the first one stands alone, no second is. Assumes nothing.
-use Prim.Native.Nat.{ℕ, ◌+◌, ◌≤◌, ◌<◌}
-use mathlib.Core.Path.{◌≡◌, refl, sym, subst, ◌∙◌, ap}
+use Prim.Native.Nat.{ℕ, ◌≤◌, ◌<◌}
+use mathlib.Core.Path.{◌≡◌, refl, sym, subst, ◌∙◌}
 use mathlib.Core.Bool.{Bool, true, false, ◌&&◌}
-use mathlib.Core.List.{List, [], ◌∷◌}
+use mathlib.Core.List.{List}
 use mathlib.Core.Logic.{◌⊎◌, inl, inr, ⊎_elim}
 use native.Mathlib.Omega.{arith}
 use lib.Dec.{T}
@@ -13,7 +13,7 @@ use Rattle.scan.specs.Bytes.{among, commas, number_starts}
 use Rattle.scan.specs.Runs.{stands}
 use Rattle.scan.proofs.ByteLaws.{apartb, clash}
 use Rattle.scan.proofs.RunLaws.{stands-within, stands-past}
-use Rattle.strict_grammar.specs.Spans.{Span, ◌·◌, ◌∥◌, opt, star, none, more, longest, sequence, last, then}
+use Rattle.strict_grammar.specs.Spans.{◌·◌, opt, star, none, longest, sequence, last, then}
 use Rattle.strict_grammar.specs.Grammar.{white_of, wsp, gap, comma-wsp, moveto, drawto-command, drawto-commands, moveto-drawto-command-group, moveto-drawto-command-groups, svg-path, Matches}
 use Rattle.strict_grammar.specs.Words.{Past, Lacks, Goes, past_white_in, past_gap_of}
 use Rattle.strict_grammar.specs.declared.Edition.{Edition}

@@ -1,13 +1,11 @@
 -- A sequence is a first word and a star of separators and words; a turn of the loop over it, and its end. Assumes nothing.
-use Prim.Native.Nat.{ℕ, ◌+◌, ◌≤◌, ◌<◌}
-use mathlib.Core.Path.{◌≡◌, refl, sym, subst, ◌∙◌, ap}
-use mathlib.Core.Bool.{true, false}
+use Prim.Native.Nat.{ℕ, ◌≤◌, ◌<◌}
+use mathlib.Core.Path.{◌≡◌, refl, sym, subst, ◌∙◌}
 use mathlib.Core.List.{List}
-use mathlib.Core.Logic.{◌⊎◌, inl, inr, ⊎_elim}
+use mathlib.Core.Logic.{◌⊎◌, inl, inr}
 use native.Mathlib.Omega.{arith}
 use lib.ListN.{length}
 use Rattle.scan.specs.Bytes.{number_starts}
-use Rattle.scan.specs.Runs.{stands}
 use Rattle.scan.proofs.RunLaws.{stands-within}
 use Rattle.strict_grammar.specs.Spans.{Span, ◌·◌, opt, star, none, more, sequence, last, then}
 use Rattle.strict_grammar.specs.Grammar.{comma-wsp}

@@ -1,5 +1,4 @@
 -- `strict::letter_at` meets its contract: a byte of the text begins what it begins anywhere, and past the text nothing does. Assumes nothing.
-use borrow.Author.Rules.{rules}
 use Rattle.scan.proofs.RunLaws.{stands-past}
 use Rattle.strict.specs.Commands.{command_letters}
 use Rattle.strict.proofs.Letters.{letter-stands}

@@ -1,10 +1,7 @@
 -- `strict::past_arguments` meets its contract. The invariant is `Going`: the items from `at` up to `end` are words, and what is left of any others
 -- from `at` is words from `end`, unless they ended where a sequence could go on. The measure is what is left of the text. Assumes nothing.
-use Prim.Native.Nat.{◌-◌}
 use native.Mathlib.Omega.{arith}
-use borrow.Author.Rules.{rules}
-use lib.ListN.{length}
-use Rattle.strict.proofs.Sequences.{Going, set_out, go_on, come-to-end, item, item-ahead, one-item, no_item}
+use Rattle.strict.proofs.Sequences.{set_out, go_on, come-to-end, item, item-ahead, one-item, no_item}
 use Rattle.strict.proofs.commands.past_arguments.Goals as goal
 
 pub loop-kind-init : goal.loop-kind-init

@@ -1,5 +1,4 @@
 -- `strict::read_arguments` meets its contract: a first argument after the white space, and the further ones after it. Assumes nothing.
-use borrow.Author.Rules.{rules}
 use Rattle.strict.proofs.CommandLaws.{arguments-missing, arguments-past}
 use Rattle.strict.proofs.commands.read_arguments.Goals as goal
 

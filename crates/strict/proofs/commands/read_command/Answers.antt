@@ -1,7 +1,6 @@
 -- `strict::read_command` meets its contract, letter by letter. Assumes nothing.
 use mathlib.Core.Path.{subst}
 use native.Mathlib.Omega.{arith}
-use borrow.Author.Rules.{rules}
 use Rattle.scan.proofs.RunLaws.{stands-within}
 use Rattle.strict.specs.Commands.{move_letters, close_letters, letters_of, LetterAt}
 use Rattle.strict.proofs.CommandLaws.{moves, closes, closes-not-begun, takes, takes-not-begun, no-letter}

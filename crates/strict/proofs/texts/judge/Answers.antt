@@ -1,6 +1,5 @@
 -- `strict::judge` meets its contract: each verdict is one of the three judgements. Assumes nothing.
 use mathlib.Core.Path.{refl}
-use borrow.Author.Rules.{rules}
 use Rattle.scan.proofs.ByteLaws.{clash}
 use Rattle.strict.specs.Verdicts.{yes, no, too_long}
 use Rattle.strict.proofs.texts.judge.Goals as goal

@@ -1,17 +1,14 @@
 -- `strict::matches` meets its contract. The invariant: the text matches exactly where it can be read to its end from `at`, at which a command is due.
 -- The measure is what is left of the text; a command has a byte, so it falls. Assumes nothing.
 use Prim.Native.Nat.{ℕ, ◌-◌, ◌≤◌, ◌<◌}
-use mathlib.Core.Path.{◌≡◌, refl}
+use mathlib.Core.Path.{refl}
 use native.Mathlib.Omega.{arith}
-use borrow.Author.Rules.{rules}
 use borrow.Author.Tests.{eqb-true, eq-eqb}
-use lib.ListN.{length}
 use Rattle.scan.proofs.ByteLaws.{clash}
-use Rattle.strict_grammar.specs.Grammar.{Matches}
 use Rattle.strict_grammar.specs.Words.{Goes}
 use Rattle.strict.specs.Commands.{Command}
 use Rattle.strict.proofs.CommandLaws.{command-grows, ends-past, missing-lacks}
-use Rattle.strict.proofs.Rests.{Rest, ended, set_out, goes-forth, goes_back, gap-onward, no_second, no_more, at-end}
+use Rattle.strict.proofs.Rests.{ended, set_out, goes-forth, goes_back, gap-onward, no_second, no_more, at-end}
 use Rattle.strict.proofs.texts.matches.Goals as goal
 
 falls : (n i j k : ℕ) → i < n → i < j → j ≤ k → n - k < n - i
@@ -37,8 +34,7 @@ loop-at-smaller c =
 
 pub loop-at-preserved : goal.loop-at-preserved
 loop-at-preserved c =
-    let one = ends-past (Command c.args.edition c.args.text.now c.loop-at.begun) (Goes c.args.edition c.args.text.now) _ _ c.read_command-end.ensures c.if-end.false in
-    (
+    let one = ends-past (Command c.args.edition c.args.text.now c.loop-at.begun) (Goes c.args.edition c.args.text.now) _ _ c.read_command-end.ensures c.if-end.false in (
       λ m. goes-forth c.args.edition c.args.text.now _ _ _ _ _ c.loop-at-test.true one c.past_gap-at.ensures (c.loop-at.invariant.0 m),
       λ r. c.loop-at.invariant.1 (goes_back c.args.edition c.args.text.now _ c.loop-at.begun _ _ _ c.if-alone-begun.false one c.past_gap-at.ensures r),
     )

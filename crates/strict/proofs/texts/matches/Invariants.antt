@@ -1,17 +1,9 @@
 -- `strict::matches` meets its contract. The invariant: the text matches exactly where it can be read to its end from `at`, at which a command is due.
 -- The measure is what is left of the text; a command has a byte, so it falls. Assumes nothing.
-use Prim.Native.Nat.{ℕ, ◌-◌, ◌≤◌, ◌<◌}
-use mathlib.Core.Path.{◌≡◌, refl}
-use native.Mathlib.Omega.{arith}
-use borrow.Author.Rules.{rules}
-use borrow.Author.Tests.{eqb-true, eq-eqb}
+use Prim.Native.Nat.{◌-◌}
 use lib.ListN.{length}
-use Rattle.scan.proofs.ByteLaws.{clash}
 use Rattle.strict_grammar.specs.Grammar.{Matches}
-use Rattle.strict_grammar.specs.Words.{Goes}
-use Rattle.strict.specs.Commands.{Command}
-use Rattle.strict.proofs.CommandLaws.{command-grows, ends-past, missing-lacks}
-use Rattle.strict.proofs.Rests.{Rest, ended, set_out, goes-forth, goes_back, gap-onward, no_second, no_more, at-end}
+use Rattle.strict.proofs.Rests.{Rest}
 use Rattle.strict.proofs.texts.matches.Given as goal
 
 abbrev pub invariant-loop-at : goal.invariant-loop-at

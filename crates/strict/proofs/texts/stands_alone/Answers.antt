@@ -1,6 +1,5 @@
 -- `strict::stands_alone` meets its contract, edition by edition. Assumes nothing.
 use mathlib.Core.Path.{refl}
-use borrow.Author.Rules.{rules}
 use Rattle.strict.proofs.texts.stands_alone.Goals as goal
 
 pub returns-in-Svg11 : goal.returns-in-Svg11

@@ -1,6 +1,5 @@
 -- `strict::strict` meets its contract: each known number is an edition's, and any other is refused. Assumes nothing.
 use mathlib.Core.Path.{refl}
-use native.Mathlib.Omega.{arith}
 use borrow.Author.Rules.{rules}
 use Rattle.strict_grammar.specs.declared.Edition.TheVariants.{Svg11, Svg2}
 use Rattle.strict.specs.Verdicts.{known, unknown}
