@@ -25,7 +25,7 @@ use Rattle.path_marks.specs.Marks.{Marks, Leap}
 use Rattle.path_query.specs.Flights.{flown_of, flight_of, Flyable}
 use Rattle.path_query.proofs.Answering.{flight-some, flight-none}
 use Rattle.path_query.proofs.Seats.{some-place}
-use Rattle.path_batch.specs.Batches.{each, segments_for, raws_for, numbers_of, numbers_for}
+use Rattle.path_batch.specs.Batches.{each, found_for, segments_for, raws_for, numbers_of, numbers_for}
 
 -- ---- the cursor between two progresses
 
@@ -94,6 +94,12 @@ unfolding each
 each_at f d rest [] k inside = absurd (omega arith)
 each_at f d rest (p ∷ ps) zero inside = refl
 each_at f d rest (p ∷ ps) (suc k) inside = each_at f d rest ps k (omega arith)
+
+-- the segment that was found for a progress
+pub segment-found : (lengths progresses : List Float) (before segments : List ℕ) (k : ℕ) {segment : ℕ} → k < length progresses → segments ≡ written (found_for lengths progresses) before
+    → segment ≡ get_or segments k 0 → segment ≡ (spot_of lengths (get_or progresses k nan)).segment
+segment-found lengths progresses before segments k more found e =
+    e ∙ ap (λ (xs : List ℕ). get_or xs k 0) found ∙ each_at (λ p. (spot_of lengths p).segment) 0 _ progresses k more
 
 pub each-filled : {A : Type 0} (f : Float → A) (ps : List Float) (before : List A) → length ps ≤ length before → length (written (each f ps) before) ≡ length before
 each-filled f ps before room = let n = each-length f ps in length-written (each f ps) before (omega arith)

@@ -23,7 +23,7 @@ use Rattle.path_query.specs.Flights.{flight_of, flown_within}
 use Rattle.path_query.proofs.Seats.{some-place, seated, flight-is}
 use Rattle.path_query.proofs.Answering.{flight-some}
 use Rattle.path_batch.specs.Batches.{each, segments_for, raws_for, found_for, numbers_of, numbers_for}
-use Rattle.path_batch.proofs.Filling.{Looking, looking-first, looking-next, among, looking-moves, looking-leaps, each-size, each_next, each_at, each-filled, each-equal, numbers-size, numbers-next, segment-there}
+use Rattle.path_batch.proofs.Filling.{Looking, looking-first, looking-next, among, looking-moves, looking-leaps, each-size, each_next, segment-found, each-filled, each-equal, numbers-size, numbers-next, segment-there}
 use Rattle.path_batch.proofs.batches.fill_flights.Goals as goal
 use Rattle.path_batch.proofs.batches.fill_flights.Goals.{then-is_step_on, else-is_step_on, then-is_near, else-is_near}
 
@@ -67,41 +67,50 @@ bounds-progresses-k c =
 pub along-local-requires : goal.along-local-requires
 along-local-requires c =
     let more : c.loop-k.k < length c.args.progresses.now = omega (arith, c.loop-k-test.true) in
-    let segment_is : c.wide-segment.result ≡ (spot_of c.args.lengths.now (get_or c.args.progresses.now c.loop-k.k nan)).segment = c.wide-segment.ensures ∙ ap (λ (xs : List _). get_or xs c.loop-k.k 0) c.fill_segments.ensures ∙ each_at (λ p. (spot_of c.args.lengths.now p).segment) 0 _ c.args.progresses.now c.loop-k.k more in
+    let segment_is = segment-found c.args.lengths.now c.args.progresses.now _ _ c.loop-k.k more c.fill_segments.ensures c.wide-segment.ensures in
     record { sound_path = some-path (some-place c.requires.places.path); segment_value = segment_is }
 
 pub marked-shift-requires : goal.marked-shift-requires
 marked-shift-requires c =
     let more : c.loop-k.k < length c.args.progresses.now = omega (arith, c.loop-k-test.true) in
-    let segment_is : c.wide-segment.result ≡ (spot_of c.args.lengths.now (get_or c.args.progresses.now c.loop-k.k nan)).segment = c.wide-segment.ensures ∙ ap (λ (xs : List _). get_or xs c.loop-k.k 0) c.fill_segments.ensures ∙ each_at (λ p. (spot_of c.args.lengths.now p).segment) 0 _ c.args.progresses.now c.loop-k.k more in
+    let segment_is = segment-found c.args.lengths.now c.args.progresses.now _ _ c.loop-k.k more c.fill_segments.ensures c.wide-segment.ensures in
     looking-leaps c.requires.places.path c.loop-k.invariant.0 (get_or c.args.progresses.now c.loop-k.k nan) segment_is c.loop-k.invariant.2
 
 pub nearest-start-requires : goal.nearest-start-requires
 nearest-start-requires c =
     let more : c.loop-k.k < length c.args.progresses.now = omega (arith, c.loop-k-test.true) in
-    let segment_is : c.wide-segment.result ≡ (spot_of c.args.lengths.now (get_or c.args.progresses.now c.loop-k.k nan)).segment = c.wide-segment.ensures ∙ ap (λ (xs : List _). get_or xs c.loop-k.k 0) c.fill_segments.ensures ∙ each_at (λ p. (spot_of c.args.lengths.now p).segment) 0 _ c.args.progresses.now c.loop-k.k more in
+    let segment_is = segment-found c.args.lengths.now c.args.progresses.now _ _ c.loop-k.k more c.fill_segments.ensures c.wide-segment.ensures in
     looking-leaps c.requires.places.path c.loop-k.invariant.0 (get_or c.args.progresses.now c.loop-k.k nan) segment_is c.marked-shift.ensures
 
 pub reached-here-requires : goal.reached-here-requires
 reached-here-requires c =
     let more : c.loop-k.k < length c.args.progresses.now = omega (arith, c.loop-k-test.true) in
-    let segment_is : c.wide-segment.result ≡ (spot_of c.args.lengths.now (get_or c.args.progresses.now c.loop-k.k nan)).segment = c.wide-segment.ensures ∙ ap (λ (xs : List _). get_or xs c.loop-k.k 0) c.fill_segments.ensures ∙ each_at (λ p. (spot_of c.args.lengths.now p).segment) 0 _ c.args.progresses.now c.loop-k.k more in
-    let ready : let kinds = c.args.kinds.now in Moving kinds c.if-is_step_on.start c.wide-segment.result × Marks kinds c.if-is_step_on.shift c.if-is_step_on.field_marks c.if-is_step_on.table_marks = let kinds = c.args.kinds.now in elim c.if-is_step_on.branch [ then-is_step_on w ↦ (subst (λ (cursor : Cursor). Moving kinds cursor c.wide-segment.result) (sym w.start-is) (looking-moves c.requires.places.path c.loop-k.invariant.0 (get_or c.args.progresses.now c.loop-k.k nan) segment_is), marks-same w.shift-is w.field_marks-is w.table_marks-is c.loop-k.invariant.2) | else-is_step_on w ↦ (subst (λ (cursor : Cursor). Moving kinds cursor c.wide-segment.result) (sym w.start-is) w.nearest-start.ensures, marks-same w.shift-is w.field_marks-is w.table_marks-is w.marked-shift.ensures) ] in
-    record { move = ready.0; short = c.is_near.ensures c.if-is_near.true; known = c.requires.places.path.path.known }
+    let segment_is = segment-found c.args.lengths.now c.args.progresses.now _ _ c.loop-k.k more c.fill_segments.ensures c.wide-segment.ensures in
+    let moves : Moving c.args.kinds.now c.if-is_step_on.start c.wide-segment.result =
+    elim c.if-is_step_on.branch [
+      | then-is_step_on w ↦ subst (λ (cursor : Cursor). Moving c.args.kinds.now cursor c.wide-segment.result) (sym w.start-is) (looking-moves c.requires.places.path c.loop-k.invariant.0 (get_or c.args.progresses.now c.loop-k.k nan) segment_is)
+      | else-is_step_on w ↦ subst (λ (cursor : Cursor). Moving c.args.kinds.now cursor c.wide-segment.result) (sym w.start-is) w.nearest-start.ensures
+    ] in
+    record { move = moves; short = c.is_near.ensures c.if-is_near.true; known = c.requires.places.path.path.known }
 
 pub moved-here-requires : goal.moved-here-requires
 moved-here-requires c =
     let more : c.loop-k.k < length c.args.progresses.now = omega (arith, c.loop-k-test.true) in
-    let segment_is : c.wide-segment.result ≡ (spot_of c.args.lengths.now (get_or c.args.progresses.now c.loop-k.k nan)).segment = c.wide-segment.ensures ∙ ap (λ (xs : List _). get_or xs c.loop-k.k 0) c.fill_segments.ensures ∙ each_at (λ p. (spot_of c.args.lengths.now p).segment) 0 _ c.args.progresses.now c.loop-k.k more in
-    let ready : let kinds = c.args.kinds.now in Moving kinds c.if-is_step_on.start c.wide-segment.result × Marks kinds c.if-is_step_on.shift c.if-is_step_on.field_marks c.if-is_step_on.table_marks = let kinds = c.args.kinds.now in elim c.if-is_step_on.branch [ then-is_step_on w ↦ (subst (λ (cursor : Cursor). Moving kinds cursor c.wide-segment.result) (sym w.start-is) (looking-moves c.requires.places.path c.loop-k.invariant.0 (get_or c.args.progresses.now c.loop-k.k nan) segment_is), marks-same w.shift-is w.field_marks-is w.table_marks-is c.loop-k.invariant.2) | else-is_step_on w ↦ (subst (λ (cursor : Cursor). Moving kinds cursor c.wide-segment.result) (sym w.start-is) w.nearest-start.ensures, marks-same w.shift-is w.field_marks-is w.table_marks-is w.marked-shift.ensures) ] in
-    ready.0
+    let segment_is = segment-found c.args.lengths.now c.args.progresses.now _ _ c.loop-k.k more c.fill_segments.ensures c.wide-segment.ensures in
+    let moves : Moving c.args.kinds.now c.if-is_step_on.start c.wide-segment.result =
+    elim c.if-is_step_on.branch [
+      | then-is_step_on w ↦ subst (λ (cursor : Cursor). Moving c.args.kinds.now cursor c.wide-segment.result) (sym w.start-is) (looking-moves c.requires.places.path c.loop-k.invariant.0 (get_or c.args.progresses.now c.loop-k.k nan) segment_is)
+      | else-is_step_on w ↦ subst (λ (cursor : Cursor). Moving c.args.kinds.now cursor c.wide-segment.result) (sym w.start-is) w.nearest-start.ensures
+    ] in
+    moves
 
 pub flown_within-there-requires : goal.flown_within-there-requires
 flown_within-there-requires c =
     let more : c.loop-k.k < length c.args.progresses.now = omega (arith, c.loop-k-test.true) in
-    let segment_is : c.wide-segment.result ≡ (spot_of c.args.lengths.now (get_or c.args.progresses.now c.loop-k.k nan)).segment = c.wide-segment.ensures ∙ ap (λ (xs : List _). get_or xs c.loop-k.k 0) c.fill_segments.ensures ∙ each_at (λ p. (spot_of c.args.lengths.now p).segment) 0 _ c.args.progresses.now c.loop-k.k more in
+    let segment_is = segment-found c.args.lengths.now c.args.progresses.now _ _ c.loop-k.k more c.fill_segments.ensures c.wide-segment.ensures in
     let within : c.wide-segment.result < length c.args.kinds.now = among c.requires.places.path c.loop-k.invariant.0 (get_or c.args.progresses.now c.loop-k.k nan) segment_is in
-    let landed : c.if-is_near.here ≡ cursor_of c.args.kinds.now c.wide-segment.result = elim c.if-is_near.branch [ then-is_near w ↦ w.here-is ∙ w.reached-here.ensures | else-is_near w ↦ w.here-is ∙ w.moved-here.ensures ] in
+    let landed : c.if-is_near.here ≡ cursor_of c.args.kinds.now c.wide-segment.result =
+    elim c.if-is_near.branch [ then-is_near w ↦ w.here-is ∙ w.reached-here.ensures | else-is_near w ↦ w.here-is ∙ w.moved-here.ensures ] in
     seated c.requires.places.path landed within
 
 pub offset_bounds-raws-k : goal.offset_bounds-raws-k
@@ -144,10 +153,15 @@ pub loop-k-preserved : goal.loop-k-preserved
 loop-k-preserved c =
     let p = get_or c.args.progresses.now c.loop-k.k nan in
     let more : c.loop-k.k < length c.args.progresses.now = omega (arith, c.loop-k-test.true) in
-    let segment_is : c.wide-segment.result ≡ (spot_of c.args.lengths.now (get_or c.args.progresses.now c.loop-k.k nan)).segment = c.wide-segment.ensures ∙ ap (λ (xs : List _). get_or xs c.loop-k.k 0) c.fill_segments.ensures ∙ each_at (λ p. (spot_of c.args.lengths.now p).segment) 0 _ c.args.progresses.now c.loop-k.k more in
+    let segment_is = segment-found c.args.lengths.now c.args.progresses.now _ _ c.loop-k.k more c.fill_segments.ensures c.wide-segment.ensures in
     let within : c.wide-segment.result < length c.args.kinds.now = among c.requires.places.path c.loop-k.invariant.0 (get_or c.args.progresses.now c.loop-k.k nan) segment_is in
-    let ready : let kinds = c.args.kinds.now in Moving kinds c.if-is_step_on.start c.wide-segment.result × Marks kinds c.if-is_step_on.shift c.if-is_step_on.field_marks c.if-is_step_on.table_marks = let kinds = c.args.kinds.now in elim c.if-is_step_on.branch [ then-is_step_on w ↦ (subst (λ (cursor : Cursor). Moving kinds cursor c.wide-segment.result) (sym w.start-is) (looking-moves c.requires.places.path c.loop-k.invariant.0 (get_or c.args.progresses.now c.loop-k.k nan) segment_is), marks-same w.shift-is w.field_marks-is w.table_marks-is c.loop-k.invariant.2) | else-is_step_on w ↦ (subst (λ (cursor : Cursor). Moving kinds cursor c.wide-segment.result) (sym w.start-is) w.nearest-start.ensures, marks-same w.shift-is w.field_marks-is w.table_marks-is w.marked-shift.ensures) ] in
-    let landed : c.if-is_near.here ≡ cursor_of c.args.kinds.now c.wide-segment.result = elim c.if-is_near.branch [ then-is_near w ↦ w.here-is ∙ w.reached-here.ensures | else-is_near w ↦ w.here-is ∙ w.moved-here.ensures ] in
+    let marks : Marks c.args.kinds.now c.if-is_step_on.shift c.if-is_step_on.field_marks c.if-is_step_on.table_marks =
+    elim c.if-is_step_on.branch [
+      | then-is_step_on w ↦ marks-same w.shift-is w.field_marks-is w.table_marks-is c.loop-k.invariant.2
+      | else-is_step_on w ↦ marks-same w.shift-is w.field_marks-is w.table_marks-is w.marked-shift.ensures
+    ] in
+    let landed : c.if-is_near.here ≡ cursor_of c.args.kinds.now c.wide-segment.result =
+    elim c.if-is_near.branch [ then-is_near w ↦ w.here-is ∙ w.reached-here.ensures | else-is_near w ↦ w.here-is ∙ w.moved-here.ensures ] in
     let landed_there : c.if-is_near.here ≡ cursor_of c.args.kinds.now (spot_of c.args.lengths.now p).segment = landed ∙ ap (cursor_of c.args.kinds.now) segment_is in
     let along_is : c.along-local.result.value ≡ (spot_of c.args.lengths.now p).progress.value = ap (λ (local : Progress). local.value) c.along-local.ensures in
     let path = lent c.args.kinds c.args.fields c.args.tables c.args.lengths c.args.commands in
@@ -160,7 +174,7 @@ loop-k-preserved c =
       looking-next c.if-is_near.here c.wide-segment.result landed within more,
       each_next raw_of c.args.progresses.now _ c.loop-k.raws c.loop-k.k _ more c.requires.places.raws_room c.loop-k.invariant.1
           (c.tidy.ensures ∙ c.number_of.ensures ∙ ap (λ (flight : Flight). flight.raw.value) flown),
-      ready.1,
+      marks,
       c.put_numbers.ensures
           ∙ numbers-next path c.args.progresses.now c.args.out.now c.loop-k.out c.loop-k.k _ more c.requires.out_room c.loop-k.invariant.3 (ap numbers_of flown),
     )

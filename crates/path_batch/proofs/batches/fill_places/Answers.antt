@@ -22,7 +22,7 @@ use Rattle.path_marks.proofs.Marking.{marks-none, marks-same}
 use Rattle.path_query.specs.Flights.{flight_of}
 use Rattle.path_query.proofs.Seats.{some-place}
 use Rattle.path_batch.specs.Batches.{each, segments_for, raws_for, found_for}
-use Rattle.path_batch.proofs.Filling.{Looking, looking-first, looking-next, among, looking-moves, looking-leaps, each-size, each_next, each_at, each-filled, each-equal, segment-there, raw-there}
+use Rattle.path_batch.proofs.Filling.{Looking, looking-first, looking-next, among, looking-moves, looking-leaps, each-size, each_next, segment-found, each-filled, each-equal, segment-there, raw-there}
 use Rattle.path_batch.proofs.batches.fill_places.Goals as goal
 use Rattle.path_batch.proofs.batches.fill_places.Goals.{then-is_step_on, else-is_step_on, then-is_near, else-is_near}
 
@@ -66,41 +66,50 @@ bounds-progresses-i c =
 pub along-local-requires : goal.along-local-requires
 along-local-requires c =
     let more : c.loop-i.i < length c.args.progresses.now = omega (arith, c.loop-i-test.true) in
-    let segment_is : c.wide-segment.result ≡ (spot_of c.args.lengths.now (get_or c.args.progresses.now c.loop-i.i nan)).segment = c.wide-segment.ensures ∙ ap (λ (xs : List _). get_or xs c.loop-i.i 0) c.fill_segments.ensures ∙ each_at (λ p. (spot_of c.args.lengths.now p).segment) 0 _ c.args.progresses.now c.loop-i.i more in
+    let segment_is = segment-found c.args.lengths.now c.args.progresses.now _ _ c.loop-i.i more c.fill_segments.ensures c.wide-segment.ensures in
     record { sound_path = some-path (some-place c.requires.path); segment_value = segment_is }
 
 pub marked-shift-requires : goal.marked-shift-requires
 marked-shift-requires c =
     let more : c.loop-i.i < length c.args.progresses.now = omega (arith, c.loop-i-test.true) in
-    let segment_is : c.wide-segment.result ≡ (spot_of c.args.lengths.now (get_or c.args.progresses.now c.loop-i.i nan)).segment = c.wide-segment.ensures ∙ ap (λ (xs : List _). get_or xs c.loop-i.i 0) c.fill_segments.ensures ∙ each_at (λ p. (spot_of c.args.lengths.now p).segment) 0 _ c.args.progresses.now c.loop-i.i more in
+    let segment_is = segment-found c.args.lengths.now c.args.progresses.now _ _ c.loop-i.i more c.fill_segments.ensures c.wide-segment.ensures in
     looking-leaps c.requires.path c.loop-i.invariant.0 (get_or c.args.progresses.now c.loop-i.i nan) segment_is c.loop-i.invariant.2
 
 pub nearest-start-requires : goal.nearest-start-requires
 nearest-start-requires c =
     let more : c.loop-i.i < length c.args.progresses.now = omega (arith, c.loop-i-test.true) in
-    let segment_is : c.wide-segment.result ≡ (spot_of c.args.lengths.now (get_or c.args.progresses.now c.loop-i.i nan)).segment = c.wide-segment.ensures ∙ ap (λ (xs : List _). get_or xs c.loop-i.i 0) c.fill_segments.ensures ∙ each_at (λ p. (spot_of c.args.lengths.now p).segment) 0 _ c.args.progresses.now c.loop-i.i more in
+    let segment_is = segment-found c.args.lengths.now c.args.progresses.now _ _ c.loop-i.i more c.fill_segments.ensures c.wide-segment.ensures in
     looking-leaps c.requires.path c.loop-i.invariant.0 (get_or c.args.progresses.now c.loop-i.i nan) segment_is c.marked-shift.ensures
 
 pub reached-here-requires : goal.reached-here-requires
 reached-here-requires c =
     let more : c.loop-i.i < length c.args.progresses.now = omega (arith, c.loop-i-test.true) in
-    let segment_is : c.wide-segment.result ≡ (spot_of c.args.lengths.now (get_or c.args.progresses.now c.loop-i.i nan)).segment = c.wide-segment.ensures ∙ ap (λ (xs : List _). get_or xs c.loop-i.i 0) c.fill_segments.ensures ∙ each_at (λ p. (spot_of c.args.lengths.now p).segment) 0 _ c.args.progresses.now c.loop-i.i more in
-    let ready : let kinds = c.args.kinds.now in Moving kinds c.if-is_step_on.start c.wide-segment.result × Marks kinds c.if-is_step_on.shift c.if-is_step_on.field_marks c.if-is_step_on.table_marks = let kinds = c.args.kinds.now in elim c.if-is_step_on.branch [ then-is_step_on w ↦ (subst (λ (cursor : Cursor). Moving kinds cursor c.wide-segment.result) (sym w.start-is) (looking-moves c.requires.path c.loop-i.invariant.0 (get_or c.args.progresses.now c.loop-i.i nan) segment_is), marks-same w.shift-is w.field_marks-is w.table_marks-is c.loop-i.invariant.2) | else-is_step_on w ↦ (subst (λ (cursor : Cursor). Moving kinds cursor c.wide-segment.result) (sym w.start-is) w.nearest-start.ensures, marks-same w.shift-is w.field_marks-is w.table_marks-is w.marked-shift.ensures) ] in
-    record { move = ready.0; short = c.is_near.ensures c.if-is_near.true; known = c.requires.path.path.known }
+    let segment_is = segment-found c.args.lengths.now c.args.progresses.now _ _ c.loop-i.i more c.fill_segments.ensures c.wide-segment.ensures in
+    let moves : Moving c.args.kinds.now c.if-is_step_on.start c.wide-segment.result =
+    elim c.if-is_step_on.branch [
+      | then-is_step_on w ↦ subst (λ (cursor : Cursor). Moving c.args.kinds.now cursor c.wide-segment.result) (sym w.start-is) (looking-moves c.requires.path c.loop-i.invariant.0 (get_or c.args.progresses.now c.loop-i.i nan) segment_is)
+      | else-is_step_on w ↦ subst (λ (cursor : Cursor). Moving c.args.kinds.now cursor c.wide-segment.result) (sym w.start-is) w.nearest-start.ensures
+    ] in
+    record { move = moves; short = c.is_near.ensures c.if-is_near.true; known = c.requires.path.path.known }
 
 pub moved-here-requires : goal.moved-here-requires
 moved-here-requires c =
     let more : c.loop-i.i < length c.args.progresses.now = omega (arith, c.loop-i-test.true) in
-    let segment_is : c.wide-segment.result ≡ (spot_of c.args.lengths.now (get_or c.args.progresses.now c.loop-i.i nan)).segment = c.wide-segment.ensures ∙ ap (λ (xs : List _). get_or xs c.loop-i.i 0) c.fill_segments.ensures ∙ each_at (λ p. (spot_of c.args.lengths.now p).segment) 0 _ c.args.progresses.now c.loop-i.i more in
-    let ready : let kinds = c.args.kinds.now in Moving kinds c.if-is_step_on.start c.wide-segment.result × Marks kinds c.if-is_step_on.shift c.if-is_step_on.field_marks c.if-is_step_on.table_marks = let kinds = c.args.kinds.now in elim c.if-is_step_on.branch [ then-is_step_on w ↦ (subst (λ (cursor : Cursor). Moving kinds cursor c.wide-segment.result) (sym w.start-is) (looking-moves c.requires.path c.loop-i.invariant.0 (get_or c.args.progresses.now c.loop-i.i nan) segment_is), marks-same w.shift-is w.field_marks-is w.table_marks-is c.loop-i.invariant.2) | else-is_step_on w ↦ (subst (λ (cursor : Cursor). Moving kinds cursor c.wide-segment.result) (sym w.start-is) w.nearest-start.ensures, marks-same w.shift-is w.field_marks-is w.table_marks-is w.marked-shift.ensures) ] in
-    ready.0
+    let segment_is = segment-found c.args.lengths.now c.args.progresses.now _ _ c.loop-i.i more c.fill_segments.ensures c.wide-segment.ensures in
+    let moves : Moving c.args.kinds.now c.if-is_step_on.start c.wide-segment.result =
+    elim c.if-is_step_on.branch [
+      | then-is_step_on w ↦ subst (λ (cursor : Cursor). Moving c.args.kinds.now cursor c.wide-segment.result) (sym w.start-is) (looking-moves c.requires.path c.loop-i.invariant.0 (get_or c.args.progresses.now c.loop-i.i nan) segment_is)
+      | else-is_step_on w ↦ subst (λ (cursor : Cursor). Moving c.args.kinds.now cursor c.wide-segment.result) (sym w.start-is) w.nearest-start.ensures
+    ] in
+    moves
 
 pub raw_within-raw-requires : goal.raw_within-raw-requires
 raw_within-raw-requires c =
     let more : c.loop-i.i < length c.args.progresses.now = omega (arith, c.loop-i-test.true) in
-    let segment_is : c.wide-segment.result ≡ (spot_of c.args.lengths.now (get_or c.args.progresses.now c.loop-i.i nan)).segment = c.wide-segment.ensures ∙ ap (λ (xs : List _). get_or xs c.loop-i.i 0) c.fill_segments.ensures ∙ each_at (λ p. (spot_of c.args.lengths.now p).segment) 0 _ c.args.progresses.now c.loop-i.i more in
+    let segment_is = segment-found c.args.lengths.now c.args.progresses.now _ _ c.loop-i.i more c.fill_segments.ensures c.wide-segment.ensures in
     let within : c.wide-segment.result < length c.args.kinds.now = among c.requires.path c.loop-i.invariant.0 (get_or c.args.progresses.now c.loop-i.i nan) segment_is in
-    let landed : c.if-is_near.here ≡ cursor_of c.args.kinds.now c.wide-segment.result = elim c.if-is_near.branch [ then-is_near w ↦ w.here-is ∙ w.reached-here.ensures | else-is_near w ↦ w.here-is ∙ w.moved-here.ensures ] in
+    let landed : c.if-is_near.here ≡ cursor_of c.args.kinds.now c.wide-segment.result =
+    elim c.if-is_near.branch [ then-is_near w ↦ w.here-is ∙ w.reached-here.ensures | else-is_near w ↦ w.here-is ∙ w.moved-here.ensures ] in
     standing (some-place c.requires.path) landed within
 
 pub offset_bounds-raws-i : goal.offset_bounds-raws-i
@@ -131,10 +140,15 @@ pub loop-i-preserved : goal.loop-i-preserved
 loop-i-preserved c =
     let p = get_or c.args.progresses.now c.loop-i.i nan in
     let more : c.loop-i.i < length c.args.progresses.now = omega (arith, c.loop-i-test.true) in
-    let segment_is : c.wide-segment.result ≡ (spot_of c.args.lengths.now (get_or c.args.progresses.now c.loop-i.i nan)).segment = c.wide-segment.ensures ∙ ap (λ (xs : List _). get_or xs c.loop-i.i 0) c.fill_segments.ensures ∙ each_at (λ p. (spot_of c.args.lengths.now p).segment) 0 _ c.args.progresses.now c.loop-i.i more in
+    let segment_is = segment-found c.args.lengths.now c.args.progresses.now _ _ c.loop-i.i more c.fill_segments.ensures c.wide-segment.ensures in
     let within : c.wide-segment.result < length c.args.kinds.now = among c.requires.path c.loop-i.invariant.0 (get_or c.args.progresses.now c.loop-i.i nan) segment_is in
-    let ready : let kinds = c.args.kinds.now in Moving kinds c.if-is_step_on.start c.wide-segment.result × Marks kinds c.if-is_step_on.shift c.if-is_step_on.field_marks c.if-is_step_on.table_marks = let kinds = c.args.kinds.now in elim c.if-is_step_on.branch [ then-is_step_on w ↦ (subst (λ (cursor : Cursor). Moving kinds cursor c.wide-segment.result) (sym w.start-is) (looking-moves c.requires.path c.loop-i.invariant.0 (get_or c.args.progresses.now c.loop-i.i nan) segment_is), marks-same w.shift-is w.field_marks-is w.table_marks-is c.loop-i.invariant.2) | else-is_step_on w ↦ (subst (λ (cursor : Cursor). Moving kinds cursor c.wide-segment.result) (sym w.start-is) w.nearest-start.ensures, marks-same w.shift-is w.field_marks-is w.table_marks-is w.marked-shift.ensures) ] in
-    let landed : c.if-is_near.here ≡ cursor_of c.args.kinds.now c.wide-segment.result = elim c.if-is_near.branch [ then-is_near w ↦ w.here-is ∙ w.reached-here.ensures | else-is_near w ↦ w.here-is ∙ w.moved-here.ensures ] in
+    let marks : Marks c.args.kinds.now c.if-is_step_on.shift c.if-is_step_on.field_marks c.if-is_step_on.table_marks =
+    elim c.if-is_step_on.branch [
+      | then-is_step_on w ↦ marks-same w.shift-is w.field_marks-is w.table_marks-is c.loop-i.invariant.2
+      | else-is_step_on w ↦ marks-same w.shift-is w.field_marks-is w.table_marks-is w.marked-shift.ensures
+    ] in
+    let landed : c.if-is_near.here ≡ cursor_of c.args.kinds.now c.wide-segment.result =
+    elim c.if-is_near.branch [ then-is_near w ↦ w.here-is ∙ w.reached-here.ensures | else-is_near w ↦ w.here-is ∙ w.moved-here.ensures ] in
     let landed_there : c.if-is_near.here ≡ cursor_of c.args.kinds.now (spot_of c.args.lengths.now p).segment = landed ∙ ap (cursor_of c.args.kinds.now) segment_is in
     let along_is : c.along-local.result.value ≡ (spot_of c.args.lengths.now p).progress.value = ap (λ (local : Progress). local.value) c.along-local.ensures in
     let path = lent c.args.kinds c.args.fields c.args.tables c.args.lengths c.args.commands in
@@ -144,7 +158,7 @@ loop-i-preserved c =
       looking-next c.if-is_near.here c.wide-segment.result landed within more,
       each_next raw_of c.args.progresses.now _ c.loop-i.raws c.loop-i.i _ more c.requires.raws_room c.loop-i.invariant.1
           (c.tidy.ensures ∙ c.number_of.ensures ∙ raw-there path p c.requires.path.some pair),
-      ready.1,
+      marks,
     )
 
 pub shape_of-segments : goal.shape_of-segments
