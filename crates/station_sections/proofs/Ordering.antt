@@ -145,6 +145,7 @@ module _ {b : Buffers} (f : F32Stored b) (some : 0 < length b.kinds) (long : T (
       }
 
   pub stations-enclosed : (n : ℕ) → 2 ≤ n → n ≤ 1000 → EnclosedStations b n
+  unfolding stations-ordered place_in
   stations-enclosed n least most =
       let demand = demand-3 f some long in
       record {

@@ -21,10 +21,16 @@ overflow_add-held c = record { fits = let b = (let bounds_here : Bounds c.args.w
 
 pub returns-then-count-lt8 : goal.returns-then-count-lt8
 returns-then-count-lt8 c =
-    record { takes = (let taken_here : Takes c.args.text.now c.args.from c.args.w (c.args.from + c.run_at-run.result.count) (c.args.w * c.power.result + c.run_at-run.result.value) = subst (λ (p : ℕ). Takes c.args.text.now c.args.from c.args.w (c.args.from + c.run_at-run.result.count) (c.args.w * p + c.run_at-run.result.value)) (sym c.power.ensures)
-    (takes_run c.args.text.now c.args.from ((let inside_here : c.args.from + 8 ≤ length c.args.text.now = c.has.ensures c.if-has.true in inside_here)) c.run_at-run.result.count c.run_at-run.ensures.count c.args.w c.run_at-run.result.value c.if-w-lt100000000000.true c.run_at-run.ensures.value) in taken_here); ended = λ small. run-ended _ _ ((let inside_here : c.args.from + 8 ≤ length c.args.text.now = c.has.ensures c.if-has.true in inside_here)) c.run_at-run.result.count c.run_at-run.ensures.count c.if-count-lt8.true }
+    record {
+      takes = (let taken_here : Takes c.args.text.now c.args.from c.args.w (c.args.from + c.run_at-run.result.count) (c.args.w * c.power.result + c.run_at-run.result.value) = subst (λ (p : ℕ). Takes c.args.text.now c.args.from c.args.w (c.args.from + c.run_at-run.result.count) (c.args.w * p + c.run_at-run.result.value)) (sym c.power.ensures)
+          (takes_run c.args.text.now c.args.from ((let inside_here : c.args.from + 8 ≤ length c.args.text.now = c.has.ensures c.if-has.true in inside_here)) c.run_at-run.result.count c.run_at-run.ensures.count c.args.w c.run_at-run.result.value c.if-w-lt100000000000.true c.run_at-run.ensures.value) in taken_here);
+      ended = λ small. run-ended _ _ ((let inside_here : c.args.from + 8 ≤ length c.args.text.now = c.has.ensures c.if-has.true in inside_here)) c.run_at-run.result.count c.run_at-run.ensures.count c.if-count-lt8.true;
+    }
 
 pub returns-then-has : goal.returns-then-has
 returns-then-has c =
-    record { takes = takes-on _ _ _ _ _ _ _ ((let taken_here : Takes c.args.text.now c.args.from c.args.w (c.args.from + c.run_at-run.result.count) (c.args.w * c.power.result + c.run_at-run.result.value) = subst (λ (p : ℕ). Takes c.args.text.now c.args.from c.args.w (c.args.from + c.run_at-run.result.count) (c.args.w * p + c.run_at-run.result.value)) (sym c.power.ensures)
-    (takes_run c.args.text.now c.args.from ((let inside_here : c.args.from + 8 ≤ length c.args.text.now = c.has.ensures c.if-has.true in inside_here)) c.run_at-run.result.count c.run_at-run.ensures.count c.args.w c.run_at-run.result.value c.if-w-lt100000000000.true c.run_at-run.ensures.value) in taken_here)) c.fill.ensures.takes; ended = c.fill.ensures.ended }
+    record {
+      takes = takes-on _ _ _ _ _ _ _ ((let taken_here : Takes c.args.text.now c.args.from c.args.w (c.args.from + c.run_at-run.result.count) (c.args.w * c.power.result + c.run_at-run.result.value) = subst (λ (p : ℕ). Takes c.args.text.now c.args.from c.args.w (c.args.from + c.run_at-run.result.count) (c.args.w * p + c.run_at-run.result.value)) (sym c.power.ensures)
+          (takes_run c.args.text.now c.args.from ((let inside_here : c.args.from + 8 ≤ length c.args.text.now = c.has.ensures c.if-has.true in inside_here)) c.run_at-run.result.count c.run_at-run.ensures.count c.args.w c.run_at-run.result.value c.if-w-lt100000000000.true c.run_at-run.ensures.value) in taken_here)) c.fill.ensures.takes;
+      ended = c.fill.ensures.ended;
+    }

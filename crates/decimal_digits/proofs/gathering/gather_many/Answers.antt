@@ -18,12 +18,16 @@ pub power-requires : goal.power-requires
 power-requires c = (run-bounds c.args.text.now c.loop-held.at 0 _ _ _ c.run_at-run.ensures.count c.run_at-run.ensures.value refl).few
 
 pub overflow_mul-held : goal.overflow_mul-held
-overflow_mul-held c = record { fits = let b = (let bounds_here : Bounds c.loop-held.held c.run_at-run.result.count c.power.result c.run_at-run.result.value = run-bounds c.args.text.now c.loop-held.at _ _ _ _
-    c.run_at-run.ensures.count c.run_at-run.ensures.value c.power.ensures in bounds_here) in omega (arith, b.product, c.loop-held-test.true) }
+overflow_mul-held c = record {
+  fits = let b = (let bounds_here : Bounds c.loop-held.held c.run_at-run.result.count c.power.result c.run_at-run.result.value = run-bounds c.args.text.now c.loop-held.at _ _ _ _
+      c.run_at-run.ensures.count c.run_at-run.ensures.value c.power.ensures in bounds_here) in omega (arith, b.product, c.loop-held-test.true);
+}
 
 pub overflow_add-held : goal.overflow_add-held
-overflow_add-held c = record { fits = let b = (let bounds_here : Bounds c.loop-held.held c.run_at-run.result.count c.power.result c.run_at-run.result.value = run-bounds c.args.text.now c.loop-held.at _ _ _ _
-    c.run_at-run.ensures.count c.run_at-run.ensures.value c.power.ensures in bounds_here) in omega (arith, b.product, b.value, c.loop-held-test.true) }
+overflow_add-held c = record {
+  fits = let b = (let bounds_here : Bounds c.loop-held.held c.run_at-run.result.count c.power.result c.run_at-run.result.value = run-bounds c.args.text.now c.loop-held.at _ _ _ _
+      c.run_at-run.ensures.count c.run_at-run.ensures.value c.power.ensures in bounds_here) in omega (arith, b.product, b.value, c.loop-held-test.true);
+}
 
 pub overflow_add-at : goal.overflow_add-at
 overflow_add-at c = let b = (let bounds_here : Bounds c.loop-held.held c.run_at-run.result.count c.power.result c.run_at-run.result.value = run-bounds c.args.text.now c.loop-held.at _ _ _ _

@@ -7,9 +7,9 @@ use Rattle.kihavute.proofs.decimals.kihavute_number.Goals as goal
 pub returns-then-text-gt65536 : goal.returns-then-text-gt65536
 returns-then-text-gt65536 c =
     let given = given-same _ _ (text-long c.args.text.now c.if-text-gt65536.true) c.refuse.ensures in
-    (given, number-kept c.args.text.now given)
+    record { given = given; number_kept_by = number-kept c.args.text.now given }
 
 pub returns : goal.returns
 returns c =
     let given = given-same _ _ (text-fits c.args.text.now c.if-text-gt65536.false) c.read.ensures in
-    (given, number-kept c.args.text.now given)
+    record { given = given; number_kept_by = number-kept c.args.text.now given }

@@ -8,4 +8,4 @@ use Rattle.kihavute.proofs.decimals.read.Goals as goal
 pub returns-then-end-gt0 : goal.returns-then-end-gt0
 returns-then-end-gt0 c =
     let quick = c.quick-end.ensures c.if-end-gt0.true in
-    given-same _ _ (read-given _ quick.value-1 _ _ (c.bits-bits.ensures ∙ rw quick.stored refl) (sym quick.is)) c.accept.ensures
+    given-same _ _ (read-given _ quick.value _ _ (c.bits-bits.ensures ∙ rw quick.stored refl) (sym quick.is)) c.accept.ensures

@@ -6,4 +6,4 @@ use Rattle.kihavute.proofs.Keeping.{root-settled}
 use Rattle.kihavute.proofs.numbers.kihavute_sqrt.Goals as goal
 
 pub returns : goal.returns
-returns c = let same = c.tidy.ensures ∙ c.sqrt.ensures in let settled = root-settled _ (passes _ c.well_formed.0.1) same in (same, settled.near, settled)
+returns c = let same = c.tidy.ensures ∙ c.sqrt.ensures in let settled = root-settled _ (passes _ c.well_formed.0.1) same in record { value = same; root_kept = settled.near; root_settled = settled }

@@ -6,4 +6,4 @@ use Rattle.kihavute.proofs.Keeping.{length-bits}
 use Rattle.kihavute.proofs.points.kihavute_length.Goals as goal
 
 pub returns : goal.returns
-returns c = let same = c.bits.ensures ∙ ap bits_of c.length.ensures in (same, length-bits _ _ same)
+returns c = let same = c.bits.ensures ∙ ap bits_of c.length.ensures in record { value = same; length_bits = length-bits _ _ same }

@@ -10,4 +10,4 @@ returns c =
     let same = c.tidy.ensures ∙ c.atan2.ensures in
     let rise = passes _ c.well_formed.0.1 in
     let run = passes _ c.well_formed.1.0.1 in
-    (same, atan2-kept _ _ rise run same, atan2-settled _ _ run same)
+    record { value = same; atan2_kept = atan2-kept _ _ rise run same; atan2_settled = atan2-settled _ _ run same }

@@ -5,4 +5,4 @@ use Rattle.kihavute.proofs.Keeping.{cosine-kept}
 use Rattle.kihavute.proofs.turns.kihavute_cos.Goals as goal
 
 pub returns : goal.returns
-returns c = (c.cos.ensures, cosine-kept _ (passes _ c.well_formed.0.1) c.cos.ensures)
+returns c = record { value = c.cos.ensures; cosine_kept = cosine-kept _ (passes _ c.well_formed.0.1) c.cos.ensures }

@@ -5,4 +5,4 @@ use Rattle.kihavute.proofs.Keeping.{sine-kept}
 use Rattle.kihavute.proofs.turns.kihavute_sin.Goals as goal
 
 pub returns : goal.returns
-returns c = (c.sin.ensures, sine-kept _ (passes _ c.well_formed.0.1) c.sin.ensures)
+returns c = record { value = c.sin.ensures; sine_kept = sine-kept _ (passes _ c.well_formed.0.1) c.sin.ensures }

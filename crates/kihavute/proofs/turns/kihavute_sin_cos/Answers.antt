@@ -11,9 +11,11 @@ use Rattle.kihavute.proofs.turns.kihavute_sin_cos.Goals as goal
 
 pub returns : goal.returns
 returns c =
-    let held = passes _ c.well_formed.0.1 in (
-      c.pair.ensures
+    let held = passes _ c.well_formed.0.1 in
+    record {
+      value =
+          c.pair.ensures
           ∙ ap (λ (x : Float). pair_of (point_of x c.sin_cos-both.result.sin)) c.sin_cos-both.ensures.1
-          ∙ ap (λ (y : Float). pair_of (point_of (cosine_of c.args.angle) y)) c.sin_cos-both.ensures.0,
-      (sine-kept c.args.angle held refl, cosine-kept c.args.angle held refl),
-    )
+          ∙ ap (λ (y : Float). pair_of (point_of (cosine_of c.args.angle) y)) c.sin_cos-both.ensures.0;
+      sine_kept = (sine-kept c.args.angle held refl, cosine-kept c.args.angle held refl);
+    }

@@ -13,11 +13,11 @@ arc_lone-requires c = arc-askable _ c.made-made.ensures (sym c.in-Accepted.is)
 pub returns-in-Accepted : goal.returns-in-Accepted
 returns-in-Accepted c =
     given-same _ _
-    (asked-given (λ (m : MadeArc). m.verdict-1) (λ (m : MadeArc). arc_lone m.arc c.args.progress) c.made-made.ensures _ (sym c.in-Accepted.is) c.arc_lone.ensures)
+    (asked-given (λ (m : MadeArc). m.verdict) (λ (m : MadeArc). arc_lone m.arc c.args.progress) c.made-made.ensures _ (sym c.in-Accepted.is) c.arc_lone.ensures)
     c.give_lone.ensures
 
 pub returns-in-Refused : goal.returns-in-Refused
 returns-in-Refused c =
     given-same _ _
-    (not-given (λ (m : MadeArc). m.verdict-1) (λ (m : MadeArc). arc_lone m.arc c.args.progress) c.made-made.ensures _ (sym c.in-Refused.is))
+    (not-given (λ (m : MadeArc). m.verdict) (λ (m : MadeArc). arc_lone m.arc c.args.progress) c.made-made.ensures _ (sym c.in-Refused.is))
     c.refuse.ensures

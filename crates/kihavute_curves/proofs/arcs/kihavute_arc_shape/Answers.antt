@@ -12,10 +12,10 @@ use Rattle.kihavute_curves.proofs.arcs.kihavute_arc_shape.Goals as goal
 
 pub returns-then-arc : goal.returns-then-arc
 returns-then-arc c =
-    filled-made (λ (m : MadeArc). m.verdict) (λ (m : MadeArc). fell_back m ∷ []) (λ (m : MadeArc). arc_numbers m.arc-1.shape) c.made-made.ensures
+    filled-made (λ (m : MadeArc). m.verdict) (λ (m : MadeArc). fell_back m ∷ []) (λ (m : MadeArc). arc_numbers m.arc.shape) c.made-made.ensures
     (ap (λ (b : Bool). cond b 1 0 ∷ []) (sym c.if-arc.true)) c.arc_numbers-numbers.ensures c.fill.ensures
 
 pub returns : goal.returns
 returns c =
-    filled-made (λ (m : MadeArc). m.verdict) (λ (m : MadeArc). fell_back m ∷ []) (λ (m : MadeArc). arc_numbers m.arc-1.shape) c.made-made.ensures
+    filled-made (λ (m : MadeArc). m.verdict) (λ (m : MadeArc). fell_back m ∷ []) (λ (m : MadeArc). arc_numbers m.arc.shape) c.made-made.ensures
     (ap (λ (b : Bool). cond b 1 0 ∷ []) (sym c.if-arc.false)) c.arc_numbers-numbers.ensures c.fill-2.ensures

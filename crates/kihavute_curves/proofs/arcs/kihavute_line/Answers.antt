@@ -10,11 +10,11 @@ use Rattle.kihavute_curves.proofs.arcs.kihavute_line.Goals as goal
 pub returns-in-Accepted : goal.returns-in-Accepted
 returns-in-Accepted c =
     given-same _ _
-    (asked-given (λ (m : MadeLine). m.verdict-1) (λ (m : MadeLine). line_lone m.line-made c.args.progress) c.line-made.ensures _ (sym c.in-Accepted.is) c.line_lone.ensures)
+    (asked-given (λ (m : MadeLine). m.verdict) (λ (m : MadeLine). line_lone m.line c.args.progress) c.line-made.ensures _ (sym c.in-Accepted.is) c.line_lone.ensures)
     c.give_lone.ensures
 
 pub returns-in-Refused : goal.returns-in-Refused
 returns-in-Refused c =
     given-same _ _
-    (not-given (λ (m : MadeLine). m.verdict-1) (λ (m : MadeLine). line_lone m.line-made c.args.progress) c.line-made.ensures _ (sym c.in-Refused.is))
+    (not-given (λ (m : MadeLine). m.verdict) (λ (m : MadeLine). line_lone m.line c.args.progress) c.line-made.ensures _ (sym c.in-Refused.is))
     c.refuse.ensures

@@ -9,4 +9,4 @@ use Rattle.kihavute_curves.proofs.curve_tables.kihavute_cubic_table.Goals as goa
 
 pub returns : goal.returns
 returns c =
-    filled-made (λ (m : MadeCubic). m.verdict) (λ (m : MadeCubic). []) (λ (m : MadeCubic). table_numbers m.curve-1.table) c.cubic-made.ensures refl c.table_numbers-numbers.ensures c.fill.ensures
+    filled-made (λ (m : MadeCubic). m.verdict) (λ (m : MadeCubic). []) (λ (m : MadeCubic). table_numbers m.curve.table) c.cubic-made.ensures refl c.table_numbers-numbers.ensures c.fill.ensures

@@ -9,4 +9,4 @@ use Rattle.kihavute_curves.proofs.curve_tables.kihavute_quad_table.Goals as goal
 
 pub returns : goal.returns
 returns c =
-    filled-made (λ (m : MadeQuad). m.verdict) (λ (m : MadeQuad). []) (λ (m : MadeQuad). table_numbers m.curve-1.table) c.quad-made.ensures refl c.table_numbers-numbers.ensures c.fill.ensures
+    filled-made (λ (m : MadeQuad). m.verdict) (λ (m : MadeQuad). []) (λ (m : MadeQuad). table_numbers m.curve.table) c.quad-made.ensures refl c.table_numbers-numbers.ensures c.fill.ensures

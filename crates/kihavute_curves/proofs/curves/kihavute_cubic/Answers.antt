@@ -13,11 +13,11 @@ cubic_lone-requires c = cubic-askable _ _ _ _ c.cubic-made.ensures (sym c.in-Acc
 pub returns-in-Accepted : goal.returns-in-Accepted
 returns-in-Accepted c =
     given-same _ _
-    (asked-given (λ (m : MadeCubic). m.verdict-1) (λ (m : MadeCubic). cubic_lone m.curve c.args.progress) c.cubic-made.ensures _ (sym c.in-Accepted.is) c.cubic_lone.ensures)
+    (asked-given (λ (m : MadeCubic). m.verdict) (λ (m : MadeCubic). cubic_lone m.curve c.args.progress) c.cubic-made.ensures _ (sym c.in-Accepted.is) c.cubic_lone.ensures)
     c.give_lone.ensures
 
 pub returns-in-Refused : goal.returns-in-Refused
 returns-in-Refused c =
     given-same _ _
-    (not-given (λ (m : MadeCubic). m.verdict-1) (λ (m : MadeCubic). cubic_lone m.curve c.args.progress) c.cubic-made.ensures _ (sym c.in-Refused.is))
+    (not-given (λ (m : MadeCubic). m.verdict) (λ (m : MadeCubic). cubic_lone m.curve c.args.progress) c.cubic-made.ensures _ (sym c.in-Refused.is))
     c.refuse.ensures

@@ -13,11 +13,11 @@ quad_lone-requires c = quad-askable _ _ _ c.quad-made.ensures (sym c.in-Accepted
 pub returns-in-Accepted : goal.returns-in-Accepted
 returns-in-Accepted c =
     given-same _ _
-    (asked-given (λ (m : MadeQuad). m.verdict-1) (λ (m : MadeQuad). quad_lone m.curve c.args.progress) c.quad-made.ensures _ (sym c.in-Accepted.is) c.quad_lone.ensures)
+    (asked-given (λ (m : MadeQuad). m.verdict) (λ (m : MadeQuad). quad_lone m.curve c.args.progress) c.quad-made.ensures _ (sym c.in-Accepted.is) c.quad_lone.ensures)
     c.give_lone.ensures
 
 pub returns-in-Refused : goal.returns-in-Refused
 returns-in-Refused c =
     given-same _ _
-    (not-given (λ (m : MadeQuad). m.verdict-1) (λ (m : MadeQuad). quad_lone m.curve c.args.progress) c.quad-made.ensures _ (sym c.in-Refused.is))
+    (not-given (λ (m : MadeQuad). m.verdict) (λ (m : MadeQuad). quad_lone m.curve c.args.progress) c.quad-made.ensures _ (sym c.in-Refused.is))
     c.refuse.ensures

@@ -10,4 +10,8 @@ use Rattle.kihavute_curves.proofs.splines.kihavute_spline_flight.Goals as goal
 
 pub returns : goal.returns
 returns c =
-    (given-same _ _ (ap flight_given c.spline_flight-flown.ensures.value) c.give_flight.ensures, subst (λ (f : Flown). SplineOrdered f c.args.points.now c.args.table.now) c.spline_flight-flown.ensures.value c.spline_flight-flown.ensures.spline_ordered, spline-received _ _ _ _ c.spline_flight-flown.ensures.value c.spline_flight-flown.ensures.spline_ordered c.give_flight.ensures)
+    record {
+      given = given-same _ _ (ap flight_given c.spline_flight-flown.ensures.value) c.give_flight.ensures;
+      spline_ordered = subst (λ (f : Flown). SplineOrdered f c.args.points.now c.args.table.now) c.spline_flight-flown.ensures.value c.spline_flight-flown.ensures.spline_ordered;
+      spline_received_by = spline-received _ _ _ _ c.spline_flight-flown.ensures.value c.spline_flight-flown.ensures.spline_ordered c.give_flight.ensures;
+    }

@@ -6,11 +6,11 @@ use Rattle.kihavute_paths.proofs.BatchesGiven.{no-flights, flights-reported}
 use Rattle.kihavute_paths.proofs.batches.kihavute_flights.Goals as goal
 
 pub returns-then-answer-lt8 : goal.returns-then-answer-lt8
-returns-then-answer-lt8 c = (no-flights _ _ _ _ _ _ c.if-answer-lt8.true, λ long. absurd (omega (arith, c.if-answer-lt8.true, long)))
+returns-then-answer-lt8 c = record { flights_given = no-flights _ _ _ _ _ _ c.if-answer-lt8.true; ordered_flown_given = λ long. absurd (omega (arith, c.if-answer-lt8.true, long)) }
 
 pub returns : goal.returns
 returns c =
-    (
-      flights-reported _ _ _ _ _ _ _ c.if-answer-lt8.false c.flights-batch.ensures.0 c.give_batch.ensures,
-      λ long. ordered-flown-same _ _ _ _ _ c.flights-batch.ensures.0.answer c.flights-batch.ensures.1,
-    )
+    record {
+      flights_given = flights-reported _ _ _ _ _ _ _ c.if-answer-lt8.false c.flights-batch.ensures.flights c.give_batch.ensures;
+      ordered_flown_given = λ long. ordered-flown-same _ _ _ _ _ c.flights-batch.ensures.flights.answer c.flights-batch.ensures.ordered_flown;
+    }

@@ -6,11 +6,11 @@ use Rattle.kihavute_paths.proofs.BatchesGiven.{no-places, places-reported}
 use Rattle.kihavute_paths.proofs.batches.kihavute_places.Goals as goal
 
 pub returns-then-answer-lt8 : goal.returns-then-answer-lt8
-returns-then-answer-lt8 c = (no-places _ _ _ _ _ c.if-answer-lt8.true, λ long. absurd (omega (arith, c.if-answer-lt8.true, long)))
+returns-then-answer-lt8 c = record { places_given = no-places _ _ _ _ _ c.if-answer-lt8.true; ordered_given = λ long. absurd (omega (arith, c.if-answer-lt8.true, long)) }
 
 pub returns : goal.returns
 returns c =
-    (
-      places-reported _ _ _ _ _ _ c.if-answer-lt8.false c.places-batch.ensures.0 c.give_batch.ensures,
-      λ long. ordered-batch-same _ _ _ _ c.places-batch.ensures.0.answer c.places-batch.ensures.1,
-    )
+    record {
+      places_given = places-reported _ _ _ _ _ _ c.if-answer-lt8.false c.places-batch.ensures.places c.give_batch.ensures;
+      ordered_given = λ long. ordered-batch-same _ _ _ _ c.places-batch.ensures.places.answer c.places-batch.ensures.ordered_batch;
+    }

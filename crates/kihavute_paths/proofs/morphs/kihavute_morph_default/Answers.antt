@@ -6,11 +6,11 @@ use Rattle.kihavute_paths.proofs.Standing.{morphed-stands}
 use Rattle.kihavute_paths.proofs.morphs.kihavute_morph_default.Goals as goal
 
 pub returns-then-answer-lt8 : goal.returns-then-answer-lt8
-returns-then-answer-lt8 c = (put-two-short _ _ _ _ c.if-answer-lt8.true, (λ zero. absurd (omega (arith, zero)), λ zero. absurd (omega (arith, zero))))
+returns-then-answer-lt8 c = record { put_morph = put-two-short _ _ _ _ c.if-answer-lt8.true; in_order_by = (λ zero. absurd (omega (arith, zero)), λ zero. absurd (omega (arith, zero))) }
 
 pub returns : goal.returns
 returns c =
-    (
-      put-morphed c.args.answer.now _ _ c.if-answer-lt8.false _ _ _ c.args.out-from.now c.args.out-to.now _ _ _ c.morph_default-morphed.ensures c.give_morphed.ensures,
-      morphed-stands _ _ _ c.args.out-from.now c.args.out-to.now _ _ _ c.morph_default-morphed.ensures c.give_morphed.ensures,
-    )
+    record {
+      put_morph = put-morphed c.args.answer.now _ _ c.if-answer-lt8.false _ _ _ c.args.out_from.now c.args.out_to.now _ _ _ c.morph_default-morphed.ensures c.give_morphed.ensures;
+      in_order_by = morphed-stands _ _ _ c.args.out_from.now c.args.out_to.now _ _ _ c.morph_default-morphed.ensures c.give_morphed.ensures;
+    }

@@ -6,11 +6,11 @@ use Rattle.kihavute_paths.proofs.Standing.{resampled-stands}
 use Rattle.kihavute_paths.proofs.morphs.kihavute_resample.Goals as goal
 
 pub returns-then-answer-lt8 : goal.returns-then-answer-lt8
-returns-then-answer-lt8 c = (put-short _ _ _ c.if-answer-lt8.true, λ zero. absurd (omega (arith, zero)))
+returns-then-answer-lt8 c = record { put = put-short _ _ _ c.if-answer-lt8.true; in_order_by = λ zero. absurd (omega (arith, zero)) }
 
 pub returns : goal.returns
 returns c =
-    (
-      put-resampled c.args.answer.now _ _ c.if-answer-lt8.false _ _ c.args.out.now _ _ c.resample-resampled.ensures c.give_resampled.ensures,
-      resampled-stands _ _ c.args.out.now _ _ c.resample-resampled.ensures c.give_resampled.ensures,
-    )
+    record {
+      put = put-resampled c.args.answer.now _ _ c.if-answer-lt8.false _ _ c.args.out.now _ _ c.resample-resampled.ensures c.give_resampled.ensures;
+      in_order_by = resampled-stands _ _ c.args.out.now _ _ c.resample-resampled.ensures c.give_resampled.ensures;
+    }

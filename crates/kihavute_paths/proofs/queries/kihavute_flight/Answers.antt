@@ -9,4 +9,8 @@ use Rattle.kihavute_paths.proofs.queries.kihavute_flight.Goals as goal
 
 pub returns : goal.returns
 returns c =
-    (given-same _ _ (ap flight_given c.flight-flown.ensures.value) c.give_flight.ensures, ordered_same _ c.flight-flown.ensures.value c.flight-flown.ensures.ordered_by, received _ _ _ c.flight-flown.ensures.value c.flight-flown.ensures.ordered_by c.give_flight.ensures)
+    record {
+      given = given-same _ _ (ap flight_given c.flight-flown.ensures.value) c.give_flight.ensures;
+      ordered_by = ordered_same _ c.flight-flown.ensures.value c.flight-flown.ensures.ordered_by;
+      received_by = received _ _ _ c.flight-flown.ensures.value c.flight-flown.ensures.ordered_by c.give_flight.ensures;
+    }

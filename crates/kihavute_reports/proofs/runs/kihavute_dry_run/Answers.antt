@@ -5,11 +5,11 @@ use Rattle.kihavute_reports.proofs.RunsGiven.{no_run, run-reported, ordered-run-
 use Rattle.kihavute_reports.proofs.runs.kihavute_dry_run.Goals as goal
 
 pub returns-then-answer-lt8 : goal.returns-then-answer-lt8
-returns-then-answer-lt8 c = (no_run _ _ _ _ _ c.if-answer-lt8.true, λ long. absurd (omega (arith, c.if-answer-lt8.true, long)))
+returns-then-answer-lt8 c = record { run_given = no_run _ _ _ _ _ c.if-answer-lt8.true; ordered_given = λ long. absurd (omega (arith, c.if-answer-lt8.true, long)) }
 
 pub returns : goal.returns
 returns c =
-    (
-      run-reported _ _ _ _ _ _ c.if-answer-lt8.false c.dry_run-batch.ensures.0 c.give_run.ensures,
-      λ long. ordered-run-same _ _ _ _ c.dry_run-batch.ensures.0.answer c.dry_run-batch.ensures.1,
-    )
+    record {
+      run_given = run-reported _ _ _ _ _ _ c.if-answer-lt8.false c.dry_run-batch.ensures.dry_run c.give_run.ensures;
+      ordered_given = λ long. ordered-run-same _ _ _ _ c.dry_run-batch.ensures.dry_run.answer c.dry_run-batch.ensures.ordered_run;
+    }

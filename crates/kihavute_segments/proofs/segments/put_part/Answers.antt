@@ -3,7 +3,6 @@ use borrow.Author.Rules.{rules}
 use mathlib.Core.Path.{◌≡◌, sym, ap, ◌∙◌}
 use lib.ListN.{length}
 use native.Mathlib.Omega.{arith}
-use Rattle.floats.proofs.Known.{mapped-length}
 use Rattle.path_segment.specs.Segments.{kind_of, width_of, has_table}
 use Rattle.path_segment.proofs.Reading.{fields-width}
 use Rattle.kihavute_segments.proofs.SegmentsGiven.{places-some, put-own, put_both}
@@ -21,7 +20,8 @@ put_table-requires c =
 pub returns-then-has_table : goal.returns-then-has_table
 returns-then-has_table c =
     let has = ap has_table (sym c.kind.ensures) ∙ sym c.has_table.ensures ∙ c.if-has_table.true in
-    put_both c.args.segment c.args.table c.args.out.now c.put_segment.new.0 _ _ has ((let size_here : length c.args.table.entries ≡ 32 = sym (sym c.well_formed.0.1.1.0.1.0.1 ∙ mapped-length c.args.table.entries) in size_here)) c.requires c.put_segment.ensures
+    let size : length c.args.table.entries ≡ 32 = c.well_formed.0.1.1.0.1.0.1 in
+    put_both c.args.segment c.args.table c.args.out.now c.put_segment.new.0 _ _ has size c.requires c.put_segment.ensures
     (c.width.ensures ∙ ap width_of c.kind-then-has_table.ensures) c.put_table.ensures
 
 pub returns-else-has_table : goal.returns-else-has_table

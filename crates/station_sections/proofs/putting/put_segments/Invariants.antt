@@ -10,7 +10,7 @@ use Rattle.station_sections.proofs.LinesTo.{PutTo, to_none, to-length, to-more, 
 use Rattle.station_sections.proofs.putting.put_segments.Given as goal
 
 abbrev pub invariant-loop-k : goal.invariant-loop-k
-invariant-loop-k l = (l.k ≤ length l.kinds) × PutTo (λ l.k. segment_line (get_or l.kinds l.k 0) (get_or l.lengths l.k nan) (get_or l.commands l.k 0)) 22 l.k l.from l.initial.out l.out l.at
+invariant-loop-k l = (l.k ≤ length l.kinds) × PutTo (λ k. segment_line (get_or l.kinds k 0) (get_or l.lengths k nan) (get_or l.commands k 0)) 22 l.k l.from l.initial.out l.out l.at
 
 abbrev pub decreases-loop-k : goal.decreases-loop-k
 decreases-loop-k l = length l.kinds - l.k
