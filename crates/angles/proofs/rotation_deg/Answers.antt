@@ -15,5 +15,6 @@ returns c =
     ∙ ap rad_to_deg_of c.atan2.ensures
     ∙ sym
     (elim c.if-x.branch [
-       then-x+else-y w ↦ moving-y c.args.tangent w.if-x.true w.if-y.false
-     | else-x w ↦ moving-x c.args.tangent w.if-x.false ])
+      | then-x+else-y w ↦ moving-y c.args.tangent w.if-x.true w.if-y.false
+      | else-x w ↦ moving-x c.args.tangent w.if-x.false
+    ])

@@ -50,9 +50,12 @@ ahead_at-requires c = let s = shifted c.args.k c.requires.5 in omega arith
 pub returns-then-ahead_at : goal.returns-then-ahead_at
 returns-then-ahead_at c =
     let s = shifted c.args.k c.requires.5 in
-    let under : c.args.t + 2 ^ c.args.k < c.args.to = subst (λ (n : ℕ). c.args.t + n < c.args.to) s c.if-m-to.false in
-    (ap (λ (n : ℕ). c.args.t + n) s ∙ reached c.args.t (c.args.t + 2 ^ c.args.k) c.args.to _ under (sym (ap (λ (n : ℕ). ahead_at c.args.u c.args.v c.args.left (c.args.t
-        + n)) s) ∙ sym c.ahead_at.ensures ∙ c.if-ahead_at.true), omega arith, omega arith)
+    let under : c.args.t + 2 ^ c.args.k < c.args.to = subst (λ (n : ℕ). c.args.t + n < c.args.to) s c.if-m-to.false in (
+      ap (λ (n : ℕ). c.args.t + n) s ∙ reached c.args.t (c.args.t + 2 ^ c.args.k) c.args.to _ under (sym (ap (λ (n : ℕ). ahead_at c.args.u c.args.v c.args.left (c.args.t
+          + n)) s) ∙ sym c.ahead_at.ensures ∙ c.if-ahead_at.true),
+      omega arith,
+      omega arith,
+    )
 
 pub returns-else-ahead_at : goal.returns-else-ahead_at
 returns-else-ahead_at c =

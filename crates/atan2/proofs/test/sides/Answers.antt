@@ -48,4 +48,4 @@ overflow_mul-result-4 c = record { fits = omega (arith, cut_product c.args.r c.s
 pub returns : goal.returns
 returns c =
     sums_at c.args.r c.cosine_sides-c.result.plus c.cosine_sides-c.result.minus c.sine_sides-s.result.plus c.sine_sides-s.result.minus c.requires
-        c.cosine_sides-c.ensures.0 c.cosine_sides-c.ensures.1 c.sine_sides-s.ensures.0 c.sine_sides-s.ensures.1
+    c.cosine_sides-c.ensures.0 c.cosine_sides-c.ensures.1 c.sine_sides-s.ensures.0 c.sine_sides-s.ensures.1

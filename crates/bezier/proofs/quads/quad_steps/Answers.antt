@@ -20,15 +20,14 @@ pub loop-k-init : goal.loop-k-init
 loop-k-init c = (passing-start refl, passing-start refl)
 
 pub loop-k-preserved : goal.loop-k-preserved
-loop-k-preserved c =
-    (
-      row_more (quad_coordinate _ _ _) c.loop-k.invariant.0 c.loop-k-test.true _ _
-          (c.quad_coordinate.ensures ∙ ap (quad_coordinate _ _ _) c.sample_mark-next.ensures)
-          (c.quad_coordinate-in-loop-k.ensures ∙ ap (quad_coordinate _ _ _) c.sample_mark-here.ensures),
-      row_more (quad_coordinate _ _ _) c.loop-k.invariant.1 c.loop-k-test.true _ _
-          (c.quad_coordinate-in-loop-k-2.ensures ∙ ap (quad_coordinate _ _ _) c.sample_mark-next.ensures)
-          (c.quad_coordinate-in-loop-k-3.ensures ∙ ap (quad_coordinate _ _ _) c.sample_mark-here.ensures),
-    )
+loop-k-preserved c = (
+  row_more (quad_coordinate _ _ _) c.loop-k.invariant.0 c.loop-k-test.true _ _
+      (c.quad_coordinate.ensures ∙ ap (quad_coordinate _ _ _) c.sample_mark-next.ensures)
+      (c.quad_coordinate-in-loop-k.ensures ∙ ap (quad_coordinate _ _ _) c.sample_mark-here.ensures),
+  row_more (quad_coordinate _ _ _) c.loop-k.invariant.1 c.loop-k-test.true _ _
+      (c.quad_coordinate-in-loop-k-2.ensures ∙ ap (quad_coordinate _ _ _) c.sample_mark-next.ensures)
+      (c.quad_coordinate-in-loop-k-3.ensures ∙ ap (quad_coordinate _ _ _) c.sample_mark-here.ensures),
+)
 
 pub returns : goal.returns
 unfolding sample_at quad_sample_of lerp_point_of

@@ -13,12 +13,11 @@ use Rattle.spline_table.proofs.entries.fill.Goals as goal
 
 pub loop-k-init : goal.loop-k-init
 unfolding sample_at zero_f
-loop-k-init c =
-    (
-      filling-start {formula = spline_sample_of c.args.points.now}
-          (walking_start _ (c.sample.ensures ∙ ap (spline_sample_of _) c.mark.ensures)) c.requires.room,
-      refl,
-    )
+loop-k-init c = (
+  filling-start {formula = spline_sample_of c.args.points.now}
+      (walking_start _ (c.sample.ensures ∙ ap (spline_sample_of _) c.mark.ensures)) c.requires.room,
+  refl,
+)
 
 pub fill_row-walk-requires : goal.fill_row-walk-requires
 fill_row-walk-requires c =

@@ -42,4 +42,4 @@ returns c =
     let near : in_the_reach c.args.x ≡ true = inside _ _ c.in_reach.ensures (ap not c.if-not-in_reach.false) in
     let bits : (sign_bit c.args.x + c.args.flip + c.over.result) % 2 * 2147483648 + c.pack-m.result ≡ sine_at (sign_bit c.args.x + flip_for c.args.x) (rest_for c.args.x) = cc in
     ap (of_bits binary32) bits ∙ ap (λ (b : ℕ). of_bits binary32 (sine_at (sign_bit c.args.x + flip_of (fixed_of b)) (rest_of (fixed_of b)))) (stepped-main c.args.x near
-        c.if-b-lt964689920.false) ∙ sym (sine-main c.args.x near c.if-b-lt964689920.false)
+    c.if-b-lt964689920.false) ∙ sym (sine-main c.args.x near c.if-b-lt964689920.false)
