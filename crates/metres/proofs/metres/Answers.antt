@@ -24,33 +24,64 @@ abbrev moved : goal.Else-millimetres-eq0 → ℕ
 moved c = c.args.millimetres * 2 ^ (count_leading_zeros 64 c.args.millimetres - 30)
 
 pub overflow_sub-wide : goal.overflow_sub-wide
-overflow_sub-wide c = omega (arith, ((let lift_here : Raised c.args.millimetres (count_leading_zeros 64 c.args.millimetres) = raised _ (omega (arith,
-    c.if-millimetres-eq0.false)) (omega arith) in lift_here)).least,
-    ((let lift_here : Raised c.args.millimetres (count_leading_zeros 64 c.args.millimetres) = raised _ (omega (arith, c.if-millimetres-eq0.false)) (omega arith) in lift_here)).most)
+overflow_sub-wide c = omega (
+  arith,
+  ((let lift_here : Raised c.args.millimetres (count_leading_zeros 64 c.args.millimetres) = raised _ (omega (
+    arith,
+    c.if-millimetres-eq0.false,
+  )) (omega arith) in lift_here)).least,
+  ((let lift_here : Raised c.args.millimetres (count_leading_zeros 64 c.args.millimetres) = raised _ (omega (arith, c.if-millimetres-eq0.false)) (omega arith) in lift_here)).most,
+)
 
 pub overflow_cast-wide : goal.overflow_cast-wide
-overflow_cast-wide c = record { fits = omega (arith, ((let lift_here : Raised c.args.millimetres (count_leading_zeros 64 c.args.millimetres) = raised _ (omega (arith,
-    c.if-millimetres-eq0.false)) (omega arith) in lift_here)).least,
-    ((let lift_here : Raised c.args.millimetres (count_leading_zeros 64 c.args.millimetres) = raised _ (omega (arith, c.if-millimetres-eq0.false)) (omega arith) in lift_here)).most) }
+overflow_cast-wide c = record {
+  fits = omega (
+    arith,
+    ((let lift_here : Raised c.args.millimetres (count_leading_zeros 64 c.args.millimetres) = raised _ (omega (
+      arith,
+      c.if-millimetres-eq0.false,
+    )) (omega arith) in lift_here)).least,
+    ((let lift_here : Raised c.args.millimetres (count_leading_zeros 64 c.args.millimetres) = raised _ (omega (arith, c.if-millimetres-eq0.false)) (omega arith) in lift_here)).most,
+  );
+}
 
 pub overflow_shl-wide : goal.overflow_shl-wide
-overflow_shl-wide c = omega (arith, ((let lift_here : Raised c.args.millimetres (count_leading_zeros 64 c.args.millimetres) = raised _ (omega (arith,
-    c.if-millimetres-eq0.false)) (omega arith) in lift_here)).least,
-    ((let lift_here : Raised c.args.millimetres (count_leading_zeros 64 c.args.millimetres) = raised _ (omega (arith, c.if-millimetres-eq0.false)) (omega arith) in lift_here)).most)
+overflow_shl-wide c = omega (
+  arith,
+  ((let lift_here : Raised c.args.millimetres (count_leading_zeros 64 c.args.millimetres) = raised _ (omega (
+    arith,
+    c.if-millimetres-eq0.false,
+  )) (omega arith) in lift_here)).least,
+  ((let lift_here : Raised c.args.millimetres (count_leading_zeros 64 c.args.millimetres) = raised _ (omega (arith, c.if-millimetres-eq0.false)) (omega arith) in lift_here)).most,
+)
 
 pub overflow_cast-k : goal.overflow_cast-k
-overflow_cast-k c = record { fits = omega (arith, ((let lift_here : Raised c.args.millimetres (count_leading_zeros 64 c.args.millimetres) = raised _ (omega (arith,
-    c.if-millimetres-eq0.false)) (omega arith) in lift_here)).least,
-    ((let lift_here : Raised c.args.millimetres (count_leading_zeros 64 c.args.millimetres) = raised _ (omega (arith, c.if-millimetres-eq0.false)) (omega arith) in lift_here)).most) }
+overflow_cast-k c = record {
+  fits = omega (
+    arith,
+    ((let lift_here : Raised c.args.millimetres (count_leading_zeros 64 c.args.millimetres) = raised _ (omega (
+      arith,
+      c.if-millimetres-eq0.false,
+    )) (omega arith) in lift_here)).least,
+    ((let lift_here : Raised c.args.millimetres (count_leading_zeros 64 c.args.millimetres) = raised _ (omega (arith, c.if-millimetres-eq0.false)) (omega arith) in lift_here)).most,
+  );
+}
 
 pub overflow_sub-k : goal.overflow_sub-k
-overflow_sub-k c = omega (arith, ((let lift_here : Raised c.args.millimetres (count_leading_zeros 64 c.args.millimetres) = raised _ (omega (arith,
-    c.if-millimetres-eq0.false)) (omega arith) in lift_here)).least,
-    ((let lift_here : Raised c.args.millimetres (count_leading_zeros 64 c.args.millimetres) = raised _ (omega (arith, c.if-millimetres-eq0.false)) (omega arith) in lift_here)).most)
+overflow_sub-k c = omega (
+  arith,
+  ((let lift_here : Raised c.args.millimetres (count_leading_zeros 64 c.args.millimetres) = raised _ (omega (
+    arith,
+    c.if-millimetres-eq0.false,
+  )) (omega arith) in lift_here)).least,
+  ((let lift_here : Raised c.args.millimetres (count_leading_zeros 64 c.args.millimetres) = raised _ (omega (arith, c.if-millimetres-eq0.false)) (omega arith) in lift_here)).most,
+)
 
 pub pattern-requires : goal.pattern-requires
-pattern-requires c = let r = (let lift_here : Raised c.args.millimetres (count_leading_zeros 64 c.args.millimetres) = raised _ (omega (arith,
-    c.if-millimetres-eq0.false)) (omega arith) in lift_here) in let w = (let whole_here : (c.args.millimetres * 2 ^ (count_leading_zeros 64 c.args.millimetres - 30)) %
+pattern-requires c = let r = (let lift_here : Raised c.args.millimetres (count_leading_zeros 64 c.args.millimetres) = raised _ (omega (
+  arith,
+  c.if-millimetres-eq0.false,
+)) (omega arith) in lift_here) in let w = (let whole_here : (c.args.millimetres * 2 ^ (count_leading_zeros 64 c.args.millimetres - 30)) %
     18446744073709551616 ≡ (c.args.millimetres * 2 ^ (count_leading_zeros 64 c.args.millimetres - 30)) = mod-eq_of_lt (let h = ((let lift_here : Raised
     c.args.millimetres (count_leading_zeros 64 c.args.millimetres) = raised _ (omega (arith, c.if-millimetres-eq0.false)) (omega arith) in lift_here)).fits in
     omega arith) in whole_here) in (omega (arith, r.full, w), c.if-wide-lt16777216000.true, omega (arith, r.least))
@@ -65,13 +96,15 @@ returns-then-wide-lt16777216000 c =
     let r = (let lift_here : Raised c.args.millimetres (count_leading_zeros 64 c.args.millimetres) = raised _ (omega (arith, c.if-millimetres-eq0.false)) (omega arith) in lift_here) in
     let sum : z - 30 + (179 - z) ≡ 149 = omega (arith, r.least, r.most) in
     c.pattern.ensures.0 c.args.millimetres (scaled-up c.args.millimetres (z - 30) (179 - z) sum
-        ∙ ap (λ (x : ℕ). x * 2 ^ (179 - z)) (sym ((let whole_here : (c.args.millimetres * 2 ^ (count_leading_zeros 64 c.args.millimetres - 30)) % 18446744073709551616 ≡
-        (c.args.millimetres * 2 ^ (count_leading_zeros 64 c.args.millimetres - 30)) = mod-eq_of_lt (let h = ((let lift_here : Raised c.args.millimetres
-        (count_leading_zeros 64 c.args.millimetres) = raised _ (omega (arith, c.if-millimetres-eq0.false)) (omega arith) in lift_here)).fits in omega arith) in whole_here))))
+    ∙ ap (λ (x : ℕ). x * 2 ^ (179 - z)) (sym ((let whole_here : (c.args.millimetres * 2 ^ (count_leading_zeros 64 c.args.millimetres - 30)) % 18446744073709551616 ≡
+    (c.args.millimetres * 2 ^ (count_leading_zeros 64 c.args.millimetres - 30)) = mod-eq_of_lt (let h = ((let lift_here : Raised c.args.millimetres
+    (count_leading_zeros 64 c.args.millimetres) = raised _ (omega (arith, c.if-millimetres-eq0.false)) (omega arith) in lift_here)).fits in omega arith) in whole_here))))
 
 pub pattern-requires-2 : goal.pattern-requires-2
-pattern-requires-2 c = let r = (let lift_here : Raised c.args.millimetres (count_leading_zeros 64 c.args.millimetres) = raised _ (omega (arith,
-    c.if-millimetres-eq0.false)) (omega arith) in lift_here) in let w = (let whole_here : (c.args.millimetres * 2 ^ (count_leading_zeros 64 c.args.millimetres - 30)) %
+pattern-requires-2 c = let r = (let lift_here : Raised c.args.millimetres (count_leading_zeros 64 c.args.millimetres) = raised _ (omega (
+  arith,
+  c.if-millimetres-eq0.false,
+)) (omega arith) in lift_here) in let w = (let whole_here : (c.args.millimetres * 2 ^ (count_leading_zeros 64 c.args.millimetres - 30)) %
     18446744073709551616 ≡ (c.args.millimetres * 2 ^ (count_leading_zeros 64 c.args.millimetres - 30)) = mod-eq_of_lt (let h = ((let lift_here : Raised
     c.args.millimetres (count_leading_zeros 64 c.args.millimetres) = raised _ (omega (arith, c.if-millimetres-eq0.false)) (omega arith) in lift_here)).fits in
     omega arith) in whole_here) in (omega (arith, r.full, w, c.if-wide-lt16777216000.false), omega (arith, r.fits, w), omega (arith, r.least))
@@ -86,7 +119,7 @@ returns c =
     let r = (let lift_here : Raised c.args.millimetres (count_leading_zeros 64 c.args.millimetres) = raised _ (omega (arith, c.if-millimetres-eq0.false)) (omega arith) in lift_here) in
     let sum : z - 30 - 1 + (179 - z + 1) ≡ 149 = omega (arith, r.least, r.most) in
     let half : (c.args.millimetres * 2 ^ (count_leading_zeros 64 c.args.millimetres - 30)) % 18446744073709551616 / 2 ≡ c.args.millimetres * 2 ^ (z - 30 - 1) = ap (λ (x
-        : ℕ). x / 2) ((let whole_here : (c.args.millimetres * 2 ^ (count_leading_zeros 64 c.args.millimetres - 30)) % 18446744073709551616 ≡ (c.args.millimetres * 2 ^
-        (count_leading_zeros 64 c.args.millimetres - 30)) = mod-eq_of_lt (let h = ((let lift_here : Raised c.args.millimetres (count_leading_zeros 64 c.args.millimetres)
-        = raised _ (omega (arith, c.if-millimetres-eq0.false)) (omega arith) in lift_here)).fits in omega arith) in whole_here)) ∙ halved c.args.millimetres (z - 30) (omega (arith, r.least)) in
+    : ℕ). x / 2) ((let whole_here : (c.args.millimetres * 2 ^ (count_leading_zeros 64 c.args.millimetres - 30)) % 18446744073709551616 ≡ (c.args.millimetres * 2 ^
+    (count_leading_zeros 64 c.args.millimetres - 30)) = mod-eq_of_lt (let h = ((let lift_here : Raised c.args.millimetres (count_leading_zeros 64 c.args.millimetres)
+    = raised _ (omega (arith, c.if-millimetres-eq0.false)) (omega arith) in lift_here)).fits in omega arith) in whole_here)) ∙ halved c.args.millimetres (z - 30) (omega (arith, r.least)) in
     c.pattern-2.ensures.0 c.args.millimetres (scaled-up c.args.millimetres (z - 30 - 1) (179 - z + 1) sum ∙ ap (λ (x : ℕ). x * 2 ^ (179 - z + 1)) (sym half))

@@ -26,6 +26,8 @@ returns-then-twice-eq1000 c =
 pub returns : goal.returns
 returns c =
     let q = c.args.scaled / 1000 in
-    let above = compare-gt _ _ (lt_of_le-ne c.if-twice-lt1000.false (λ e. c.if-twice-eq1000.false (sym e))) in
-    (λ n same. ap (of_bits binary32) (past (c.args.k * 8388608) q 1)
-        ∙ pattern-of n c.args.scaled c.args.k c.requires.0 c.requires.1 c.requires.2 same (q + 1) (add-one q ∙ sym (ap (nearest _) above)) (omega arith) (omega arith), omega arith)
+    let above = compare-gt _ _ (lt_of_le-ne c.if-twice-lt1000.false (λ e. c.if-twice-eq1000.false (sym e))) in (
+      λ n same. ap (of_bits binary32) (past (c.args.k * 8388608) q 1)
+          ∙ pattern-of n c.args.scaled c.args.k c.requires.0 c.requires.1 c.requires.2 same (q + 1) (add-one q ∙ sym (ap (nearest _) above)) (omega arith) (omega arith),
+      omega arith,
+    )

@@ -28,20 +28,25 @@ returns-in-Bad c =
     ∙ sym (check-few c.args.letters.now c.args.numbers.now (omega arith))
 
 pub overflow_add-at : goal.overflow_add-at
-overflow_add-at c = omega (arith, (let fits_here : c.loop-letter_at.at + c.width-at.result ≤ length c.args.numbers.now = let h = command-fits (drop c.loop-letter_at.at c.args.numbers.now) _ _ ((let command_here : command_of (get_or c.args.letters.now c.loop-letter_at.letter_at 0) (drop c.loop-letter_at.at c.args.numbers.now) ≡ Command c.in-Command.command = sym c.decode.ensures ∙ c.in-Command.is in command_here)) in
-    omega (arith, simp length-drop at h, c.width-at.ensures, c.loop-letter_at.invariant.1) in fits_here))
+overflow_add-at c = omega (
+  arith,
+  (let fits_here : c.loop-letter_at.at + c.width-at.result ≤ length c.args.numbers.now = let h = command-fits (drop c.loop-letter_at.at c.args.numbers.now) _ _ ((let command_here : command_of (get_or c.args.letters.now c.loop-letter_at.letter_at 0) (drop c.loop-letter_at.at c.args.numbers.now) ≡ Command c.in-Command.command = sym c.decode.ensures ∙ c.in-Command.is in command_here)) in
+      omega (arith, simp length-drop at h, c.width-at.ensures, c.loop-letter_at.invariant.1) in fits_here),
+)
 
 pub loop-letter_at-smaller : goal.loop-letter_at-smaller
 loop-letter_at-smaller c = omega (arith, c.loop-letter_at-test.true)
 
 pub loop-letter_at-preserved : goal.loop-letter_at-preserved
-loop-letter_at-preserved c =
-    (
-      omega (arith, c.loop-letter_at-test.true),
-      omega (arith, (let fits_here : c.loop-letter_at.at + c.width-at.result ≤ length c.args.numbers.now = let h = command-fits (drop c.loop-letter_at.at c.args.numbers.now) _ _ ((let command_here : command_of (get_or c.args.letters.now c.loop-letter_at.letter_at 0) (drop c.loop-letter_at.at c.args.numbers.now) ≡ Command c.in-Command.command = sym c.decode.ensures ∙ c.in-Command.is in command_here)) in
-    omega (arith, simp length-drop at h, c.width-at.ensures, c.loop-letter_at.invariant.1) in fits_here)),
-      judged-next c.args.letters.now c.args.numbers.now c.loop-letter_at.letter_at c.loop-letter_at.at c.width-at.result _ c.loop-letter_at-test.true c.width-at.ensures ((let command_here : command_of (get_or c.args.letters.now c.loop-letter_at.letter_at 0) (drop c.loop-letter_at.at c.args.numbers.now) ≡ Command c.in-Command.command = sym c.decode.ensures ∙ c.in-Command.is in command_here)) ∙ c.loop-letter_at.invariant.2,
-    )
+loop-letter_at-preserved c = (
+  omega (arith, c.loop-letter_at-test.true),
+  omega (
+    arith,
+    (let fits_here : c.loop-letter_at.at + c.width-at.result ≤ length c.args.numbers.now = let h = command-fits (drop c.loop-letter_at.at c.args.numbers.now) _ _ ((let command_here : command_of (get_or c.args.letters.now c.loop-letter_at.letter_at 0) (drop c.loop-letter_at.at c.args.numbers.now) ≡ Command c.in-Command.command = sym c.decode.ensures ∙ c.in-Command.is in command_here)) in
+        omega (arith, simp length-drop at h, c.width-at.ensures, c.loop-letter_at.invariant.1) in fits_here),
+  ),
+  judged-next c.args.letters.now c.args.numbers.now c.loop-letter_at.letter_at c.loop-letter_at.at c.width-at.result _ c.loop-letter_at-test.true c.width-at.ensures ((let command_here : command_of (get_or c.args.letters.now c.loop-letter_at.letter_at 0) (drop c.loop-letter_at.at c.args.numbers.now) ≡ Command c.in-Command.command = sym c.decode.ensures ∙ c.in-Command.is in command_here)) ∙ c.loop-letter_at.invariant.2,
+)
 
 pub returns-then-at-numbers : goal.returns-then-at-numbers
 returns-then-at-numbers c =

@@ -44,8 +44,8 @@ returns-then-tells c h =
       few = omega (arith, c.if-w-ge9007199254740992.false);
       ends = refl;
       stored = set-one c.args.out.now _ c.requires ∙ ap (λ (x : Float). x ∷ []) (c.signed.ensures ∙ sym (((let near_here : Nearest c.args.w (10 ^ c.args.places) c.narrow.result = subst (λ (n : ℕ). Nearest c.args.w (10 ^ c.args.places) n) (sym c.narrow.ensures)
-    (quotient-bits _ _ (ten-pos _) (small _ (omega (arith, c.if-places-gt8.false))) (c.tells.ensures c.if-tells.true) _
-    (omega (arith, c.if-w-ge9007199254740992.false)) c.pattern-b.ensures) in near_here)).is _));
+          (quotient-bits _ _ (ten-pos _) (small _ (omega (arith, c.if-places-gt8.false))) (c.tells.ensures c.if-tells.true) _
+          (omega (arith, c.if-w-ge9007199254740992.false)) c.pattern-b.ensures) in near_here)).is _));
     }
 
 pub returns : goal.returns

@@ -42,8 +42,14 @@ pub overflow_add-result : goal.overflow_add-result
 overflow_add-result c = record { fits = omega (arith, ((let known_here : Parts c.args.product c.args.dropped = parts c.args.product c.args.dropped c.ranges.product.fits c.requires.0 c.requires.1 c.requires.3 in known_here)).few) }
 
 pub overflow_add-result-2 : goal.overflow_add-result-2
-overflow_add-result-2 c = record { fits = omega (arith, ((let known_here : Parts c.args.product c.args.dropped = parts c.args.product c.args.dropped
-    c.ranges.product.fits c.requires.0 c.requires.1 c.requires.3 in known_here)).few, c.is_above-above.ensures.0) }
+overflow_add-result-2 c = record {
+  fits = omega (
+    arith,
+    ((let known_here : Parts c.args.product c.args.dropped = parts c.args.product c.args.dropped
+        c.ranges.product.fits c.requires.0 c.requires.1 c.requires.3 in known_here)).few,
+    c.is_above-above.ensures.0,
+  );
+}
 
 -- neither or both reach above the half
 pub returns : goal.returns

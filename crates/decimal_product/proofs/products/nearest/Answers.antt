@@ -26,7 +26,7 @@ settle-requires c =
     let l = (let lifted_here : Raised c.args.w (count_leading_zeros 64 c.args.w) = raised c.args.w c.requires.0 c.ranges.w.fits in lifted_here) in
     let p = (let power_here : Leads c.args.place c.tens.result = subst (λ (p : ℕ). Leads c.args.place p) (sym c.tens.ensures) (leads c.args.place c.requires.1) in power_here) in
     let m = (let multiplied_here : High (c.args.w * 2 ^ count_leading_zeros 64 c.args.w) c.tens.result c.high-product.result = subst (λ (x : ℕ). High x c.tens.result
-        c.high-product.result) ((let lifted_here : Raised c.args.w (count_leading_zeros 64 c.args.w) = raised c.args.w c.requires.0 c.ranges.w.fits in lifted_here)).back c.high-product.ensures in multiplied_here) in
+    c.high-product.result) ((let lifted_here : Raised c.args.w (count_leading_zeros 64 c.args.w) = raised c.args.w c.requires.0 c.ranges.w.fits in lifted_here)).back c.high-product.ensures in multiplied_here) in
     (m.full l.full p.full, under-60 _ _ _ l.fits p.small m, l.few, c.requires.1)
 
 pub returns : goal.returns

@@ -23,11 +23,10 @@ returns-then-t-gt0 c =
     }
 
 pub loop-more-preserved : goal.loop-more-preserved
-loop-more-preserved c =
-    (
-      c.times_ten-t.ensures.small,
-      λ v l h. c.loop-more.invariant.1 v l h ∙ lower-on v l h _ _ _ (sym (add-zero _) ∙ tens-none _ 0 _ c.times_ten-t.ensures c.if-t-gt0.false) c.loop-more-test.true,
-    )
+loop-more-preserved c = (
+  c.times_ten-t.ensures.small,
+  λ v l h. c.loop-more.invariant.1 v l h ∙ lower-on v l h _ _ _ (sym (add-zero _) ∙ tens-none _ 0 _ c.times_ten-t.ensures c.if-t-gt0.false) c.loop-more-test.true,
+)
 
 pub returns : goal.returns
 returns c =

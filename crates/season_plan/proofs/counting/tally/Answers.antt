@@ -18,14 +18,13 @@ bump-requires c =
     tally-room _ _ _ _ _ c.loop-i-test.true c.loop-i.invariant.1 c.requires.0 c.requires.1 c.row.ensures
 
 pub loop-i-preserved : goal.loop-i-preserved
-loop-i-preserved c =
-    (
-      omega arith,
-      c.bump.ensures
-          ∙ ap (λ (r : ℕ). marked (r ∷ []) c.loop-i.counts) c.row.ensures
-          ∙ ap (marked (row_of _ ∷ [])) c.loop-i.invariant.1
-          ∙ mapped_next row_of _ _ c.loop-i.i c.loop-i-test.true,
-    )
+loop-i-preserved c = (
+  omega arith,
+  c.bump.ensures
+      ∙ ap (λ (r : ℕ). marked (r ∷ []) c.loop-i.counts) c.row.ensures
+      ∙ ap (marked (row_of _ ∷ [])) c.loop-i.invariant.1
+      ∙ mapped_next row_of _ _ c.loop-i.i c.loop-i-test.true,
+)
 
 pub shape_of-counts : goal.shape_of-counts
 shape_of-counts c = ap length c.loop-i.invariant.1 ∙ marked-length _ _

@@ -57,17 +57,16 @@ pub slice_bounds-fly-end-in-Read : goal.slice_bounds-fly-end-in-Read
 slice_bounds-fly-end-in-Read c = sym (length-take-le _ _ (numbers-few c.before))
 
 pub fly-requires : goal.fly-requires
-fly-requires c =
-    (
-      c.requires.0,
-      c.requires.1,
-      record {
-        text = c.args.text.now;
-        is = held _ c.requires.2 c.read_lean.ensures
-            (spare (letters-long c.before) (numbers-long c.before) (offsets-long c.before))
-            c.in-Read.is;
-      },
-    )
+fly-requires c = (
+  c.requires.0,
+  c.requires.1,
+  record {
+    text = c.args.text.now;
+    is = held _ c.requires.2 c.read_lean.ensures
+        (spare (letters-long c.before) (numbers-long c.before) (offsets-long c.before))
+        c.in-Read.is;
+  },
+)
 
 pub shape_of-counts-in-Read : goal.shape_of-counts-in-Read
 shape_of-counts-in-Read c =

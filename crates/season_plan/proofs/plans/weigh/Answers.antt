@@ -24,11 +24,10 @@ pub bump-requires-2 : goal.bump-requires-2
 bump-requires-2 c = (omega (arith, c.requires.0), roomy-less c.requires.1 (omega arith))
 
 pub tally-requires : goal.tally-requires
-tally-requires c =
-    (
-      ap length c.bump-2.ensures ∙ marked-length _ _ ∙ c.requires.0,
-      room_after c.requires.1 (0 ∷ []) c.bump-2.ensures _ (omega (arith, c.requires.2)),
-    )
+tally-requires c = (
+  ap length c.bump-2.ensures ∙ marked-length _ _ ∙ c.requires.0,
+  room_after c.requires.1 (0 ∷ []) c.bump-2.ensures _ (omega (arith, c.requires.2)),
+)
 
 pub tally-requires-2 : goal.tally-requires-2
 tally-requires-2 c =

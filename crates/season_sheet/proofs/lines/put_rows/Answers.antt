@@ -19,8 +19,8 @@ put_row-at-requires c =
 pub loop-k-preserved : goal.loop-k-preserved
 loop-k-preserved c =
     elim c.if-count-ne0.branch [
-      then-count-ne0 w ↦ (omega arith, rw (w.out-is, w.at-is) (to-more _ 40 _ _ _ _ _ c.loop-k.invariant.1 _ _ (row-some _ _ _ w.if-count-ne0.true w.put_row-at.ensures)))
-    | else-count-ne0 w ↦ (omega arith, rw (w.out-is, w.at-is) (to-more _ 40 _ _ _ _ _ c.loop-k.invariant.1 _ _ (row-none _ _ _ _ w.if-count-ne0.false)))
+      | then-count-ne0 w ↦ (omega arith, rw (w.out-is, w.at-is) (to-more _ 40 _ _ _ _ _ c.loop-k.invariant.1 _ _ (row-some _ _ _ w.if-count-ne0.true w.put_row-at.ensures)))
+      | else-count-ne0 w ↦ (omega arith, rw (w.out-is, w.at-is) (to-more _ 40 _ _ _ _ _ c.loop-k.invariant.1 _ _ (row-none _ _ _ _ w.if-count-ne0.false)))
     ]
 
 pub shape_of-out : goal.shape_of-out

@@ -15,8 +15,8 @@ loop-k-init c = (omega arith, used-none _ _, omega arith)
 pub loop-k-preserved : goal.loop-k-preserved
 loop-k-preserved c =
     elim c.if-counts-from-ne0.branch [
-      then-counts-from-ne0 w ↦ (omega arith, w.found-is ∙ used-more _ _ _ _ c.loop-k.invariant.1 w.if-counts-from-ne0.true, omega (arith, w.found-is, c.loop-k.invariant.2))
-    | else-counts-from-ne0 w ↦ (omega arith, w.found-is ∙ used-same _ _ _ _ c.loop-k.invariant.1 w.if-counts-from-ne0.false, omega (arith, w.found-is, c.loop-k.invariant.2))
+      | then-counts-from-ne0 w ↦ (omega arith, w.found-is ∙ used-more _ _ _ _ c.loop-k.invariant.1 w.if-counts-from-ne0.true, omega (arith, w.found-is, c.loop-k.invariant.2))
+      | else-counts-from-ne0 w ↦ (omega arith, w.found-is ∙ used-same _ _ _ _ c.loop-k.invariant.1 w.if-counts-from-ne0.false, omega (arith, w.found-is, c.loop-k.invariant.2))
     ]
 
 pub returns : goal.returns

@@ -47,7 +47,7 @@ loop-i-preserved c =
       omega (arith, c.loop-i-test.true),
       omega (arith, most, c.loop-i.invariant.1),
       c.loop-i.invariant.2
-      ∙ step_same c.args.wanted.now c.args.given.now c.loop-i.i c.loop-i.line c.line_end-line.result c.loop-i-test.true c.if-given-i.false c.if-own-given.false c.line_end-line.ensures,
+          ∙ step_same c.args.wanted.now c.args.given.now c.loop-i.i c.loop-i.line c.line_end-line.result c.loop-i-test.true c.if-given-i.false c.if-own-given.false c.line_end-line.ensures,
     )
 
 pub returns-then-i-given : goal.returns-then-i-given

@@ -50,14 +50,13 @@ pub slice_bounds-fly-end-in-Read : goal.slice_bounds-fly-end-in-Read
 slice_bounds-fly-end-in-Read c = sym (length-take-le _ _ (numbers-few c.before))
 
 pub fly-requires : goal.fly-requires
-fly-requires c =
-    (
-      held c.args.input.now c.args.start c.if-input-start-gt4096.false c.read_lean.ensures
-          (spare (letters-long c.before) (numbers-long c.before) (offsets-long c.before))
-          c.in-Read.is,
-      c.requires.1,
-      c.requires.2,
-    )
+fly-requires c = (
+  held c.args.input.now c.args.start c.if-input-start-gt4096.false c.read_lean.ensures
+      (spare (letters-long c.before) (numbers-long c.before) (offsets-long c.before))
+      c.in-Read.is,
+  c.requires.1,
+  c.requires.2,
+)
 
 pub returns-in-Read : goal.returns-in-Read
 returns-in-Read c = c.fly.ensures

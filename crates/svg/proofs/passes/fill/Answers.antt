@@ -83,11 +83,10 @@ returns-then-offsets-letter_at c =
     full-of-offsets c.loop-refusal.invariant _ _ (sym c.read_step.ensures ∙ c.in-Command.is) c.if-offsets-letter_at.true
 
 pub store-requires : goal.store-requires
-store-requires c =
-    (
-      omega (arith, c.if-letters-letter_at.false),
-      omega (arith, c.if-numbers-at.false, c.width-more.ensures, held-within c.loop-refusal.invariant),
-    )
+store-requires c = (
+  omega (arith, c.if-letters-letter_at.false),
+  omega (arith, c.if-numbers-at.false, c.width-more.ensures, held-within c.loop-refusal.invariant),
+)
 
 pub overflow_cast-offsets : goal.overflow_cast-offsets
 overflow_cast-offsets c =

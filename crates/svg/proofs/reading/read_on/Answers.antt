@@ -42,12 +42,11 @@ copy_offsets-requires c =
     (begun-room c.requires.1 (lent_mut c.args.letters c.args.numbers c.args.offsets) (has_room _ (lent_mut c.args.letters c.args.numbers c.args.offsets) c.requires.0 (sym c.measure_on.ensures ∙ c.in-Counted.is) c.if-letters-places.false c.if-numbers-count.false c.if-offsets-places.false)).2
 
 pub fill-requires : goal.fill-requires
-fill-requires c =
-    (
-      c.requires.0,
-      begun-holding c.requires.1 (lent_mut c.args.letters c.args.numbers c.args.offsets) (has_room _ (lent_mut c.args.letters c.args.numbers c.args.offsets) c.requires.0 (sym c.measure_on.ensures ∙ c.in-Counted.is) c.if-letters-places.false c.if-numbers-count.false c.if-offsets-places.false) _ c.copy_letters.ensures c.copy_numbers.ensures
-          c.copy_offsets.ensures,
-    )
+fill-requires c = (
+  c.requires.0,
+  begun-holding c.requires.1 (lent_mut c.args.letters c.args.numbers c.args.offsets) (has_room _ (lent_mut c.args.letters c.args.numbers c.args.offsets) c.requires.0 (sym c.measure_on.ensures ∙ c.in-Counted.is) c.if-letters-places.false c.if-numbers-count.false c.if-offsets-places.false) _ c.copy_letters.ensures c.copy_numbers.ensures
+      c.copy_offsets.ensures,
+)
 
 pub returns-in-Counted : goal.returns-in-Counted
 returns-in-Counted c =
