@@ -15,13 +15,13 @@ pub put_table-requires : goal.put_table-requires
 put_table-requires c =
     let has = ap has_table (sym c.kind.ensures) ∙ sym c.has_table.ensures ∙ c.if-has_table.true in
     let place : c.width.result ≡ width_of (kind_of c.args.segment) = c.width.ensures ∙ ap width_of c.kind-then-has_table.ensures in
-    omega (arith, place, places-some (kind_of c.args.segment) has, c.requires, c.put_segment.auto.0)
+    omega (arith, place, places-some (kind_of c.args.segment) has, c.requires, c.put_segment.auto.fields)
 
 pub returns-then-has_table : goal.returns-then-has_table
 returns-then-has_table c =
     let has = ap has_table (sym c.kind.ensures) ∙ sym c.has_table.ensures ∙ c.if-has_table.true in
     let size : length c.args.table.entries ≡ 32 = c.well_formed.0.1.1.0.1.0.1 in
-    put_both c.args.segment c.args.table c.args.out.now c.put_segment.new.0 _ _ has size c.requires c.put_segment.ensures
+    put_both c.args.segment c.args.table c.args.out.now c.put_segment.new.fields _ _ has size c.requires c.put_segment.ensures
     (c.width.ensures ∙ ap width_of c.kind-then-has_table.ensures) c.put_table.ensures
 
 pub returns-else-has_table : goal.returns-else-has_table
