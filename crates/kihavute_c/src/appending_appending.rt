@@ -1,5 +1,5 @@
 // The exports of kihavute_appending::appending.
-ghost use Rattle.path_stored.specs.Buffers.{after, before};
+ghost use Rattle.path_stored.specs.Buffers.{after, before_mut};
 ghost use Rattle.path_append.specs.Appending.{arc_segment};
 ghost use Rattle.arc.specs.Lines.{line_of};
 ghost use Rattle.path_segment.specs.declared.segments.PathSegment.TheVariants.{Line, Quad, Cubic};
@@ -20,7 +20,7 @@ pub extern "C" fn kihavute_push_segment(
     numbers: &[f32],
     answer: &mut [u64],
 ) -> u32
-    ensures { Pushes kind numbers.now count command (before kinds fields tables lengths commands) answer.old
+    ensures { Pushes kind numbers.now count command (before_mut kinds fields tables lengths commands) answer.old
         result (after kinds fields tables lengths commands) answer.new }
 {
     kihavute_appending::appending::kihavute_push_segment(
@@ -44,7 +44,7 @@ pub extern "C" fn kihavute_line_to(
     ey: f32,
     answer: &mut [u64],
 ) -> u32
-    ensures { Appends (Line (line_of (point_of sx sy) (point_of ex ey))) count command (before kinds fields tables lengths commands) answer.old
+    ensures { Appends (Line (line_of (point_of sx sy) (point_of ex ey))) count command (before_mut kinds fields tables lengths commands) answer.old
         result (after kinds fields tables lengths commands) answer.new }
 {
     kihavute_appending::appending::kihavute_line_to(
@@ -70,7 +70,7 @@ pub extern "C" fn kihavute_quad_to(
     ey: f32,
     answer: &mut [u64],
 ) -> u32
-    ensures { Appends (Quad (point_of sx sy) (point_of cx cy) (point_of ex ey)) count command (before kinds fields tables lengths commands) answer.old
+    ensures { Appends (Quad (point_of sx sy) (point_of cx cy) (point_of ex ey)) count command (before_mut kinds fields tables lengths commands) answer.old
         result (after kinds fields tables lengths commands) answer.new }
 {
     kihavute_appending::appending::kihavute_quad_to(
@@ -98,7 +98,7 @@ pub extern "C" fn kihavute_cubic_to(
     ey: f32,
     answer: &mut [u64],
 ) -> u32
-    ensures { Appends (Cubic (point_of sx sy) (point_of ax ay) (point_of bx by) (point_of ex ey)) count command (before kinds fields tables lengths commands) answer.old
+    ensures { Appends (Cubic (point_of sx sy) (point_of ax ay) (point_of bx by) (point_of ex ey)) count command (before_mut kinds fields tables lengths commands) answer.old
         result (after kinds fields tables lengths commands) answer.new }
 {
     kihavute_appending::appending::kihavute_cubic_to(
@@ -129,7 +129,7 @@ pub extern "C" fn kihavute_arc_to(
     ey: f32,
     answer: &mut [u64],
 ) -> u32
-    ensures { Appends (arc_segment (chord_of sx sy rx ry rotation large sweep ex ey)) count command (before kinds fields tables lengths commands) answer.old
+    ensures { Appends (arc_segment (chord_of sx sy rx ry rotation large sweep ex ey)) count command (before_mut kinds fields tables lengths commands) answer.old
         result (after kinds fields tables lengths commands) answer.new }
 {
     kihavute_appending::appending::kihavute_arc_to(

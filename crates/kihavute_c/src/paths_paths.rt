@@ -1,5 +1,5 @@
 // The exports of kihavute_paths::paths.
-ghost use Rattle.path_stored.specs.Buffers.{after, before};
+ghost use Rattle.path_stored.specs.Buffers.{after, before_mut};
 ghost use Rattle.path_build.specs.Lists.{given_list};
 ghost use Rattle.path_build.specs.Paths.{lent_of, drawers_list_of, build_path_of};
 ghost use Rattle.path_text.specs.Builds.{build_text_of, drawers_text_of};
@@ -18,8 +18,8 @@ pub extern "C" fn kihavute_build(
     commands: &mut [u32],
     answer: &mut [u64],
 ) -> u32
-    ensures { PathBuilt (build_path_of (given_list letters numbers) (lent_of (before kinds fields tables lengths commands))) (drawers_list_of (given_list letters numbers))
-        (before kinds fields tables lengths commands) answer.old result (after kinds fields tables lengths commands) answer.new }
+    ensures { PathBuilt (build_path_of (given_list letters numbers) (lent_of (before_mut kinds fields tables lengths commands))) (drawers_list_of (given_list letters numbers))
+        (before_mut kinds fields tables lengths commands) answer.old result (after kinds fields tables lengths commands) answer.new }
 {
     kihavute_paths::paths::kihavute_build(
         letters, numbers, kinds, fields, tables, lengths, commands, answer,
@@ -37,8 +37,8 @@ pub extern "C" fn kihavute_build_text(
     commands: &mut [u32],
     answer: &mut [u64],
 ) -> u32
-    ensures { PathBuilt (build_text_of text.now (lent_of (before kinds fields tables lengths commands))) (drawers_text_of text.now)
-        (before kinds fields tables lengths commands) answer.old result (after kinds fields tables lengths commands) answer.new }
+    ensures { PathBuilt (build_text_of text.now (lent_of (before_mut kinds fields tables lengths commands))) (drawers_text_of text.now)
+        (before_mut kinds fields tables lengths commands) answer.old result (after kinds fields tables lengths commands) answer.new }
 {
     kihavute_paths::paths::kihavute_build_text(
         text, kinds, fields, tables, lengths, commands, answer,
