@@ -7,7 +7,7 @@ use Rattle.kihavute_curves.proofs.SplinesGiven.{length-of-given}
 use Rattle.kihavute_curves.proofs.splines.give_length.Goals as goal
 
 pub returns-in-Length : goal.returns-in-Length
-returns-in-Length c = given-same _ _ (length-of-given _ _ _ c.bits-bits.ensures (sym c.decreases.given.1)) c.accept.ensures
+returns-in-Length c = given-same _ _ (length-of-given _ _ _ c.bits-bits.ensures (sym c.in-Length.is)) c.accept.ensures
 
 pub returns-in-Refused : goal.returns-in-Refused
 returns-in-Refused c = given-same _ _ (ap measure_given (sym c.in-Refused.is)) c.refuse.ensures
