@@ -80,6 +80,21 @@ pub record Flights (b : Buffers) (progresses : List Float) (segments : List ℕ)
 abbrev pub found_for : List Float → List Float → List ℕ
 found_for lengths progresses = each (λ p. (spot_of lengths p).segment) progresses
 
+-- and how far along it each lies; what a pass that finds both asks and leaves
+abbrev pub alongs_for : List Float → List Float → List Float
+alongs_for lengths progresses = each (λ p. (spot_of lengths p).progress.value) progresses
+
+pub record SpotsRoom (lengths progresses : List Float) (segments : List ℕ) (alongs : List Float) : Type 0 where
+  pub path : SoundPath lengths
+  pub few : length lengths ≤ most_segments
+  pub segments_room : length progresses ≤ length segments
+  pub alongs_room : length progresses ≤ length alongs
+
+pub record FilledSpots (lengths progresses : List Float) (segments : List ℕ) (alongs : List Float) (segments' : List ℕ) (alongs' : List Float) : Type 0 where
+  pub segments_are : segments' ≡ written (found_for lengths progresses) segments
+  pub alongs_are : alongs' ≡ written (alongs_for lengths progresses) alongs
+
+-- what a pass that finds the segments alone asks
 pub record SegmentsRoom (lengths progresses : List Float) (segments : List ℕ) : Type 0 where
   pub path : SoundPath lengths
   pub few : length lengths ≤ most_segments
