@@ -1,7 +1,9 @@
 -- What resampling and a morph give to C: the answer, and one or two outputs, which stay as they were where the answer is short. Definitions only.
 use Rattle.std.specs.Prelude.{ℕ, ◌≡◌, cond, List, [], ◌∷◌, Float, length}
+use Rattle.std.specs.Borrow.{MutBor}
+use denote.Triple.Both.{Both}
 use Rattle.answers.specs.Answers.{Answer, accepted, refused}
-use Rattle.answers.specs.Report.{Lent, written, short}
+use Rattle.answers.specs.Report.{written, short}
 use Rattle.floats.specs.Floats.{bits_of}
 use Rattle.resample.specs.Resample.{Outcome, answered, written_by}
 use Rattle.morph.specs.Morph.{Outcomes, morph_of, first_written, second_written}
@@ -25,6 +27,10 @@ pub record PutTwo (outcome : Outcomes) (one other : List Float) (answer : List �
   pub given : Given (Morph.answered outcome) answer returned answer'
   pub first : one' ≡ cond (short answer) one (written (first_written outcome) one)
   pub second : other' ≡ cond (short answer) other (written (second_written outcome) other)
+
+-- a slice that is lent to be written, before and after
+abbrev Lent : Type 0 → Type 0
+Lent A = Both (MutBor (List A)) (MutBor (List A))
 
 -- both outputs and the answer of a morph to so many points
 abbrev pub PutMorph : List Float → List Float → ℕ → Lent Float → Lent Float → Lent ℕ → ℕ → Type 0

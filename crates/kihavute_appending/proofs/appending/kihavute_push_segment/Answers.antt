@@ -9,7 +9,8 @@ returns-then-answer-lt8 c = not-appended _ _ _ _ _ _ c.if-answer-lt8.true
 
 pub segment_at-segment-requires : goal.segment_at-segment-requires
 segment_at-segment-requires c =
-    segment-known c.args.kind c.args.numbers.now (sym c.is_segment.ensures ∙ c.if-is_segment.true)
+    let known = segment-known c.args.kind c.args.numbers.now (sym c.is_segment.ensures ∙ c.if-is_segment.true) in
+    record { kind_bound = known.0; kind_in_bounds = known.1 }
 
 pub returns-then-is_segment : goal.returns-then-is_segment
 returns-then-is_segment c =
