@@ -49,7 +49,8 @@ offset_bounds-segments-k c =
 
 pub bounds-segments-k : goal.bounds-segments-k
 bounds-segments-k c =
-    let found_segments : length (written (found_for c.args.lengths.now c.args.progresses.now) c.args.segments.now) ≡ length c.args.segments.now = each-filled (λ p. (spot_of c.args.lengths.now p).segment) c.args.progresses.now c.args.segments.now c.requires.places.segments_room in
+    let found_segments : length (written (found_for c.args.lengths.now c.args.progresses.now) c.args.segments.now) ≡ length c.args.segments.now = each-filled (λ p.
+    (spot_of c.args.lengths.now p).segment) c.args.progresses.now c.args.segments.now c.requires.places.segments_room in
     let more : c.loop-k.k < length c.args.progresses.now = omega (arith, c.loop-k-test.true) in
     omega (arith, more, ap length c.fill_segments.ensures, found_segments, c.requires.places.segments_room)
 
@@ -88,7 +89,8 @@ reached-here-requires c =
     let segment_is = segment-found c.args.lengths.now c.args.progresses.now _ _ c.loop-k.k more c.fill_segments.ensures c.wide-segment.ensures in
     let moves : Moving c.args.kinds.now c.if-is_step_on.start c.wide-segment.result =
     elim c.if-is_step_on.branch [
-      | then-is_step_on w ↦ subst (λ (cursor : Cursor). Moving c.args.kinds.now cursor c.wide-segment.result) (sym w.start-is) (looking-moves c.requires.places.path c.loop-k.invariant.0 (get_or c.args.progresses.now c.loop-k.k nan) segment_is)
+      | then-is_step_on w ↦ subst (λ (cursor : Cursor). Moving c.args.kinds.now cursor c.wide-segment.result) (sym w.start-is) (looking-moves c.requires.places.path
+          c.loop-k.invariant.0 (get_or c.args.progresses.now c.loop-k.k nan) segment_is)
       | else-is_step_on w ↦ subst (λ (cursor : Cursor). Moving c.args.kinds.now cursor c.wide-segment.result) (sym w.start-is) w.nearest-start.ensures
     ] in
     record { move = moves; short = c.is_near.ensures c.if-is_near.true; known = c.requires.places.path.path.known }
@@ -99,7 +101,8 @@ moved-here-requires c =
     let segment_is = segment-found c.args.lengths.now c.args.progresses.now _ _ c.loop-k.k more c.fill_segments.ensures c.wide-segment.ensures in
     let moves : Moving c.args.kinds.now c.if-is_step_on.start c.wide-segment.result =
     elim c.if-is_step_on.branch [
-      | then-is_step_on w ↦ subst (λ (cursor : Cursor). Moving c.args.kinds.now cursor c.wide-segment.result) (sym w.start-is) (looking-moves c.requires.places.path c.loop-k.invariant.0 (get_or c.args.progresses.now c.loop-k.k nan) segment_is)
+      | then-is_step_on w ↦ subst (λ (cursor : Cursor). Moving c.args.kinds.now cursor c.wide-segment.result) (sym w.start-is) (looking-moves c.requires.places.path
+          c.loop-k.invariant.0 (get_or c.args.progresses.now c.loop-k.k nan) segment_is)
       | else-is_step_on w ↦ subst (λ (cursor : Cursor). Moving c.args.kinds.now cursor c.wide-segment.result) (sym w.start-is) w.nearest-start.ensures
     ] in
     moves
@@ -134,7 +137,8 @@ overflow_mul-k c =
 
 pub put_numbers-requires : goal.put_numbers-requires
 put_numbers-requires c =
-    let out_size : length c.loop-k.out ≡ length c.args.out.now = ap length c.loop-k.invariant.3 ∙ numbers-size (lent c.args.kinds c.args.fields c.args.tables c.args.lengths c.args.commands) c.args.progresses.now c.args.out.now c.loop-k.k c.loop-k.invariant.0.upto c.requires.out_room in
+    let out_size : length c.loop-k.out ≡ length c.args.out.now = ap length c.loop-k.invariant.3
+    ∙ numbers-size (lent c.args.kinds c.args.fields c.args.tables c.args.lengths c.args.commands) c.args.progresses.now c.args.out.now c.loop-k.k c.loop-k.invariant.0.upto c.requires.out_room in
     let more : c.loop-k.k < length c.args.progresses.now = omega (arith, c.loop-k-test.true) in
     omega (arith, more, out_size, c.requires.out_room)
 
@@ -181,7 +185,8 @@ loop-k-preserved c =
 
 pub shape_of-segments : goal.shape_of-segments
 shape_of-segments c =
-    let found_segments : length (written (found_for c.args.lengths.now c.args.progresses.now) c.args.segments.now) ≡ length c.args.segments.now = each-filled (λ p. (spot_of c.args.lengths.now p).segment) c.args.progresses.now c.args.segments.now c.requires.places.segments_room in
+    let found_segments : length (written (found_for c.args.lengths.now c.args.progresses.now) c.args.segments.now) ≡ length c.args.segments.now = each-filled (λ p.
+    (spot_of c.args.lengths.now p).segment) c.args.progresses.now c.args.segments.now c.requires.places.segments_room in
     ap length c.fill_segments.ensures ∙ found_segments
 
 pub shape_of-raws : goal.shape_of-raws
@@ -192,7 +197,8 @@ shape_of-raws c =
 
 pub shape_of-out : goal.shape_of-out
 shape_of-out c =
-    let out_size : length c.loop-k.out ≡ length c.args.out.now = ap length c.loop-k.invariant.3 ∙ numbers-size (lent c.args.kinds c.args.fields c.args.tables c.args.lengths c.args.commands) c.args.progresses.now c.args.out.now c.loop-k.k c.loop-k.invariant.0.upto c.requires.out_room in
+    let out_size : length c.loop-k.out ≡ length c.args.out.now = ap length c.loop-k.invariant.3
+    ∙ numbers-size (lent c.args.kinds c.args.fields c.args.tables c.args.lengths c.args.commands) c.args.progresses.now c.args.out.now c.loop-k.k c.loop-k.invariant.0.upto c.requires.out_room in
     out_size
 
 pub returns : goal.returns
@@ -204,7 +210,8 @@ returns c =
             segments_are =
                 c.fill_segments.ensures
                 ∙ ap (λ (xs : List _). written xs c.args.segments.now)
-                (each-equal (λ p. (spot_of c.args.lengths.now p).segment) (λ p. segment_given (flight_of (lent c.args.kinds c.args.fields c.args.tables c.args.lengths c.args.commands) p).segment) (λ p. segment-there (lent c.args.kinds c.args.fields c.args.tables c.args.lengths c.args.commands) p c.requires.places.path.some refl) c.args.progresses.now);
+                (each-equal (λ p. (spot_of c.args.lengths.now p).segment) (λ p. segment_given (flight_of (lent c.args.kinds c.args.fields c.args.tables c.args.lengths
+                c.args.commands) p).segment) (λ p. segment-there (lent c.args.kinds c.args.fields c.args.tables c.args.lengths c.args.commands) p c.requires.places.path.some refl) c.args.progresses.now);
             raws_are = c.loop-k.invariant.1 ∙ ap (λ (ps : List Float). written (raws_for (lent c.args.kinds c.args.fields c.args.tables c.args.lengths c.args.commands) ps) c.args.raws.now) all;
           };
       out_is = c.loop-k.invariant.3 ∙ ap (λ (ps : List Float). written (numbers_for (lent c.args.kinds c.args.fields c.args.tables c.args.lengths c.args.commands) ps) c.args.out.now) all;

@@ -48,7 +48,8 @@ offset_bounds-segments-i c =
 
 pub bounds-segments-i : goal.bounds-segments-i
 bounds-segments-i c =
-    let found_segments : length (written (found_for c.args.lengths.now c.args.progresses.now) c.args.segments.now) ≡ length c.args.segments.now = each-filled (λ p. (spot_of c.args.lengths.now p).segment) c.args.progresses.now c.args.segments.now c.requires.segments_room in
+    let found_segments : length (written (found_for c.args.lengths.now c.args.progresses.now) c.args.segments.now) ≡ length c.args.segments.now = each-filled (λ p.
+    (spot_of c.args.lengths.now p).segment) c.args.progresses.now c.args.segments.now c.requires.segments_room in
     let more : c.loop-i.i < length c.args.progresses.now = omega (arith, c.loop-i-test.true) in
     omega (arith, more, ap length c.fill_segments.ensures, found_segments, c.requires.segments_room)
 
@@ -163,7 +164,8 @@ loop-i-preserved c =
 
 pub shape_of-segments : goal.shape_of-segments
 shape_of-segments c =
-    let found_segments : length (written (found_for c.args.lengths.now c.args.progresses.now) c.args.segments.now) ≡ length c.args.segments.now = each-filled (λ p. (spot_of c.args.lengths.now p).segment) c.args.progresses.now c.args.segments.now c.requires.segments_room in
+    let found_segments : length (written (found_for c.args.lengths.now c.args.progresses.now) c.args.segments.now) ≡ length c.args.segments.now = each-filled (λ p.
+    (spot_of c.args.lengths.now p).segment) c.args.progresses.now c.args.segments.now c.requires.segments_room in
     ap length c.fill_segments.ensures ∙ found_segments
 
 pub shape_of-raws : goal.shape_of-raws
@@ -179,6 +181,7 @@ returns c =
       segments_are =
           c.fill_segments.ensures
           ∙ ap (λ (xs : List _). written xs c.args.segments.now)
-          (each-equal (λ p. (spot_of c.args.lengths.now p).segment) (λ p. segment_given (flight_of (lent c.args.kinds c.args.fields c.args.tables c.args.lengths c.args.commands) p).segment) (λ p. segment-there (lent c.args.kinds c.args.fields c.args.tables c.args.lengths c.args.commands) p c.requires.path.some refl) c.args.progresses.now);
+          (each-equal (λ p. (spot_of c.args.lengths.now p).segment) (λ p. segment_given (flight_of (lent c.args.kinds c.args.fields c.args.tables c.args.lengths
+          c.args.commands) p).segment) (λ p. segment-there (lent c.args.kinds c.args.fields c.args.tables c.args.lengths c.args.commands) p c.requires.path.some refl) c.args.progresses.now);
       raws_are = c.loop-i.invariant.1 ∙ ap (λ (ps : List Float). written (raws_for (lent c.args.kinds c.args.fields c.args.tables c.args.lengths c.args.commands) ps) c.args.raws.now) all;
     }

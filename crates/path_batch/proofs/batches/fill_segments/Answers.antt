@@ -35,7 +35,8 @@ offset_bounds-segments-i c =
 
 pub bounds-segments-i : goal.bounds-segments-i
 bounds-segments-i c =
-    let segments_size : length c.loop-i.segments ≡ length c.args.segments.now = ap length c.loop-i.invariant.1 ∙ each-size (λ p. (spot_of c.args.lengths.now p).segment) c.args.progresses.now c.args.segments.now c.loop-i.i c.loop-i.invariant.0 c.requires.segments_room in
+    let segments_size : length c.loop-i.segments ≡ length c.args.segments.now = ap length c.loop-i.invariant.1
+    ∙ each-size (λ p. (spot_of c.args.lengths.now p).segment) c.args.progresses.now c.args.segments.now c.loop-i.i c.loop-i.invariant.0 c.requires.segments_room in
     let more : c.loop-i.i < length c.args.progresses.now = omega (arith, c.loop-i-test.true) in
     omega (arith, more, segments_size, c.requires.segments_room)
 
@@ -59,7 +60,8 @@ loop-i-preserved c =
 
 pub shape_of-segments : goal.shape_of-segments
 shape_of-segments c =
-    let segments_size : length c.loop-i.segments ≡ length c.args.segments.now = ap length c.loop-i.invariant.1 ∙ each-size (λ p. (spot_of c.args.lengths.now p).segment) c.args.progresses.now c.args.segments.now c.loop-i.i c.loop-i.invariant.0 c.requires.segments_room in
+    let segments_size : length c.loop-i.segments ≡ length c.args.segments.now = ap length c.loop-i.invariant.1
+    ∙ each-size (λ p. (spot_of c.args.lengths.now p).segment) c.args.progresses.now c.args.segments.now c.loop-i.i c.loop-i.invariant.0 c.requires.segments_room in
     segments_size
 
 pub returns : goal.returns

@@ -48,14 +48,16 @@ bounds-speeds-i c =
 pub overflow_add-sum : goal.overflow_add-sum
 overflow_add-sum c =
     let more : c.loop-i.i < length c.args.speeds.now = c.loop-i-test.true in
-    let next : (c.loop-i.sum + get_or c.args.speeds.now c.loop-i.i 0) ≡ sum_of (take (suc c.loop-i.i) c.args.speeds.now) = ap (λ (s : ℕ). s + get_or c.args.speeds.now c.loop-i.i 0) c.loop-i.invariant.1 ∙ sym (sum-next c.args.speeds.now c.loop-i.i more) in
+    let next : (c.loop-i.sum + get_or c.args.speeds.now c.loop-i.i 0) ≡ sum_of (take (suc c.loop-i.i) c.args.speeds.now) = ap (λ (s : ℕ). s + get_or c.args.speeds.now
+    c.loop-i.i 0) c.loop-i.invariant.1 ∙ sym (sum-next c.args.speeds.now c.loop-i.i more) in
     let small : (c.loop-i.sum + get_or c.args.speeds.now c.loop-i.i 0) ≤ 3600000000 = omega (arith, next, sum-few c.requires.recorded (suc c.loop-i.i) more) in
     record { fits = omega (arith, small) }
 
 pub reach-there-requires : goal.reach-there-requires
 reach-there-requires c =
     let more : c.loop-i.i < length c.args.speeds.now = c.loop-i-test.true in
-    let next : (c.loop-i.sum + get_or c.args.speeds.now c.loop-i.i 0) ≡ sum_of (take (suc c.loop-i.i) c.args.speeds.now) = ap (λ (s : ℕ). s + get_or c.args.speeds.now c.loop-i.i 0) c.loop-i.invariant.1 ∙ sym (sum-next c.args.speeds.now c.loop-i.i more) in
+    let next : (c.loop-i.sum + get_or c.args.speeds.now c.loop-i.i 0) ≡ sum_of (take (suc c.loop-i.i) c.args.speeds.now) = ap (λ (s : ℕ). s + get_or c.args.speeds.now
+    c.loop-i.i 0) c.loop-i.invariant.1 ∙ sym (sum-next c.args.speeds.now c.loop-i.i more) in
     let small : (c.loop-i.sum + get_or c.args.speeds.now c.loop-i.i 0) ≤ 3600000000 = omega (arith, next, sum-few c.requires.recorded (suc c.loop-i.i) more) in
     let n = (c.loop-i.sum + get_or c.args.speeds.now c.loop-i.i 0) in
     record {
@@ -78,7 +80,8 @@ offset_bounds-segments-i c =
 pub bounds-segments-i : goal.bounds-segments-i
 bounds-segments-i c =
     let count_is : length (targets_of c.args.speeds.now) ≡ length c.args.speeds.now = targets-length 0 c.args.speeds.now in
-    let segments_size : length c.loop-i.segments ≡ length c.args.segments.now = ap length c.loop-i.invariant.4 ∙ each-size (segment_reached (buffers c.args.kinds.now c.args.fields.now c.args.tables.now c.args.lengths.now c.args.commands.now)) (targets_of c.args.speeds.now) c.args.segments.now c.loop-i.i (omega arith) (omega arith) in
+    let segments_size : length c.loop-i.segments ≡ length c.args.segments.now = ap length c.loop-i.invariant.4
+    ∙ each-size (segment_reached (buffers c.args.kinds.now c.args.fields.now c.args.tables.now c.args.lengths.now c.args.commands.now)) (targets_of c.args.speeds.now) c.args.segments.now c.loop-i.i (omega arith) (omega arith) in
     let more : c.loop-i.i < length c.args.speeds.now = c.loop-i-test.true in
     omega (arith, more, segments_size, c.requires.segments_room)
 
@@ -91,7 +94,8 @@ offset_bounds-raws-i c =
 pub bounds-raws-i : goal.bounds-raws-i
 bounds-raws-i c =
     let count_is : length (targets_of c.args.speeds.now) ≡ length c.args.speeds.now = targets-length 0 c.args.speeds.now in
-    let raws_size : length c.loop-i.raws ≡ length c.args.raws.now = ap length c.loop-i.invariant.5 ∙ each-size (raw_reached (buffers c.args.kinds.now c.args.fields.now c.args.tables.now c.args.lengths.now c.args.commands.now)) (targets_of c.args.speeds.now) c.args.raws.now c.loop-i.i (omega arith) (omega arith) in
+    let raws_size : length c.loop-i.raws ≡ length c.args.raws.now = ap length c.loop-i.invariant.5
+    ∙ each-size (raw_reached (buffers c.args.kinds.now c.args.fields.now c.args.tables.now c.args.lengths.now c.args.commands.now)) (targets_of c.args.speeds.now) c.args.raws.now c.loop-i.i (omega arith) (omega arith) in
     let more : c.loop-i.i < length c.args.speeds.now = c.loop-i-test.true in
     omega (arith, more, raws_size, c.requires.raws_room)
 
@@ -110,7 +114,8 @@ pub loop-i-preserved : goal.loop-i-preserved
 loop-i-preserved c =
     let path = buffers c.args.kinds.now c.args.fields.now c.args.tables.now c.args.lengths.now c.args.commands.now in
     let more : c.loop-i.i < length c.args.speeds.now = c.loop-i-test.true in
-    let next : (c.loop-i.sum + get_or c.args.speeds.now c.loop-i.i 0) ≡ sum_of (take (suc c.loop-i.i) c.args.speeds.now) = ap (λ (s : ℕ). s + get_or c.args.speeds.now c.loop-i.i 0) c.loop-i.invariant.1 ∙ sym (sum-next c.args.speeds.now c.loop-i.i more) in
+    let next : (c.loop-i.sum + get_or c.args.speeds.now c.loop-i.i 0) ≡ sum_of (take (suc c.loop-i.i) c.args.speeds.now) = ap (λ (s : ℕ). s + get_or c.args.speeds.now
+    c.loop-i.i 0) c.loop-i.invariant.1 ∙ sym (sum-next c.args.speeds.now c.loop-i.i more) in
     let some : 0 < length c.args.kinds.now = c.requires.path.some in
     let stands : c.reach-there.result.at.segment ≡ (spot_toward c.args.lengths.now c.metres.result).segment = (cursor-own c.args.kinds.now _ c.reach-there.ensures.is).0 in
     let stands_inside : c.reach-there.result.at.segment < length c.args.kinds.now = omega (arith, stands, c.reach-there.ensures.inside) in
@@ -131,13 +136,15 @@ loop-i-preserved c =
 pub shape_of-segments : goal.shape_of-segments
 shape_of-segments c =
     let count_is : length (targets_of c.args.speeds.now) ≡ length c.args.speeds.now = targets-length 0 c.args.speeds.now in
-    let segments_size : length c.loop-i.segments ≡ length c.args.segments.now = ap length c.loop-i.invariant.4 ∙ each-size (segment_reached (buffers c.args.kinds.now c.args.fields.now c.args.tables.now c.args.lengths.now c.args.commands.now)) (targets_of c.args.speeds.now) c.args.segments.now c.loop-i.i (omega arith) (omega arith) in
+    let segments_size : length c.loop-i.segments ≡ length c.args.segments.now = ap length c.loop-i.invariant.4
+    ∙ each-size (segment_reached (buffers c.args.kinds.now c.args.fields.now c.args.tables.now c.args.lengths.now c.args.commands.now)) (targets_of c.args.speeds.now) c.args.segments.now c.loop-i.i (omega arith) (omega arith) in
     segments_size
 
 pub shape_of-raws : goal.shape_of-raws
 shape_of-raws c =
     let count_is : length (targets_of c.args.speeds.now) ≡ length c.args.speeds.now = targets-length 0 c.args.speeds.now in
-    let raws_size : length c.loop-i.raws ≡ length c.args.raws.now = ap length c.loop-i.invariant.5 ∙ each-size (raw_reached (buffers c.args.kinds.now c.args.fields.now c.args.tables.now c.args.lengths.now c.args.commands.now)) (targets_of c.args.speeds.now) c.args.raws.now c.loop-i.i (omega arith) (omega arith) in
+    let raws_size : length c.loop-i.raws ≡ length c.args.raws.now = ap length c.loop-i.invariant.5
+    ∙ each-size (raw_reached (buffers c.args.kinds.now c.args.fields.now c.args.tables.now c.args.lengths.now c.args.commands.now)) (targets_of c.args.speeds.now) c.args.raws.now c.loop-i.i (omega arith) (omega arith) in
     raws_size
 
 pub returns : goal.returns

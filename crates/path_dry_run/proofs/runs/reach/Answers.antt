@@ -16,12 +16,20 @@ spot_toward-spot-requires c = record { sound_path = some-path c.requires.reachab
 
 pub moved-at-requires : goal.moved-at-requires
 moved-at-requires c =
-    let among : c.spot_toward-spot.result.segment < length c.args.kinds.now = let same = ap (λ (spot : Spot). spot.segment) c.spot_toward-spot.ensures in omega (arith, same, toward-inside c.args.lengths.now (some-path c.requires.reachable.path) c.args.target c.requires.t) in
+    let among : c.spot_toward-spot.result.segment < length c.args.kinds.now = let same = ap (λ (spot : Spot). spot.segment) c.spot_toward-spot.ensures in omega (
+      arith,
+      same,
+      toward-inside c.args.lengths.now (some-path c.requires.reachable.path) c.args.target c.requires.t,
+    ) in
     moving c.requires.reachable.path c.requires.reachable.is c.requires.reachable.inside among
 
 pub raw_within-raw-requires : goal.raw_within-raw-requires
 raw_within-raw-requires c =
-    let among : c.spot_toward-spot.result.segment < length c.args.kinds.now = let same = ap (λ (spot : Spot). spot.segment) c.spot_toward-spot.ensures in omega (arith, same, toward-inside c.args.lengths.now (some-path c.requires.reachable.path) c.args.target c.requires.t) in
+    let among : c.spot_toward-spot.result.segment < length c.args.kinds.now = let same = ap (λ (spot : Spot). spot.segment) c.spot_toward-spot.ensures in omega (
+      arith,
+      same,
+      toward-inside c.args.lengths.now (some-path c.requires.reachable.path) c.args.target c.requires.t,
+    ) in
     standing c.requires.reachable.path c.moved-at.ensures among
 
 pub returns : goal.returns
@@ -32,6 +40,7 @@ returns c =
           c.raw_within-raw.ensures
           ∙ ap (λ (i : ℕ). raw_within c.args.kinds.now c.args.tables.now i c.spot_toward-spot.result.progress.value) (cursor-own c.args.kinds.now c.spot_toward-spot.result.segment c.moved-at.ensures).0
           ∙ ap (λ (spot : Spot). raw_within c.args.kinds.now c.args.tables.now spot.segment spot.progress.value) c.spot_toward-spot.ensures;
-      inside = subst (λ (spot : Spot). spot.segment < length c.args.kinds.now) c.spot_toward-spot.ensures ((let among_here : c.spot_toward-spot.result.segment < length c.args.kinds.now = let same = ap (λ (spot : Spot). spot.segment) c.spot_toward-spot.ensures in
+      inside = subst (λ (spot : Spot). spot.segment < length c.args.kinds.now) c.spot_toward-spot.ensures ((let among_here : c.spot_toward-spot.result.segment < length
+          c.args.kinds.now = let same = ap (λ (spot : Spot). spot.segment) c.spot_toward-spot.ensures in
           omega (arith, same, toward-inside c.args.lengths.now (some-path c.requires.reachable.path) c.args.target c.requires.t) in among_here));
     }

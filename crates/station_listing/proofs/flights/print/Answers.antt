@@ -18,12 +18,27 @@ put_header-past_segments-requires c =
     omega (arith, listed-within (offsets_of ((drop c.args.start c.args.input.now))) (commands_of ((drop c.args.start c.args.input.now))) _ _ _ _ c.list-past_lines.ensures, c.put_header-past_commands.ensures.within)
 
 pub put_segments-past_kinds-requires : goal.put_segments-past_kinds-requires
-put_segments-past_kinds-requires c =
-    (c.requires.1.tellable, omega (arith, listed-within (offsets_of ((drop c.args.start c.args.input.now))) (commands_of ((drop c.args.start c.args.input.now))) _ _ _ _ c.list-past_lines.ensures, c.put_header-past_segments.ensures.within, c.put_header-past_commands.ensures.within))
+put_segments-past_kinds-requires c = (
+  c.requires.1.tellable,
+  omega (
+    arith,
+    listed-within (offsets_of ((drop c.args.start c.args.input.now))) (commands_of ((drop c.args.start c.args.input.now))) _ _ _ _
+        c.list-past_lines.ensures,
+    c.put_header-past_segments.ensures.within,
+    c.put_header-past_commands.ensures.within,
+  ),
+)
 
 pub put_header-past_stations-requires : goal.put_header-past_stations-requires
 put_header-past_stations-requires c =
-    omega (arith, listed-within (offsets_of ((drop c.args.start c.args.input.now))) (commands_of ((drop c.args.start c.args.input.now))) _ _ _ _ c.list-past_lines.ensures, c.put_segments-past_kinds.ensures.within, c.put_header-past_segments.ensures.within, c.put_header-past_commands.ensures.within)
+    omega (
+      arith,
+      listed-within (offsets_of ((drop c.args.start c.args.input.now))) (commands_of ((drop c.args.start c.args.input.now))) _ _ _ _
+          c.list-past_lines.ensures,
+      c.put_segments-past_kinds.ensures.within,
+      c.put_header-past_segments.ensures.within,
+      c.put_header-past_commands.ensures.within,
+    )
 
 pub put_stations-requires : goal.put_stations-requires
 put_stations-requires c =
