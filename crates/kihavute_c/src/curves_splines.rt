@@ -1,5 +1,6 @@
 // The exports of kihavute_curves::splines.
 ghost use Rattle.spline_query.specs.Queries.{spline_flown_of, spline_turned_of, spline_measured_of};
+ghost use Rattle.spline_query.specs.Ordered.{SplineOrdered};
 ghost use Rattle.c_answer.specs.Given.{Given};
 ghost use Rattle.flight.specs.Flights.{flight_given};
 ghost use Rattle.c_answer.specs.Places.{turn_given};
@@ -28,6 +29,7 @@ pub extern "C" fn kihavute_spline_flight(
     answer: &mut [u64],
 ) -> u32
     ensures given { Given (flight_given (spline_flown_of points.now table.now progress)) answer.old result answer.new }
+    ensures spline_ordered { SplineOrdered (spline_flown_of points.now table.now progress) points.now table.now }
     ensures spline_received_by { SplineReceivedBy points.now table.now progress result answer.new }
 {
     kihavute_curves::splines::kihavute_spline_flight(points, table, progress, answer)

@@ -3,13 +3,14 @@ ghost use Rattle.std.specs.Prelude.{◌≡◌};
 ghost use Rattle.floats.specs.Floats.{bits_of, min_of, max_of, clamp_of, clamp01_of};
 ghost use Rattle.root.specs.Root.{sqrt_of};
 ghost use Rattle.math.specs.Math.{lerp_of, deg_to_rad_of, rad_to_deg_of};
-ghost use Rattle.kihavute.specs.Kept.{RootKept};
+ghost use Rattle.kihavute.specs.Kept.{RootKept, RootSettled};
 
 // The nearest float to the exact root, ties to even.
 #[unsafe(no_mangle)]
 pub extern "C" fn kihavute_sqrt(x: f32) -> f32
     ensures value { result ≡ sqrt_of x }
     ensures root_kept { RootKept x result }
+    ensures root_settled { RootSettled x result }
 {
     kihavute::numbers::kihavute_sqrt(x)
 }

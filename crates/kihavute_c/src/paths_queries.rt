@@ -2,6 +2,7 @@
 ghost use Rattle.flight.specs.Flights.{flight_given};
 ghost use Rattle.path_stored.specs.Buffers.{before};
 ghost use Rattle.path_query.specs.Answered.{flew_of, turned_of};
+ghost use Rattle.path_query.specs.Ordered.{OrderedBy};
 ghost use Rattle.c_answer.specs.Given.{Given};
 ghost use Rattle.c_answer.specs.Places.{turn_given};
 ghost use Rattle.kihavute_paths.specs.Received.{ReceivedBy};
@@ -19,6 +20,7 @@ pub extern "C" fn kihavute_flight(
     answer: &mut [u64],
 ) -> u32
     ensures given { Given (flight_given (flew_of (before kinds fields tables lengths commands) progress)) answer.old result answer.new }
+    ensures ordered_by { OrderedBy (flew_of (before kinds fields tables lengths commands) progress) (before kinds fields tables lengths commands) }
     ensures received_by { ReceivedBy (before kinds fields tables lengths commands) progress result answer.new }
 {
     kihavute_paths::queries::kihavute_flight(

@@ -6,7 +6,7 @@ ghost use Rattle.atan2_rule.specs.Steps.{atan2_of};
 ghost use Rattle.math.specs.Math.{point_of};
 ghost use Rattle.angles.specs.Angles.{rotation_deg_of, angle_between_of};
 ghost use Rattle.kihavute.specs.Pair.{pair_of};
-ghost use Rattle.kihavute.specs.Kept.{Atan2Kept, CosineKept, SineKept};
+ghost use Rattle.kihavute.specs.Kept.{Atan2Kept, Atan2Settled, CosineKept, SineKept};
 
 // The sine of an angle in radians of at most 64 in size, and NaN for any other: the quotient of two
 // constants, and so tidy.
@@ -40,7 +40,8 @@ pub extern "C" fn kihavute_sin_cos(angle: f32) -> u64
 #[unsafe(no_mangle)]
 pub extern "C" fn kihavute_atan2(y: f32, x: f32) -> f32
     ensures value { result ≡ atan2_of y x }
-    ensures atan2kept { Atan2Kept y x result }
+    ensures atan2_kept { Atan2Kept y x result }
+    ensures atan2_settled { Atan2Settled y x result }
 {
     kihavute::turns::kihavute_atan2(y, x)
 }
