@@ -1,22 +1,9 @@
 -- `station_listing::plans::answer` meets its contract: the text's length, then what reading answers. Assumes nothing.
 use borrow.Author.Rules.{rules}
-use mathlib.Core.Path.{sym}
 use native.Mathlib.Omega.{arith}
-use lib.Seq.{length-take-le}
 use Rattle.station_listing.proofs.Telling.{too_long, not-read, letters-most, numbers-most, held}
 use Rattle.station_listing.proofs.Texts.{spare}
-use Rattle.station_listing.proofs.plans.answer.Tie as tie
 use Rattle.station_listing.proofs.plans.answer.Goals as goal
-
--- ---- the buffers
-pub slice_bounds-read_lean-end-2 : goal.slice_bounds-read_lean-end-2
-slice_bounds-read_lean-end-2 c = search rules
-
-pub slice_bounds-read_lean-end-3 : goal.slice_bounds-read_lean-end-3
-slice_bounds-read_lean-end-3 c = search rules
-
-pub slice_bounds-read_lean-end-4 : goal.slice_bounds-read_lean-end-4
-slice_bounds-read_lean-end-4 c = search rules
 
 -- ---- the answers
 pub returns-then-input-start-gt4096 : goal.returns-then-input-start-gt4096
@@ -26,33 +13,27 @@ returns-then-input-start-gt4096 c =
 pub returns-in-Refused : goal.returns-in-Refused
 returns-in-Refused c =
     not-read c.args.input.now c.args.start c.if-input-start-gt4096.false c.read_lean.ensures
-    (spare (letters-long c.before) (numbers-long c.before) (offsets-long c.before))
+    (spare (search rules) (search rules) (search rules))
     _ c.in-Refused.is c.put_refusal-in-Refused.ensures
 
 pub slice_bounds-letters-end : goal.slice_bounds-letters-end
 slice_bounds-letters-end c =
     let most = letters-most c.args.input.now c.args.start c.if-input-start-gt4096.false c.read_lean.ensures
-    (spare (letters-long c.before) (numbers-long c.before) (offsets-long c.before))
+    (spare (search rules) (search rules) (search rules))
     c.in-Read.is in
     omega (arith, most)
-
-pub slice_bounds-fly-end : goal.slice_bounds-fly-end
-slice_bounds-fly-end c = sym (length-take-le _ _ (letters-few c.before))
 
 pub slice_bounds-numbers-end : goal.slice_bounds-numbers-end
 slice_bounds-numbers-end c =
     let most = numbers-most c.args.input.now c.args.start c.if-input-start-gt4096.false c.read_lean.ensures
-    (spare (letters-long c.before) (numbers-long c.before) (offsets-long c.before))
+    (spare (search rules) (search rules) (search rules))
     c.in-Read.is in
     omega (arith, most)
-
-pub slice_bounds-fly-end-in-Read : goal.slice_bounds-fly-end-in-Read
-slice_bounds-fly-end-in-Read c = sym (length-take-le _ _ (numbers-few c.before))
 
 pub fly-requires : goal.fly-requires
 fly-requires c = (
   held c.args.input.now c.args.start c.if-input-start-gt4096.false c.read_lean.ensures
-      (spare (letters-long c.before) (numbers-long c.before) (offsets-long c.before))
+      (spare (search rules) (search rules) (search rules))
       c.in-Read.is,
   c.requires.1,
   c.requires.2,
