@@ -1,8 +1,7 @@
 -- `season_feed::feeding::complete` meets its contract: a plan that is too long is one mark, another is judged. Assumes nothing.
 use borrow.Author.Rules.{rules}
-use mathlib.Core.Path.{sym}
 use native.Mathlib.Omega.{arith}
-use lib.Seq.{length-take-le}
+use Rattle.std.proofs.lemmas.List.{length-take}
 use Rattle.season_plan.proofs.Marks.{roomy-less}
 use Rattle.season_feed.proofs.Wholes.{long-completed, accepted-completed, refused-completed, sum_room}
 use Rattle.season_feed.proofs.feeding.complete.Goals as goal
@@ -13,13 +12,9 @@ bump-requires c = (omega (arith, c.requires.rows), roomy-less c.requires.roomy (
 pub returns-then-size-gt4096 : goal.returns-then-size-gt4096
 returns-then-size-gt4096 c = long-completed c.if-size-gt4096.true c.bump.ensures
 
-pub slice_bounds-judge-end : goal.slice_bounds-judge-end
-slice_bounds-judge-end c = sym (length-take-le _ _ (omega (arith, c.if-size-gt4096.false, c.requires.room)))
-
 pub judge-requires : goal.judge-requires
 judge-requires c =
-    let n = slice-aggregate-judge c.before in
-    (c.requires.rows, c.requires.roomy, omega (arith, n, c.if-size-gt4096.false))
+    (c.requires.rows, c.requires.roomy, omega (arith, length-take c.args.size c.args.text.now, c.if-size-gt4096.false))
 
 pub more-requires : goal.more-requires
 more-requires c =

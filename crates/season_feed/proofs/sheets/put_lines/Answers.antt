@@ -9,4 +9,4 @@ returns-then-output-size c =
 
 pub returns : goal.returns
 returns c =
-    whole-output _ _ c.put_sheet-size.ensures c.if-output-size.false c.put_sheet-size.ensures
+    whole-output _ _ c.put_sheet-size.ensures c.if-output-size.false c.put_sheet.ensures

@@ -4,28 +4,11 @@ use Prim.Native.Nat.{ℕ, ◌<◌}
 use mathlib.Core.Path.{◌≡◌, sym, ap, ◌∙◌, subst}
 use native.Mathlib.Omega.{arith}
 use lib.ListN.{length}
-use lib.Seq.{length-take-le}
+use Rattle.std.proofs.lemmas.List.{length-take}
 use Rattle.station_listing.proofs.Lent.{full, flight, used, not-built}
 use Rattle.season_plan.proofs.Marks.{marked-length, roomy-less}
 use Rattle.season_plan.proofs.Reading.{number-row, number-tallied, letters-few, unbuilt-counted, flown-as}
-use Rattle.season_plan.proofs.plans.fly.Tie as tie
 use Rattle.season_plan.proofs.plans.fly.Goals as goal
-
--- ---- the buffers
-pub slice_bounds-build_path-end : goal.slice_bounds-build_path-end
-slice_bounds-build_path-end c = search rules
-
-pub slice_bounds-build_path-end-2 : goal.slice_bounds-build_path-end-2
-slice_bounds-build_path-end-2 c = search rules
-
-pub slice_bounds-build_path-end-3 : goal.slice_bounds-build_path-end-3
-slice_bounds-build_path-end-3 c = search rules
-
-pub slice_bounds-build_path-end-4 : goal.slice_bounds-build_path-end-4
-slice_bounds-build_path-end-4 c = search rules
-
-pub slice_bounds-build_path-end-5 : goal.slice_bounds-build_path-end-5
-slice_bounds-build_path-end-5 c = search rules
 
 -- ---- a refusal
 pub bump-requires : goal.bump-requires
@@ -39,7 +22,7 @@ shape_of-counts-in-Refused c = ap length c.bump.ensures ∙ marked-length _ _
 pub returns-in-Refused : goal.returns-in-Refused
 returns-in-Refused c text k =
     number-tallied (unbuilt-counted k (not-built k c.build_path.ensures
-    (full (kinds-long c.before) (fields-long c.before) (tables-long c.before) (lengths-long c.before) (commands-long c.before))
+    (full (search rules) (search rules) (search rules) (search rules) (search rules))
     c.in-Refused.is))
     c.number.ensures c.bump.ensures
 
@@ -47,30 +30,23 @@ returns-in-Refused c text k =
 pub slice_bounds-lengths-end : goal.slice_bounds-lengths-end
 slice_bounds-lengths-end c =
     let u = used c.requires.2.is c.build_path.ensures
-    (full (kinds-long c.before) (fields-long c.before) (tables-long c.before) (lengths-long c.before) (commands-long c.before))
+    (full (search rules) (search rules) (search rules) (search rules) (search rules))
     c.in-Built.is in
     omega (arith, u.0)
-
-pub slice_bounds-total-end : goal.slice_bounds-total-end
-slice_bounds-total-end c = sym (length-take-le _ _ (lengths-few c.before))
 
 pub slice_bounds-kinds-end : goal.slice_bounds-kinds-end
 slice_bounds-kinds-end c =
     let u = used c.requires.2.is c.build_path.ensures
-    (full (kinds-long c.before) (fields-long c.before) (tables-long c.before) (lengths-long c.before) (commands-long c.before))
+    (full (search rules) (search rules) (search rules) (search rules) (search rules))
     c.in-Built.is in
     omega (arith, u.0)
-
-pub slice_bounds-weigh-end : goal.slice_bounds-weigh-end
-slice_bounds-weigh-end c = sym (length-take-le _ _ (kinds-few c.before))
 
 pub weigh-requires : goal.weigh-requires
 weigh-requires c =
     let u = used c.requires.2.is c.build_path.ensures
-    (full (kinds-long c.before) (fields-long c.before) (tables-long c.before) (lengths-long c.before) (commands-long c.before))
+    (full (search rules) (search rules) (search rules) (search rules) (search rules))
     c.in-Built.is in
-    let n = kinds-used c.before in
-    (c.requires.0, c.requires.1, letters-few c.requires.2.is, omega (arith, n, u.0))
+    (c.requires.0, c.requires.1, letters-few c.requires.2.is, omega (arith, length-take c.in-Built.segments c.build_path.new.kinds, u.0))
 
 pub shape_of-counts-in-Built : goal.shape_of-counts-in-Built
 shape_of-counts-in-Built c = ap length c.weigh.ensures.counts ∙ marked-length _ _
@@ -78,6 +54,6 @@ shape_of-counts-in-Built c = ap length c.weigh.ensures.counts ∙ marked-length 
 pub returns-in-Built : goal.returns-in-Built
 returns-in-Built c text k =
     flown-as k (flight k c.build_path.ensures
-    (full (kinds-long c.before) (fields-long c.before) (tables-long c.before) (lengths-long c.before) (commands-long c.before))
+    (full (search rules) (search rules) (search rules) (search rules) (search rules))
     c.in-Built.is) c.total-total.ensures
     c.weigh.ensures

@@ -4,22 +4,10 @@ use Prim.Native.Nat.{ℕ, ◌<◌}
 use mathlib.Core.Path.{◌≡◌, sym, ap, ◌∙◌, subst}
 use native.Mathlib.Omega.{arith}
 use lib.ListN.{length}
-use lib.Seq.{length-take-le}
 use Rattle.station_listing.proofs.Texts.{spare, not-read, letters-most, numbers-most, held}
 use Rattle.season_plan.proofs.Marks.{marked-length, roomy-less}
 use Rattle.season_plan.proofs.Reading.{number-row, number-tallied, unread-counted}
-use Rattle.season_plan.proofs.plans.judge.Tie as tie
 use Rattle.season_plan.proofs.plans.judge.Goals as goal
-
--- ---- the buffers
-pub slice_bounds-read_lean-end : goal.slice_bounds-read_lean-end
-slice_bounds-read_lean-end c = search rules
-
-pub slice_bounds-read_lean-end-2 : goal.slice_bounds-read_lean-end-2
-slice_bounds-read_lean-end-2 c = search rules
-
-pub slice_bounds-read_lean-end-3 : goal.slice_bounds-read_lean-end-3
-slice_bounds-read_lean-end-3 c = search rules
 
 -- ---- a refusal
 pub bump-requires : goal.bump-requires
@@ -35,26 +23,20 @@ returns-in-Refused c =
     number-tallied
     (unread-counted _ c.requires.2
     (not-read _ c.requires.2 c.read_lean.ensures
-    (spare (letters-long c.before) (numbers-long c.before) (offsets-long c.before))
+    (spare (search rules) (search rules) (search rules))
     c.in-Refused.is))
     c.number.ensures c.bump.ensures
 
 -- ---- a list
 pub slice_bounds-letters-end : goal.slice_bounds-letters-end
 slice_bounds-letters-end c =
-    let most = letters-most _ c.requires.2 c.read_lean.ensures (spare (letters-long c.before) (numbers-long c.before) (offsets-long c.before)) c.in-Read.is in
+    let most = letters-most _ c.requires.2 c.read_lean.ensures (spare (search rules) (search rules) (search rules)) c.in-Read.is in
     omega (arith, most)
-
-pub slice_bounds-fly-end : goal.slice_bounds-fly-end
-slice_bounds-fly-end c = sym (length-take-le _ _ (letters-few c.before))
 
 pub slice_bounds-numbers-end : goal.slice_bounds-numbers-end
 slice_bounds-numbers-end c =
-    let most = numbers-most _ c.requires.2 c.read_lean.ensures (spare (letters-long c.before) (numbers-long c.before) (offsets-long c.before)) c.in-Read.is in
+    let most = numbers-most _ c.requires.2 c.read_lean.ensures (spare (search rules) (search rules) (search rules)) c.in-Read.is in
     omega (arith, most)
-
-pub slice_bounds-fly-end-in-Read : goal.slice_bounds-fly-end-in-Read
-slice_bounds-fly-end-in-Read c = sym (length-take-le _ _ (numbers-few c.before))
 
 pub fly-requires : goal.fly-requires
 fly-requires c = (
@@ -63,7 +45,7 @@ fly-requires c = (
   record {
     text = c.args.text.now;
     is = held _ c.requires.2 c.read_lean.ensures
-        (spare (letters-long c.before) (numbers-long c.before) (offsets-long c.before))
+        (spare (search rules) (search rules) (search rules))
         c.in-Read.is;
   },
 )
@@ -73,12 +55,12 @@ shape_of-counts-in-Read c =
     ap length
     (c.fly.ensures _
     (held _ c.requires.2 c.read_lean.ensures
-    (spare (letters-long c.before) (numbers-long c.before) (offsets-long c.before))
+    (spare (search rules) (search rules) (search rules))
     c.in-Read.is)).counts ∙ marked-length _ _
 
 pub returns-in-Read : goal.returns-in-Read
 returns-in-Read c =
     c.fly.ensures _
     (held _ c.requires.2 c.read_lean.ensures
-    (spare (letters-long c.before) (numbers-long c.before) (offsets-long c.before))
+    (spare (search rules) (search rules) (search rules))
     c.in-Read.is)
