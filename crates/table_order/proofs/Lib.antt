@@ -1,5 +1,6 @@
 -- Demand 3. Read Theorems.antt first: the five statements. Steady.antt has the reason, Division.antt that the lookup fits it; Variants.antt, Contraction.antt,
 -- Kept.antt, Above.antt and Witnesses.antt settle what else fits it and what does not (docs/ORDER.md).
+pub mod Joins
 pub mod Steady
 pub mod Division
 pub mod Targets

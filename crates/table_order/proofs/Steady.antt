@@ -20,6 +20,7 @@ use Rattle.floats.proofs.Constants.{zero_held, one-held, zero-le-one}
 use Rattle.table.specs.Lookup.{at, last_of}
 use Rattle.table.proofs.Lengths.{Sound, table-sound, entry-nonneg, total-nonneg}
 use Rattle.table_order.specs.Stated.{F32Table}
+pub use Rattle.table_order.proofs.Joins.{Part, Joins}
 
 -- ---- the three parts of a way
 
@@ -48,18 +49,6 @@ pub record SharesOf (target count : Float → Float) (share : Float → Float �
 
 abbrev pub Shares : (Float → Float → Float → Float) → Type 0
 Shares share = SharesOf (λ t. t) (λ t. t) share
-
--- a share
-pub record Part (x : Float) : Type 0 where
-  pub low : T (le zero_f x)
-  pub high : T (le x one_f)
-
--- the parameter of a share after the entry k, in a table whose last entry is n
-pub record Joins (n : ℕ) (join : ℕ → Float → Float) : Type 0 where
-  pub low : (k : ℕ) (x : Float) → k < n → Part x → T (le zero_f (join k x))
-  pub high : (k : ℕ) (x : Float) → k < n → Part x → T (le (join k x) one_f)
-  pub grows : (k : ℕ) (x y : Float) → k < n → Part x → Part y → T (le x y) → T (le (join k x) (join k y))
-  pub meets : (k : ℕ) → suc k < n → T (le (join k one_f) (join (suc k) zero_f))
 
 -- ---- the parameter of what is read, in the part that ends at the entry i
 abbrev pub in_part : (Float → Float → Float → Float) → (ℕ → Float → Float) → List Float → Float → ℕ → Float
