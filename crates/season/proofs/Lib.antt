@@ -1,2 +1,0 @@
--- The sheet of an example, and what comes of single plans.
-pub mod Readings

@@ -1,2 +1,0 @@
--- What the tool lists for an example.
-pub mod Readings
