@@ -1,0 +1,26 @@
+// The exports of kihavute::lookups.
+ghost use Rattle.table.specs.Answered.{looked_of, spotted_of};
+ghost use Rattle.c_answer.specs.Given.{Given};
+ghost use Rattle.kihavute.specs.Lookups.{raw_given, spot_given};
+
+// The bits of the raw parameter at a progress along a curve with this table.
+#[unsafe(no_mangle)]
+pub extern "C" fn kihavute_raw_parameter(
+    entries: &[f32],
+    total: f32,
+    progress: f32,
+    answer: &mut [u64],
+) -> u32
+    ensures { Given (raw_given (looked_of entries.now total progress)) answer.old result answer.new }
+{
+    kihavute::lookups::kihavute_raw_parameter(entries, total, progress, answer)
+}
+
+// The segment at a progress along a path with these running lengths, and the bits of the progress on
+// it. Without a segment nothing is given.
+#[unsafe(no_mangle)]
+pub extern "C" fn kihavute_spot(lengths: &[f32], progress: f32, answer: &mut [u64]) -> u32
+    ensures { Given (spot_given (spotted_of lengths.now progress)) answer.old result answer.new }
+{
+    kihavute::lookups::kihavute_spot(lengths, progress, answer)
+}

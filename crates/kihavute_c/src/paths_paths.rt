@@ -1,0 +1,46 @@
+// The exports of kihavute_paths::paths.
+ghost use Rattle.path_stored.specs.Buffers.{after, before_mut};
+ghost use Rattle.path_build.specs.Lists.{given_list};
+ghost use Rattle.path_build.specs.Paths.{lent_of, drawers_list_of, build_path_of};
+ghost use Rattle.path_text.specs.Builds.{build_text_of, drawers_text_of};
+ghost use Rattle.kihavute_paths.specs.Paths.{PathBuilt};
+
+// Builds the stored path of a command list: kinds, fields, tables, running lengths and command numbers, each from its buffer's start.
+// Gives how many places of each are stored. Where answer is too short, or the list is refused, no buffer is touched.
+#[unsafe(no_mangle)]
+pub extern "C" fn kihavute_build(
+    letters: &[u8],
+    numbers: &[f32],
+    kinds: &mut [u8],
+    fields: &mut [f32],
+    tables: &mut [f32],
+    lengths: &mut [f32],
+    commands: &mut [u32],
+    answer: &mut [u64],
+) -> u32
+    ensures { PathBuilt (build_path_of (given_list letters numbers) (lent_of (before_mut kinds fields tables lengths commands))) (drawers_list_of (given_list letters numbers))
+        (before_mut kinds fields tables lengths commands) answer.old result (after kinds fields tables lengths commands) answer.new }
+{
+    kihavute_paths::paths::kihavute_build(
+        letters, numbers, kinds, fields, tables, lengths, commands, answer,
+    )
+}
+
+// The same for a text, read and built in one call.
+#[unsafe(no_mangle)]
+pub extern "C" fn kihavute_build_text(
+    text: &[u8],
+    kinds: &mut [u8],
+    fields: &mut [f32],
+    tables: &mut [f32],
+    lengths: &mut [f32],
+    commands: &mut [u32],
+    answer: &mut [u64],
+) -> u32
+    ensures { PathBuilt (build_text_of text.now (lent_of (before_mut kinds fields tables lengths commands))) (drawers_text_of text.now)
+        (before_mut kinds fields tables lengths commands) answer.old result (after kinds fields tables lengths commands) answer.new }
+{
+    kihavute_paths::paths::kihavute_build_text(
+        text, kinds, fields, tables, lengths, commands, answer,
+    )
+}

@@ -1,0 +1,6 @@
+-- The invariant: the pattern has 32 bits.
+use Rattle.std.proofs.Common.{◌<◌}
+use Rattle.replay_legs.proofs.rows.mixed.Given as goal
+
+abbrev pub invariant-loop-i : goal.invariant-loop-i
+invariant-loop-i l = l.sum < 4294967296

@@ -1,0 +1,2 @@
+-- What the tool lists for an example.
+pub mod Readings
