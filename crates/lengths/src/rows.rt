@@ -5,7 +5,8 @@ ghost use Rattle.lengths.specs.Length.{lengths_of, JudgedRow};
 
 use crate::{exact, passes};
 
-// Puts the length where a place is 0.
+// Puts the length where a place is 0. Apart from `lengths` it takes less stack (tests/c/stack.c).
+#[inline(never)]
 fn settle(x: &[f32; 32], y: &[f32; 32], out: &mut [f32; 31])
     requires { JudgedRow 31 x.now y.now out.old }
     ensures { out.new ≡ lengths_of 31 x.now y.now }

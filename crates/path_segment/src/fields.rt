@@ -146,7 +146,8 @@ pub fn table_at(tables: &[f32], at: usize) -> Table
     }
 }
 
-// Stores a table's 33 numbers from `at` on.
+// Stores a table's 33 numbers from `at` on. Apart from its callers it takes less stack (tests/c/stack.c).
+#[inline(never)]
 pub fn put_table(tables: &mut [f32], at: usize, table: Table)
     requires { at + 33 ≤ length tables.old }
     ensures { tables.new ≡ sets tables.old at (table_numbers table) }

@@ -130,7 +130,9 @@ fn arc_length(shape: Arc) -> f32
     tidy(arc_table(shape).total)
 }
 
-// How long a segment is: its table's total, or the length of its line. Infinite or a NaN where that is so.
+// How long a segment is: its table's total, or the length of its line. Infinite or a NaN where that is so. Within its callers it takes
+// less stack (tests/c/stack.c).
+#[inline(always)]
 pub fn segment_length(segment: PathSegment) -> f32
     ensures { result ≡ length_for segment }
 {

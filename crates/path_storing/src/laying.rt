@@ -121,7 +121,9 @@ fn lay_segment(
     after(site, segment, length, pen)
 }
 
-// Stores what any command draws at a site. A rotation out of range draws nothing here: `advance` refuses it.
+// Stores what any command draws at a site. A rotation out of range draws nothing here: `advance` refuses it. Within its callers it takes
+// less stack (tests/c/stack.c).
+#[inline(always)]
 pub fn lay_any(
     site: Site,
     number: u32,

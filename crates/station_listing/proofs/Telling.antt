@@ -10,11 +10,12 @@ use lib.ListN.{length, take, drop, length-drop}
 use lib.Seq.{take_all}
 use Rattle.answers.specs.declared.refusals.Refusal.{Refusal}
 use Rattle.answers.specs.declared.refusals.Refusal.TheVariants.{TooLong}
+use Rattle.answers.specs.Answers.{refused}
 use Rattle.answers.proofs.Writing.{written-more}
 use Rattle.commands.specs.Stored.{letters_of}
 use Rattle.svg.specs.Lists.{CommandList}
 use Rattle.svg.specs.Texts.{Outcome, commands, refusal, commands_of, offsets_of}
-use Rattle.svg.specs.Readings.{ReadPath}
+use Rattle.svg.specs.Readings.{ReadPath, read_path_of, answered}
 use Rattle.svg.specs.declared.reading.Reading.{Reading}
 use Rattle.svg.specs.declared.reading.Reading.TheVariants.{Read, Refused as Unread}
 use Rattle.text_reader.specs.Plans.{first_line_of, past_of}
@@ -81,6 +82,14 @@ printed text count reason (commands list) e = by (ltb 256 (length (letters_of li
     by : (b : Bool) → ltb 256 (length (letters_of list)) ≡ b → cond b (refusal (crowd text list)) (commands list) ≡ refusal reason → refusal_line reason ≡ read_of count (offsets_of text) (commands list)
     by true g f = let h : reason ≡ crowd text list = cc in rw g (ap refusal_line h)
     by false g f = let z : ◌≡◌ {A = ℕ} 0 1 = cc in absurd (omega arith)
+
+-- what reading refuses is what is printed
+pub refused-as :
+    (text : List ℕ) (short : length text ≤ 4096) (count : ℕ) (reason : Refusal) → refused reason ≡ answered text (read_path_of text 256 1792 256)
+    → refusal_line reason ≡ read_of count (offsets_of text) (commands_of text)
+refused-as text short count reason e =
+    printed text count reason (commands_of text)
+    (sym (texts.read-limited text short) ∙ texts.refused_as text short reason (read_path_of text 256 1792 256) e)
 
 -- ---- the text
 

@@ -93,7 +93,7 @@ module _ (text : List ℕ) (short : length text ≤ 4096) where
       by (commands list) f = by_count list f (ltb 256 (length (letters_of list))) refl
 
   -- an answer that refuses
-  refused_as : (reason : Refusal) (o : Outcome) → refused reason ≡ answered text o → o ≡ refusal reason
+  pub refused_as : (reason : Refusal) (o : Outcome) → refused reason ≡ answered text o → o ≡ refusal reason
   refused_as reason (refusal other) e = ap refusal (sym (refused-settled reason other e))
   refused_as reason (commands list) e = absurd (refused-not-accepted reason _ e)
 
