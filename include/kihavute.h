@@ -3,8 +3,8 @@
  * Build:  tools/native-archive kihavute makes target/native/libkihavute.a for this machine, and with the name of a target behind
  *         it target/TARGET/libkihavute.a for x86-64-v3, aarch64, armv7, cortex-m7, cortex-m4f, riscv64, riscv32 or riscv32-soft.
  * Links:  memcpy and memset at most, which bare Arm names __aeabi_memcpy and its like (examples/cortex-m7/start.c has them), and on
- *         processors of 32 bits libgcc or the compiler's own runtime. This header needs <stdint.h> alone, so that a freestanding
- *         compiler has all of it.
+ *         processors of 32 bits libgcc or the compiler's own runtime. A freestanding compiler needs <stdint.h> alone; a hosted one
+ *         gets <stddef.h> and <string.h> with it.
  * Counts: a count, the number of a segment and a place in a text are kihavute_count, of 64 bits on every processor.
  * Rounds: the caller's processor rounds to nearest and keeps subnormals, as it does after its start. A program that is linked by
  *         gcc with -ffast-math or -Ofast, or sets FZ in FPSCR (FPCR; FTZ and DAZ in MXCSR), gets other answers, on x86-64 too:
@@ -75,6 +75,10 @@
 #define KIHAVUTE_H
 
 #include <stdint.h>
+#if __STDC_HOSTED__
+#include <stddef.h>
+#include <string.h>
+#endif
 
 #ifdef __cplusplus
 extern "C" {
