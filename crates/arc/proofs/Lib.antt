@@ -1,5 +1,4 @@
--- The laws of lines and arcs, why an arc's queries never step back, and worked examples.
-pub mod Cases
+-- Why the queries of an arc never step back, worked examples, and the passes over the samples of an arc.
 pub mod Steady
 mod Readings
 pub mod Rows

@@ -9,10 +9,10 @@ use Rattle.floats.specs.Floats.{zero_f, epsilon_f}
 use Rattle.root.specs.Root.{root_of}
 use Rattle.lengths.specs.Length as lengths
 use Rattle.math.specs.Math.{point_of, sub_of, length_of, distance_of}
-use Rattle.flight.specs.declared.single.Verdict.TheVariants as Verdict
+use Rattle.std.specs.Prelude.{Ok, Err}
 use Rattle.bezier.specs.Curves.{verdict_of}
 use Rattle.ellipse.specs.Ends.{size_of}
-use Rattle.arc.specs.Lines.{line_length_of, made_line_of}
+use Rattle.arc.specs.Lines.{line_of, line_length_of, made_line_of}
 use Rattle.arc.specs.Arcs.{is_fallback}
 
 abbrev bits : ℕ → Float
@@ -30,17 +30,17 @@ unfolding of_bits
 rotations-judged = (refl, refl, refl, refl, refl, refl)
 
 -- document 02's long leg, 2e19, whose square is beyond f32: it is had, and its length is 2e19
-long-line-made : (made_line_of (point_of (bits 0) (bits 0)) (point_of (bits 0x5f8a_c723) (bits 0))).verdict ≡ Verdict.Accepted
+long-line-made : made_line_of (point_of (bits 0) (bits 0)) (point_of (bits 0x5f8a_c723) (bits 0)) ≡ Ok (line_of (point_of (bits 0) (bits 0)) (point_of (bits 0x5f8a_c723) (bits 0)))
 unfolding made_line_of line_length_of distance_of length_of lengths.length_of sub_of root_of verdict_of of_bits add sub mul
 long-line-made = refl
 
 -- 3e38 both ways: each difference is an f32, and the length is beyond the largest
-length-overflows : (made_line_of (point_of (bits 0) (bits 0)) (point_of (bits 0x7f61_b1e6) (bits 0x7f61_b1e6))).verdict ≡ Verdict.Refused (NotFinite 0)
+length-overflows : made_line_of (point_of (bits 0) (bits 0)) (point_of (bits 0x7f61_b1e6) (bits 0x7f61_b1e6)) ≡ Err (NotFinite 0)
 unfolding made_line_of line_length_of distance_of length_of lengths.length_of sub_of root_of verdict_of of_bits add sub mul
 length-overflows = refl
 
 -- from -3e38 to 3e38: the difference is beyond f32, in which it is taken
-difference-overflows : (made_line_of (point_of (bits 0xff61_b1e6) (bits 0)) (point_of (bits 0x7f61_b1e6) (bits 0))).verdict ≡ Verdict.Refused (NotFinite 0)
+difference-overflows : made_line_of (point_of (bits 0xff61_b1e6) (bits 0)) (point_of (bits 0x7f61_b1e6) (bits 0)) ≡ Err (NotFinite 0)
 unfolding made_line_of line_length_of distance_of length_of lengths.length_of sub_of root_of verdict_of of_bits add sub mul
 difference-overflows = refl
 

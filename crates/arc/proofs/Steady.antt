@@ -1,6 +1,6 @@
 -- Demand 3 for arcs: the raw parameter at which `position` samples never steps back, starts at 0, ends at 1, and lies between the places of the two entries that enclose the target. An
 -- accepted arc that is no line fallback has such a table, a sound one too, so that the queries of `inner` may be asked of it. Assumes nothing.
-use mathlib.Core.Path.{◌≡◌, refl, subst}
+use mathlib.Core.Path.{◌≡◌, refl, sym, ap, ◌∙◌, subst}
 use mathlib.Core.Bool.{Bool, true, false, cond}
 use Prim.Native.Nat.{ℕ}
 use native.Mathlib.Omega.{arith}
@@ -12,13 +12,14 @@ use Rattle.table.specs.Lookup.{last_of}
 use Rattle.table_order.specs.Stated.{F32Table}
 use Rattle.table_order.specs.Swept.{Steady}
 use Rattle.table_order.proofs.Swept.{steady}
-use Rattle.flight.specs.declared.single.Verdict.TheVariants as Verdict
-use Rattle.bezier.proofs.Steady.{accepted-table, made-last}
+use Rattle.std.specs.Prelude.{Ok, Err}
+use Rattle.bezier.specs.Curves.{verdict_of}
+use Rattle.bezier.proofs.Steady.{made-whole, accepted-table, made-last}
 use Rattle.ellipse.specs.declared.ends.Chord.{Chord}
 use Rattle.ellipse.specs.declared.ends.Arc.{Arc}
 use Rattle.ellipse.specs.Ends.{from_ends_of}
 use Rattle.ellipse.specs.Shape.{point_on}
-use Rattle.arc.specs.declared.arcs.MadeArc.{MadeArc}
+use Rattle.arc.specs.declared.arcs.EllipticalArc.{EllipticalArc}
 use Rattle.arc.specs.Arcs.{is_fallback, fallen_back, fitted, out_of_range, made_arc_of, arc_raw, arc_position_of}
 
 -- ---- a stored table
@@ -34,24 +35,23 @@ record WholeTable (table : Table) : Type 0 where
   held : F32Table table.entries table.total
   last : last_of table.entries ≡ 31
 
-abbrev Whole : MadeArc → Type 0
-Whole made = made.verdict ≡ Verdict.Accepted → made.arc.line_fallback ≡ false → WholeTable made.arc.table
-
-whole_by : (chord : Chord) (b d : Bool) → Whole (cond b (fallen_back chord) (cond d (fitted chord) (out_of_range chord)))
+whole_by : (chord : Chord) (arc : EllipticalArc) (b d : Bool) → cond b (fallen_back chord) (cond d (fitted chord) (out_of_range chord)) ≡ Ok arc
+    → arc.line_fallback ≡ false → WholeTable arc.table
 unfolding fallen_back fitted out_of_range
-whole_by chord true d accepted curved = absurd (subst T curved tt)
-whole_by chord false true accepted curved = record { held = accepted-table (point_on (from_ends_of chord)) accepted; last = made-last (point_on (from_ends_of chord)) }
-whole_by chord false false accepted curved = let z : ◌≡◌ {A = ℕ} 0 1 = cc in absurd (omega arith)
+whole_by chord arc true d made curved =
+    let own = made-whole _ _ arc made in absurd (subst T (ap (λ (a : EllipticalArc). a.line_fallback) own.1 ∙ curved) tt)
+whole_by chord arc false true made curved =
+    let own = made-whole _ _ arc made in
+    subst WholeTable (ap (λ (a : EllipticalArc). a.table) own.1) (record { held = accepted-table (point_on (from_ends_of chord)) own.0; last = made-last (point_on (from_ends_of chord)) })
+whole_by chord arc false false made curved = cc
 
-made-arc-whole : (chord : Chord) → Whole (made_arc_of chord)
-unfolding made_arc_of
-made-arc-whole chord = whole_by chord (is_fallback chord) (finite chord.x_axis_rotation)
+module _ (chord : Chord) (arc : EllipticalArc) (made : made_arc_of chord ≡ Ok arc) (curved : arc.line_fallback ≡ false) where
+  whole : WholeTable arc.table
+  unfolding made_arc_of
+  whole = whole_by chord arc (is_fallback chord) (finite chord.x_axis_rotation) made curved
 
-module _ (chord : Chord) (accepted : (made_arc_of chord).verdict ≡ Verdict.Accepted) (curved : (made_arc_of chord).arc.line_fallback ≡ false) where
-  pub made-arc-table : F32Table (made_arc_of chord).arc.table.entries (made_arc_of chord).arc.table.total
-  made-arc-table = (made-arc-whole chord accepted curved).held
+  pub made-arc-table : F32Table arc.table.entries arc.table.total
+  made-arc-table = whole.held
 
-  pub made-arc-steady : let table = (made_arc_of chord).arc.table in Steady 31 table.entries table.total (arc_raw table)
-  made-arc-steady =
-      let table = (made_arc_of chord).arc.table in
-      subst (λ (n : ℕ). Steady n table.entries table.total (arc_raw table)) (made-arc-whole chord accepted curved).last (steady made-arc-table)
+  pub made-arc-steady : Steady 31 arc.table.entries arc.table.total (arc_raw arc.table)
+  made-arc-steady = subst (λ (n : ℕ). Steady n arc.table.entries arc.table.total (arc_raw arc.table)) whole.last (steady made-arc-table)

@@ -1,7 +1,8 @@
 -- `EllipticalArc` (source document 002, poly.rs; document 01, "Arcs" and "The answers"), over the ellipse of `from_ends`. Definitions only.
-use Rattle.std.specs.Prelude.{Bool, true, false, ◌||◌, cond, List, replicate, Float}
+use Rattle.std.specs.Prelude.{Bool, true, false, ◌||◌, cond, List, replicate, Float, Result, Ok, Err}
 use Rattle.std.specs.Float.Ieee.{le}
 use Rattle.std.specs.Float.Ieee.Scale.{finite}
+use Rattle.answers.specs.declared.refusals.Refusal.{Refusal}
 use Rattle.answers.specs.declared.refusals.Refusal.TheVariants.{RotationRange}
 use Rattle.floats.specs.Floats.{zero_f, one_f, epsilon_f}
 use Rattle.math.specs.declared.points.Point.{Point}
@@ -10,19 +11,13 @@ use Rattle.angles.specs.Angles.{rotation_deg_of}
 use Rattle.table.specs.declared.tables.Table.{Table}
 use Rattle.table.specs.Lookup.{raw_of}
 use Rattle.table_samples.specs.Samples.{table_of}
-use Rattle.flight.specs.declared.single.Placed.{Placed}
-use Rattle.flight.specs.declared.single.Placed.TheVariants as Placed
-use Rattle.flight.specs.declared.single.Turned.{Turned}
-use Rattle.flight.specs.declared.single.Turned.TheVariants as Turned
-use Rattle.flight.specs.declared.single.Verdict.TheVariants as Verdict
-use Rattle.bezier.specs.Curves.{verdict_of, placed_of}
+use Rattle.bezier.specs.Curves.{verdict_of, made_by, placed_of}
 use Rattle.ellipse.specs.declared.ends.Chord.{Chord}
 use Rattle.ellipse.specs.declared.ends.Arc.{Arc}
 use Rattle.ellipse.specs.Ends.{size_of, from_ends_of}
 use Rattle.ellipse.specs.Shape.{point_on, direction_on}
 use Rattle.arc.specs.declared.lines.LineSegment.{LineSegment}
 use Rattle.arc.specs.declared.arcs.EllipticalArc.{EllipticalArc}
-use Rattle.arc.specs.declared.arcs.MadeArc.{MadeArc}
 use Rattle.arc.specs.Lines.{line_of, line_length_of, line_position_of, line_tangent_of}
 
 -- ---- making one
@@ -56,32 +51,23 @@ abbrev pub chord_line : Arc → LineSegment
 chord_line shape = line_of shape.start shape.end
 
 -- "`arc_length` of an arc is its table's total (a fallback's, the line's)", which is judged
-unfoldable pub fallen_back : Chord → MadeArc
+unfoldable pub fallen_back : Chord → Result EllipticalArc Refusal
 unfolding fallback_shape no_table line_length_of
 fallen_back chord =
-    record {
-      verdict = verdict_of (line_length_of (line_of chord.start chord.end));
-      arc = record { shape = fallback_shape chord; line_fallback = true; table = no_table };
-    }
+    made_by (verdict_of (line_length_of (line_of chord.start chord.end)))
+    (record { shape = fallback_shape chord; line_fallback = true; table = no_table })
 
-unfoldable pub fitted : Chord → MadeArc
+unfoldable pub fitted : Chord → Result EllipticalArc Refusal
 fitted chord =
-    record {
-      verdict = verdict_of (table_of (point_on (from_ends_of chord))).total;
-      arc = record { shape = from_ends_of chord; line_fallback = false; table = table_of (point_on (from_ends_of chord)) };
-    }
+    made_by (verdict_of (table_of (point_on (from_ends_of chord))).total)
+    (record { shape = from_ends_of chord; line_fallback = false; table = table_of (point_on (from_ends_of chord)) })
 
 -- "In what a refusal carries, a lone segment is segment 0."
-unfoldable pub out_of_range : Chord → MadeArc
-unfolding fallback_shape no_table
-out_of_range chord =
-    record {
-      verdict = Verdict.Refused (RotationRange 0);
-      arc = record { shape = fallback_shape chord; line_fallback = false; table = no_table };
-    }
+unfoldable pub out_of_range : Chord → Result EllipticalArc Refusal
+out_of_range chord = Err (RotationRange 0)
 
 -- `from_svg`: the fallback first; "10 before 11"
-unfoldable pub made_arc_of : Chord → MadeArc
+unfoldable pub made_arc_of : Chord → Result EllipticalArc Refusal
 unfolding is_fallback fallen_back fitted out_of_range
 made_arc_of chord = cond (is_fallback chord) (fallen_back chord) (cond (finite chord.x_axis_rotation) (fitted chord) (out_of_range chord))
 
@@ -98,22 +84,22 @@ unfoldable pub arc_tangent_of : Arc → Table → Float → Point
 arc_tangent_of shape table progress = direction_on shape (arc_raw table progress)
 
 -- the two as answers; a fallback's are the line's
-unfoldable pub arc_placed_of : EllipticalArc → Float → Placed
+unfoldable pub arc_placed_of : EllipticalArc → Float → Result Point Refusal
 unfolding arc_position_of line_position_of
 arc_placed_of arc progress =
-    cond arc.line_fallback (Placed.At (line_position_of (chord_line arc.shape) progress)) (placed_of arc.table (arc_position_of arc.shape arc.table progress))
+    cond arc.line_fallback (Ok (line_position_of (chord_line arc.shape) progress)) (placed_of arc.table (arc_position_of arc.shape arc.table progress))
 
-unfoldable pub arc_heading_of : EllipticalArc → Float → Placed
+unfoldable pub arc_heading_of : EllipticalArc → Float → Result Point Refusal
 unfolding arc_tangent_of line_tangent_of
 arc_heading_of arc progress =
-    cond arc.line_fallback (Placed.At (line_tangent_of (chord_line arc.shape))) (placed_of arc.table (arc_tangent_of arc.shape arc.table progress))
+    cond arc.line_fallback (Ok (line_tangent_of (chord_line arc.shape))) (placed_of arc.table (arc_tangent_of arc.shape arc.table progress))
 
 -- `rotation_deg`: the tangent in degrees
-abbrev pub in_degrees : Placed → Turned
-in_degrees (Placed.At tangent) = Turned.Degrees (rotation_deg_of tangent)
-in_degrees (Placed.Refused refusal) = Turned.Refused refusal
+abbrev pub in_degrees : Result Point Refusal → Result Float Refusal
+in_degrees (Ok tangent) = Ok (rotation_deg_of tangent)
+in_degrees (Err refusal) = Err refusal
 
-unfoldable pub arc_turned_of : EllipticalArc → Float → Turned
+unfoldable pub arc_turned_of : EllipticalArc → Float → Result Float Refusal
 unfolding arc_heading_of
 arc_turned_of arc progress = in_degrees (arc_heading_of arc progress)
 

@@ -1,12 +1,12 @@
 -- `LineSegment` (document 01, "Missing in the text given, so fixed here"), each operation rounded once. Definitions only.
-use Rattle.std.specs.Prelude.{Float}
+use Rattle.std.specs.Prelude.{Float, Result}
+use Rattle.answers.specs.declared.refusals.Refusal.{Refusal}
 use Rattle.floats.specs.Floats.{clamp01_of}
 use Rattle.math.specs.declared.points.Point.{Point}
 use Rattle.math.specs.Math.{sub_of, distance_of, normalize_of, lerp_point_of}
 use Rattle.angles.specs.Angles.{rotation_deg_of}
-use Rattle.bezier.specs.Curves.{verdict_of}
+use Rattle.bezier.specs.Curves.{verdict_of, made_by}
 use Rattle.arc.specs.declared.lines.LineSegment.{LineSegment}
-use Rattle.arc.specs.declared.lines.MadeLine.{MadeLine}
 
 -- "of `LineSegment`, length is `distance` of the ends"
 unfoldable pub line_length_of : LineSegment → Float
@@ -35,6 +35,6 @@ abbrev pub line_of : Point → Point → LineSegment
 line_of start end = record { start = start; end = end }
 
 -- "NotFinite: a running length becomes infinite or NaN"
-unfoldable pub made_line_of : Point → Point → MadeLine
+unfoldable pub made_line_of : Point → Point → Result LineSegment Refusal
 unfolding line_length_of
-made_line_of start end = record { verdict = verdict_of (line_length_of (line_of start end)); line = line_of start end }
+made_line_of start end = made_by (verdict_of (line_length_of (line_of start end))) (line_of start end)

@@ -2,7 +2,7 @@
 ghost use Rattle.std.specs.Prelude.{◌≡◌};
 ghost use Rattle.table_samples.specs.Samples.{steps_of, table_of};
 ghost use Rattle.ellipse.specs.Shape.{point_turned, point_on, direction_on};
-ghost use Rattle.arc.specs.Arcs.{is_fallback, fallback_shape, no_table, chord_line, fallen_back, fitted, out_of_range, made_arc_of, arc_length_of, arc_placed_of, arc_heading_of, in_degrees, arc_turned_of};
+ghost use Rattle.arc.specs.Arcs.{is_fallback, fallback_shape, no_table, chord_line, fallen_back, fitted, made_arc_of, arc_length_of, arc_placed_of, arc_heading_of, arc_turned_of};
 
 use crate::inner;
 use crate::lines::{LineSegment, line_length, line_position, line_tangent};
@@ -11,7 +11,6 @@ use angles::rotation_deg;
 use answers::Refusal;
 use bezier::verdict_of;
 use ellipse::{Arc, Chord, direction, from_ends, point, size, turn_of};
-use flight::{Placed, Turned, Verdict};
 use floats::{EPSILON, is_finite, tidy};
 use lengths::inner::lengths;
 use math::{Point, distance, tidy_point};
@@ -26,15 +25,8 @@ pub struct EllipticalArc {
     pub table: Table,
 }
 
-// What making an arc answers: the arc, and whether it is accepted. The arc of a refusal is a line fallback, or has a table that
-// every query refuses.
-#[derive(Clone, Copy)]
-pub struct MadeArc {
-    pub verdict: Verdict,
-    pub arc: EllipticalArc,
-}
-
 // Whether an arc is drawn as a line: its ends are within 2^-23 or a radius is that small. A NaN is not.
+#[tactic(auto, unfolding(crate::specs::Arcs::is_fallback, floats::specs::Floats::epsilon_f))]
 pub fn is_fallback(chord: Chord) -> bool
     ensures { result ≡ is_fallback chord }
 {
@@ -89,6 +81,7 @@ pub fn arc_table(shape: Arc) -> Table
 }
 
 // The numbers of a line fallback: its ends and its rotation, and zeros.
+#[tactic(auto, unfolding(crate::specs::Arcs::fallback_shape, floats::specs::Floats::zero_f, math::specs::Math::origin_f))]
 pub fn fallback_shape(chord: Chord) -> Arc
     ensures { result ≡ fallback_shape chord }
 {
@@ -106,6 +99,7 @@ pub fn fallback_shape(chord: Chord) -> Arc
 }
 
 // What stands for a table where there is none. Its total is not its last entry, so that no lookup takes it.
+#[tactic(auto, unfolding(crate::specs::Arcs::no_table, floats::specs::Floats::zero_f, floats::specs::Floats::one_f))]
 pub fn no_table() -> Table
     ensures { result ≡ no_table }
 {
@@ -125,55 +119,38 @@ pub fn chord_line(shape: Arc) -> LineSegment
 }
 
 // The line fallback, judged by the length of its line.
-fn fallen_back(chord: Chord) -> MadeArc
+#[tactic(auto, unfolding(crate::specs::Arcs::fallen_back))]
+fn fallen_back(chord: Chord) -> Result<EllipticalArc, Refusal>
     ensures { result ≡ fallen_back chord }
 {
     let shape = fallback_shape(chord);
-    let table = no_table();
-    let verdict = verdict_of(line_length(chord_line(shape)));
-    let arc = EllipticalArc {
+    verdict_of(line_length(chord_line(shape)))?;
+    Ok(EllipticalArc {
         shape,
         line_fallback: true,
-        table,
-    };
-    MadeArc { verdict, arc }
+        table: no_table(),
+    })
 }
 
 // The ellipse's arc, judged by its table's total.
-fn fitted(chord: Chord) -> MadeArc
+#[tactic(auto, unfolding(crate::specs::Arcs::fitted))]
+fn fitted(chord: Chord) -> Result<EllipticalArc, Refusal>
     ensures { result ≡ fitted chord }
 {
     let shape = from_ends(chord);
     let table = arc_table(shape);
-    let verdict = verdict_of(table.total);
-    let arc = EllipticalArc {
+    verdict_of(table.total)?;
+    Ok(EllipticalArc {
         shape,
         line_fallback: false,
         table,
-    };
-    MadeArc { verdict, arc }
-}
-
-// The refusal of a rotation that is infinite or a NaN.
-fn out_of_range(chord: Chord) -> MadeArc
-    ensures { result ≡ out_of_range chord }
-{
-    let shape = fallback_shape(chord);
-    let table = no_table();
-    let arc = EllipticalArc {
-        shape,
-        line_fallback: false,
-        table,
-    };
-    MadeArc {
-        verdict: Verdict::Refused(Refusal::RotationRange(0)),
-        arc,
-    }
+    })
 }
 
 // An arc through both ends, or its line fallback. A rotation that is infinite or a NaN is refused, then such a length; a lone
 // segment is segment 0. Any other rotation is kept as it is given. Where the numbers do not suffice the arc misses its ends, as the Rust's does.
-pub fn arc(chord: Chord) -> MadeArc
+#[tactic(auto, unfolding(crate::specs::Arcs::made_arc_of, crate::specs::Arcs::out_of_range))]
+pub fn arc(chord: Chord) -> Result<EllipticalArc, Refusal>
     ensures { result ≡ made_arc_of chord }
 {
     if is_fallback(chord) {
@@ -182,57 +159,52 @@ pub fn arc(chord: Chord) -> MadeArc
     if is_finite(chord.x_axis_rotation) {
         return fitted(chord);
     }
-    out_of_range(chord)
+    Err(Refusal::RotationRange(0))
 }
 
 // Where an arc is at a progress. A table that is not sound is refused; a line fallback has none.
-pub fn arc_position(arc: EllipticalArc, progress: Progress) -> Placed
+#[tactic(auto, unfolding(crate::specs::Arcs::arc_placed_of, bezier::specs::Curves::placed_of))]
+pub fn arc_position(arc: EllipticalArc, progress: Progress) -> Result<Point, Refusal>
     ensures { result ≡ arc_placed_of arc progress.value }
 {
     let shape = arc.shape;
     let table = arc.table;
     if arc.line_fallback {
-        return Placed::At(line_position(chord_line(shape), progress));
+        return Ok(line_position(chord_line(shape), progress));
     }
     if table_is_sound(table) {
-        return Placed::At(inner::arc_position(shape, table, progress));
+        return Ok(inner::arc_position(shape, table, progress));
     }
-    Placed::Refused(Refusal::BadPath)
+    Err(Refusal::BadPath)
 }
 
 // Where an arc heads at a progress, with the length 1, or (0, 0) where nothing tells. A table that is not sound is refused.
-pub fn arc_tangent(arc: EllipticalArc, progress: Progress) -> Placed
+#[tactic(auto, unfolding(crate::specs::Arcs::arc_heading_of, bezier::specs::Curves::placed_of))]
+pub fn arc_tangent(arc: EllipticalArc, progress: Progress) -> Result<Point, Refusal>
     ensures { result ≡ arc_heading_of arc progress.value }
 {
     let shape = arc.shape;
     let table = arc.table;
     if arc.line_fallback {
-        return Placed::At(line_tangent(chord_line(shape)));
+        return Ok(line_tangent(chord_line(shape)));
     }
     if table_is_sound(table) {
-        return Placed::At(inner::arc_tangent(shape, table, progress));
+        return Ok(inner::arc_tangent(shape, table, progress));
     }
-    Placed::Refused(Refusal::BadPath)
+    Err(Refusal::BadPath)
 }
 
-// A direction in degrees.
-fn in_degrees(placed: Placed) -> Turned
-    ensures { result ≡ in_degrees placed }
-{
-    match placed {
-        Placed::At(tangent) => Turned::Degrees(tidy(rotation_deg(tangent))),
-        Placed::Refused(refusal) => Turned::Refused(refusal),
-    }
-}
-
-// The heading of an arc at a progress. A table that is not sound is refused.
-pub fn arc_rotation_deg(arc: EllipticalArc, progress: Progress) -> Turned
+// That heading in degrees. A table that is not sound is refused.
+#[tactic(auto, unfolding(crate::specs::Arcs::arc_turned_of))]
+pub fn arc_rotation_deg(arc: EllipticalArc, progress: Progress) -> Result<f32, Refusal>
     ensures { result ≡ arc_turned_of arc progress.value }
 {
-    in_degrees(arc_tangent(arc, progress))
+    let tangent = arc_tangent(arc, progress)?;
+    Ok(tidy(rotation_deg(tangent)))
 }
 
 // How long an arc is: its table's total, or the length of the line that it fell back to.
+#[tactic(auto, unfolding(crate::specs::Arcs::arc_length_of))]
 pub fn arc_length(arc: EllipticalArc) -> f32
     ensures { result ≡ arc_length_of arc }
 {

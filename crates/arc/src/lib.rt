@@ -9,10 +9,9 @@ mod lookups;
 mod samples;
 
 pub use arcs::{
-    EllipticalArc, MadeArc, arc, arc_heading, arc_length, arc_position, arc_rotation_deg,
-    arc_sample, arc_table, arc_tangent, chord_line, fallback_shape, is_fallback, no_table,
+    EllipticalArc, arc, arc_heading, arc_length, arc_position, arc_rotation_deg, arc_sample,
+    arc_table, arc_tangent, chord_line, fallback_shape, is_fallback, no_table,
 };
 pub use lines::{
-    LineSegment, MadeLine, line, line_length, line_point, line_position, line_rotation_deg,
-    line_tangent,
+    LineSegment, line, line_length, line_point, line_position, line_rotation_deg, line_tangent,
 };

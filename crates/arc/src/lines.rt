@@ -3,8 +3,8 @@ ghost use Rattle.std.specs.Prelude.{◌≡◌};
 ghost use Rattle.arc.specs.Lines.{line_length_of, line_point_of, line_position_of, line_tangent_of, line_rotation_deg_of, made_line_of};
 
 use angles::rotation_deg;
+use answers::Refusal;
 use bezier::verdict_of;
-use flight::Verdict;
 use floats::tidy;
 use math::{Point, distance, lerp_point, normalize, sub, tidy_point};
 use table::inner::raw_parameter_in;
@@ -17,14 +17,8 @@ pub struct LineSegment {
     pub end: Point,
 }
 
-// What making a line answers: the line, and whether it is accepted.
-#[derive(Clone, Copy)]
-pub struct MadeLine {
-    pub verdict: Verdict,
-    pub line: LineSegment,
-}
-
 // How long a line is: the distance of its ends.
+#[tactic(auto, unfolding(crate::specs::Lines::line_length_of))]
 pub fn line_length(line: LineSegment) -> f32
     ensures { result ≡ line_length_of line }
 {
@@ -34,6 +28,7 @@ pub fn line_length(line: LineSegment) -> f32
 }
 
 // The point at a raw parameter. It may miss the end at 1, as `lerp` does.
+#[tactic(auto, unfolding(crate::specs::Lines::line_point_of))]
 pub fn line_point(line: LineSegment, raw: RawParameter) -> Point
     ensures { result ≡ line_point_of line raw.value }
 {
@@ -51,6 +46,7 @@ pub fn line_position(line: LineSegment, progress: Progress) -> Point
 }
 
 // Where a line heads, with the length 1, or (0, 0) where its ends are within 2^-23.
+#[tactic(auto, unfolding(crate::specs::Lines::line_tangent_of))]
 pub fn line_tangent(line: LineSegment) -> Point
     ensures { result ≡ line_tangent_of line }
 {
@@ -60,6 +56,7 @@ pub fn line_tangent(line: LineSegment) -> Point
 }
 
 // That heading in degrees.
+#[tactic(auto, unfolding(crate::specs::Lines::line_rotation_deg_of))]
 pub fn line_rotation_deg(line: LineSegment) -> f32
     ensures { result ≡ line_rotation_deg_of line }
 {
@@ -67,13 +64,11 @@ pub fn line_rotation_deg(line: LineSegment) -> f32
 }
 
 // A line between two points. A length that is infinite or a NaN is refused; a lone segment is segment 0.
-pub fn line(start: Point, end: Point) -> MadeLine
+#[tactic(auto, unfolding(crate::specs::Lines::made_line_of))]
+pub fn line(start: Point, end: Point) -> Result<LineSegment, Refusal>
     ensures { result ≡ made_line_of start end }
 {
-    let made = LineSegment { start, end };
-    let verdict = verdict_of(line_length(made));
-    MadeLine {
-        verdict,
-        line: made,
-    }
+    let line = LineSegment { start, end };
+    verdict_of(line_length(line))?;
+    Ok(line)
 }

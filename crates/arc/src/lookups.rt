@@ -10,6 +10,7 @@ use table::inner::raw_parameter;
 use table::{Progress, Table};
 
 // Where an arc is at a progress.
+#[tactic(auto, unfolding(crate::specs::Arcs::arc_position_of))]
 pub fn arc_position(shape: Arc, table: Table, progress: Progress) -> Point
     requires { T (table_is_sound table.entries table.total) }
     ensures { result ≡ arc_position_of shape table progress.value }
@@ -19,6 +20,7 @@ pub fn arc_position(shape: Arc, table: Table, progress: Progress) -> Point
 }
 
 // Where an arc heads at a progress, with the length 1, or (0, 0) where its derivative is too short.
+#[tactic(auto, unfolding(crate::specs::Arcs::arc_tangent_of))]
 pub fn arc_tangent(shape: Arc, table: Table, progress: Progress) -> Point
     requires { T (table_is_sound table.entries table.total) }
     ensures { result ≡ arc_tangent_of shape table progress.value }

@@ -3,6 +3,9 @@ ghost use Rattle.std.specs.Prelude.{◌≡◌, cond, ltb, ◌+◌, ◌-◌, ◌*
 ghost use Rattle.atan2_rule.specs.Steps.{bend_of, near_of, guess_of};
 ghost use Rattle.floats.specs.Patterns.{wide_infinity_bits};
 
+use crate::pick;
+use crate::test::Direction;
+
 // e + atan t by a polynomial in t·t, for t from -1 to 1: within 4.4e-10.
 fn bend(e: f64, t: f64) -> f64
     ensures { result ≡ bend_of e t }
@@ -36,13 +39,6 @@ fn near_bits(g: f64) -> u32
     ((b - 0x3800_0000_0000_0000 + 0x1000_0000) >> 29) as u32
 }
 
-// a where `first` is true, else b.
-fn pick(first: bool, a: u64, b: u64) -> u64
-    ensures { result ≡ cond first a b }
-{
-    if first { a } else { b }
-}
-
 // The bits of a right angle where u is the larger, and else of two where l is 1, and of 0 where it is
 // 0: by products, since a branch on the larger one would be guessed wrong every other time.
 fn base(u: u64, v: u64, l: u64) -> u64
@@ -53,16 +49,16 @@ fn base(u: u64, v: u64, l: u64) -> u64
     (1 - flat) * 4609753056924675352 + flat * l * 4614256656552045848
 }
 
-// The angle from the bits a and b of the sizes of y and x, which u and v are cut from. Where the
+// The angle from the bits a and b of the sizes of y and x, which those of the direction are cut from. Where the
 // point is on the left side or y is the larger, but not both, the small angle is taken away.
-pub(crate) fn guess(a: u64, b: u64, u: u64, v: u64, left: u32) -> u32
-    requires { (a < wide_infinity_bits) × (b < wide_infinity_bits) × (u < 2 ^ 30) × (v < 2 ^ 30) × (left ≤ 1) }
-    ensures { (result ≡ guess_of a b (ltb v u) left) × (947912704 ≤ result) × (result ≤ 1078530011) }
+pub(crate) fn guess(a: u64, b: u64, d: Direction) -> u32
+    requires { (a < wide_infinity_bits) × (b < wide_infinity_bits) }
+    ensures { (result ≡ guess_of a b (ltb d.v d.u) d.left) × (947912704 ≤ result) × (result ≤ 1078530011) }
 {
-    let l = left as u64;
-    let steep = v < u;
+    let l = d.left as u64;
+    let steep = d.v < d.u;
     let n = f64::from_bits(pick(steep, 1 - l, l) * 0x8000_0000_0000_0000 + pick(steep, b, a));
-    let d = f64::from_bits(pick(steep, a, b));
-    let start = f64::from_bits(base(u, v, l));
-    near_bits(bend(start, n / d))
+    let below = f64::from_bits(pick(steep, a, b));
+    let start = f64::from_bits(base(d.u, d.v, l));
+    near_bits(bend(start, n / below))
 }

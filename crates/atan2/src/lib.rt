@@ -7,7 +7,7 @@ mod scale;
 mod search;
 mod test;
 
-ghost use Rattle.std.specs.Prelude.{◌≡◌, true, ◌+◌, ◌-◌, ◌*◌, ◌/◌, ◌%◌, ◌^◌, ◌≤◌, ◌<◌};
+ghost use Rattle.std.specs.Prelude.{◌≡◌, ◌⊎◌, cond, true, ◌+◌, ◌-◌, ◌*◌, ◌/◌, ◌%◌, ◌^◌, ◌≤◌, ◌<◌};
 ghost use Rattle.std.specs.Float.{binary64};
 ghost use Rattle.std.specs.Float.Ieee.{to_bits};
 ghost use Rattle.std.specs.Float.Ieee.Scale.{finite};
@@ -17,8 +17,16 @@ ghost use Rattle.floats.specs.Patterns.{wide_infinity_bits};
 use crate::guess::guess;
 use crate::scale::{larger, part};
 use crate::search::fallback;
-use crate::test::passes;
+use crate::test::{Direction, passes};
 use floats::is_finite;
+
+// a where `first` is true, else b.
+fn pick(first: bool, a: u64, b: u64) -> u64
+    ensures value { result ≡ cond first a b }
+    ensures one { (result ≡ a) ⊎ (result ≡ b) }
+{
+    if first { a } else { b }
+}
 
 // The bits of a finite x as an f64.
 fn wide(x: f32) -> u64
@@ -29,14 +37,14 @@ fn wide(x: f32) -> u64
 }
 
 // The bits of the angle's size: the guess, or the search's answer where the guess fails the test.
-fn angle(u: u64, v: u64, left: u32, first: u32) -> u32
-    requires { (u < 2 ^ 30) × (v < 2 ^ 30) × (947912704 ≤ first) × (first ≤ 1078530011) }
-    ensures { (result ≡ angle_bits u v left first) × (result ≤ 1078530011) }
+fn angle(d: Direction, first: u32) -> u32
+    requires { (947912704 ≤ first) × (first ≤ 1078530011) }
+    ensures { (result ≡ angle_bits d.u d.v d.left first) × (result ≤ 1078530011) }
 {
-    if passes(u, v, left, first) {
+    if passes(d, first) {
         return first;
     }
-    fallback(u, v, left)
+    fallback(d)
 }
 
 // The angle of a point off the x axis. a and b are the bits of y and x without their signs.
@@ -50,7 +58,8 @@ fn slant(y: f32, x: f32, a: u64, b: u64, sign: u32, left: u32) -> f32
     if u * 8192 + left as u64 * 0x4000_0000 <= v {
         return y / x;
     }
-    f32::from_bits(sign * 0x8000_0000 + angle(u, v, left, guess(a, b, u, v, left)))
+    let d = Direction { u, v, left };
+    f32::from_bits(sign * 0x8000_0000 + angle(d, guess(a, b, d)))
 }
 
 // The angle of a point on the x axis.

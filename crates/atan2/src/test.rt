@@ -6,7 +6,17 @@ ghost use Rattle.trig_rule.specs.Steps.{half, fixed_of};
 ghost use Rattle.atan2_rule.specs.Steps.{passes};
 ghost use Rattle.atan2.specs.Sums.{SumsAt, Bounded, judged_of};
 
-use trig::inner::{cosine_sides, sine_sides};
+use crate::pick;
+use trig::inner::{cosine_sides, fixed, sine_sides};
+
+// Where a point lies, by the sizes u of y and v of x on one scale. `left` is a number, since the definitions of atan2_rule count with it.
+#[derive(Clone, Copy)]
+pub(crate) struct Direction {
+    pub u: u64,
+    pub v: u64,
+    pub left: u32,
+    ghost small: { (u < 2 ^ 30) × (v < 2 ^ 30) × (left ≤ 1) },
+}
 
 // What cosine and sine add and take away.
 #[derive(Clone, Copy)]
@@ -33,23 +43,6 @@ pub(crate) fn sides(r: u64) -> Sums
     }
 }
 
-// The size of the angle with the bits b, counted in 2^-56.
-pub(crate) fn fixed(b: u32) -> u64
-    requires { (947912704 ≤ b) × (b ≤ 1078530011) }
-    ensures { (result ≡ fixed_of b) × (result < turn) }
-{
-    let m = (b % 0x80_0000 + 0x80_0000) as u64;
-    m << (b / 0x80_0000 - 94)
-}
-
-// The side a where `first` is true, else b.
-pub(crate) fn side(first: bool, a: u64, b: u64) -> u64
-    requires { (a ≤ 6760253432) × (b ≤ 6760253432) }
-    ensures { (result ≡ cond first a b) × (result ≤ 6760253432) }
-{
-    if first { a } else { b }
-}
-
 // u·a + v·b
 pub(crate) fn both(u: u64, a: u64, v: u64, b: u64) -> u64
     requires { (u < 2 ^ 30) × (v < 2 ^ 30) × (a ≤ 6760253432) × (b ≤ 6760253432) }
@@ -66,29 +59,29 @@ fn near(a: u64, b: u64, l: u64) -> bool
     if a <= b + l { b <= a + l } else { false }
 }
 
-// The test at an angle with the sides s. It is a negative rest of a turn where `flip` is 1.
-fn judged(u: u64, v: u64, left: u32, flip: u32, s: Sums) -> bool
-    requires { (u < 2 ^ 30) × (v < 2 ^ 30) × Bounded s.cosine_up s.cosine_down s.sine_up s.sine_down }
-    ensures { result ≡ judged_of u v left flip s.cosine_up s.cosine_down s.sine_up s.sine_down }
+// The test at an angle with the sides s. It is a negative rest of a turn where `flip` is 1, a number as in `judged_of`.
+fn judged(d: Direction, flip: u32, s: Sums) -> bool
+    requires { Bounded s.cosine_up s.cosine_down s.sine_up s.sine_down }
+    ensures { result ≡ judged_of d.u d.v d.left flip s.cosine_up s.cosine_down s.sine_up s.sine_down }
 {
-    let same = left == flip;
-    let right = left == 0;
+    let same = d.left == flip;
+    let right = d.left == 0;
     let straight = flip == 0;
-    let limit = 900 * (u + v);
-    let ahead = both(u, s.cosine_up, v, side(same, s.sine_down, s.sine_up));
-    let behind = both(u, s.cosine_down, v, side(same, s.sine_up, s.sine_down));
+    let limit = 900 * (d.u + d.v);
+    let ahead = both(d.u, s.cosine_up, d.v, pick(same, s.sine_down, s.sine_up));
+    let behind = both(d.u, s.cosine_down, d.v, pick(same, s.sine_up, s.sine_down));
     if near(ahead, behind, limit) {
         let along = both(
-            v,
-            side(right, s.cosine_up, s.cosine_down),
-            u,
-            side(straight, s.sine_up, s.sine_down),
+            d.v,
+            pick(right, s.cosine_up, s.cosine_down),
+            d.u,
+            pick(straight, s.sine_up, s.sine_down),
         );
         let against = both(
-            v,
-            side(right, s.cosine_down, s.cosine_up),
-            u,
-            side(straight, s.sine_down, s.sine_up),
+            d.v,
+            pick(right, s.cosine_down, s.cosine_up),
+            d.u,
+            pick(straight, s.sine_down, s.sine_up),
         );
         against + limit <= along
     } else {
@@ -109,14 +102,14 @@ fn past_pi() -> Sums
 }
 
 // The test of the angle with the bits b. PI is above half a turn, and the rest of it is negative.
-pub(crate) fn passes(u: u64, v: u64, left: u32, b: u32) -> bool
-    requires { (u < 2 ^ 30) × (v < 2 ^ 30) × (947912704 ≤ b) × (b ≤ 1078530011) }
-    ensures { result ≡ passes u v left b }
+pub(crate) fn passes(d: Direction, b: u32) -> bool
+    requires { (947912704 ≤ b) × (b ≤ 1078530011) }
+    ensures { result ≡ passes d.u d.v d.left b }
 {
     let x = fixed(b);
     if x <= 226375608064910088 {
-        judged(u, v, left, 0, sides(x))
+        judged(d, 0, sides(x))
     } else {
-        judged(u, v, left, 1, past_pi())
+        judged(d, 1, past_pi())
     }
 }

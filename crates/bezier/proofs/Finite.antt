@@ -1,7 +1,7 @@
 -- A float less itself is 0 exactly where it is finite. Assumes nothing.
 use mathlib.Core.Path.{◌≡◌, refl, sym, ap, ◌∙◌}
-use mathlib.Core.Bool.{Bool, true, false, not, cond}
-use Prim.Native.Nat.{ℕ, ◌-◌, ◌*◌, ◌<◌}
+use mathlib.Core.Bool.{Bool, true, false, not}
+use Prim.Native.Nat.{ℕ, ◌*◌, ◌<◌}
 use native.Mathlib.Nat.{zero-mul, sub_self, mul-pos, le_refl, zero-lt-suc}
 use borrow.Author.Tests.{le-ltb}
 use lib.Dec.{ltb}

@@ -1,18 +1,16 @@
 -- `CubicBezierCurve` (source document 001, bezier.rs), each operation rounded once in its order. Definitions only.
-use Rattle.std.specs.Prelude.{Float}
+use Rattle.std.specs.Prelude.{Float, Result}
 use Rattle.std.specs.Float.{binary32}
 use Rattle.std.specs.Float.Ieee.{of_bits, sub, mul}
 use Rattle.floats.specs.Floats.{one_f, clamp01_of}
+use Rattle.answers.specs.declared.refusals.Refusal.{Refusal}
 use Rattle.math.specs.declared.points.Point.{Point}
-use Rattle.math.specs.Math.{add_of, sub_of, scale_of, normalize_of, lerp_point_of}
+use Rattle.math.specs.Math.{add_of, sub_of, scale_of, lerp_point_of}
 use Rattle.table.specs.Lookup.{raw_of}
 use Rattle.table_samples.specs.Samples.{table_of}
 use Rattle.angles.specs.Angles.{rotation_deg_of}
-use Rattle.flight.specs.declared.single.Placed.{Placed}
-use Rattle.flight.specs.declared.single.Turned.{Turned}
-use Rattle.bezier.specs.declared.cubics.MadeCubic.{MadeCubic}
 use Rattle.bezier.specs.declared.cubics.CubicBezierCurve.{CubicBezierCurve}
-use Rattle.bezier.specs.Curves.{verdict_of, ahead_of, second_try, placed_of, turned_of}
+use Rattle.bezier.specs.Curves.{verdict_of, made_by, ahead_of, placed_of, turned_of, direction_by}
 use Rattle.bezier.specs.Quads.{quad_at}
 
 -- 3
@@ -45,10 +43,9 @@ unfoldable pub cubic_of : Point → Point → Point → Point → CubicBezierCur
 cubic_of start control1 control2 end =
     record { start = start; control1 = control1; control2 = control2; end = end; table = table_of (cubic_sample_of start control1 control2 end) }
 
-unfoldable pub made_cubic_of : Point → Point → Point → Point → MadeCubic
+unfoldable pub made_cubic_of : Point → Point → Point → Point → Result CubicBezierCurve Refusal
 unfolding cubic_of
-made_cubic_of start control1 control2 end =
-    record { verdict = verdict_of (table_of (cubic_sample_of start control1 control2 end)).total; curve = cubic_of start control1 control2 end }
+made_cubic_of start control1 control2 end = made_by (verdict_of (table_of (cubic_sample_of start control1 control2 end)).total) (cubic_of start control1 control2 end)
 
 -- the raw parameter of a progress along the curve
 abbrev pub cubic_raw : CubicBezierCurve → Float → Float
@@ -61,9 +58,7 @@ cubic_position_of curve progress = cubic_sample_of curve.start curve.control1 cu
 
 -- the direction at a raw parameter, as a quad's
 unfoldable pub cubic_direction : Point → Point → Point → Point → Float → Float → Point
-cubic_direction start control1 control2 end raw further =
-    second_try (normalize_of (cubic_derivative_of start control1 control2 end raw))
-    (normalize_of (sub_of (cubic_sample_of start control1 control2 end further) (cubic_sample_of start control1 control2 end raw)))
+cubic_direction start control1 control2 end raw further = direction_by (cubic_sample_of start control1 control2 end) (cubic_derivative_of start control1 control2 end) raw further
 
 -- `tangent` at the raw parameter of a progress: the second try is made from the progress as it was given
 unfoldable pub cubic_tangent_at : CubicBezierCurve → Float → Float → Point
@@ -76,15 +71,15 @@ unfolding cubic_tangent_at
 cubic_tangent_of curve progress = cubic_tangent_at curve (cubic_raw curve progress) progress
 
 -- the two as answers
-unfoldable pub cubic_placed_of : CubicBezierCurve → Float → Placed
+unfoldable pub cubic_placed_of : CubicBezierCurve → Float → Result Point Refusal
 unfolding cubic_position_of
 cubic_placed_of curve progress = placed_of curve.table (cubic_position_of curve progress)
 
-unfoldable pub cubic_heading_of : CubicBezierCurve → Float → Placed
+unfoldable pub cubic_heading_of : CubicBezierCurve → Float → Result Point Refusal
 unfolding cubic_tangent_of
 cubic_heading_of curve progress = placed_of curve.table (cubic_tangent_of curve progress)
 
 -- `rotation_deg` of the tangent
-unfoldable pub cubic_turned_of : CubicBezierCurve → Float → Turned
+unfoldable pub cubic_turned_of : CubicBezierCurve → Float → Result Float Refusal
 unfolding cubic_tangent_of
 cubic_turned_of curve progress = turned_of curve.table (rotation_deg_of (cubic_tangent_of curve progress))

@@ -1,18 +1,16 @@
 -- `QuadBezier` (source document 001, bezier.rs), each operation rounded once in its order. Definitions only.
-use Rattle.std.specs.Prelude.{Float}
+use Rattle.std.specs.Prelude.{Float, Result}
 use Rattle.std.specs.Float.{binary32}
 use Rattle.std.specs.Float.Ieee.{of_bits, sub, mul}
 use Rattle.floats.specs.Floats.{one_f, clamp01_of}
+use Rattle.answers.specs.declared.refusals.Refusal.{Refusal}
 use Rattle.math.specs.declared.points.Point.{Point}
-use Rattle.math.specs.Math.{add_of, sub_of, scale_of, normalize_of, lerp_point_of}
+use Rattle.math.specs.Math.{add_of, sub_of, scale_of, lerp_point_of}
 use Rattle.table.specs.Lookup.{raw_of}
 use Rattle.table_samples.specs.Samples.{table_of}
 use Rattle.angles.specs.Angles.{rotation_deg_of}
-use Rattle.flight.specs.declared.single.Placed.{Placed}
-use Rattle.flight.specs.declared.single.Turned.{Turned}
-use Rattle.bezier.specs.declared.quads.MadeQuad.{MadeQuad}
 use Rattle.bezier.specs.declared.quads.QuadBezier.{QuadBezier}
-use Rattle.bezier.specs.Curves.{verdict_of, ahead_of, second_try, placed_of, turned_of}
+use Rattle.bezier.specs.Curves.{verdict_of, made_by, ahead_of, placed_of, turned_of, direction_by}
 
 -- 2
 unfoldable pub two_f : Float
@@ -35,9 +33,9 @@ quad_derivative_of start control end raw =
 unfoldable pub quad_of : Point → Point → Point → QuadBezier
 quad_of start control end = record { start = start; control = control; end = end; table = table_of (quad_sample_of start control end) }
 
-unfoldable pub made_quad_of : Point → Point → Point → MadeQuad
+unfoldable pub made_quad_of : Point → Point → Point → Result QuadBezier Refusal
 unfolding quad_of
-made_quad_of start control end = record { verdict = verdict_of (table_of (quad_sample_of start control end)).total; curve = quad_of start control end }
+made_quad_of start control end = made_by (verdict_of (table_of (quad_sample_of start control end)).total) (quad_of start control end)
 
 -- the raw parameter of a progress along the curve
 abbrev pub quad_raw : QuadBezier → Float → Float
@@ -50,8 +48,7 @@ quad_position_of curve progress = quad_sample_of curve.start curve.control curve
 
 -- the direction at a raw parameter: the derivative's, or where that is (0, 0), the one from the sample there to the sample further on
 unfoldable pub quad_direction : Point → Point → Point → Float → Float → Point
-quad_direction start control end raw further =
-    second_try (normalize_of (quad_derivative_of start control end raw)) (normalize_of (sub_of (quad_sample_of start control end further) (quad_sample_of start control end raw)))
+quad_direction start control end raw further = direction_by (quad_sample_of start control end) (quad_derivative_of start control end) raw further
 
 -- `tangent` at the raw parameter of a progress: the second try is made from the progress as it was given
 unfoldable pub quad_tangent_at : QuadBezier → Float → Float → Point
@@ -64,15 +61,15 @@ unfolding quad_tangent_at
 quad_tangent_of curve progress = quad_tangent_at curve (quad_raw curve progress) progress
 
 -- the two as answers
-unfoldable pub quad_placed_of : QuadBezier → Float → Placed
+unfoldable pub quad_placed_of : QuadBezier → Float → Result Point Refusal
 unfolding quad_position_of
 quad_placed_of curve progress = placed_of curve.table (quad_position_of curve progress)
 
-unfoldable pub quad_heading_of : QuadBezier → Float → Placed
+unfoldable pub quad_heading_of : QuadBezier → Float → Result Point Refusal
 unfolding quad_tangent_of
 quad_heading_of curve progress = placed_of curve.table (quad_tangent_of curve progress)
 
 -- `rotation_deg` of the tangent
-unfoldable pub quad_turned_of : QuadBezier → Float → Turned
+unfoldable pub quad_turned_of : QuadBezier → Float → Result Float Refusal
 unfolding quad_tangent_of
 quad_turned_of curve progress = turned_of curve.table (rotation_deg_of (quad_tangent_of curve progress))

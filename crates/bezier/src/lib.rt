@@ -4,18 +4,17 @@
 
 mod cubics;
 mod curves;
-mod directions;
 pub mod inner;
-mod lookups;
 mod quads;
+mod queries;
 mod rows;
 
 pub use cubics::{
-    CubicBezierCurve, MadeCubic, cubic, cubic_derivative, cubic_length, cubic_position,
-    cubic_rotation_deg, cubic_sample, cubic_table, cubic_tangent,
+    CubicBezierCurve, cubic, cubic_derivative, cubic_length, cubic_position, cubic_rotation_deg,
+    cubic_sample, cubic_table, cubic_tangent,
 };
 pub use curves::{ahead, is_nothing, verdict_of};
 pub use quads::{
-    MadeQuad, QuadBezier, quad, quad_derivative, quad_length, quad_position, quad_rotation_deg,
-    quad_sample, quad_table, quad_tangent,
+    QuadBezier, quad, quad_derivative, quad_length, quad_position, quad_rotation_deg, quad_sample,
+    quad_table, quad_tangent,
 };

@@ -26,22 +26,19 @@ fn cubic_coordinate(a: f32, b: f32, c: f32, d: f32, t: f32) -> f32
     lerp(quad_coordinate(a, b, c, t), quad_coordinate(b, c, d, t), t)
 }
 
-// The row of a cubic with the coordinates a, b, c and d: each sample once, and then the differences. The last place leaves no rest in
+// The row of a cubic with the coordinates a, b, c and d: each sample once, and then the differences. `quad_steps` works
+// each sample of a quad out twice, and needs no row of them. The last place leaves no rest in
 // lanes; nothing reads it.
 pub(crate) fn cubic_differences(a: f32, b: f32, c: f32, d: f32) -> [f32; 32]
     ensures { DifferencesOf (cubic_coordinate a b c d) result 31 }
 {
     let mut samples = [d; 33];
-    let mut i = 0usize;
-    while i < 32 {
+    for i in 0..32 {
         samples[i] = cubic_coordinate(a, b, c, d, sample_mark(i));
-        i += 1;
     }
     let mut row = [0.0f32; 32];
-    let mut k = 0usize;
-    while k < 32 {
+    for k in 0..32 {
         row[k] = samples[k + 1] - samples[k];
-        k += 1;
     }
     row
 }

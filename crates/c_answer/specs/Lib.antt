@@ -1,3 +1,4 @@
 -- What leaves through C.
+pub mod Counts
 pub mod Given
 pub mod Places

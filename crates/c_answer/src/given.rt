@@ -27,6 +27,7 @@ pub fn accept_six(
     if answer.len() < 8 {
         return 255;
     }
+    // Six stores: `copy_from_slice` is a memmove, which modules for 32-bit processors must not have (DECISIONS 222).
     answer[0] = first;
     answer[1] = second;
     answer[2] = third;
@@ -40,5 +41,5 @@ pub fn accept_six(
 pub fn refuse(refusal: Refusal, answer: &mut [u64]) -> u32
     ensures { Given (refused refusal) answer.old result answer.new }
 {
-    answers::report(answers::number(refusal), answers::carried(refusal), answer)
+    answers::report(refusal.number(), refusal.carried(), answer)
 }

@@ -2,32 +2,26 @@
 ghost use Rattle.c_answer.specs.Given.{Given};
 ghost use Rattle.c_answer.specs.Places.{place_given, turn_given};
 
-use answers::Values;
-use flight::{Placed, Turned};
+use answers::{Refusal, Values};
+use floats::bits;
+use math::Point;
 
 // The bits of x and of y.
-pub fn give_place(placed: Placed, answer: &mut [u64]) -> u32
+pub fn give_place(placed: Result<Point, Refusal>, answer: &mut [u64]) -> u32
     ensures { Given (place_given placed) answer.old result answer.new }
 {
     match placed {
-        Placed::At(p) => {
-            let x = floats::bits(p.x);
-            let y = floats::bits(p.y);
-            crate::given::accept(Values::Two(x as usize, y as usize), answer)
-        }
-        Placed::Refused(refusal) => crate::given::refuse(refusal, answer),
+        Ok(p) => crate::given::accept(Values::Two(bits(p.x) as usize, bits(p.y) as usize), answer),
+        Err(refusal) => crate::given::refuse(refusal, answer),
     }
 }
 
 // The bits of the degrees.
-pub fn give_turn(turned: Turned, answer: &mut [u64]) -> u32
+pub fn give_turn(turned: Result<f32, Refusal>, answer: &mut [u64]) -> u32
     ensures { Given (turn_given turned) answer.old result answer.new }
 {
     match turned {
-        Turned::Degrees(degrees) => {
-            let bits = floats::bits(degrees);
-            crate::given::accept(Values::One(bits as usize), answer)
-        }
-        Turned::Refused(refusal) => crate::given::refuse(refusal, answer),
+        Ok(degrees) => crate::given::accept(Values::One(bits(degrees) as usize), answer),
+        Err(refusal) => crate::given::refuse(refusal, answer),
     }
 }

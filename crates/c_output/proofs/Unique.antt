@@ -4,14 +4,14 @@ use mathlib.Core.Path.{◌≡◌, refl, sym, ◌∙◌}
 use mathlib.Core.List.{List, [], ◌∷◌}
 use lib.ListN.{length}
 use lib.Ieee.{Float}
+use Rattle.std.specs.Prelude.{Result, Ok}
 use borrow.Author.Tests.{lt-ltb, le-ltb}
+use Rattle.answers.specs.declared.refusals.Refusal.{Refusal}
 use Rattle.answers.specs.Report.{written}
-use Rattle.flight.specs.declared.single.Verdict.{Verdict}
-use Rattle.flight.specs.declared.single.Verdict.TheVariants as Verdict
 use Rattle.c_output.specs.Filling.{Filled}
 
 pub filled-unique :
-    {verdict : Verdict} {values : List ℕ} {numbers out : List Float} {answer : List ℕ} {r r' : ℕ} {o o' : List Float} {a a' : List ℕ}
+    {verdict : Result (Unit {0}) Refusal} {values : List ℕ} {numbers out : List Float} {answer : List ℕ} {r r' : ℕ} {o o' : List Float} {a a' : List ℕ}
     → Filled verdict values numbers out answer r o a
     → Filled verdict values numbers out answer r' o' a'
     → (r ≡ r') × (o ≡ o') × (a ≡ a')
@@ -21,7 +21,7 @@ filled-unique one other =
 module _ {values : List ℕ} {numbers out : List Float} {answer after : List ℕ} {r : ℕ} {o : List Float} (enough : 8 ≤ length answer) where
   -- the need is the count of the numbers, however short the output is: one number fewer, or the room that there is, is ruled out
   pub need-is-the-count :
-      length out < length numbers → Filled Verdict.Accepted values numbers out answer r o after
+      length out < length numbers → Filled (Ok tt) values numbers out answer r o after
       → (r ≡ 8) × (after ≡ written (length numbers ∷ []) answer) × (o ≡ out)
   need-is-the-count less filled =
       let judged = le-ltb (length answer) 8 enough in
@@ -30,7 +30,7 @@ module _ {values : List ℕ} {numbers out : List Float} {answer after : List ℕ
 
   -- with enough room the numbers stand in the output: writing nothing is ruled out
   pub numbers-are-written :
-      length numbers ≤ length out → Filled Verdict.Accepted values numbers out answer r o after
+      length numbers ≤ length out → Filled (Ok tt) values numbers out answer r o after
       → (r ≡ 0) × (after ≡ written values answer) × (o ≡ written numbers out)
   numbers-are-written room filled =
       let judged = le-ltb (length answer) 8 enough in

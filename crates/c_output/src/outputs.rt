@@ -1,12 +1,10 @@
 // Numbers into a lent output, or the refusal and nothing there.
-ghost use Rattle.std.specs.Prelude.{◌≤◌, ◌≡◌, length};
+ghost use Rattle.std.specs.Prelude.{◌≤◌, ◌≡◌, length, Ok};
 ghost use Rattle.answers.specs.Answers.{listed};
 ghost use Rattle.answers.specs.Report.{written};
-ghost use Rattle.flight.specs.declared.single.Verdict.TheVariants.{Accepted};
 ghost use Rattle.c_output.specs.Filling.{Filled};
 
 use answers::{Refusal, Values};
-use flight::Verdict;
 use floats::tidy;
 
 // Puts the numbers at the start of out, and touches no other place. A NaN is stored as 7FC00000.
@@ -14,16 +12,14 @@ pub(crate) fn copy(numbers: &[f32], out: &mut [f32])
     requires { length numbers.now ≤ length out.old }
     ensures { out.new ≡ written numbers.now out.old }
 {
-    let mut k = 0usize;
-    while k < numbers.len() {
-        out[k] = tidy(numbers[k]);
-        k += 1;
+    for (k, x) in numbers.iter().enumerate() {
+        out[k] = tidy(*x);
     }
 }
 
 fn give(numbers: &[f32], values: Values, out: &mut [f32], answer: &mut [u64]) -> u32
     requires { 8 ≤ length answer.old }
-    ensures { Filled Accepted (listed values) numbers.now out.old answer.old result out.new answer.new }
+    ensures { Filled (Ok tt) (listed values) numbers.now out.old answer.old result out.new answer.new }
 {
     if out.len() < numbers.len() {
         let needed = numbers.len();
@@ -37,7 +33,7 @@ fn give(numbers: &[f32], values: Values, out: &mut [f32], answer: &mut [u64]) ->
 // values into answer. A refusal writes nothing to out: the verdict's own comes first, then the need of
 // room. An answer of fewer than 8 places comes before both: 255, and nothing is written.
 pub fn fill(
-    verdict: Verdict,
+    verdict: Result<(), Refusal>,
     numbers: &[f32],
     values: Values,
     out: &mut [f32],
@@ -49,9 +45,7 @@ pub fn fill(
         return 255;
     }
     match verdict {
-        Verdict::Accepted => give(numbers, values, out, answer),
-        Verdict::Refused(refusal) => {
-            answers::report(answers::number(refusal), answers::carried(refusal), answer)
-        }
+        Ok(()) => give(numbers, values, out, answer),
+        Err(refusal) => answers::report(refusal.number(), refusal.carried(), answer),
     }
 }

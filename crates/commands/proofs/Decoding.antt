@@ -3,6 +3,7 @@ use Prim.Native.Nat.{ℕ, ◌+◌, ◌≤◌, ◌<◌}
 use mathlib.Core.Path.{◌≡◌, refl, sym, ap, ◌∙◌}
 use mathlib.Core.Bool.{Bool, true, false}
 use mathlib.Core.List.{List}
+use Rattle.std.specs.Prelude.{Some, None}
 use native.Mathlib.Nat.{add_assoc, add-zero}
 use borrow.Author.Tests.{lt-ltb, le-ltb, ne_eqb}
 use lib.Ieee.{Float, nan}
@@ -12,7 +13,6 @@ use Rattle.math.specs.declared.points.Point.{Point}
 use Rattle.floats.specs.Floats.{bits_of}
 use Rattle.commands.specs.Listed.{number_at, point_at, is_flag, is_set, arc_of, command_of}
 use Rattle.commands.specs.declared.command.PathCommand.TheVariants.{MoveTo, LineTo, QuadTo, CubicTo, ArcTo, ClosePath}
-use Rattle.commands.specs.declared.encoding.Decoded.TheVariants.{Command, Bad}
 
 -- ---- numbers from one on
 
@@ -45,39 +45,39 @@ module _ (numbers : List Float) (at : ℕ) {large sweep : ℕ} (el : large ≡ b
   pub arc-flagged :
       {radii end : Point} {l s : Bool} → is_flag large ≡ true → is_flag sweep ≡ true
       → radii ≡ point_at numbers at → l ≡ is_set large → s ≡ is_set sweep → end ≡ point_at numbers (at + 5)
-      → Command (ArcTo radii (number_at numbers (at + 2)) l s end) ≡ arc_of (drop at numbers)
+      → Some (ArcTo radii (number_at numbers (at + 2)) l s end) ≡ arc_of (drop at numbers)
   unfolding arc_of
   arc-flagged f g er el es ee =
       simp (point-first numbers at er, number-from numbers at 2 (at + 2) refl, el, es, point-later numbers at 5 ee, large_is, sweep-is, f, g)
 
-  pub arc-large : is_flag large ≡ false → Bad ≡ arc_of (drop at numbers)
+  pub arc-large : is_flag large ≡ false → None ≡ arc_of (drop at numbers)
   unfolding arc_of
   arc-large f = simp (large_is, f)
 
-  pub arc-sweep : is_flag large ≡ true → is_flag sweep ≡ false → Bad ≡ arc_of (drop at numbers)
+  pub arc-sweep : is_flag large ≡ true → is_flag sweep ≡ false → None ≡ arc_of (drop at numbers)
   unfolding arc_of
   arc-sweep f g = simp (large_is, sweep-is, f, g)
 
 -- ---- the letters
 
 module _ (letter : ℕ) (numbers : List Float) where
-  pub is_move : (end : Point) → end ≡ point_at numbers 0 → letter ≡ 77 → 2 ≤ length numbers → Command (MoveTo end) ≡ command_of letter numbers
+  pub is_move : (end : Point) → end ≡ point_at numbers 0 → letter ≡ 77 → 2 ≤ length numbers → Some (MoveTo end) ≡ command_of letter numbers
   unfolding command_of
   is_move end p e h = rw (p, e, le-ltb (length numbers) 2 h)
 
-  pub is-line : (end : Point) → end ≡ point_at numbers 0 → letter ≡ 76 → 2 ≤ length numbers → Command (LineTo end) ≡ command_of letter numbers
+  pub is-line : (end : Point) → end ≡ point_at numbers 0 → letter ≡ 76 → 2 ≤ length numbers → Some (LineTo end) ≡ command_of letter numbers
   unfolding command_of
   is-line end p e h = rw (p, e, le-ltb (length numbers) 2 h)
 
   pub is-quad :
       (control end : Point) → control ≡ point_at numbers 0 → end ≡ point_at numbers 2 → letter ≡ 81 → 4 ≤ length numbers
-      → Command (QuadTo control end) ≡ command_of letter numbers
+      → Some (QuadTo control end) ≡ command_of letter numbers
   unfolding command_of
   is-quad control end p q e h = rw (p, q, e, le-ltb (length numbers) 4 h)
 
   pub is-cubic :
       (control1 control2 end : Point) → control1 ≡ point_at numbers 0 → control2 ≡ point_at numbers 2 → end ≡ point_at numbers 4 → letter ≡ 67 → 6 ≤ length numbers
-      → Command (CubicTo control1 control2 end) ≡ command_of letter numbers
+      → Some (CubicTo control1 control2 end) ≡ command_of letter numbers
   unfolding command_of
   is-cubic control1 control2 end p q r e h = rw (p, q, r, e, le-ltb (length numbers) 6 h)
 
@@ -85,32 +85,32 @@ module _ (letter : ℕ) (numbers : List Float) where
   unfolding command_of
   is-arc e h = rw (e, le-ltb (length numbers) 7 h)
 
-  pub is-close : letter ≡ 90 → Command ClosePath ≡ command_of letter numbers
+  pub is-close : letter ≡ 90 → Some ClosePath ≡ command_of letter numbers
   unfolding command_of
   is-close e = rw e
 
-  pub short-move : letter ≡ 77 → length numbers < 2 → Bad ≡ command_of letter numbers
+  pub short-move : letter ≡ 77 → length numbers < 2 → None ≡ command_of letter numbers
   unfolding command_of
   short-move e h = rw (e, lt-ltb (length numbers) 2 h)
 
-  pub short-line : letter ≡ 76 → length numbers < 2 → Bad ≡ command_of letter numbers
+  pub short-line : letter ≡ 76 → length numbers < 2 → None ≡ command_of letter numbers
   unfolding command_of
   short-line e h = rw (e, lt-ltb (length numbers) 2 h)
 
-  pub short-quad : letter ≡ 81 → length numbers < 4 → Bad ≡ command_of letter numbers
+  pub short-quad : letter ≡ 81 → length numbers < 4 → None ≡ command_of letter numbers
   unfolding command_of
   short-quad e h = rw (e, lt-ltb (length numbers) 4 h)
 
-  pub short-cubic : letter ≡ 67 → length numbers < 6 → Bad ≡ command_of letter numbers
+  pub short-cubic : letter ≡ 67 → length numbers < 6 → None ≡ command_of letter numbers
   unfolding command_of
   short-cubic e h = rw (e, lt-ltb (length numbers) 6 h)
 
-  pub short-arc : letter ≡ 65 → length numbers < 7 → Bad ≡ command_of letter numbers
+  pub short-arc : letter ≡ 65 → length numbers < 7 → None ≡ command_of letter numbers
   unfolding command_of
   short-arc e h = rw (e, lt-ltb (length numbers) 7 h)
 
   pub unknown :
       (letter ≡ 77 → ⊥) → (letter ≡ 76 → ⊥) → (letter ≡ 81 → ⊥) → (letter ≡ 67 → ⊥) → (letter ≡ 65 → ⊥) → (letter ≡ 90 → ⊥)
-      → Bad ≡ command_of letter numbers
+      → None ≡ command_of letter numbers
   unfolding command_of
   unknown m l q c a z = simp (ne_eqb letter 77 m, ne_eqb letter 76 l, ne_eqb letter 81 q, ne_eqb letter 67 c, ne_eqb letter 65 a, ne_eqb letter 90 z)

@@ -1,8 +1,9 @@
 -- A stored list read from a command on: what a loop over it knows after a command, at a bad one and at the end. Assumes nothing.
-use Prim.Native.Nat.{ℕ, zero, suc, ◌+◌, ◌≤◌, ◌<◌}
+use Prim.Native.Nat.{ℕ, suc, ◌+◌, ◌≤◌, ◌<◌}
 use mathlib.Core.Path.{◌≡◌, refl, sym, ap, subst, ◌∙◌}
 use mathlib.Core.Bool.{Bool, true, false, cond, ◌&&◌}
-use mathlib.Core.List.{List, [], ◌∷◌}
+use mathlib.Core.List.{List, []}
+use Rattle.std.specs.Prelude.{Option, Some, None}
 use native.Mathlib.Omega.{arith}
 use native.Mathlib.Numerals.{add-one}
 use borrow.Author.Tests.{ltb-false, le-ltb}
@@ -15,28 +16,26 @@ use Rattle.commands.specs.Stored.{arguments_of}
 use Rattle.commands.specs.Listed.{is_flag, number_at, arc_of, command_of, Listing, well_formed, malformed, prepend, follow, listed}
 use Rattle.commands.specs.Checked.{judged, check_commands_of}
 use Rattle.commands.specs.declared.command.PathCommand.{PathCommand}
-use Rattle.commands.specs.declared.encoding.Decoded.{Decoded}
-use Rattle.commands.specs.declared.encoding.Decoded.TheVariants.{Command, Bad}
 
 -- ---- a command that is read back takes numbers that are there
 
-cond-elim : (P : Decoded → Type 0) (b : Bool) (x y : Decoded) → (b ≡ true → P x) → (b ≡ false → P y) → P (cond b x y)
+cond-elim : (P : Option PathCommand → Type 0) (b : Bool) (x y : Option PathCommand) → (b ≡ true → P x) → (b ≡ false → P y) → P (cond b x y)
 cond-elim P true x y f g = f refl
 cond-elim P false x y f g = g refl
 
-Takes : List Float → Decoded → Type 0
-Takes numbers (Command command) = length (arguments_of command) ≤ length numbers
-Takes numbers Bad = Unit
+Takes : List Float → Option PathCommand → Type 0
+Takes numbers (Some command) = length (arguments_of command) ≤ length numbers
+Takes numbers None = Unit
 
 module _ (numbers : List Float) where
-  enough-takes : (count : ℕ) (decoded : Decoded) → (count ≤ length numbers → Takes numbers decoded) → Takes numbers (cond (ltb (length numbers) count) Bad decoded)
+  enough-takes : (count : ℕ) (decoded : Option PathCommand) → (count ≤ length numbers → Takes numbers decoded) → Takes numbers (cond (ltb (length numbers) count) None decoded)
   unfolding Takes
-  enough-takes count decoded f = cond-elim (Takes numbers) (ltb (length numbers) count) Bad decoded (λ e. tt) (λ e. f (ltb-false (length numbers) count e))
+  enough-takes count decoded f = cond-elim (Takes numbers) (ltb (length numbers) count) None decoded (λ e. tt) (λ e. f (ltb-false (length numbers) count e))
 
   arc-takes : 7 ≤ length numbers → Takes numbers (arc_of numbers)
   unfolding Takes arc_of
   arc-takes h =
-      cond-elim (Takes numbers) (is_flag (bits_of (number_at numbers 3)) && is_flag (bits_of (number_at numbers 4))) _ Bad (λ e. h) (λ e. tt)
+      cond-elim (Takes numbers) (is_flag (bits_of (number_at numbers 3)) && is_flag (bits_of (number_at numbers 4))) _ None (λ e. h) (λ e. tt)
 
   command-takes : (letter : ℕ) → Takes numbers (command_of letter numbers)
   unfolding Takes command_of
@@ -46,9 +45,9 @@ module _ (numbers : List Float) where
       (λ e. cond-elim (Takes numbers) (eqb letter 81) _ _ (λ e. enough-takes 4 _ (λ h. h))
       (λ e. cond-elim (Takes numbers) (eqb letter 67) _ _ (λ e. enough-takes 6 _ (λ h. h))
       (λ e. cond-elim (Takes numbers) (eqb letter 65) _ _ (λ e. enough-takes 7 _ arc-takes)
-      (λ e. cond-elim (Takes numbers) (eqb letter 90) _ Bad (λ e. omega arith) (λ e. tt))))))
+      (λ e. cond-elim (Takes numbers) (eqb letter 90) _ None (λ e. omega arith) (λ e. tt))))))
 
-  pub command-fits : (letter : ℕ) (command : PathCommand) → command_of letter numbers ≡ Command command → length (arguments_of command) ≤ length numbers
+  pub command-fits : (letter : ℕ) (command : PathCommand) → command_of letter numbers ≡ Some command → length (arguments_of command) ≤ length numbers
   unfolding Takes
   command-fits letter command e = subst (Takes numbers) e (command-takes letter)
 
@@ -64,17 +63,17 @@ module _ (letters : List ℕ) (numbers : List Float) (letter_at at : ℕ) (insid
   split = ap (λ (l : List ℕ). listed letter_at l (drop at numbers)) (drop-cons letters letter_at 0 inside)
 
   pub from_next :
-      (command : PathCommand) → command_of (get_or letters letter_at 0) (drop at numbers) ≡ Command command
+      (command : PathCommand) → command_of (get_or letters letter_at 0) (drop at numbers) ≡ Some command
       → listed_from letters numbers letter_at at ≡ prepend command (listed_from letters numbers (letter_at + 1) (at + length (arguments_of command)))
   unfolding listed_from
   from_next command e =
       split
-      ∙ ap (λ (d : Decoded). follow letter_at (drop at numbers) d (listed (suc letter_at) (drop (suc letter_at) letters))) e
+      ∙ ap (λ (d : Option PathCommand). follow letter_at (drop at numbers) d (listed (suc letter_at) (drop (suc letter_at) letters))) e
       ∙ ap (λ (l : List Float). prepend command (listed (suc letter_at) (drop (suc letter_at) letters) l)) (drop-drop (length (arguments_of command)) at numbers)
       ∙ ap (λ (k : ℕ). prepend command (listed k (drop k letters) (drop (at + length (arguments_of command)) numbers))) (sym (add-one letter_at))
 
-  pub from-bad : command_of (get_or letters letter_at 0) (drop at numbers) ≡ Bad → listed_from letters numbers letter_at at ≡ malformed letter_at
-  from-bad e = split ∙ ap (λ (d : Decoded). follow letter_at (drop at numbers) d (listed (suc letter_at) (drop (suc letter_at) letters))) e
+  pub from-bad : command_of (get_or letters letter_at 0) (drop at numbers) ≡ None → listed_from letters numbers letter_at at ≡ malformed letter_at
+  from-bad e = split ∙ ap (λ (d : Option PathCommand). follow letter_at (drop at numbers) d (listed (suc letter_at) (drop (suc letter_at) letters))) e
 
 module _ (letters : List ℕ) (numbers : List Float) (letter_at at : ℕ) (past : length letters ≤ letter_at) where
   pub from-left-over : at < length numbers → listed_from letters numbers letter_at at ≡ malformed letter_at
@@ -94,7 +93,7 @@ judged-prepend command (malformed k) = refl
 pub judged-next :
     (letters : List ℕ) (numbers : List Float) (letter_at at width : ℕ) (command : PathCommand)
     → letter_at < length letters → width ≡ length (arguments_of command)
-    → command_of (get_or letters letter_at 0) (drop at numbers) ≡ Command command
+    → command_of (get_or letters letter_at 0) (drop at numbers) ≡ Some command
     → judged (listed_from letters numbers (letter_at + 1) (at + width)) ≡ judged (listed_from letters numbers letter_at at)
 judged-next letters numbers letter_at at width command inside w e =
     rw w (sym (ap judged (from_next letters numbers letter_at at inside command e) ∙ judged-prepend command (listed_from letters numbers (letter_at + 1) (at + length (arguments_of command)))))

@@ -3,20 +3,18 @@ use Prim.Native.Nat.{ℕ, suc, ◌≤◌}
 use mathlib.Core.Path.{◌≡◌, refl, sym, ap, ◌∙◌}
 use mathlib.Core.Bool.{Bool, true, false}
 use mathlib.Core.List.{List, [], ◌∷◌, ◌++◌}
+use Rattle.std.specs.Prelude.{Option, Some}
 use native.Mathlib.Omega.{arith}
-use lib.Dec.{eqb}
 use lib.Ieee.{Float, to_bits, of_bits}
-use lib.ListN.{length, drop}
+use lib.ListN.{length}
 use lib.Seq.{drop-append_seam}
 use Rattle.answers.specs.Answers.{accepted}
 use Rattle.floats.specs.Floats.{bits_of}
 use Rattle.commands.specs.Stored.{letter_of, flag_of, arguments_of, letters_of, numbers_of}
-use Rattle.commands.specs.Listed.{is_flag, is_set, command_of, Listing, well_formed, prepend, follow, listed}
+use Rattle.commands.specs.Listed.{is_flag, is_set, command_of, well_formed, prepend, follow, listed}
 use Rattle.commands.specs.Checked.{judged, check_commands_of}
 use Rattle.commands.specs.declared.command.PathCommand.{PathCommand}
 use Rattle.commands.specs.declared.command.PathCommand.TheVariants.{MoveTo, LineTo, QuadTo, CubicTo, ArcTo, ClosePath}
-use Rattle.commands.specs.declared.encoding.Decoded.{Decoded}
-use Rattle.commands.specs.declared.encoding.Decoded.TheVariants.{Command}
 use Rattle.commands.proofs.Decoding.{is_move, is-line, is-quad, is-cubic, is-arc, is-close, arc-flagged}
 use Rattle.commands.proofs.Listing.{check-few}
 
@@ -32,7 +30,7 @@ unfolding to_bits of_bits
 set_is true = refl
 set_is false = refl
 
-command-back : (command : PathCommand) (rest : List Float) → command_of (letter_of command) (arguments_of command ++ rest) ≡ Command command
+command-back : (command : PathCommand) (rest : List Float) → command_of (letter_of command) (arguments_of command ++ rest) ≡ Some command
 command-back (MoveTo end) rest = sym (is_move 77 (end.x ∷ end.y ∷ rest) end refl refl (omega arith))
 command-back (LineTo end) rest = sym (is-line 76 (end.x ∷ end.y ∷ rest) end refl refl (omega arith))
 command-back (QuadTo control end) rest = sym (is-quad 81 (control.x ∷ control.y ∷ end.x ∷ end.y ∷ rest) control end refl refl refl (omega arith))
@@ -51,7 +49,7 @@ pub read_back : (k : ℕ) (commands : List PathCommand) → listed k (letters_of
 unfolding listed letters_of numbers_of
 read_back k [] = refl
 read_back k (command ∷ commands) =
-    ap (λ (d : Decoded). follow k (arguments_of command ++ numbers_of commands) d (listed (suc k) (letters_of commands))) (command-back command (numbers_of commands))
+    ap (λ (d : Option PathCommand). follow k (arguments_of command ++ numbers_of commands) d (listed (suc k) (letters_of commands))) (command-back command (numbers_of commands))
     ∙ ap (λ (l : List Float). prepend command (listed (suc k) (letters_of commands) l)) (drop-append_seam (arguments_of command) (numbers_of commands))
     ∙ ap (prepend command) (read_back (suc k) commands)
 

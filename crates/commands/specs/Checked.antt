@@ -1,15 +1,14 @@
 -- The check of a stored command list (document 01, "The answers"). Definitions only.
-use Rattle.std.specs.Prelude.{ℕ, cond, List, [], ltb, Float, length}
+use Rattle.std.specs.Prelude.{ℕ, cond, List, [], ltb, Float, Result, Ok, Err, length}
 use Rattle.answers.specs.Answers.{Answer, refused, accepted}
+use Rattle.answers.specs.declared.refusals.Refusal.{Refusal}
 use Rattle.answers.specs.declared.refusals.Refusal.TheVariants.{BadList, Range}
 use Rattle.commands.specs.Listed.{Listing, well_formed, malformed, listed}
-use Rattle.commands.specs.declared.checking.Checked.{Checked}
-use Rattle.commands.specs.declared.checking.Checked.TheVariants.{WellFormed, Refused}
 
 -- the number and the values of each case
-abbrev pub answer_of : Checked → Answer
-answer_of WellFormed = accepted []
-answer_of (Refused refusal) = refused refusal
+abbrev pub answer_of : Result Unit Refusal → Answer
+answer_of (Ok unit) = accepted []
+answer_of (Err refusal) = refused refusal
 
 abbrev pub judged : Listing → Answer
 judged (well_formed commands) = accepted []

@@ -111,14 +111,6 @@ fn is_set(bits: u32) -> bool
     bits == 0x3f80_0000
 }
 
-// What a letter and the numbers that follow are.
-#[derive(Clone, Copy)]
-pub enum Decoded {
-    Command(PathCommand),
-    // An unknown letter, a missing number or another flag.
-    Bad,
-}
-
 // The point of the two numbers from `at` on.
 pub fn point_at(numbers: &[f32], at: usize) -> Point
     requires { at + 2 ≤ length numbers.now }
@@ -130,71 +122,44 @@ pub fn point_at(numbers: &[f32], at: usize) -> Point
     }
 }
 
-fn arc_at(numbers: &[f32], at: usize) -> Decoded
+fn arc_at(numbers: &[f32], at: usize) -> Option<PathCommand>
     requires { at + 7 ≤ length numbers.now }
     ensures { result ≡ arc_of (drop at numbers.now) }
 {
     let large = floats::bits(numbers[at + 3]);
     let sweep = floats::bits(numbers[at + 4]);
-    if is_flag(large) {
-        if is_flag(sweep) {
-            return Decoded::Command(PathCommand::ArcTo {
-                radii: point_at(numbers, at),
-                rotation: numbers[at + 2],
-                large_arc: is_set(large),
-                sweep: is_set(sweep),
-                end: point_at(numbers, at + 5),
-            });
-        }
+    if is_flag(large) && is_flag(sweep) {
+        return Some(PathCommand::ArcTo {
+            radii: point_at(numbers, at),
+            rotation: numbers[at + 2],
+            large_arc: is_set(large),
+            sweep: is_set(sweep),
+            end: point_at(numbers, at + 5),
+        });
     }
-    Decoded::Bad
+    None
 }
 
-// The command of a letter, whose numbers stand from `at` on.
-pub fn decode(letter: u8, numbers: &[f32], at: usize) -> Decoded
+// The command of a letter, whose numbers stand from `at` on. There is none for an unknown letter, a missing number or another flag.
+pub fn decode(letter: u8, numbers: &[f32], at: usize) -> Option<PathCommand>
     requires { at ≤ length numbers.now }
     ensures { result ≡ command_of letter (drop at numbers.now) }
 {
     let left = numbers.len() - at;
     match letter {
-        b'M' => {
-            if left < 2 {
-                return Decoded::Bad;
-            }
-            Decoded::Command(PathCommand::MoveTo(point_at(numbers, at)))
-        }
-        b'L' => {
-            if left < 2 {
-                return Decoded::Bad;
-            }
-            Decoded::Command(PathCommand::LineTo(point_at(numbers, at)))
-        }
-        b'Q' => {
-            if left < 4 {
-                return Decoded::Bad;
-            }
-            Decoded::Command(PathCommand::QuadTo {
-                control: point_at(numbers, at),
-                end: point_at(numbers, at + 2),
-            })
-        }
-        b'C' => {
-            if left < 6 {
-                return Decoded::Bad;
-            }
-            Decoded::Command(PathCommand::CubicTo {
-                control1: point_at(numbers, at),
-                control2: point_at(numbers, at + 2),
-                end: point_at(numbers, at + 4),
-            })
-        }
-        b'A' => {
-            if left < 7 {
-                return Decoded::Bad;
-            }
-            arc_at(numbers, at)
-        }
-        b'Z' => Decoded::Command(PathCommand::ClosePath),
-        _ => Decoded::Bad,
+        b'M' if 2 <= left => Some(PathCommand::MoveTo(point_at(numbers, at))),
+        b'L' if 2 <= left => Some(PathCommand::LineTo(point_at(numbers, at))),
+        b'Q' if 4 <= left => Some(PathCommand::QuadTo {
+            control: point_at(numbers, at),
+            end: point_at(numbers, at + 2),
+        }),
+        b'C' if 6 <= left => Some(PathCommand::CubicTo {
+            control1: point_at(numbers, at),
+            control2: point_at(numbers, at + 2),
+            end: point_at(numbers, at + 4),
+        }),
+        b'A' if 7 <= left => arc_at(numbers, at),
+        b'Z' => Some(PathCommand::ClosePath),
+        _ => None,
     }
 }

@@ -1,2 +1,2 @@
 // What asks more of its callers than an entry may: handed on to crates that are proved to meet it.
-pub use crate::encoding::{Decoded, decode, point_at, put_two, store};
+pub use crate::encoding::{decode, point_at, put_two, store};

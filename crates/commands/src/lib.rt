@@ -6,5 +6,5 @@ mod command;
 mod encoding;
 pub mod inner;
 
-pub use checking::{Checked, check_commands};
+pub use checking::check_commands;
 pub use command::{PathCommand, letter, width};

@@ -1,26 +1,27 @@
 -- A number found in one pass: its places are those of the scan, and what is gathered on the way is what its value needs. Assumes nothing.
-use Prim.Native.Nat.{ℕ, zero, suc, ◌+◌, ◌-◌, ◌*◌, ◌^◌, ◌≤◌, ◌<◌}
+use Prim.Native.Nat.{ℕ, ◌+◌, ◌-◌, ◌≤◌, ◌<◌}
 use mathlib.Core.Path.{◌≡◌, refl, ap, sym, ◌∙◌, subst}
-use mathlib.Core.Logic.{◌⊎◌, inl, inr, ⊎_elim}
-use mathlib.Core.List.{List, [], ◌∷◌, ◌++◌}
-use mathlib.Core.Bool.{Bool, true, false, cond, ◌&&◌}
+use mathlib.Core.Logic.{⊎_elim}
+use mathlib.Core.List.{List, [], ◌++◌}
+use mathlib.Core.Bool.{Bool, true, false, ◌&&◌}
 use native.Mathlib.Nat.{le_refl, le_trans}
 use native.Mathlib.Omega.{arith}
 use lib.Dec.{ltb, eqb}
 use borrow.Author.Tests.{lt-ltb, le-ltb, eq-eqb, ne_eqb}
-use lib.ListN.{length, get_or, length-append, get_or-eq_default}
+use lib.ListN.{length, get_or, length-append}
 use lib.Ieee.{Float}
+use Rattle.std.specs.Prelude.{Result, Ok, Err}
 use Rattle.decimal_rounding.proofs.Compares.{below_or_not}
 use Rattle.answers.specs.declared.refusals.Refusal.{Refusal}
 use Rattle.answers.specs.declared.refusals.Refusal.TheVariants.{ExpectedNumber, InvalidNumber}
 use Rattle.scan.specs.Bytes.{among, digits, points, signs, exponent_marks}
-use Rattle.scan.specs.Runs.{stands, past_one, past_digits_of, past_sign_of, past_point_of, past_mark_of}
+use Rattle.scan.specs.Runs.{stands, past_digits_of, past_sign_of, past_point_of, past_mark_of}
 use Rattle.scan.specs.Numbers.{scan_number_of, NumberAt}
 use Rattle.scan.specs.declared.numbers.Places.{Places}
-use Rattle.scan.specs.declared.numbers.Number.{Number}
-use Rattle.scan.specs.declared.numbers.Number.TheVariants.{Scanned, NoDigit, NoExponentDigit}
-use Rattle.scan.proofs.ByteLaws.{clash, either_way, apart}
-use Rattle.scan.proofs.RunLaws.{byte_inside, one-step, one-onward, stands-within, stands-among, all-onward, all-again}
+use Rattle.scan.specs.declared.numbers.NumberError.{NumberError}
+use Rattle.scan.specs.declared.numbers.NumberError.TheVariants.{NoDigit, NoExponentDigit}
+use Rattle.scan.proofs.ByteLaws.{either_way, apart}
+use Rattle.scan.proofs.RunLaws.{byte_inside, one-step, one-onward, stands-within, stands-among, all-again}
 use Rattle.scan.proofs.NumberLaws.{mark-taken, mark-left, mark-end, number-none, number-bare, number-found, scanned-number}
 use Rattle.decimal_digits.specs.Digits.{digits_in, val}
 use Rattle.decimal_digits.specs.Leading.{Leads, Gathers}
@@ -29,14 +30,10 @@ use Rattle.decimal_digits.specs.declared.gathering.Leading.{Leading}
 use Rattle.decimal_digits.specs.declared.gathering.Power.{Power}
 use Rattle.decimal_digits.proofs.Places.{none_in, join-in, other-in, run_in}
 use Rattle.decimal_digits.proofs.Holding.{leads-start, leads-other}
-use Rattle.decimal_digits.proofs.Capping.{size-start, capped_small}
-use Rattle.decimal.specs.Decimal.{digits_of, places_of, power_of, falls, rise_of, fall_of, value_of, read_of, number_of, minus}
+use Rattle.decimal_digits.proofs.Capping.{size-start}
+use Rattle.decimal.specs.Decimal.{digits_of, power_of, falls, rise_of, fall_of, value_of, read_at, read_of, number_of, minus}
 use Rattle.decimal.specs.Bits.{Held, SaysFound, Finds}
 use Rattle.decimal.specs.declared.numbers.Parts.{Parts}
-use Rattle.decimal.specs.declared.numbers.Found.{Found}
-use Rattle.decimal.specs.declared.numbers.Found.TheVariants.{Number as FoundNumber, Nothing}
-use Rattle.decimal.specs.declared.numbers.Read.{Read}
-use Rattle.decimal.specs.declared.numbers.Read.TheVariants.{Value, Refused}
 
 -- ---- the point
 
@@ -75,24 +72,24 @@ mark-none text at e = ⊎_elim (λ h. mark-left text at h e) (λ h. mark-end tex
 
 -- ---- the answers
 
-pub read_is : (text : List ℕ) (at : ℕ) (r : Number) → r ≡ scan_number_of text at → read_of text r ≡ number_of text at
+pub read_is : (text : List ℕ) (at : ℕ) (r : Result Places NumberError) → r ≡ scan_number_of text at → read_of text r ≡ number_of text at
 unfolding number_of
 read_is text at r e = ap (read_of text) e
 
 module _ {text : List ℕ} (at : ℕ) {whole fraction : ℕ} {first all : Leading}
     (w-is : whole ≡ past_sign_of text at) (before : Gathers text whole 0 0 first) (f-is : fraction ≡ past_point_of text first.at) (after : Gathers text fraction first.w first.dropped all) where
-  pub number-no-digit : (eqb whole first.at && eqb fraction all.at) ≡ true → Refused (ExpectedNumber at) ≡ number_of text at
-  number-no-digit h = read_is text at (NoDigit at) (number-none text at whole first.at fraction all.at w-is before.passed f-is after.passed h)
+  pub number-no-digit : (eqb whole first.at && eqb fraction all.at) ≡ true → Err (ExpectedNumber at) ≡ number_of text at
+  number-no-digit h = read_is text at (Err (NoDigit at)) (number-none text at whole first.at fraction all.at w-is before.passed f-is after.passed h)
 
   module _ (some : (eqb whole first.at && eqb fraction all.at) ≡ false) {x e : ℕ} (x-is : x ≡ past_mark_of text all.at) (e-is : e ≡ past_digits_of text x) where
     abbrev pub p : Places
     p = record { start = at; whole = whole; point = first.at; fraction = fraction; mark = all.at; exponent = x; end = e }
 
-    pub number-no-exponent : (ltb all.at x && eqb x e) ≡ true → Refused (InvalidNumber all.at) ≡ number_of text at
-    number-no-exponent h = read_is text at (NoExponentDigit all.at) (number-bare text at whole first.at fraction all.at w-is before.passed f-is after.passed x e x-is e-is some h)
+    pub number-no-exponent : (ltb all.at x && eqb x e) ≡ true → Err (InvalidNumber all.at) ≡ number_of text at
+    number-no-exponent h = read_is text at (Err (NoExponentDigit all.at)) (number-bare text at whole first.at fraction all.at w-is before.passed f-is after.passed x e x-is e-is some h)
 
     module _ (fine : (ltb all.at x && eqb x e) ≡ false) where
-      pub scanned : Scanned p ≡ scan_number_of text at
+      pub scanned : Ok p ≡ scan_number_of text at
       scanned = number-found text at whole first.at fraction all.at w-is before.passed f-is after.passed x e x-is e-is some fine
 
       fits : NumberAt text p
@@ -251,12 +248,12 @@ module _ {text : List ℕ} (at : ℕ) {whole fraction : ℕ} {first all : Leadin
 
 -- ---- what is found, by its case
 
-module _ {text : List ℕ} {at : ℕ} {r : Found} (finds : Finds text at r) where
-  pub found_number : {q : Parts} → r ≡ FoundNumber q → (Scanned q.places ≡ scan_number_of text at) × Held text q.places q.w q.dropped q.rise q.fall
-  found_number e = subst (λ (z : Found). SaysFound z text at) e finds.said
+module _ {text : List ℕ} {at : ℕ} {r : Result Parts Refusal} (finds : Finds text at r) where
+  pub found_number : {q : Parts} → r ≡ Ok q → (Ok q.places ≡ scan_number_of text at) × Held text q.places q.w q.dropped q.rise q.fall
+  found_number e = subst (λ (z : Result Parts Refusal). SaysFound z text at) e finds.said
 
-  pub found_nothing : {refusal : Refusal} → r ≡ Nothing refusal → Refused refusal ≡ number_of text at
-  found_nothing e = subst (λ (z : Found). SaysFound z text at) e finds.said
+  pub found_nothing : {refusal : Refusal} → r ≡ Err refusal → Err refusal ≡ number_of text at
+  found_nothing e = subst (λ (z : Result Parts Refusal). SaysFound z text at) e finds.said
 
-pub number-value : (text : List ℕ) (at : ℕ) (p : Places) (v : Float) → Scanned p ≡ scan_number_of text at → v ≡ value_of text p → Value v p.end ≡ number_of text at
-number-value text at p v s e = ap (λ (z : Float). Value z p.end) e ∙ read_is text at (Scanned p) s
+pub number-value : (text : List ℕ) (at : ℕ) (p : Places) (v : Float) → Ok p ≡ scan_number_of text at → v ≡ value_of text p → Ok (read_at v p.end) ≡ number_of text at
+number-value text at p v s e = ap (λ (z : Float). Ok (read_at z p.end)) e ∙ read_is text at (Ok p) s

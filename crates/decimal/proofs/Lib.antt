@@ -1,4 +1,5 @@
 -- The laws of a decimal value, way by way, and what the document says of it.
+pub mod Answered
 pub mod Quotients
 pub mod Narrowed
 pub mod Ranged

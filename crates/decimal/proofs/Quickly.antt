@@ -8,16 +8,16 @@ use native.Mathlib.Omega.{arith}
 use lib.Dec.{eqb}
 use lib.ListN.{get_or}
 use lib.Ieee.{Float, binary32, round}
-use Rattle.scan.specs.Runs.{past_digits_of, past_sign_of, past_point_of}
-use Rattle.scan.specs.declared.numbers.Places.{Places}
+use Rattle.std.specs.Prelude.{Result, Ok}
+use Rattle.scan.specs.Runs.{past_sign_of, past_point_of}
 use Rattle.decimal_digits.specs.Leading.{Gathers, Fills}
 use Rattle.decimal_digits.specs.declared.gathering.Leading.{Leading}
 use Rattle.decimal_digits.specs.declared.gathering.Taken.{Taken}
 use Rattle.decimal_digits.proofs.Taking.{gathers-on, gathers-none}
-use Rattle.decimal.specs.Decimal.{number_of, minus}
+use Rattle.answers.specs.declared.refusals.Refusal.{Refusal}
+use Rattle.decimal.specs.Decimal.{read_at, number_of, minus}
 use Rattle.decimal.specs.Bits.{Settled, Quick}
 use Rattle.decimal.specs.declared.numbers.Read.{Read}
-use Rattle.decimal.specs.declared.numbers.Read.TheVariants.{Value}
 use Rattle.decimal.proofs.Found.{Plain, p, scanned, held_plain, number-value}
 use Rattle.decimal.proofs.Valued.{short-is, value-signed}
 
@@ -46,7 +46,7 @@ module _ {text : List ℕ} (at : ℕ) {whole fraction : ℕ} {first all : Leadin
   abbrev own : Bool
   own = eqb (get_or text at 0) minus
 
-  pub quick-number : number_of text at ≡ Value (round binary32 own all.w (10 ^ (all.at - fraction))) all.at
+  pub quick-number : number_of text at ≡ Ok (read_at (round binary32 own all.w (10 ^ (all.at - fraction))) all.at)
   quick-number =
       let q = p at w-is before f-is after some end.x-is end.e-is in
       let h = held_plain at w-is before f-is after some end in
@@ -54,11 +54,12 @@ module _ {text : List ℕ} (at : ℕ) {whole fraction : ℕ} {first all : Leadin
       (value-signed text q _ _ _ _ h _ own refl (short-is text q _ _ _ _ h (le_of_lt few) refl refl own)))
 
 -- what is settled of it is its value
-pub quick-read : {read : Read} (own : Bool) (n : ℕ) {w places end r : ℕ} {s : Bool} {out : List Float}
-    → Settled w places s end r out → read ≡ Value (round binary32 own w (10 ^ n)) end → own ≡ s → n ≡ places → Quick read r out
+pub quick-read : {read : Result Read Refusal} (own : Bool) (n : ℕ) {w places end r : ℕ} {s : Bool} {out : List Float}
+    → Settled w places s end r out → read ≡ Ok (read_at (round binary32 own w (10 ^ n)) end) → own ≡ s → n ≡ places → Quick read r out
 quick-read own n {w} {places} {end} {r} {s} settled number same few =
     record {
       value = round binary32 s w (10 ^ places);
       stored = settled.stored;
-      is = number ∙ ap (λ (b : Bool). Value (round binary32 b w (10 ^ n)) end) same ∙ ap (λ (k : ℕ). Value (round binary32 s w (10 ^ k)) end) few ∙ ap (λ (e : ℕ). Value (round binary32 s w (10 ^ places)) e) (sym settled.ends);
+      is = number ∙ ap (λ (b : Bool). Ok (read_at (round binary32 b w (10 ^ n)) end)) same
+          ∙ ap (λ (k : ℕ). Ok (read_at (round binary32 s w (10 ^ k)) end)) few ∙ ap (λ (e : ℕ). Ok (read_at (round binary32 s w (10 ^ places)) e)) (sym settled.ends);
     }

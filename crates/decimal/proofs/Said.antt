@@ -5,7 +5,7 @@ use mathlib.Core.List.{List}
 use lib.IntN.{pos}
 use lib.Ieee.{Float, nan, inf, fin, binary32, binary64, up, down, round, to_bits, size, units, odd}
 use lib.Count.{count_trailing_zeros}
-use mathlib.Core.Bool.{Bool, false}
+use mathlib.Core.Bool.{false}
 use Rattle.decimal_rounding.proofs.Limits.{infinite-from, zero-to, Signed, sign_kept}
 use Rattle.decimal_digits.proofs.Values.{ten-pos}
 use Rattle.scan.specs.declared.numbers.Places.{Places}

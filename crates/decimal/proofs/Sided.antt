@@ -1,10 +1,10 @@
 -- The side of the middle on which a fraction lies, from its digits; and the bits that follow. Assumes nothing.
-use Prim.Native.Nat.{ℕ, zero, suc, ◌+◌, ◌-◌, ◌*◌, ◌%◌, ◌^◌, ◌≤◌, ◌<◌, compare, Ordering}
+use Prim.Native.Nat.{ℕ, zero, suc, ◌+◌, ◌*◌, ◌%◌, ◌^◌, ◌≤◌, ◌<◌, compare, Ordering}
 use mathlib.Core.Path.{◌≡◌, refl, ap, sym, ◌∙◌, subst}
 use mathlib.Core.Logic.{◌⊎◌, inl, inr, ⊎_elim}
 use mathlib.Core.List.{List}
 use mathlib.Core.Bool.{Bool, cond}
-use native.Mathlib.Nat.{add-mul, mul_assoc, mul_comm, mul_left_comm, mul_right_comm, one-mul, mul-pos, add_assoc}
+use native.Mathlib.Nat.{add-mul, mul_assoc, mul_comm, mul_right_comm, one-mul, mul-pos, add_assoc}
 use native.Mathlib.Omega.{arith}
 use lib.Pow.{pow-add}
 use lib.ListN.{length}

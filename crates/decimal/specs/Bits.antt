@@ -1,23 +1,21 @@
 -- What the steps on the way to a value know and tell. Definitions only.
 use Prim.Native.Nat.{ℕ, ◌+◌, ◌-◌, ◌*◌, ◌%◌, ◌^◌, ◌≤◌, ◌<◌, compare}
-use Rattle.std.specs.Prelude.{◌≡◌, ◌⊎◌, List, [], ◌∷◌, Bool, cond, length, Float}
+use Rattle.std.specs.Prelude.{◌≡◌, ◌⊎◌, List, [], ◌∷◌, Bool, cond, length, Float, Result, Ok, Err}
 use Rattle.std.specs.Float.{binary32}
 use Rattle.std.specs.Float.Ieee.{round, of_bits}
 use Rattle.floats.specs.Patterns.{sign_place, infinity_bits, narrow_step, narrow_half}
 use Rattle.scan.specs.Numbers.{scan_number_of}
 use Rattle.scan.specs.declared.numbers.Places.{Places}
-use Rattle.scan.specs.declared.numbers.Number.TheVariants.{Scanned}
 use Rattle.decimal_digits.specs.Digits.{val}
 use Rattle.decimal_digits.specs.Leading.{Leads}
 use Rattle.decimal_digits.specs.Exponent.{most, capped}
 use Rattle.decimal_product.specs.Near.{Cell}
 use Rattle.decimal_tie.specs.Weighing.{order_of}
-use Rattle.decimal_tie.specs.declared.scales.Order.{Order}
-use Rattle.decimal.specs.Decimal.{digits_of, places_of, rise_of, fall_of, number_of}
+use Rattle.std.specs.declared.cmp.Ordering.{Ordering as Order}
+use Rattle.answers.specs.declared.refusals.Refusal.{Refusal}
+use Rattle.decimal.specs.Decimal.{digits_of, places_of, rise_of, fall_of, read_at, number_of}
 use Rattle.decimal.specs.declared.numbers.Read.{Read}
-use Rattle.decimal.specs.declared.numbers.Read.TheVariants.{Value, Refused}
-use Rattle.decimal.specs.declared.numbers.Found.{Found}
-use Rattle.decimal.specs.declared.numbers.Found.TheVariants.{Number, Nothing}
+use Rattle.decimal.specs.declared.numbers.Parts.{Parts}
 
 -- the bits b of the nearest f32, but for the sign s
 pub record Nearest (num den b : ℕ) : Type 0 where
@@ -65,11 +63,11 @@ pub record Held (text : List ℕ) (p : Places) (w dropped rise fall : ℕ) : Typ
   pub drops : fall ≡ capped (fall_of text p)
 
 -- what is found where a number is due: a scanned number with all that its value needs, or the refusal
-abbrev pub SaysFound : Found → List ℕ → ℕ → Type 0
-SaysFound (Number q) text at = (Scanned q.places ≡ scan_number_of text at) × Held text q.places q.w q.dropped q.rise q.fall
-SaysFound (Nothing refusal) text at = Refused refusal ≡ number_of text at
+abbrev pub SaysFound : Result Parts Refusal → List ℕ → ℕ → Type 0
+SaysFound (Ok q) text at = (Ok q.places ≡ scan_number_of text at) × Held text q.places q.w q.dropped q.rise q.fall
+SaysFound (Err refusal) text at = Err refusal ≡ number_of text at
 
-pub record Finds (text : List ℕ) (at : ℕ) (r : Found) : Type 0 where
+pub record Finds (text : List ℕ) (at : ℕ) (r : Result Parts Refusal) : Type 0 where
   pub said : SaysFound r text at
 
 -- w / 10 ^ places in out, where a quick way ends at r
@@ -79,7 +77,7 @@ pub record Settled (w places : ℕ) (s : Bool) (end r : ℕ) (out : List Float) 
   pub stored : out ≡ round binary32 s w (10 ^ places) ∷ []
 
 -- what a quick way has read where it tells anything: the value in out, and where the number ends
-pub record Quick (read : Read) (r : ℕ) (out : List Float) : Type 0 where
+pub record Quick (read : Result Read Refusal) (r : ℕ) (out : List Float) : Type 0 where
   pub value : Float
   pub stored : out ≡ value ∷ []
-  pub is : read ≡ Value value r
+  pub is : read ≡ Ok (read_at value r)

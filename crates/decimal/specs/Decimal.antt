@@ -1,18 +1,17 @@
 -- Decimal numbers (document 01, "Decimal value"): the exact fraction that a scanned number denotes, and the f32 nearest to it. Definitions only.
 -- "the nearest binary32 to the exact fraction, ties to even, for any count of digits. 2^128 - 2^103 and above is infinite, 2^-150 and below is
 -- zero; the sign is kept."
-use Rattle.std.specs.Prelude.{ℕ, ◌+◌, ◌-◌, ◌*◌, ◌^◌, List, Bool, cond, ◌&&◌, eqb, ltb, get_or, Float}
+use Rattle.std.specs.Prelude.{ℕ, ◌+◌, ◌-◌, ◌*◌, ◌^◌, List, Bool, cond, ◌&&◌, eqb, ltb, get_or, Float, Result, Ok, Err}
 use Rattle.std.specs.Float.{binary32}
 use Rattle.std.specs.Float.Ieee.{round}
 use Rattle.answers.specs.declared.refusals.Refusal.{Refusal}
 use Rattle.answers.specs.declared.refusals.Refusal.TheVariants.{ExpectedNumber, InvalidNumber}
 use Rattle.scan.specs.Numbers.{scan_number_of}
 use Rattle.scan.specs.declared.numbers.Places.{Places}
-use Rattle.scan.specs.declared.numbers.Number.{Number}
-use Rattle.scan.specs.declared.numbers.Number.TheVariants.{Scanned, NoDigit, NoExponentDigit}
+use Rattle.scan.specs.declared.numbers.NumberError.{NumberError}
+use Rattle.scan.specs.declared.numbers.NumberError.TheVariants.{NoDigit, NoExponentDigit}
 use Rattle.decimal_digits.specs.Digits.{digits_in, val}
 use Rattle.decimal.specs.declared.numbers.Read.{Read}
-use Rattle.decimal.specs.declared.numbers.Read.TheVariants.{Value, Refused}
 
 -- the byte -
 abbrev pub minus : ℕ
@@ -61,10 +60,13 @@ value_of text p = round binary32 (negative text p) (numerator text p) (denominat
 -- ---- the number that starts at a place
 
 -- its value and the place past it; "at least one digit in all (else 3 at its start)", "exponent without digit (offset of the e)"
-abbrev pub read_of : List ℕ → Number → Read
-read_of text (Scanned p) = Value (value_of text p) p.end
-read_of text (NoDigit at) = Refused (ExpectedNumber at)
-read_of text (NoExponentDigit at) = Refused (InvalidNumber at)
+abbrev pub read_at : Float → ℕ → Read
+read_at value end = record { value = value; end = end }
 
-unfoldable pub number_of : List ℕ → ℕ → Read
+abbrev pub read_of : List ℕ → Result Places NumberError → Result Read Refusal
+read_of text (Ok p) = Ok (read_at (value_of text p) p.end)
+read_of text (Err (NoDigit at)) = Err (ExpectedNumber at)
+read_of text (Err (NoExponentDigit at)) = Err (InvalidNumber at)
+
+unfoldable pub number_of : List ℕ → ℕ → Result Read Refusal
 number_of text at = read_of text (scan_number_of text at)

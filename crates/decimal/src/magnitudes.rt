@@ -12,7 +12,8 @@ ghost use Rattle.decimal_digits.specs.Exponent.{capped, most};
 ghost use Rattle.decimal.specs.Bits.{Tells, Sides, Gathered, Rounds, Settles};
 
 use decimal_product::inner::{Near, nearest};
-use decimal_tie::inner::{Order, weigh};
+use decimal_tie::inner::weigh;
+use std::cmp::Ordering;
 
 // One step of an f32's exponent in its bits.
 const HIDDEN: u64 = 8388608;
@@ -21,7 +22,8 @@ pub const SIGN_PLACE: u64 = 2147483648;
 // Infinity's bits without the sign.
 const INFINITY_BITS: u64 = 2139095040;
 
-// 10^places.
+// 10^places. Over a type parameter this and `decimal_digits`' power would list the powers of either
+// type all the same.
 fn ten(places: u64) -> f64
     requires { places ≤ 8 }
     ensures { HasValue result false (10 ^ places) 1 }
@@ -103,7 +105,7 @@ fn sum(a: u64, b: u64) -> u64
 // On which side of the middle of m and m + 1 steps of 2^k smallest values the number lies: the number
 // of a part's digits, count of them before the point, which is then moved right by rise or left by
 // fall.
-fn side(part: &[u8], count: u64, rise: u64, fall: u64, m: u64, k: u64) -> Order
+fn side(part: &[u8], count: u64, rise: u64, fall: u64, m: u64, k: u64) -> Ordering
     requires { (m < 2 ^ 24) × (k ≤ 253) × (count + rise < 2 ^ 64) }
     ensures { Sides (digits_among part.now) count rise fall m k result }
 {
@@ -120,9 +122,9 @@ fn between(part: &[u8], count: u64, rise: u64, fall: u64, m: u64, k: u64) -> u64
     ensures { Settles (digits_among part.now) count rise fall m k result }
 {
     match side(part, count, rise, fall, m, k) {
-        Order::Less => k * HIDDEN + m,
-        Order::Greater => k * HIDDEN + m + 1,
-        Order::Equal => k * HIDDEN + m + m % 2,
+        Ordering::Less => k * HIDDEN + m,
+        Ordering::Greater => k * HIDDEN + m + 1,
+        Ordering::Equal => k * HIDDEN + m + m % 2,
     }
 }
 

@@ -8,12 +8,11 @@ use answers::Refusal;
 use decimal_digits::inner::{exponent, gather, gather_many};
 use scan::{Places, byte_at, is_exponent_mark, past_point, past_sign};
 
-// What stands where a number is due.
-#[derive(Clone, Copy)]
-pub enum Read {
-    // The number's value, and the place past it.
-    Value(f32, usize),
-    Refused(Refusal),
+// A number's value, and the place past it.
+#[derive(Clone, Copy, Debug, PartialEq)]
+pub struct Read {
+    pub value: f32,
+    pub end: usize,
 }
 
 // A number's places, and what its value is worked out from: the number of its leading digits, the
@@ -27,15 +26,9 @@ pub struct Parts {
     pub fall: u64,
 }
 
-#[derive(Clone, Copy)]
-pub enum Found {
-    Number(Parts),
-    Nothing(Refusal),
-}
-
 // The number that starts at a place, not yet worked out. It is left to one caller, so that no memory
 // is passed between the two.
-fn find(text: &[u8], at: usize) -> Found
+fn find(text: &[u8], at: usize) -> Result<Parts, Refusal>
     ensures { Finds text.now at result }
 {
     let whole = past_sign(text, at);
@@ -45,7 +38,7 @@ fn find(text: &[u8], at: usize) -> Found
     let all = gather_many(text, fraction, first.w, first.dropped);
     let mark = all.at;
     if (whole == point) & (fraction == mark) {
-        return Found::Nothing(Refusal::ExpectedNumber(at));
+        return Err(Refusal::ExpectedNumber(at));
     }
     if !is_exponent_mark(byte_at(text, mark)) {
         let p = Places {
@@ -57,7 +50,7 @@ fn find(text: &[u8], at: usize) -> Found
             exponent: mark,
             end: mark,
         };
-        return Found::Number(Parts {
+        return Ok(Parts {
             places: p,
             w: all.w,
             dropped: all.dropped,
@@ -69,7 +62,7 @@ fn find(text: &[u8], at: usize) -> Found
     let power = exponent(text, digits);
     let end = power.at;
     if digits == end {
-        return Found::Nothing(Refusal::InvalidNumber(mark));
+        return Err(Refusal::InvalidNumber(mark));
     }
     let p = Places {
         start: at,
@@ -82,7 +75,7 @@ fn find(text: &[u8], at: usize) -> Found
     };
     let size = power.size;
     if byte_at(text, mark + 1) == b'-' {
-        return Found::Number(Parts {
+        return Ok(Parts {
             places: p,
             w: all.w,
             dropped: all.dropped,
@@ -90,7 +83,7 @@ fn find(text: &[u8], at: usize) -> Found
             fall: size,
         });
     }
-    Found::Number(Parts {
+    Ok(Parts {
         places: p,
         w: all.w,
         dropped: all.dropped,
@@ -135,11 +128,12 @@ fn value(text: &[u8], parts: Parts) -> f32
 }
 
 // The number that starts at a place. Separators are not passed here.
-pub fn number(text: &[u8], at: usize) -> Read
+pub fn number(text: &[u8], at: usize) -> Result<Read, Refusal>
     ensures { result ≡ number_of text.now at }
 {
-    match find(text, at) {
-        Found::Number(parts) => Read::Value(value(text, parts), parts.places.end),
-        Found::Nothing(refusal) => Read::Refused(refusal),
-    }
+    let parts = find(text, at)?;
+    Ok(Read {
+        value: value(text, parts),
+        end: parts.places.end,
+    })
 }

@@ -1,10 +1,10 @@
 -- What the leading digits know of a number, as its digits are passed. Assumes nothing.
-use Rattle.std.proofs.Common.{◌≡◌, ℕ, zero, suc, ◌+◌, ◌-◌, ◌*◌, ◌^◌, ◌<◌, ◌≤◌, Bool, true, false, List, [], ◌∷◌, ◌++◌, length, get_or, sym, refl, ap, ◌∙◌, subst, append-nil, mul_assoc, add-mul, mul-one, arith, lit<, pow-add}
+use Rattle.std.proofs.Common.{◌≡◌, ℕ, ◌+◌, ◌-◌, ◌*◌, ◌^◌, ◌<◌, ◌≤◌, true, false, List, [], ◌∷◌, ◌++◌, length, get_or, sym, refl, ap, ◌∙◌, subst, append-nil, mul_assoc, add-mul, mul-one, arith, lit<, pow-add}
 use lib.Arith.{digits_lt}
 use Rattle.scan.specs.Bytes.{among, digits}
 use Rattle.decimal_digits.specs.Digits.{digits_in, val}
 use Rattle.decimal_digits.specs.Leading.{Leads}
-use Rattle.decimal_digits.proofs.Values.{val-append, val-one, val-lt, digit_lt}
+use Rattle.decimal_digits.proofs.Values.{val-append, val-one, val-lt}
 use Rattle.decimal_digits.proofs.Places.{none_in, join-in, digit-in, other-in, run_in}
 
 -- no digits yet

@@ -1,5 +1,5 @@
 -- The digits between two places of a text: none, one, those of two parts, and those of a run, which are as many as its bytes. Assumes nothing.
-use Rattle.std.proofs.Common.{◌≡◌, ℕ, zero, suc, ◌+◌, ◌-◌, ◌<◌, ◌≤◌, Bool, true, false, cond, List, [], ◌∷◌, ◌++◌, length, get_or, take, drop, sym, refl, ap, ◌∙◌, subst, add-one, arith, length-append, drop-cons, drop-drop, take-add}
+use Rattle.std.proofs.Common.{◌≡◌, ℕ, zero, suc, ◌+◌, ◌-◌, ◌<◌, ◌≤◌, Bool, true, false, cond, List, [], ◌∷◌, ◌++◌, length, get_or, take, drop, ap, ◌∙◌, subst, arith, length-append, drop-cons, drop-drop, take-add}
 use Rattle.scan.specs.Bytes.{among, digits}
 use Rattle.decimal_digits.specs.Digits.{digits_among, digits_in}
 use Rattle.decimal_digits.proofs.Values.{among-append}

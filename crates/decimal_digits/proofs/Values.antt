@@ -1,5 +1,5 @@
 -- The number that digits stand for: of digits after digits, and its size. Assumes nothing.
-use Rattle.std.proofs.Common.{◌≡◌, ℕ, zero, suc, ◌+◌, ◌-◌, ◌*◌, ◌^◌, ◌<◌, ◌≤◌, Bool, true, false, cond, List, [], ◌∷◌, ◌++◌, length, sym, refl, ap, ◌∙◌, subst, mul_assoc, mul_comm, add-mul, mul-pos, pow-suc, zero-add, zero-mul, arith, lit<, length-append, pow-add}
+use Rattle.std.proofs.Common.{◌≡◌, ℕ, zero, suc, ◌+◌, ◌-◌, ◌*◌, ◌^◌, ◌<◌, Bool, true, false, cond, List, [], ◌∷◌, ◌++◌, length, sym, refl, ap, ◌∙◌, subst, mul_assoc, mul_comm, add-mul, mul-pos, pow-suc, zero-add, zero-mul, arith, lit<, length-append, pow-add}
 use lib.Arith.{digits_lt}
 use Rattle.scan.specs.Bytes.{among, digits}
 use Rattle.scan.proofs.ByteLaws.{digit-range}

@@ -1,5 +1,5 @@
 -- An exponent of any number of digits, cut at a number past which its size does not matter. Definitions only.
-use Rattle.std.specs.Prelude.{ℕ, ◌+◌, cond, List, nat_lt}
+use Rattle.std.specs.Prelude.{ℕ, cond, List, nat_lt}
 use Rattle.scan.specs.Runs.{past_digits_of}
 use Rattle.decimal_digits.specs.Digits.{digits_in, val}
 use Rattle.decimal_digits.specs.declared.gathering.Power.{Power}

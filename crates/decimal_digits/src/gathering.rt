@@ -16,7 +16,7 @@ pub fn digit(byte: u8) -> u64
 }
 
 // A number's digits so far: the first of them as a number, and how many more there were.
-#[derive(Clone, Copy)]
+#[derive(Clone, Copy, Debug, PartialEq, Eq)]
 pub struct Leading {
     // The place past the digits.
     pub at: usize,
@@ -25,7 +25,7 @@ pub struct Leading {
 }
 
 // Digits taken into a number.
-#[derive(Clone, Copy)]
+#[derive(Clone, Copy, Debug, PartialEq, Eq)]
 pub struct Taken {
     // The place past them.
     pub at: usize,
@@ -37,19 +37,17 @@ pub struct Taken {
 fn fill(text: &[u8], from: usize, w: u64) -> Taken
     ensures { Fills text.now from w result }
 {
-    let mut at = from;
     let mut held = w;
-    while at < text.len() {
-        if 1000000000000000000 <= held {
-            break;
-        }
-        if !is_digit(text[at]) {
-            break;
+    for at in from..text.len() {
+        if 1000000000000000000 <= held || !is_digit(text[at]) {
+            return Taken { at, w: held };
         }
         held = held * 10 + digit(text[at]);
-        at += 1;
     }
-    Taken { at, w: held }
+    Taken {
+        at: usize::max(from, text.len()),
+        w: held,
+    }
 }
 
 // Whether a text has so many bytes from a place on.
@@ -96,7 +94,8 @@ fn pass_rest(text: &[u8], taken: Taken, dropped: usize) -> Leading
     }
 }
 
-// Passes the digits from a place on, and adds them to the digits before.
+// Passes the digits from a place on, and adds them to the digits before. The place and these are no
+// Leading: a point may stand between, so that each call would make one up.
 pub fn gather(text: &[u8], from: usize, w: u64, dropped: usize) -> Leading
     requires { dropped ≤ from }
     ensures { Gathers text.now from w dropped result }
@@ -167,7 +166,7 @@ pub fn fraction_digits(text: &[u8], from: usize, w: u64, within: bool) -> Taken
 }
 
 // An exponent: the place past its digits, and their number, or 93 * 10^17 where they are more.
-#[derive(Clone, Copy)]
+#[derive(Clone, Copy, Debug, PartialEq, Eq)]
 pub struct Power {
     pub at: usize,
     pub size: u64,
@@ -177,16 +176,17 @@ pub struct Power {
 pub fn exponent(text: &[u8], from: usize) -> Power
     ensures { result ≡ exponent_of text.now from }
 {
-    let mut at = from;
     let mut size = 0;
-    while at < text.len() {
+    for at in from..text.len() {
         if !is_digit(text[at]) {
-            break;
+            return Power { at, size };
         }
         size = longer(size, digit(text[at]));
-        at += 1;
     }
-    Power { at, size }
+    Power {
+        at: usize::max(from, text.len()),
+        size,
+    }
 }
 
 // One digit more of an exponent.

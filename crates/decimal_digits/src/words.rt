@@ -3,25 +3,21 @@ ghost use Rattle.std.specs.Prelude.{◌≡◌, ℕ, ◌+◌, ◌*◌, ◌/◌, �
 ghost use Rattle.decimal_digits.specs.Digits.{val};
 ghost use Rattle.decimal_digits.specs.Words.{laid, eight_of, begun, each, others_of, Below, Runs};
 
-fn wide(byte: u8) -> u64
-    ensures { (result ≡ byte) × (result < 256) }
-{
-    byte as u64
-}
-
 // The eight bytes from a place on: one load in the compiled code.
 fn word_at(text: &[u8], at: usize) -> u64
     requires { at + 8 ≤ length text.now }
     ensures { result ≡ laid 8 (eight_of text.now at) }
 {
-    wide(text[at])
-        + wide(text[at + 1]) * 256
-        + wide(text[at + 2]) * 65536
-        + wide(text[at + 3]) * 16777216
-        + wide(text[at + 4]) * 4294967296
-        + wide(text[at + 5]) * 1099511627776
-        + wide(text[at + 6]) * 281474976710656
-        + wide(text[at + 7]) * 72057594037927936
+    u64::from_le_bytes([
+        text[at],
+        text[at + 1],
+        text[at + 2],
+        text[at + 3],
+        text[at + 4],
+        text[at + 5],
+        text[at + 6],
+        text[at + 7],
+    ])
 }
 
 // Each digit as its number, and every other byte as a number above 9.
@@ -35,7 +31,7 @@ fn values(word: u64) -> u64
 fn others(x: u64) -> u64
     ensures { result ≡ others_of 8 x }
 {
-    (std::num::wrapping_add_u64(x, 0x7676_7676_7676_7676) | x) & 0x8080_8080_8080_8080
+    (x.wrapping_add(0x7676_7676_7676_7676) | x) & 0x8080_8080_8080_8080
 }
 
 // Each two lanes as one of twice the width. The mask has every second lane.
@@ -76,7 +72,7 @@ pub(crate) fn run_at(text: &[u8], at: usize) -> Run
             value: eight(x),
         };
     }
-    let count = (u64::trailing_zeros(marks) as u64) / 8;
+    let count = (marks.trailing_zeros() as u64) / 8;
     let up = 4 * (8 - count);
     Run {
         count,

@@ -14,10 +14,10 @@ use Rattle.scan.specs.Scan.{leading, scan}
 use Rattle.scan.specs.Bytes.{among}
 use Rattle.scan.specs.Runs.{stands, past_one, past_all, past_mark_of}
 use Rattle.scan.specs.Numbers.{whole_of, point_of, fraction_of, mark_of, exponent_of, end_of, places_of, no_digit, no_exponent_digit, scan_number_of}
-use Rattle.scan.specs.declared.numbers.Number.TheVariants.{Scanned}
+use Rattle.std.specs.Prelude.{Ok}
 use Rattle.decimal_digits.specs.Digits.{digits_among, val}
-use Rattle.decimal.specs.Decimal.{falls, rise_of, fall_of, value_of, read_of, number_of}
-use Rattle.decimal.specs.declared.numbers.Read.TheVariants.{Value}
+use Rattle.decimal.specs.Decimal.{falls, rise_of, fall_of, value_of, read_at, read_of, number_of}
+use Rattle.decimal.proofs.Answered.{same-value}
 use Rattle.decimal.proofs.Said.{again, through-binary64}
 use Rattle.decimal_nearest.specs.Nearest.{NearestTo, ValueAt}
 use Rattle.decimal_nearest.proofs.Texts.{nearest-answered}
@@ -60,11 +60,11 @@ sign-refused n = let e = n.signed in let z : ◌≡◌ {A = ℕ} 0 1 = cc in ome
 abbrev far_past : List ℕ
 far_past = 49 ∷ 54 ∷ 55 ∷ 55 ∷ 55 ∷ 50 ∷ 49 ∷ 55 ∷ 46 ∷ 48 ∷ 48 ∷ 48 ∷ 48 ∷ 48 ∷ 48 ∷ 48 ∷ 48 ∷ 49 ∷ []
 
-places : scan_number_of far_past 0 ≡ Scanned (record { start = 0; whole = 0; point = 8; fraction = 9; mark = 18; exponent = 18; end = 18 })
+places : scan_number_of far_past 0 ≡ Ok (record { start = 0; whole = 0; point = 8; fraction = 9; mark = 18; exponent = 18; end = 18 })
 unfolding scan_number_of places_of no_digit no_exponent_digit end_of exponent_of mark_of fraction_of point_of whole_of past_mark_of past_one past_all scan leading stands among
 places = refl
 
-read : number_of far_past 0 ≡ Value (of_bits binary32 0x4b80_0001) 18
+read : number_of far_past 0 ≡ Ok (read_at (of_bits binary32 0x4b80_0001) 18)
 unfolding number_of value_of rise_of fall_of falls digits_among val among round size units odd count_trailing_zeros of_bits of_fields
 read = ap (read_of far_past) places
 
@@ -75,8 +75,7 @@ bits = refl
 pub through-binary64-refused : ValueAt far_past 0 (again (round binary64 false 16777217000000001 (10 ^ 9))) 18 → ⊥
 through-binary64-refused a =
     let x = again (round binary64 false 16777217000000001 (10 ^ 9)) in
-    let p : number_of far_past 0 ≡ Value x 18 = nearest-answered far_past 0 x 18 a in
-    let q = read in
-    let e : x ≡ of_bits binary32 0x4b80_0001 = cc in
+    let p : number_of far_past 0 ≡ Ok (read_at x 18) = nearest-answered far_past 0 x 18 a in
+    let e : x ≡ of_bits binary32 0x4b80_0001 = same-value (sym p ∙ read) in
     let z : ◌≡◌ {A = ℕ} 0x4b80_0000 0x4b80_0001 = sym through-binary64.0 ∙ ap (to_bits binary32) e ∙ bits in
     omega arith

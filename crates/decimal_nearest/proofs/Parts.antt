@@ -15,7 +15,7 @@ use lib.Ieee.{Float}
 use Rattle.scan.specs.Bytes.{among, digits}
 use Rattle.scan.specs.Numbers.{fraction_of, places_of, scan_number_of, NumberAt}
 use Rattle.scan.specs.declared.numbers.Places.{Places}
-use Rattle.scan.specs.declared.numbers.Number.TheVariants.{Scanned}
+use Rattle.std.specs.Prelude.{Ok}
 use Rattle.scan.proofs.ByteLaws.{either_way, both_true}
 use Rattle.scan.proofs.NumberLaws.{scanned-places, scanned-number}
 use Rattle.decimal_digits.specs.Digits.{digits_in, val}
@@ -46,7 +46,7 @@ module _ (text : List ℕ) where
 
 -- ---- the parts of a number
 
-module _ (text : List ℕ) (at : ℕ) (p : Places) (scanned : scan_number_of text at ≡ Scanned p) where
+module _ (text : List ℕ) (at : ℕ) (p : Places) (scanned : scan_number_of text at ≡ Ok p) where
   number : NumberAt text p
   number = scanned-number text at p scanned
 

@@ -1,13 +1,12 @@
 -- The nearest binary32 value of an exact fraction (document 01, "Decimal value"; IEEE 754, 4.3.1, round_ties_to_even). Sizes are counted in units,
 -- the smallest value above 0: a unit is 2 ^ -149. Nothing here rounds: values are compared. Definitions only.
-use Rattle.std.specs.Prelude.{ℕ, ◌+◌, ◌-◌, ◌*◌, ◌/◌, ◌%◌, ◌^◌, ◌≤◌, ◌≡◌, Bool, List, pos, T, Float}
+use Rattle.std.specs.Prelude.{ℕ, ◌+◌, ◌-◌, ◌*◌, ◌/◌, ◌%◌, ◌^◌, ◌≤◌, ◌≡◌, Bool, List, pos, T, Float, Ok}
 use Rattle.std.specs.Float.{nan, inf, fin, binary32}
 use Rattle.std.specs.Float.Ieee.{size, fits}
 use Rattle.std.specs.Float.Ieee.Scale.{finite}
 use Rattle.root.specs.Root.{units_of}
 use Rattle.scan.specs.Numbers.{scan_number_of}
 use Rattle.scan.specs.declared.numbers.Places.{Places}
-use Rattle.scan.specs.declared.numbers.Number.TheVariants.{Scanned}
 use Rattle.decimal.specs.Decimal.{numerator, denominator, negative}
 
 -- how far two numbers lie from each other
@@ -51,6 +50,6 @@ pub record NearestTo (negative : Bool) (num den : ℕ) (r : Float) : Type 0 wher
 -- of ten that its point and its exponent make
 pub record ValueAt (text : List ℕ) (at : ℕ) (x : Float) (next : ℕ) : Type 0 where
   pub places : Places
-  pub scanned : scan_number_of text at ≡ Scanned places
+  pub scanned : scan_number_of text at ≡ Ok places
   pub ends : places.end ≡ next
   pub value : NearestTo (negative text places) (numerator text places) (denominator text places) x

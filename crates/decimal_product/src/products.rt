@@ -5,7 +5,7 @@ ghost use Rattle.decimal_product.specs.Near.{High, Kept, Cuts, Settles, Nearest}
 
 use decimal_tens::tens;
 
-#[derive(Clone, Copy)]
+#[derive(Clone, Copy, Debug, PartialEq, Eq)]
 pub enum Near {
     // The bits of the nearest f32, but for the sign.
     Bits(u64),

@@ -9,15 +9,16 @@ use Rattle.answers.specs.declared.refusals.Refusal.TheVariants.{InvalidNumber}
 use Rattle.scan.specs.Bytes.{among, digits, signs, points, exponent_marks}
 use Rattle.scan.specs.Runs.{stands, past_mark_of, past_sign_of, past_digits_of}
 use Rattle.scan.specs.Numbers.{whole_of, point_of, fraction_of, mark_of, exponent_of, end_of, no_digit, scan_number_of}
-use Rattle.scan.specs.declared.numbers.Number.{Number}
-use Rattle.scan.specs.declared.numbers.Number.TheVariants.{Scanned, NoDigit, NoExponentDigit}
+use Rattle.scan.specs.declared.numbers.Places.{Places}
+use Rattle.scan.specs.declared.numbers.NumberError.{NumberError}
+use Rattle.scan.specs.declared.numbers.NumberError.TheVariants.{NoDigit, NoExponentDigit}
 use Rattle.scan.proofs.ByteLaws.{either_way}
 use Rattle.scan.proofs.RunLaws.{one-step, one-onward, all-again, all-stopped}
 use Rattle.scan.proofs.NumberLaws.{Way, scanned, without-digit, without-exponent-digit, way, bare-flags, mark-none, digit-in-all, digit-in-none, exponent-in-all, exponent-in-none, point-onward, mark-onward}
 use Rattle.strict_grammar.specs.Spans.{opt, star, none, more, plus}
 use Rattle.strict_grammar.proofs.SpanLaws.{standing, other, star-stops, plus-lt, plus-star, star-plus, star-or, run-same, run-found}
 use Rattle.decimal.specs.Decimal.{read_of, number_of}
-use Rattle.decimal.specs.declared.numbers.Read.TheVariants.{Refused}
+use Rattle.std.specs.Prelude.{Result, Ok, Err}
 use Rattle.decimal_text.specs.Converts.{Digit, Sign, Point, Mantissa, BareExponent}
 
 module _ (text : List ℕ) where
@@ -144,7 +145,7 @@ module _ (text : List ℕ) (at : ℕ) where
   unfolding whole_of
   whole-passed = sign-passed text at
 
-  pub bare-scanned : (k : ℕ) → scan_number_of text at ≡ NoExponentDigit k → BareExponent text at k
+  pub bare-scanned : (k : ℕ) → scan_number_of text at ≡ Err (NoExponentDigit k) → BareExponent text at k
   bare-scanned k e =
       let f = bare-flags text at k e in
       let x = exponent-in-none text at f.1 in
@@ -195,7 +196,7 @@ module _ (text : List ℕ) (at : ℕ) where
   unfolding end_of
   end_is h = run-empty text (exponent_of text at) h
 
-  pub bare-only : (k : ℕ) → BareExponent text at k → scan_number_of text at ≡ NoExponentDigit k
+  pub bare-only : (k : ℕ) → BareExponent text at k → scan_number_of text at ≡ Err (NoExponentDigit k)
   bare-only k b = go (way text at)
     where
       start : b.whole ≡ whole_of text at
@@ -212,25 +213,25 @@ module _ (text : List ℕ) (at : ℕ) where
           end_is (subst (λ (z : ℕ). stands text z digits ≡ false) (sym (mark-is mark))
           (b.behind (past_sign_of text (mark_of text at + 1)) (subst (λ (z : ℕ). opt (Sign text) (z + 1) (past_sign_of text (mark_of text at + 1))) (sym at_mark.there) (sign-passed text (mark_of text at + 1)))))
 
-      go : Way text at (scan_number_of text at) → scan_number_of text at ≡ NoExponentDigit k
+      go : Way text at (scan_number_of text at) → scan_number_of text at ≡ Err (NoExponentDigit k)
       go (scanned some whole e) =
           ⊎_elim (λ h. absurd (omega (arith, h.1, empty))) (λ h. absurd (omega (arith, h, empty, mark-is mark, one-onward signs text (mark_of text at + 1)))) (exponent-in-all text at whole)
       go (without-digit lacking e) = let h = digit-in-none text at lacking in absurd (omega (arith, h.0, h.1, at_mark.some))
-      go (without-exponent-digit some bare e) = e ∙ ap NoExponentDigit (sym at_mark.there)
+      go (without-exponent-digit some bare e) = e ∙ ap (λ (n : ℕ). Err (NoExponentDigit n)) (sym at_mark.there)
 
   -- ---- the same of the number's answer
 
   abbrev Four : ℕ → Type 0
-  Four k = number_of text at ≡ Refused (InvalidNumber k)
+  Four k = number_of text at ≡ Err (InvalidNumber k)
 
   pub number-bare : (k : ℕ) → Four k → BareExponent text at k
   unfolding number_of
   number-bare k q = go (scan_number_of text at) refl q
     where
-      go : (n : Number) → scan_number_of text at ≡ n → read_of text n ≡ Refused (InvalidNumber k) → BareExponent text at k
-      go (Scanned p) e q = let z : ◌≡◌ {A = ℕ} 0 1 = cc in absurd (omega arith)
-      go (NoDigit j) e q = let z : ◌≡◌ {A = ℕ} 0 1 = cc in absurd (omega arith)
-      go (NoExponentDigit j) e q = let z : j ≡ k = cc in bare-scanned k (e ∙ ap NoExponentDigit z)
+      go : (n : Result Places NumberError) → scan_number_of text at ≡ n → read_of text n ≡ Err (InvalidNumber k) → BareExponent text at k
+      go (Ok p) e q = let z : ◌≡◌ {A = ℕ} 0 1 = cc in absurd (omega arith)
+      go (Err (NoDigit j)) e q = let z : ◌≡◌ {A = ℕ} 0 1 = cc in absurd (omega arith)
+      go (Err (NoExponentDigit j)) e q = let z : j ≡ k = cc in bare-scanned k (e ∙ ap (λ (n : ℕ). Err (NoExponentDigit n)) z)
 
   pub bare-number : (k : ℕ) → BareExponent text at k → Four k
   unfolding number_of

@@ -2,13 +2,12 @@
 -- library's reader, which also takes words for infinities and NaN; these hold letters that no number has:
 --     Float ::= Sign? Number, Number ::= ( Digit+ | Digit+ '.' Digit* | Digit* '.' Digit+ ) Exp?, Exp ::= 'e' Sign? Digit+, e in either case
 -- A text is what stands from one place up to another. No place that a scan finds is cited here. Definitions only.
-use Rattle.std.specs.Prelude.{ℕ, ◌+◌, ◌≤◌, ◌≡◌, true, false, List, length}
+use Rattle.std.specs.Prelude.{ℕ, ◌+◌, ◌≤◌, ◌≡◌, true, false, List, length, Ok}
 use Rattle.scan.specs.Bytes.{digits, signs, points, exponent_marks}
 use Rattle.scan.specs.Runs.{stands}
 use Rattle.scan.specs.declared.numbers.Places.{Places}
 use Rattle.strict_grammar.specs.Spans.{Span, Byte, ◌·◌, ◌∥◌, opt, star, plus}
-use Rattle.decimal.specs.Decimal.{value_of, number_of}
-use Rattle.decimal.specs.declared.numbers.Read.TheVariants.{Value}
+use Rattle.decimal.specs.Decimal.{value_of, read_at, number_of}
 
 module _ (text : List ℕ) where
   abbrev pub Digit : Span
@@ -39,7 +38,7 @@ pub record Converted (text : List ℕ) (at : ℕ) (p : Places) : Type 0 where
   pub within : p.end ≤ length text
   pub converts : Converts text at p.end
   pub longest : (k : ℕ) → Converts text at k → k ≤ p.end
-  pub value : number_of text at ≡ Value (value_of text p) p.end
+  pub value : number_of text at ≡ Ok (read_at (value_of text p) p.end)
 
 -- "exponent without digit (offset of the e)": a number starts at a place, its digits, with a point or without, end right before an e at k, and
 -- behind the e and a sign or none no digit stands

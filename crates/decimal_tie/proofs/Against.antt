@@ -1,16 +1,20 @@
 -- A fraction written in digits against one over 2 ^ 150, digit by digit. m stands for 2 ^ 150 and l for a power of ten. Assumes nothing.
-use Prim.Native.Nat.{ℕ, zero, suc, ◌+◌, ◌-◌, ◌*◌, ◌^◌, ◌≤◌, ◌<◌, compare, Ordering}
+use Prim.Native.Nat.{ℕ, suc, ◌+◌, ◌*◌, ◌^◌, ◌≤◌, ◌<◌, compare, Ordering}
 use mathlib.Core.Path.{◌≡◌, refl, ap, sym, ◌∙◌, subst}
 use mathlib.Core.List.{List, [], ◌∷◌}
-use native.Mathlib.Nat.{add-mul, mul_assoc, mul_comm, mul_right_comm, suc-mul, add-zero, zero-mul, mul-one, mul-le-mul_right, mul-lt-mul_of_pos_right, pow-suc}
+use native.Mathlib.Nat.{add-mul, mul_assoc, mul_comm, suc-mul, add-zero, mul-one, mul-le-mul_right, mul-lt-mul_of_pos_right, pow-suc}
 use native.Mathlib.Omega.{arith}
 use lib.Dec.{lit<}
 use lib.ListN.{length}
-use Rattle.decimal_rounding.proofs.Compares.{compare-lt, compare-eq, compare-gt, compare-shift}
+use Rattle.decimal_rounding.proofs.Compares.{compare-lt, compare-gt, compare-shift}
 use Rattle.decimal_digits.specs.Digits.{val}
 use Rattle.decimal_digits.proofs.Values.{ten-pos}
-use Rattle.decimal_tie.specs.Words.{wide_of, Small, Tens}
-use Rattle.decimal_tie.specs.Weighing.{against}
+use Rattle.decimal_tie.specs.Words.{wide_of, Tens}
+use Rattle.std.specs.Cmp.{ranks}
+use Rattle.std.specs.Ordering.{nat_cmp, MatchOrdering}
+use Rattle.std.specs.declared.cmp.Ordering.{Ordering as Order}
+use Rattle.std.specs.declared.cmp.Ordering.TheVariants.{Less, Equal, Greater}
+use Rattle.decimal_tie.specs.Weighing.{order_of, against}
 use Rattle.decimal_tie.specs.declared.scales.Wide.{Wide}
 use Rattle.decimal_tie.specs.declared.scales.Tenfold.{Tenfold}
 use Rattle.decimal_tie.proofs.Wides.{tens-wide, wide-lt}
@@ -61,6 +65,19 @@ module _ (x : ℕ) (ds : List ℕ) (w : Wide) (t : Tenfold) (tens : Tens w 0 t) 
   pub against-on : x ≡ t.out → against (x ∷ ds) (wide_of w) ≡ against ds (wide_of t.rest)
   unfolding against
   against-on h = one ∙ lead-eq (2 ^ 150) (lit< tt) x t.out (val ds) (wide_of w * 10) (wide_of t.rest) (10 ^ length ds) (ten-pos _) ten (wide-lt _ tens.small) below h
+
+  -- the same by the answer of a comparison
+  pub against-other : (order : Order) → order ≡ nat_cmp x t.out → (order ≡ Equal → ⊥) → order_of order ≡ against (x ∷ ds) (wide_of w)
+  against-other order e other = go order (subst (λ (o : Order). MatchOrdering o (x < t.out) (x ≡ t.out) (t.out < x)) (sym e) (ranks x t.out)) other
+    where
+      go : (o : Order) → MatchOrdering o (x < t.out) (x ≡ t.out) (t.out < x) → (o ≡ Equal → ⊥) → order_of o ≡ against (x ∷ ds) (wide_of w)
+      go Less h n = sym (against-lt h)
+      go Equal h n = absurd (n refl)
+      go Greater h n = sym (against-gt h)
+
+-- numbers that compare as equal are
+pub same-number : (x y : ℕ) (order : Order) → order ≡ nat_cmp x y → order ≡ Equal → x ≡ y
+same-number x y order e same = subst (λ (o : Order). MatchOrdering o (x < y) (x ≡ y) (y < x)) (sym e ∙ same) (ranks x y)
 
 -- no digit is left: the fraction is 0
 pub against-end : (f : ℕ) → against [] f ≡ compare 0 f

@@ -1,12 +1,10 @@
 -- A small number moved up by a number of binary digits, in six words: two of them have it, and the place says which. Assumes nothing.
-use Prim.Native.Nat.{ℕ, zero, suc, ◌+◌, ◌-◌, ◌*◌, ◌/◌, ◌%◌, ◌^◌, ◌≤◌, ◌<◌}
-use mathlib.Core.Path.{◌≡◌, refl, ap, sym, ◌∙◌, subst}
-use native.Mathlib.Nat.{add-mul, mul_assoc, mul_comm, zero-mul, zero-add, add-zero, mul-lt-mul_of_pos_right, mod-eq_of_lt, mod-lt, div-add-mod', div-mul-le_self, lt_of_le_of_lt, lt_of_lt_of_le, le_trans, div-eq_of_lt}
+use Prim.Native.Nat.{ℕ, ◌+◌, ◌-◌, ◌*◌, ◌/◌, ◌%◌, ◌^◌, ◌≤◌, ◌<◌}
+use mathlib.Core.Path.{◌≡◌, ap, sym, ◌∙◌, subst}
+use native.Mathlib.Nat.{add-mul, mul_assoc, zero-add, add-zero, mul-lt-mul_of_pos_right, mod-eq_of_lt, mod-lt, div-add-mod', div-mul-le_self, lt_of_lt_of_le, div-eq_of_lt}
 use native.Mathlib.Omega.{arith}
-use lib.Dec.{lit≤}
 use lib.Pow.{pow_pos, pow_mono, pow-add, shr_le}
 use Rattle.decimal_tie.specs.Words.{wide_of, Small, Splits}
-use Rattle.decimal_tie.specs.declared.scales.Wide.{Wide}
 
 -- ---- the two words
 

@@ -1,23 +1,19 @@
 -- A number's digits against another number: whole digits gathered one by one, zeros after the point taken off one by one, and where each leaves the
 -- order to the fraction. m stands for 2 ^ 150. Assumes nothing.
-use Prim.Native.Nat.{ℕ, zero, suc, ◌+◌, ◌-◌, ◌*◌, ◌^◌, ◌≤◌, ◌<◌, compare, Ordering}
-use mathlib.Core.Path.{◌≡◌, refl, ap, sym, ◌∙◌, subst}
+use Prim.Native.Nat.{ℕ, suc, ◌+◌, ◌*◌, ◌^◌, ◌≤◌, ◌<◌, compare, Ordering}
+use mathlib.Core.Path.{◌≡◌, refl, ap, sym, ◌∙◌}
 use mathlib.Core.List.{List, [], ◌∷◌}
 use native.Mathlib.Nat.{add-mul, mul_assoc, mul_comm, mul_right_comm, mul-one, one-mul, zero-mul, zero-add, mul-le-mul, mul-le-mul_left, mul-le-mul_right, mul-lt-mul_of_pos_right, le_trans, le_of_eq, lt_of_lt_of_le, pow-suc}
 use native.Mathlib.Omega.{arith}
 use lib.Dec.{lit<}
 use lib.Arith.{digits_lt}
-use lib.ListN.{length, drop}
-use Rattle.decimal_rounding.proofs.Compares.{compare-lt, compare-gt, compare-scale}
-use Rattle.decimal_digits.specs.Digits.{digits_among, val}
+use lib.ListN.{length}
+use Rattle.decimal_rounding.proofs.Compares.{compare-lt, compare-gt, compare-scale, lt-of-compare, gt-of-compare}
+use Rattle.decimal_digits.specs.Digits.{val}
 use Rattle.decimal_digits.proofs.Values.{ten-pos}
-use Rattle.decimal_tie.specs.Words.{wide_of, Small}
-use Rattle.decimal_tie.specs.Weighing.{against, weigh_of, partly, first, others, SaysWhole, Wholes, SaysLowered, Lowers}
-use Rattle.decimal_tie.specs.declared.scales.Wide.{Wide}
-use Rattle.decimal_tie.specs.declared.scales.Whole.{Whole}
-use Rattle.decimal_tie.specs.declared.scales.Whole.TheVariants.{Beyond as WholeBeyond, Is}
-use Rattle.decimal_tie.specs.declared.scales.Lowered.{Lowered}
-use Rattle.decimal_tie.specs.declared.scales.Lowered.TheVariants.{Beyond as LoweredBeyond, To}
+use Rattle.decimal_tie.specs.Weighing.{against, weigh_of, partly, first, others, order_of}
+use Rattle.std.specs.declared.cmp.Ordering.{Ordering as Order}
+use Rattle.std.specs.declared.cmp.Ordering.TheVariants.{Less, Equal, Greater}
 use Rattle.decimal_tie.proofs.Against.{lead-lt, lead-gt, lead-eq}
 
 -- ---- whole digits
@@ -58,9 +54,8 @@ step-on w (x ∷ ds) count s =
         turn : (y c m : ℕ) → y * (c * 10) * m ≡ y * c * m * 10
         turn y c m = ap (λ (z : ℕ). z * m) (sym (mul_assoc y c 10)) ∙ mul_right_comm (y * c) 10 m
 
-pub partly-on : (w : ℕ) (ds : List ℕ) (count s : ℕ) → 0 < count → partly w ds count s ≡ partly (w * 10 + first ds) (others ds) (count - 1) s
-partly-on w ds zero s h = absurd (omega arith)
-partly-on w ds (suc count) s h = let e : suc count - 1 ≡ count = omega arith in step-on w ds count s ∙ ap (λ (z : ℕ). partly (w * 10 + first ds) (others ds) z s) (sym e)
+pub partly-on : (w : ℕ) (ds : List ℕ) (count more s : ℕ) → count ≡ suc more → partly w ds count s ≡ partly (w * 10 + first ds) (others ds) more s
+partly-on w ds count more s e = ap (λ (z : ℕ). partly w ds z s) e ∙ step-on w ds more s
 
 -- none is left to take
 pub partly-left : (w : ℕ) (ds : List ℕ) (count s : ℕ) → count ≤ 0 → partly w ds count s ≡ partly w ds 0 s
@@ -98,6 +93,12 @@ module _ (w : ℕ) (ds : List ℕ) (g f : ℕ) (under : f < 2 ^ 150) (below : va
   unfolding against
   partly-eq h = partly_none ∙ lead-eq (2 ^ 150) (lit< tt) w g (val ds) (g * 2 ^ 150 + f) f (10 ^ length ds) (ten-pos _) refl under below h
 
+  -- the same by the answer of a comparison
+  pub partly-other : (order : Order) → order_of order ≡ compare w g → (order ≡ Equal → ⊥) → order_of order ≡ partly w ds 0 (g * 2 ^ 150 + f)
+  partly-other Less e n = sym (partly-lt (lt-of-compare _ _ (sym e)))
+  partly-other Equal e n = absurd (n refl)
+  partly-other Greater e n = sym (partly-gt (gt-of-compare _ _ (sym e)))
+
 -- ---- zeros after the point
 
 -- what reaches m is above every fraction below 1
@@ -116,16 +117,15 @@ module _ (v l : ℕ) (below : v < l) where
   ten-more : (f zeros : ℕ) → f * (10 ^ suc zeros * l) ≡ f * 10 * (10 ^ zeros * l)
   ten-more f zeros = ap (λ (z : ℕ). f * (z * l)) (pow-suc 10 zeros ∙ mul_comm (10 ^ zeros) 10) ∙ ap (λ (z : ℕ). f * z) (mul_assoc 10 (10 ^ zeros) l) ∙ sym (mul_assoc f 10 (10 ^ zeros * l))
 
-  pub lower-beyond : (f out rest zeros : ℕ) → f * 10 ≡ out * 2 ^ 150 + rest → 0 < out → 0 < zeros → compare (v * 2 ^ 150) (f * (10 ^ zeros * l)) ≡ Ordering.lt
-  lower-beyond f out rest zero e h z = absurd (omega arith)
-  lower-beyond f out rest (suc zeros) e h z =
-      ap (λ (x : ℕ). compare (v * 2 ^ 150) x) (ten-more f zeros ∙ ap (λ (x : ℕ). x * (10 ^ zeros * l)) e) ∙ over-whole out rest zeros h
+  module _ (f rest zeros more : ℕ) (one : zeros ≡ suc more) where
+    one-off : compare (v * 2 ^ 150) (f * (10 ^ zeros * l)) ≡ compare (v * 2 ^ 150) (f * 10 * (10 ^ more * l))
+    one-off = ap (λ (x : ℕ). compare (v * 2 ^ 150) x) (ap (λ (x : ℕ). f * (10 ^ x * l)) one ∙ ten-more f more)
 
-  pub lower-on : (f rest zeros : ℕ) → f * 10 ≡ rest → 0 < zeros → compare (v * 2 ^ 150) (f * (10 ^ zeros * l)) ≡ compare (v * 2 ^ 150) (rest * (10 ^ (zeros - 1) * l))
-  lower-on f rest zero e z = absurd (omega arith)
-  lower-on f rest (suc zeros) e z =
-      let p : zeros ≡ suc zeros - 1 = omega arith in
-      ap (λ (x : ℕ). compare (v * 2 ^ 150) x) (ten-more f zeros ∙ ap (λ (x : ℕ). x * (10 ^ zeros * l)) e ∙ ap (λ (x : ℕ). rest * (10 ^ x * l)) p)
+    pub lower-beyond : (out : ℕ) → f * 10 ≡ out * 2 ^ 150 + rest → 0 < out → compare (v * 2 ^ 150) (f * (10 ^ zeros * l)) ≡ Ordering.lt
+    lower-beyond out e h = one-off ∙ ap (λ (x : ℕ). compare (v * 2 ^ 150) (x * (10 ^ more * l))) e ∙ over-whole out rest more h
+
+    pub lower-on : f * 10 ≡ rest → compare (v * 2 ^ 150) (f * (10 ^ zeros * l)) ≡ compare (v * 2 ^ 150) (rest * (10 ^ more * l))
+    lower-on e = one-off ∙ ap (λ (x : ℕ). compare (v * 2 ^ 150) (x * (10 ^ more * l))) e
 
 -- none is left to take off
 pub lower-end : (v l f zeros : ℕ) → zeros ≤ 0 → compare (v * 2 ^ 150) (f * (10 ^ zeros * l)) ≡ compare (v * 2 ^ 150) (f * l)
@@ -156,19 +156,3 @@ module _ (ds : List ℕ) (below : val ds < 10 ^ length ds) (zeros g f : ℕ) whe
 pub against-is : (ds : List ℕ) (f : ℕ) → against ds f ≡ compare (val ds * 2 ^ 150) (f * 10 ^ length ds)
 unfolding against
 against-is ds f = refl
-
--- ---- what an answer says, by its case
-
-module _ {part : List ℕ} {count : ℕ} {r : Whole} (wholes : Wholes part count r) (s : ℕ) (h : s < 2 ^ 300) where
-  pub whole-beyond : r ≡ WholeBeyond → partly 0 (digits_among part) count s ≡ Ordering.gt
-  whole-beyond e = subst (λ (z : Whole). SaysWhole z part count s) e (wholes.said s h)
-
-  pub whole_is : {w : Wide} {at : ℕ} → r ≡ Is w at → Small w × (partly 0 (digits_among part) count s ≡ partly (wide_of w) (digits_among (drop at part)) 0 s)
-  whole_is e = subst (λ (z : Whole). SaysWhole z part count s) e (wholes.said s h)
-
-module _ {f : Wide} {zeros : ℕ} {r : Lowered} (lowers : Lowers f zeros r) (v l : ℕ) (h : v < l) where
-  pub lowered-beyond : r ≡ LoweredBeyond → compare (v * 2 ^ 150) (wide_of f * (10 ^ zeros * l)) ≡ Ordering.lt
-  lowered-beyond e = subst (λ (z : Lowered). SaysLowered z f zeros v l) e (lowers.said v l h)
-
-  pub lowered-to : {w : Wide} → r ≡ To w → Small w × (compare (v * 2 ^ 150) (wide_of f * (10 ^ zeros * l)) ≡ compare (v * 2 ^ 150) (wide_of w * l))
-  lowered-to e = subst (λ (z : Lowered). SaysLowered z f zeros v l) e (lowers.said v l h)

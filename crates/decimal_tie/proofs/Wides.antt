@@ -1,11 +1,22 @@
 -- Numbers of three words: their size, their order, and ten times one of them. Assumes nothing.
-use Prim.Native.Nat.{ℕ, zero, suc, ◌+◌, ◌-◌, ◌*◌, ◌^◌, ◌≤◌, ◌<◌, compare, Ordering}
-use mathlib.Core.Path.{◌≡◌, refl, ap, sym, ◌∙◌, subst}
+use Prim.Native.Nat.{ℕ, ◌+◌, ◌*◌, ◌^◌, ◌≤◌, ◌<◌, compare, Ordering}
+use mathlib.Core.Path.{◌≡◌, ap, sym, ◌∙◌, subst}
 use native.Mathlib.Nat.{add-mul, mul_assoc, mul_right_comm, mul-le-mul_right, one-mul, zero-add}
+use mathlib.Core.Bool.{true, false, not, ◌&&◌}
+use mathlib.Core.Logic.{⊎_elim}
 use native.Mathlib.Omega.{arith}
+use lib.Dec.{eqb}
+use borrow.Author.Tests.{not-false, eq-eqb, eqb-true}
+use Rattle.std.proofs.lemmas.Bool.{cases_lt}
+use Rattle.scan.proofs.ByteLaws.{clash, both_true}
 use lib.Arith.{digits_lt}
 use Rattle.decimal_rounding.proofs.Compares.{compare-lt, compare-eq, compare-gt}
+use Rattle.std.specs.Cmp.{ranks}
+use Rattle.std.specs.Ordering.{nat_cmp, ordering_then, MatchOrdering}
+use Rattle.std.specs.declared.cmp.Ordering.{Ordering as Order}
+use Rattle.std.specs.declared.cmp.Ordering.TheVariants.{Less, Equal, Greater}
 use Rattle.decimal_tie.specs.Words.{wide_of, Small, Tens}
+use Rattle.decimal_tie.specs.Weighing.{order_of}
 use Rattle.decimal_tie.specs.declared.scales.Wide.{Wide}
 use Rattle.decimal_tie.specs.declared.scales.Tenfold.{Tenfold}
 
@@ -76,10 +87,45 @@ module _ (v w : Wide) (s : Small v) (t : Small w) where
   pub all-eq : v.a ≡ w.a → v.b ≡ w.b → v.c ≡ w.c → Ordering.eq ≡ compare (wide_of v) (wide_of w)
   all-eq e f g = sym (compare-eq _ _ (omega arith))
 
+  -- the first word that differs settles it
+  pub words-order : order_of (ordering_then (nat_cmp v.a w.a) (ordering_then (nat_cmp v.b w.b) (nat_cmp v.c w.c))) ≡ compare (wide_of v) (wide_of w)
+  words-order = by-a (nat_cmp v.a w.a) (ranks v.a w.a)
+    where
+      by-c : (o : Order) → MatchOrdering o (v.c < w.c) (v.c ≡ w.c) (w.c < v.c) → v.a ≡ w.a → v.b ≡ w.b → order_of o ≡ compare (wide_of v) (wide_of w)
+      by-c Less h e f = third-lt e f h
+      by-c Equal h e f = all-eq e f h
+      by-c Greater h e f = third-gt e f h
+
+      by-b : (o : Order) → MatchOrdering o (v.b < w.b) (v.b ≡ w.b) (w.b < v.b) → v.a ≡ w.a → order_of (ordering_then o (nat_cmp v.c w.c)) ≡ compare (wide_of v) (wide_of w)
+      by-b Less h e = second_lt e h
+      by-b Equal h e = by-c (nat_cmp v.c w.c) (ranks v.c w.c) e h
+      by-b Greater h e = second-gt e h
+
+      by-a :
+          (o : Order) → MatchOrdering o (v.a < w.a) (v.a ≡ w.a) (w.a < v.a)
+          → order_of (ordering_then o (ordering_then (nat_cmp v.b w.b) (nat_cmp v.c w.c))) ≡ compare (wide_of v) (wide_of w)
+      by-a Less h = first-lt h
+      by-a Equal h = by-b (nat_cmp v.b w.b) (ranks v.b w.b) h
+      by-a Greater h = first-gt h
+
 -- ---- none
 
 abbrev pub none : Wide
 none = record { a = 0; b = 0; c = 0 }
+
+-- as a comparison with none says
+module _ (w : Wide) where
+  pub something : not (eqb w.a 0 && (eqb w.b 0 && eqb w.c 0)) ≡ true → 0 < wide_of w
+  something h = ⊎_elim (λ l. l) (λ l. absurd (clash h (zero-is l))) (cases_lt 0 (wide_of w))
+    where
+      zero-is : wide_of w ≤ 0 → not (eqb w.a 0 && (eqb w.b 0 && eqb w.c 0)) ≡ false
+      zero-is l = simp (eq-eqb w.a 0 (omega arith), eq-eqb w.b 0 (omega arith), eq-eqb w.c 0 (omega arith))
+
+  pub nothing : not (eqb w.a 0 && (eqb w.b 0 && eqb w.c 0)) ≡ false → 0 ≡ wide_of w
+  nothing h =
+      let all = both_true (eqb w.a 0) (eqb w.b 0 && eqb w.c 0) (not-false (eqb w.a 0 && (eqb w.b 0 && eqb w.c 0)) h) in
+      let rest = both_true (eqb w.b 0) (eqb w.c 0) all.1 in
+      omega (arith, eqb-true w.a 0 all.0, eqb-true w.b 0 rest.0, eqb-true w.c 0 rest.1)
 
 pub none-small : Small none
 none-small = record { a_lt = omega arith; b_lt = omega arith; c_lt = omega arith }

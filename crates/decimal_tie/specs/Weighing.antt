@@ -1,16 +1,13 @@
 -- The digits of a number against another number: digits ds with a point before them are 0.ds, that is val ds / 10 ^ length ds. Definitions only.
-use Prim.Native.Nat.{ℕ, suc, ◌+◌, ◌-◌, ◌*◌, ◌^◌, ◌<◌, compare, Ordering}
-use Rattle.std.specs.Prelude.{◌≡◌, List, [], ◌∷◌, length, drop}
+use Prim.Native.Nat.{ℕ, ◌+◌, ◌*◌, ◌^◌, ◌<◌, compare, Ordering}
+use Rattle.std.specs.Prelude.{◌≡◌, List, [], ◌∷◌, length, drop, Option, Some, None}
+use Rattle.std.specs.declared.cmp.Ordering.{Ordering as Order}
+use Rattle.std.specs.declared.cmp.Ordering.TheVariants.{Less, Equal, Greater}
 use Rattle.decimal_digits.specs.Digits.{digits_among, val}
 use Rattle.decimal_tie.specs.Words.{wide_of, Small}
 use Rattle.decimal_tie.specs.declared.scales.Wide.{Wide}
 use Rattle.decimal_tie.specs.declared.scales.Taken.{Taken}
-use Rattle.decimal_tie.specs.declared.scales.Order.{Order}
-use Rattle.decimal_tie.specs.declared.scales.Order.TheVariants.{Less, Equal, Greater}
 use Rattle.decimal_tie.specs.declared.scales.Whole.{Whole}
-use Rattle.decimal_tie.specs.declared.scales.Whole.TheVariants.{Beyond as WholeBeyond, Is}
-use Rattle.decimal_tie.specs.declared.scales.Lowered.{Lowered}
-use Rattle.decimal_tie.specs.declared.scales.Lowered.TheVariants.{Beyond as LoweredBeyond, To}
 
 -- an answer as antt's own ordering
 abbrev pub order_of : Order → Ordering
@@ -47,17 +44,17 @@ unfoldable pub partly : ℕ → List ℕ → ℕ → ℕ → Ordering
 partly w ds count s = compare ((w * 10 ^ length ds + val ds) * 10 ^ count * 2 ^ 150) (s * 10 ^ length ds)
 
 -- what the whole digits say of any s / 2 ^ 150 below 2 ^ 150
-abbrev pub SaysWhole : Whole → List ℕ → ℕ → ℕ → Type 0
-SaysWhole WholeBeyond part count s = partly 0 (digits_among part) count s ≡ Ordering.gt
-SaysWhole (Is w at) part count s = Small w × (partly 0 (digits_among part) count s ≡ partly (wide_of w) (digits_among (drop at part)) 0 s)
+abbrev pub SaysWhole : Option Whole → List ℕ → ℕ → ℕ → Type 0
+SaysWhole None part count s = partly 0 (digits_among part) count s ≡ Ordering.gt
+SaysWhole (Some w) part count s = Small w.number × (partly 0 (digits_among part) count s ≡ partly (wide_of w.number) (digits_among (drop w.at part)) 0 s)
 
-pub record Wholes (part : List ℕ) (count : ℕ) (r : Whole) : Type 0 where
+pub record Wholes (part : List ℕ) (count : ℕ) (r : Option Whole) : Type 0 where
   pub said : (s : ℕ) → s < 2 ^ 300 → SaysWhole r part count s
 
 -- what f times 10 ^ zeros says of any v / l below 1
-abbrev pub SaysLowered : Lowered → Wide → ℕ → ℕ → ℕ → Type 0
-SaysLowered LoweredBeyond f zeros v l = compare (v * 2 ^ 150) (wide_of f * (10 ^ zeros * l)) ≡ Ordering.lt
-SaysLowered (To w) f zeros v l = Small w × (compare (v * 2 ^ 150) (wide_of f * (10 ^ zeros * l)) ≡ compare (v * 2 ^ 150) (wide_of w * l))
+abbrev pub SaysLowered : Option Wide → Wide → ℕ → ℕ → ℕ → Type 0
+SaysLowered None f zeros v l = compare (v * 2 ^ 150) (wide_of f * (10 ^ zeros * l)) ≡ Ordering.lt
+SaysLowered (Some w) f zeros v l = Small w × (compare (v * 2 ^ 150) (wide_of f * (10 ^ zeros * l)) ≡ compare (v * 2 ^ 150) (wide_of w * l))
 
-pub record Lowers (f : Wide) (zeros : ℕ) (r : Lowered) : Type 0 where
+pub record Lowers (f : Wide) (zeros : ℕ) (r : Option Wide) : Type 0 where
   pub said : (v l : ℕ) → v < l → SaysLowered r f zeros v l

@@ -1,2 +1,2 @@
 // What asks more of its callers than an entry may: handed on to crates that are proved to meet it.
-pub use crate::scales::{Lowered, Order, Six, Taken, Tenfold, Whole, Wide, weigh};
+pub use crate::scales::{Six, Taken, Tenfold, Whole, Wide, weigh};

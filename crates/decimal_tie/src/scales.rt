@@ -7,27 +7,24 @@ ghost use Rattle.decimal_tie.specs.Weighing.{order_of, against, Takes, Wholes, L
 
 use decimal_digits::inner::digit;
 use scan::is_digit;
+use std::cmp::Ordering;
 
-// a * 2^100 + b * 2^50 + c.
-#[derive(Clone, Copy)]
+// a * 2^100 + b * 2^50 + c, in the order of these numbers. That the words are small is asked and told by
+// Small, and no ghost field: in_six_words would show it of twelve numbers where Splits says it of two.
+#[derive(Clone, Copy, PartialEq, Eq, PartialOrd, Ord)]
 pub struct Wide {
     pub a: u64,
     pub b: u64,
     pub c: u64,
 }
 
+const NOTHING: Wide = Wide { a: 0, b: 0, c: 0 };
+
 // A number of four words: the first, and the three after it.
 #[derive(Clone, Copy)]
 pub struct Tenfold {
     pub out: u64,
     pub rest: Wide,
-}
-
-#[derive(Clone, Copy)]
-pub enum Order {
-    Less,
-    Equal,
-    Greater,
 }
 
 // Ten times a number of three words, and a digit.
@@ -48,57 +45,32 @@ fn times_ten(w: Wide, digit: u64) -> Tenfold
     }
 }
 
-fn compare_wide(v: Wide, w: Wide) -> Order
+fn compare_wide(v: Wide, w: Wide) -> Ordering
     requires { Small v × Small w }
     ensures { order_of result ≡ compare (wide_of v) (wide_of w) }
 {
-    if v.a < w.a {
-        return Order::Less;
-    }
-    if w.a < v.a {
-        return Order::Greater;
-    }
-    if v.b < w.b {
-        return Order::Less;
-    }
-    if w.b < v.b {
-        return Order::Greater;
-    }
-    if v.c < w.c {
-        return Order::Less;
-    }
-    if w.c < v.c {
-        return Order::Greater;
-    }
-    Order::Equal
+    v.cmp(&w)
 }
 
 // The digits of a part from a place on, as a fraction below 1, against f / 2^150. A byte that is no
 // digit, as the point, is passed over.
-fn compare_rest(part: &[u8], from: usize, f: Wide) -> Order
+fn compare_rest(part: &[u8], from: usize, f: Wide) -> Ordering
     requires { Small f }
     ensures { order_of result ≡ against (digits_among (drop from part.now)) (wide_of f) }
 {
-    let mut i = from;
     let mut w = f;
-    while i < part.len() {
+    for i in from..part.len() {
         if !is_digit(part[i]) {
-            i += 1;
             continue;
         }
         let d = digit(part[i]);
         let t = times_ten(w, 0);
-        if d < t.out {
-            return Order::Less;
+        match d.cmp(&t.out) {
+            Ordering::Equal => w = t.rest,
+            order => return order,
         }
-        if t.out < d {
-            return Order::Greater;
-        }
-        let rest = t.rest;
-        w = rest;
-        i += 1;
     }
-    compare_wide(Wide { a: 0, b: 0, c: 0 }, w)
+    compare_wide(NOTHING, w)
 }
 
 #[derive(Clone, Copy)]
@@ -111,72 +83,60 @@ pub struct Taken {
 fn take(part: &[u8], from: usize) -> Taken
     ensures { Takes part.now from result }
 {
-    let mut i = from;
-    while i < part.len() {
+    for i in from..part.len() {
         if is_digit(part[i]) {
             return Taken {
                 digit: digit(part[i]),
                 at: i + 1,
             };
         }
-        i += 1;
     }
-    Taken { digit: 0, at: i }
+    Taken {
+        digit: 0,
+        at: part.len(),
+    }
 }
 
+// The first digits of a part as a number, and the place past them.
 #[derive(Clone, Copy)]
-pub enum Whole {
-    // 2^150 or more.
-    Beyond,
-    // The number, and the place past its digits.
-    Is(Wide, usize),
+pub struct Whole {
+    pub number: Wide,
+    pub at: usize,
 }
 
-// The first digits of a part as a number, with zeros after the last digit.
-fn whole_digits(part: &[u8], count: u64) -> Whole
+// The first digits of a part as a number, with zeros after the last digit; none where it is 2^150 or
+// more.
+fn whole_digits(part: &[u8], count: u64) -> Option<Whole>
     ensures { Wholes part.now count result }
 {
     let mut at = 0;
-    let mut w = Wide { a: 0, b: 0, c: 0 };
-    let mut more = count;
-    while 0 < more {
+    let mut w = NOTHING;
+    'digits: for _ in 0..count {
         let d = take(part, at);
         let t = times_ten(w, d.digit);
         if 0 < t.out {
-            return Whole::Beyond;
+            return None;
         }
-        let rest = t.rest;
-        w = rest;
+        w = t.rest;
         at = d.at;
-        more -= 1;
     }
-    Whole::Is(w, at)
+    Some(Whole { number: w, at })
 }
 
-#[derive(Clone, Copy)]
-pub enum Lowered {
-    // 2^150 or more.
-    Beyond,
-    To(Wide),
-}
-
-// f times 10^zeros.
-fn lower(f: Wide, zeros: u64) -> Lowered
+// f times 10^zeros; none where it is 2^150 or more.
+fn lower(f: Wide, zeros: u64) -> Option<Wide>
     requires { Small f }
     ensures { Lowers f zeros result }
 {
     let mut w = f;
-    let mut more = zeros;
-    while 0 < more {
+    'zeros: for _ in 0..zeros {
         let t = times_ten(w, 0);
         if 0 < t.out {
-            return Lowered::Beyond;
+            return None;
         }
-        let rest = t.rest;
-        w = rest;
-        more -= 1;
+        w = t.rest;
     }
-    Lowered::To(w)
+    Some(w)
 }
 
 // A number in halves of 2^-149: what is whole of it, and the fraction over 2^150.
@@ -196,7 +156,7 @@ fn in_six_words(odd: u64, k: u64) -> Six
     let low = (odd - (high << (50 - up))) << up;
     match k / 50 {
         0 => Six {
-            whole: Wide { a: 0, b: 0, c: 0 },
+            whole: NOTHING,
             fraction: Wide {
                 a: 0,
                 b: high,
@@ -204,7 +164,7 @@ fn in_six_words(odd: u64, k: u64) -> Six
             },
         },
         1 => Six {
-            whole: Wide { a: 0, b: 0, c: 0 },
+            whole: NOTHING,
             fraction: Wide {
                 a: high,
                 b: low,
@@ -225,7 +185,7 @@ fn in_six_words(odd: u64, k: u64) -> Six
                 b: high,
                 c: low,
             },
-            fraction: Wide { a: 0, b: 0, c: 0 },
+            fraction: NOTHING,
         },
         4 => Six {
             whole: Wide {
@@ -233,49 +193,46 @@ fn in_six_words(odd: u64, k: u64) -> Six
                 b: low,
                 c: 0,
             },
-            fraction: Wide { a: 0, b: 0, c: 0 },
+            fraction: NOTHING,
         },
         _ => Six {
             whole: Wide { a: low, b: 0, c: 0 },
-            fraction: Wide { a: 0, b: 0, c: 0 },
+            fraction: NOTHING,
         },
     }
 }
 
 // A number below 1, with so many zeros after the point, against the number of six words.
-fn weigh_small(part: &[u8], zeros: u64, above: Wide, fraction: Wide) -> Order
+fn weigh_small(part: &[u8], zeros: u64, above: Wide, fraction: Wide) -> Ordering
     requires { Small above × Small fraction }
     ensures { order_of result ≡ weigh_of (digits_among part.now) 0 zeros (wide_of above * 2 ^ 150 + wide_of fraction) }
 {
-    match compare_wide(Wide { a: 0, b: 0, c: 0 }, above) {
-        Order::Less => Order::Less,
-        // No number is below none.
-        Order::Greater => Order::Less,
-        Order::Equal => match lower(fraction, zeros) {
-            Lowered::Beyond => Order::Less,
-            Lowered::To(w) => compare_rest(part, 0, w),
-        },
+    if above != NOTHING {
+        return Ordering::Less;
+    }
+    match lower(fraction, zeros) {
+        Some(w) => compare_rest(part, 0, w),
+        None => Ordering::Less,
     }
 }
 
 // A number with so many digits before the point, against the number of six words.
-fn weigh_large(part: &[u8], count: u64, above: Wide, fraction: Wide) -> Order
+fn weigh_large(part: &[u8], count: u64, above: Wide, fraction: Wide) -> Ordering
     requires { Small above × Small fraction }
     ensures { order_of result ≡ weigh_of (digits_among part.now) count 0 (wide_of above * 2 ^ 150 + wide_of fraction) }
 {
-    match whole_digits(part, count) {
-        Whole::Beyond => Order::Greater,
-        Whole::Is(w, at) => match compare_wide(w, above) {
-            Order::Less => Order::Less,
-            Order::Greater => Order::Greater,
-            Order::Equal => compare_rest(part, at, fraction),
-        },
+    let Some(whole) = whole_digits(part, count) else {
+        return Ordering::Greater;
+    };
+    match compare_wide(whole.number, above) {
+        Ordering::Equal => compare_rest(part, whole.at, fraction),
+        order => order,
     }
 }
 
 // The number whose digits a part has, with the point after the first count of them or zeros before
 // the first, against odd * 2^k / 2^150.
-pub fn weigh(part: &[u8], count: u64, zeros: u64, odd: u64, k: u64) -> Order
+pub fn weigh(part: &[u8], count: u64, zeros: u64, odd: u64, k: u64) -> Ordering
     requires { (odd < 2 ^ 25) × (k ≤ 253) × ((count ≡ 0) ⊎ (zeros ≡ 0)) }
     ensures { order_of result ≡ weigh_of (digits_among part.now) count zeros (odd * 2 ^ k) }
 {

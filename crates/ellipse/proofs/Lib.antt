@@ -1,3 +1,2 @@
 -- Cases of the definitions that more than one line of a proof cites.
-pub mod Flags
 pub mod Fitting

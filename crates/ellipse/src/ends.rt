@@ -1,6 +1,5 @@
 // From the ends of an arc to its centre and angles.
 ghost use Rattle.std.specs.Prelude.{◌≡◌};
-ghost use Rattle.std.specs.Bool.{beq};
 ghost use Rattle.ellipse.specs.Ends.{size_of, sizes_of, primed_of, lambda_of, fitted_of, facing_of, coef_of, middle_of, center_of, towards_of, away_of, turned_of, way_of, from_ends_of};
 
 use crate::turn::turn_of;
@@ -63,14 +62,14 @@ fn sizes(radii: Point) -> Point
 }
 
 // F.6.5.1: half the way from the end to the start, turned back by the rotation.
-fn primed(sin_phi: f32, cos_phi: f32, start: Point, end: Point) -> Point
-    ensures { result ≡ primed_of sin_phi cos_phi start end }
+fn primed(turn: SinCos, start: Point, end: Point) -> Point
+    ensures { result ≡ primed_of turn.sin turn.cos start end }
 {
     let dx = (start.x - end.x) * 0.5;
     let dy = (start.y - end.y) * 0.5;
     Point {
-        x: cos_phi * dx + sin_phi * dy,
-        y: -sin_phi * dx + cos_phi * dy,
+        x: turn.cos * dx + turn.sin * dy,
+        y: -turn.sin * dx + turn.cos * dy,
     }
 }
 
@@ -126,12 +125,12 @@ fn middle(coef: f32, radii: Point, p: Point) -> Point
 }
 
 // F.6.5.3: the centre.
-fn center(sin_phi: f32, cos_phi: f32, m: Point, start: Point, end: Point) -> Point
-    ensures { result ≡ center_of sin_phi cos_phi m start end }
+fn center(turn: SinCos, m: Point, start: Point, end: Point) -> Point
+    ensures { result ≡ center_of turn.sin turn.cos m start end }
 {
     Point {
-        x: cos_phi * m.x - sin_phi * m.y + (start.x + end.x) * 0.5,
-        y: sin_phi * m.x + cos_phi * m.y + (start.y + end.y) * 0.5,
+        x: turn.cos * m.x - turn.sin * m.y + (start.x + end.x) * 0.5,
+        y: turn.sin * m.x + turn.cos * m.y + (start.y + end.y) * 0.5,
     }
 }
 
@@ -172,24 +171,14 @@ fn turned(angle: f32, sweep: bool) -> f32
     angle
 }
 
-fn alike(a: bool, b: bool) -> bool
-    ensures { result ≡ beq a b }
-{
-    if a { b } else { !b }
-}
-
 // The way from both ends to the centre, F.6.5.
 pub fn way_of(chord: Chord) -> Way
     ensures { result ≡ way_of chord }
 {
     let turn = turn_of(chord.x_axis_rotation);
-    let p = primed(turn.sin, turn.cos, chord.start, chord.end);
+    let p = primed(turn, chord.start, chord.end);
     let radii = fitted(sizes(chord.radii), p);
-    let middle = middle(
-        coef(radii, p, alike(chord.large_arc, chord.sweep)),
-        radii,
-        p,
-    );
+    let middle = middle(coef(radii, p, chord.large_arc == chord.sweep), radii, p);
     let towards = towards(p, middle, radii);
     let away = away(p, middle, radii);
     Way {
@@ -209,9 +198,8 @@ pub fn from_ends(chord: Chord) -> Arc
     let start = chord.start;
     let end = chord.end;
     let way = way_of(chord);
-    let turn = way.turn;
     let radii = way.radii;
-    let center = center(turn.sin, turn.cos, way.middle, start, end);
+    let center = center(way.turn, way.middle, start, end);
     Arc {
         start,
         end,

@@ -9,6 +9,7 @@ use lib.Dec.{ltb}
 use lib.Ieee.{Float}
 use lib.Ieee.Scale.{finite}
 use lib.ListN.{length, get_or, drop}
+use Rattle.std.specs.Prelude.{Option, Some, None, Result}
 use Rattle.answers.specs.Answers.{Answer, refused, accepted}
 use Rattle.answers.specs.declared.refusals.Refusal.{Refusal}
 use Rattle.answers.specs.declared.refusals.Refusal.TheVariants.{TooLong, NoRoom, NotFinite, RotationRange, InvalidNumber}
@@ -25,16 +26,13 @@ use Rattle.path_drawing.specs.Building.{Built, path, refusal, prepend, length_af
 use Rattle.path_drawing.specs.Drawing.{fresh_of, draw_of}
 use Rattle.path_drawing.specs.declared.pens.Pen.{Pen}
 use Rattle.path_drawing.specs.declared.strokes.Drawn.{Drawn}
-use Rattle.path_drawing.specs.declared.strokes.Drawn.TheVariants.{Moved, Segment, OutOfRange}
+use Rattle.path_drawing.specs.declared.strokes.Drawn.TheVariants.{Moved, Segment}
 use Rattle.path_build.specs.Answers.{roomed, answered, answer_of, is_short, counts_of, values, Answers}
 use Rattle.path_build.specs.Paths.{lent_of}
-use Rattle.path_build.specs.declared.sizes.Building.{Building}
-use Rattle.path_build.specs.declared.sizes.Counts.{Counts}
+use Rattle.path_storing.specs.declared.sites.Sizes.{Sizes}
+use Rattle.path_build.specs.declared.room.Counts.{Counts}
 use Rattle.path_text.specs.Builds.{built_from, build_read_of, build_text_of, drawers_text_of, BuildFromText}
 use Rattle.kihavute_paths.specs.Paths.{PathBuilt}
-use Rattle.text_reader.specs.Plans.{first_line_of}
-use Rattle.text_reader.specs.declared.line.FirstLine.{FirstLine}
-use Rattle.text_reader.specs.declared.line.FirstLine.TheVariants.{Stations as Asked, Refused}
 use Rattle.station_lines.specs.Lines.{refusal_line}
 use Rattle.station_listing.specs.Stations.{sections_of, built_of, read_of, plan_of, judged_of, stations_of}
 use Rattle.invalid_number.specs.Cause.{Bare, Caused}
@@ -63,13 +61,13 @@ module _ (text : List ℕ) where
   prepended segment (refusal x) h = h
 
   followed :
-      (k : ℕ) (before : Float) (drawn : Drawn) (rest : ℕ → Float → Pen → Built) → ((j : ℕ) (length : Float) (pen : Pen) → BuiltCaused (rest j length pen))
+      (k : ℕ) (before : Float) (drawn : Option Drawn) (rest : ℕ → Float → Pen → Built) → ((j : ℕ) (length : Float) (pen : Pen) → BuiltCaused (rest j length pen))
       → BuiltCaused (follow k before drawn rest)
-  followed k before (Moved next) rest h = h k before next
-  followed k before (Segment segment next) rest h =
+  followed k before (Some (Moved next)) rest h = h k before next
+  followed k before (Some (Segment segment next)) rest h =
       cond_either BuiltCaused (finite (length_after before segment)) (prepend segment (rest (suc k) (length_after before segment) next)) (refusal (NotFinite k))
       (prepended segment (rest (suc k) (length_after before segment) next) (h (suc k) (length_after before segment) next)) (infinite-caused k)
-  followed k before OutOfRange rest h = rotation-caused k
+  followed k before None rest h = rotation-caused k
 
   from-caused : (list : List PathCommand) (k : ℕ) (before : Float) (pen : Pen) → BuiltCaused (build_from list k before pen)
   unfolding build_from
@@ -105,7 +103,7 @@ module _ (text : List ℕ) where
 
   -- any result that the contract of `path_text::build_from_text` allows
   pub build-text-bare :
-      {b b' : Buffers} (r : Building) → BuildFromText text b r b' → (answer_of r).number ≡ 4 → (k : ℕ) × ((answer_of r).values ≡ k ∷ []) × Bare text k
+      {b b' : Buffers} (r : Result Sizes Refusal) → BuildFromText text b r b' → (answer_of r).number ≡ 4 → (k : ℕ) × ((answer_of r).values ≡ k ∷ []) × Bare text k
   build-text-bare {b} {b'} r p e =
       let f = text-built (lent_of b) (sym (ap (λ (a : Answer). a.number) p.answer) ∙ e) in
       (f.0, ap (λ (a : Answer). a.values) p.answer ∙ f.1, f.2)

@@ -9,18 +9,18 @@ use lib.Dec.{ltb}
 use lib.ListN.{length, get_or}
 use Rattle.answers.specs.Answers.{Answer, refused, accepted, number_of, carried_of, listed}
 use Rattle.answers.specs.Report.{short, written}
+use Rattle.std.specs.Prelude.{Result, Ok, Err}
 use Rattle.answers.specs.declared.refusals.Refusal.{Refusal}
 use Rattle.answers.specs.declared.refusals.Refusal.TheVariants.{TooLong, UnexpectedEnd, ExpectedNumber, InvalidNumber, ExpectedFlag, UnsupportedCommand, MissingMoveTo, NoRoom, BadList, RotationRange, NotFinite, BadPath, Range}
 use Rattle.decimal.specs.Decimal.{number_of as read_number}
 use Rattle.decimal.specs.declared.numbers.Read.{Read}
-use Rattle.decimal.specs.declared.numbers.Read.TheVariants.{Value, Refused as NotRead}
 use Rattle.decimal_text.specs.Converts.{BareExponent}
 use Rattle.decimal_text.proofs.Bare.{number-bare, bare-number}
 use Rattle.commands.specs.Stored.{letters_of, numbers_of}
 use Rattle.svg.specs.Texts.{Outcome, commands, refusal, commands_of, offsets_of, list_of}
 use Rattle.svg.specs.Lists.{CommandList, counts_of}
 use Rattle.svg.specs.Readings.{answer_of, roomed, read_path_of, read_into, answered, ReadPath}
-use Rattle.svg.specs.declared.reading.Reading.{Reading}
+use Rattle.svg.specs.declared.passes.Counts.{Counts}
 use Rattle.c_answer.specs.Given.{Given}
 use Rattle.kihavute.specs.Decimals.{read_given, number_given}
 use Rattle.kihavute.proofs.NumberGiven.{text-fits}
@@ -90,7 +90,7 @@ module _ (text : List ℕ) where
 
   -- any result that the contract of `svg::read_path` allows
   pub read-path-bare :
-      {before after : CommandList} (r : Reading) → ReadPath text before r after → (answer_of r).number ≡ 4 → (k : ℕ) × ((answer_of r).values ≡ k ∷ []) × Bare text k
+      {before after : CommandList} (r : Result Counts Refusal) → ReadPath text before r after → (answer_of r).number ≡ 4 → (k : ℕ) × ((answer_of r).values ≡ k ∷ []) × Bare text k
   read-path-bare {before} {after} r p e =
       let b = answered-caused (read_into text before) (path-caused before) (sym (ap (λ (a : Answer). a.number) p.answer) ∙ e) in
       (b.0, ap (λ (a : Answer). a.values) p.answer ∙ b.1, b.2)
@@ -121,9 +121,9 @@ module _ (text : List ℕ) where
   number-caused : AnswerCaused (number_given text)
   number-caused = cond_either AnswerCaused (ltb 65536 (length text)) (refused (TooLong (length text))) (read_given (read_number text 0)) (refused-caused (TooLong (length text)) (long-caused (length text))) (go (read_number text 0) refl)
     where
-      go : (n : Read) → read_number text 0 ≡ n → AnswerCaused (read_given n)
-      go (Value v e) q = accepted-caused _
-      go (NotRead x) q = refused-caused x (λ k e. (0, number-bare text 0 k (q ∙ ap NotRead e)))
+      go : (n : Result Read Refusal) → read_number text 0 ≡ n → AnswerCaused (read_given n)
+      go (Ok v) q = accepted-caused _
+      go (Err x) q = refused-caused x (λ k e. (0, number-bare text 0 k (q ∙ ap Err e)))
 
   -- and of `kihavute_number`
   pub kihavute-number-bare :

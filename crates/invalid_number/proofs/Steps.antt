@@ -7,27 +7,27 @@ use mathlib.Core.List.{List}
 use native.Mathlib.Omega.{arith}
 use lib.Dec.{ltb}
 use lib.ListN.{length, get_or}
+use Rattle.std.specs.Prelude.{Option, Some, None, Result, Ok, Err}
+use Rattle.answers.specs.declared.refusals.Refusal.{Refusal}
 use Rattle.answers.specs.declared.refusals.Refusal.TheVariants.{ExpectedNumber, UnsupportedCommand, MissingMoveTo, InvalidNumber}
 use Rattle.scan.specs.Bytes.{among, number_starts}
 use Rattle.scan.specs.Runs.{past_separators_of}
 use Rattle.math.specs.declared.points.Point.{Point}
 use Rattle.commands.specs.declared.command.PathCommand.{PathCommand}
+use Rattle.svg_group.specs.Numbers.{and_then}
 use Rattle.svg_group.specs.Letters.{is_letter_of, meaning_of}
 use Rattle.svg_group.specs.Groups.{read_group_of}
 use Rattle.svg_group.specs.declared.letters.Kind.{Kind}
 use Rattle.svg_group.specs.declared.letters.Letter.{Letter}
 use Rattle.svg_group.specs.declared.letters.Letter.TheVariants.{Draws, Closes, Unknown}
 use Rattle.svg_group.specs.declared.groups.Group.{Group}
-use Rattle.svg_group.specs.declared.groups.Group.TheVariants.{Taken, Refused as GroupRefused}
-use Rattle.svg_step.specs.Steps.{fresh_of, is_relative_of, needs_point_of, repeated_of, first_control_of, due_group_of, begun, due_letter_of, again, due_again_of, due_at_of, next_due_of, offset_of, taken, stepped, read_step_of}
+use Rattle.svg_step.specs.Steps.{fresh_of, is_relative_of, needs_point_of, repeated_of, first_control_of, due_group_of, begun, due_letter_of, again, due_again_of, due_at_of, next_due_of, offset_of, taken, Step, stepped, read_step_of}
 use Rattle.svg.specs.Texts.{Outcome, commands, refusal, prepend, follow, read_from, commands_of}
 use Rattle.svg_step.specs.declared.steps.Reader.{Reader}
 use Rattle.svg_step.specs.declared.steps.Due.{Due}
-use Rattle.svg_step.specs.declared.steps.Due.TheVariants.{Done as NothingDue, Refused as NotDue, Close, Group as GroupDue}
-use Rattle.svg_step.specs.declared.steps.Step.{Step}
-use Rattle.svg_step.specs.declared.steps.Step.TheVariants.{Command, Done, Refused}
+use Rattle.svg_step.specs.declared.steps.Due.TheVariants.{Done, Close, Group as GroupDue}
 use Rattle.invalid_number.specs.Cause.{Bare, Caused}
-use Rattle.invalid_number.proofs.Groups.{GroupCaused, group-caused}
+use Rattle.invalid_number.proofs.Groups.{ReadCaused, GroupCaused, group-caused}
 
 cond_either : {A : Type 0} (P : A → Type 0) (b : Bool) (x y : A) → P x → P y → P (cond b x y)
 cond_either P true x y f g = f
@@ -36,11 +36,8 @@ cond_either P false x y f g = g
 module _ (text : List ℕ) where
   -- ---- what is due
 
-  abbrev DueCaused : Due → Type 0
-  DueCaused NothingDue = Unit
-  DueCaused (NotDue x) = Caused text x
-  DueCaused (Close next) = Unit
-  DueCaused (GroupDue kind letter first) = Unit
+  abbrev DueCaused : Result Due Refusal → Type 0
+  DueCaused due = ReadCaused text due
 
   no_number : (n : ℕ) → Caused text (ExpectedNumber n)
   no_number n k e = let z : ◌≡◌ {A = ℕ} 0 1 = cc in absurd (omega arith)
@@ -72,26 +69,24 @@ module _ (text : List ℕ) where
   next-due from letter placed =
       let at = past_separators_of text from in
       let byte = get_or text at 0 in
-      cond_either DueCaused (ltb at (length text)) _ NothingDue
+      cond_either DueCaused (ltb at (length text)) _ (Ok Done)
       (cond_either DueCaused (is_letter_of byte) _ _ (letter-due at byte placed (meaning_of byte)) (again-due at letter (meaning_of letter)))
       tt
 
   -- ---- the step
 
   abbrev StepCaused : Step → Type 0
-  StepCaused (Command command next) = Unit
-  StepCaused Done = Unit
-  StepCaused (Refused x) = Caused text x
+  StepCaused step = ReadCaused text step
 
-  taken-caused : (letter offset : ℕ) (start : Point) (group : Group) → GroupCaused text group → StepCaused (taken letter offset start group)
-  taken-caused letter offset start (Taken command next) h = tt
-  taken-caused letter offset start (GroupRefused x) h = h
+  taken-caused : (letter offset : ℕ) (start : Point) (group : Result Group Refusal) → GroupCaused text group → StepCaused (and_then group (λ group. Ok (Some (taken letter offset start group))))
+  taken-caused letter offset start (Ok group) h = tt
+  taken-caused letter offset start (Err x) h = h
 
-  stepped-caused : (reader : Reader) (offset : ℕ) (due : Due) → DueCaused due → StepCaused (stepped text reader offset due)
-  stepped-caused reader offset NothingDue h = tt
-  stepped-caused reader offset (NotDue x) h = h
-  stepped-caused reader offset (Close next) h = tt
-  stepped-caused reader offset (GroupDue kind letter first) h =
+  stepped-caused : (reader : Reader) (offset : ℕ) (due : Result Due Refusal) → DueCaused due → StepCaused (and_then due (stepped text reader offset))
+  stepped-caused reader offset (Ok Done) h = tt
+  stepped-caused reader offset (Err x) h = h
+  stepped-caused reader offset (Ok (Close next)) h = tt
+  stepped-caused reader offset (Ok (GroupDue kind letter first)) h =
       let relative = is_relative_of letter reader.placed in
       let control = first_control_of kind reader.letter reader.current reader.control in
       taken-caused letter offset reader.start (read_group_of text first kind relative reader.current control)
@@ -112,9 +107,9 @@ module _ (text : List ℕ) where
   prepended command (refusal x) h = h
 
   followed : (rest : Reader → Outcome) → ((reader : Reader) → OutcomeCaused (rest reader)) → (step : Step) → StepCaused step → OutcomeCaused (follow rest step)
-  followed rest h (Command command next) g = prepended command (rest next) (h next)
-  followed rest h Done g = tt
-  followed rest h (Refused x) g = g
+  followed rest h (Ok (Some step)) g = prepended step.command (rest step.next) (h step.next)
+  followed rest h (Ok None) g = tt
+  followed rest h (Err x) g = g
 
   read-caused : (steps : ℕ) (reader : Reader) → OutcomeCaused (read_from steps text reader)
   unfolding read_from

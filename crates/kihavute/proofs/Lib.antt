@@ -1,5 +1,4 @@
 -- The laws of what is given through C.
-pub mod LookupsGiven
 pub mod NumberGiven
 pub mod StrictGiven
 pub mod Keeping

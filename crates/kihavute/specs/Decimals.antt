@@ -1,18 +1,18 @@
 -- What a decimal number gives through C. Definitions only.
-use Rattle.std.specs.Prelude.{ℕ, ◌≡◌, cond, List, [], ◌∷◌, ltb, Float, length, get_or}
+use Rattle.std.specs.Prelude.{ℕ, ◌≡◌, cond, List, [], ◌∷◌, ltb, Float, Result, Ok, Err, length, get_or}
+use Rattle.answers.specs.declared.refusals.Refusal.{Refusal}
 use Rattle.answers.specs.declared.refusals.Refusal.TheVariants.{TooLong}
 use Rattle.answers.specs.Answers.{Answer, accepted, refused}
 use Rattle.floats.specs.Floats.{bits_of}
 use Rattle.decimal.specs.declared.numbers.Read.{Read}
-use Rattle.decimal.specs.declared.numbers.Read.TheVariants as Read
 use Rattle.decimal.specs.Decimal.{numerator, denominator, number_of}
 use Rattle.decimal_nearest.specs.Nearest.{ValueAt}
 use Rattle.decimal_nearest.specs.Parts.{Exact}
 
 -- the bits of the value, and the place after the number: how many bytes it takes from the text's start
-abbrev pub read_given : Read → Answer
-read_given (Read.Value value end) = accepted (bits_of value ∷ end ∷ [])
-read_given (Read.Refused refusal) = refused refusal
+abbrev pub read_given : Result Read Refusal → Answer
+read_given (Ok read) = accepted (bits_of read.value ∷ read.end ∷ [])
+read_given (Err refusal) = refused refusal
 
 -- "text above 65,536 bytes" is refused first
 abbrev pub number_given : List ℕ → Answer

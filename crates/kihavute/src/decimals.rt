@@ -4,20 +4,16 @@ ghost use Rattle.c_answer.specs.Given.{Given};
 ghost use Rattle.kihavute.specs.Decimals.{read_given, number_given, NumberKeptBy};
 
 use answers::{Refusal, Values};
-use decimal::Read;
 use decimal::inner::quick;
+use floats::bits;
 
 // Any number at the start of a text of any length.
 fn read_any(text: &[u8], answer: &mut [u64]) -> u32
     ensures { Given (read_given (number_of text.now 0)) answer.old result answer.new }
 {
-    let found = decimal::number(text, 0);
-    match found {
-        Read::Value(value, end) => {
-            let bits = floats::bits(value);
-            c_answer::accept(Values::Two(bits as usize, end), answer)
-        }
-        Read::Refused(refusal) => c_answer::refuse(refusal, answer),
+    match decimal::number(text, 0) {
+        Ok(read) => c_answer::accept(Values::Two(bits(read.value) as usize, read.end), answer),
+        Err(refusal) => c_answer::refuse(refusal, answer),
     }
 }
 
@@ -29,8 +25,7 @@ fn read(text: &[u8], answer: &mut [u64]) -> u32
         let mut value = [0.0f32; 1];
         let end = quick(text, 0, false, &mut value);
         if 0 < end {
-            let bits = floats::bits(value[0]);
-            return c_answer::accept(Values::Two(bits as usize, end), answer);
+            return c_answer::accept(Values::Two(bits(value[0]) as usize, end), answer);
         }
     }
     read_any(text, answer)

@@ -4,7 +4,8 @@ ghost use Rattle.c_answer.specs.Given.{Given};
 ghost use Rattle.kihavute.specs.Lookups.{raw_given, spot_given};
 
 use answers::Values;
-use table::{Looked, Progress, Spotted};
+use floats::bits;
+use table::{Progress, number_of};
 
 // The bits of the raw parameter at a progress along a curve with this table.
 #[unsafe(no_mangle)]
@@ -16,13 +17,9 @@ pub extern "C" fn kihavute_raw_parameter(
 ) -> u32
     ensures { Given (raw_given (looked_of entries.now total progress)) answer.old result answer.new }
 {
-    let looked = table::raw_parameter_in(entries, total, Progress { value: progress });
-    match looked {
-        Looked::At(raw) => {
-            let bits = floats::bits(table::number_of(raw));
-            c_answer::accept(Values::One(bits as usize), answer)
-        }
-        Looked::Refused(refusal) => c_answer::refuse(refusal, answer),
+    match table::raw_parameter_in(entries, total, Progress { value: progress }) {
+        Ok(raw) => c_answer::accept(Values::One(bits(number_of(raw)) as usize), answer),
+        Err(refusal) => c_answer::refuse(refusal, answer),
     }
 }
 
@@ -32,14 +29,12 @@ pub extern "C" fn kihavute_raw_parameter(
 pub extern "C" fn kihavute_spot(lengths: &[f32], progress: f32, answer: &mut [u64]) -> u32
     ensures { Given (spot_given (spotted_of lengths.now progress)) answer.old result answer.new }
 {
-    let spotted = table::spot(lengths, Progress { value: progress });
-    match spotted {
-        Spotted::At(spot) => {
-            let along = spot.progress;
-            let bits = floats::bits(along.value);
-            c_answer::accept(Values::Two(spot.segment, bits as usize), answer)
-        }
-        Spotted::NoSegment => c_answer::accept(Values::Nothing, answer),
-        Spotted::Refused(refusal) => c_answer::refuse(refusal, answer),
+    match table::spot(lengths, Progress { value: progress }) {
+        Ok(Some(spot)) => c_answer::accept(
+            Values::Two(spot.segment, bits(spot.progress.value) as usize),
+            answer,
+        ),
+        Ok(None) => c_answer::accept(Values::Nothing, answer),
+        Err(refusal) => c_answer::refuse(refusal, answer),
     }
 }

@@ -1,8 +1,7 @@
 // Strict reading of a text under an edition.
 ghost use Rattle.kihavute.specs.StrictReading.{StrictReading};
 
-use answers::{Values, carried, number, report};
-use strict::Verdict;
+use answers::{Values, report};
 
 // `edition` is 1 for SVG 1.1 and 2 for SVG 2. Returns 0 and puts 1 for a yes and 0 for a no at the
 // start of answer; returns 13 and puts another edition there; returns 1 and puts the length of a text
@@ -12,8 +11,7 @@ pub extern "C" fn kihavute_strict(text: &[u8], edition: u32, answer: &mut [u64])
     ensures { StrictReading edition text.now answer.old result answer.new }
 {
     match strict::strict(text, edition) {
-        Verdict::Yes => report(0, Values::One(1), answer),
-        Verdict::No => report(0, Values::One(0), answer),
-        Verdict::Refused(refusal) => report(number(refusal), carried(refusal), answer),
+        Ok(yes) => report(0, Values::One(usize::from(yes)), answer),
+        Err(refusal) => report(refusal.number(), refusal.carried(), answer),
     }
 }

@@ -1,46 +1,30 @@
 -- What appending gives, by the cases of its answer and of the lent answer's length. Assumes nothing.
 use Prim.Native.Nat.{ℕ, ◌+◌, ◌≤◌, ◌<◌}
 use mathlib.Core.Path.{◌≡◌, refl, sym, ap, ◌∙◌, subst}
-use mathlib.Core.Bool.{Bool, true, false}
+use mathlib.Core.Bool.{true, false}
+use Rattle.std.specs.Prelude.{Result}
 use mathlib.Core.List.{List}
 use native.Mathlib.Omega.{arith}
-use borrow.Author.Tests.{lt-ltb, le-ltb, eq-eqb, ne_eqb}
-use lib.Dec.{T, ltb, eqb, ltb→lt, eqb→eq}
+use borrow.Author.Tests.{lt-ltb, le-ltb}
+use lib.Dec.{ltb, eqb, ltb→lt, eqb→eq}
 use lib.Ieee.{Float}
 use lib.Ieee.Fits.{and_l, and_r}
 use lib.ListN.{length}
 use Rattle.answers.specs.declared.refusals.Refusal.{Refusal}
 use Rattle.answers.specs.declared.refusals.Refusal.TheVariants.{BadPath}
 use Rattle.answers.specs.declared.refusals.Values.{Values}
-use Rattle.answers.specs.Answers.{accepted, refused, listed}
+use Rattle.answers.specs.Answers.{refused}
 use Rattle.floats.proofs.Tests.{passed}
 use Rattle.path_segment.specs.declared.segments.PathSegment.{PathSegment}
 use Rattle.path_segment.specs.Segments.{width_of, segment_of}
 use Rattle.path_stored.specs.Buffers.{Buffers}
-use Rattle.path_append.specs.declared.pushing.Appended.{Appended}
-use Rattle.path_append.specs.declared.pushing.Appended.TheVariants as Appended
 use Rattle.path_append.specs.Appending.{appended_of, answer_of, afterwards, Append}
 use Rattle.c_answer.specs.Given.{Given}
 use Rattle.c_answer.proofs.Giving.{given-same, given-short}
 use Rattle.kihavute_appending.specs.Appending.{is_segment, pushed_of, Appending, Appends, Pushes}
 
--- ---- the answer
-module _ (appended : Appended) where
-  pub appended-added : (counts : Values) → Appended.Added counts ≡ appended → accepted (listed counts) ≡ answer_of appended
-  appended-added counts is = ap answer_of is
-
-  pub appended-refused : (refusal : Refusal) → Appended.Refused refusal ≡ appended → refused refusal ≡ answer_of appended
-  appended-refused refusal is = ap answer_of is
-
 -- ---- a segment by its kind and its numbers
 module _ (kind : ℕ) (numbers : List Float) where
-  -- the test's two ways out
-  pub known-kind : (same : Bool) → kind < 5 → same ≡ eqb (length numbers) (width_of kind) → same ≡ is_segment kind numbers
-  known-kind same known e = rw (lt-ltb kind 5 known) e
-
-  pub unknown-kind : 5 ≤ kind → false ≡ is_segment kind numbers
-  unknown-kind unknown = rw (le-ltb kind 5 unknown)
-
   -- what passes is read as a segment
   pub segment-known : is_segment kind numbers ≡ true → (kind < 5) × (0 + width_of kind ≤ length numbers)
   segment-known e =
@@ -49,7 +33,7 @@ module _ (kind : ℕ) (numbers : List Float) where
 
 module _ (count command : ℕ) (b : Buffers) (answer : List ℕ) where
   -- an answer that is too short: nothing is appended
-  pub not-appended : (appended : Appended) (segment : PathSegment) → length answer < 8 → Appending appended segment count command b answer 255 b answer
+  pub not-appended : (appended : Result Values Refusal) (segment : PathSegment) → length answer < 8 → Appending appended segment count command b answer 255 b answer
   not-appended appended segment h = record { reported = given-short (answer_of appended) answer h; after = rw (lt-ltb (length answer) 8 h) }
 
   push-is : (kind : ℕ) (numbers : List Float) → is_segment kind numbers ≡ true → appended_of b count command (segment_of kind numbers) ≡ pushed_of kind numbers count command b
@@ -58,23 +42,23 @@ module _ (count command : ℕ) (b : Buffers) (answer : List ℕ) where
 
   module _ {b' : Buffers} {answer' : List ℕ} {returned : ℕ} (h : 8 ≤ length answer) where
     -- else the entry's own promise, reported
-    pub appends-reported : (segment : PathSegment) (r : Appended) → Append b count command segment r b' → Given (answer_of r) answer returned answer' → Appends segment count command b answer returned b' answer'
+    pub appends-reported : (segment : PathSegment) (r : Result Values Refusal) → Append b count command segment r b' → Given (answer_of r) answer returned answer' → Appends segment count command b answer returned b' answer'
     appends-reported segment r p g =
         record {
           reported = given-same _ _ (ap answer_of p.answer) g;
-          after = rw (le-ltb (length answer) 8 h) (p.after ∙ ap (λ (a : Appended). afterwards a b count command segment) p.answer);
+          after = rw (le-ltb (length answer) 8 h) (p.after ∙ ap (λ (a : Result Values Refusal). afterwards a b count command segment) p.answer);
         }
 
     module _ (kind : ℕ) (numbers : List Float) where
       pub pushes-reported :
-          (segment : PathSegment) (r : Appended)
+          (segment : PathSegment) (r : Result Values Refusal)
           → is_segment kind numbers ≡ true
           → segment ≡ segment_of kind numbers
           → Append b count command segment r b'
           → Given (answer_of r) answer returned answer'
           → Pushes kind numbers count command b answer returned b' answer'
       pushes-reported segment r e same p g =
-          subst (λ (a : Appended). Appending a (segment_of kind numbers) count command b answer returned b' answer') (push-is kind numbers e)
+          subst (λ (a : Result Values Refusal). Appending a (segment_of kind numbers) count command b answer returned b' answer') (push-is kind numbers e)
           (appends-reported (segment_of kind numbers) r (subst (λ (s : PathSegment). Append b count command s r b') same p) g)
 
   -- what is no segment
@@ -89,7 +73,7 @@ module _ (count command : ℕ) (b : Buffers) (answer : List ℕ) where
 
   -- any two allowed results are equal
   pub appending-unique :
-      (appended : Appended) (segment : PathSegment) (r s : ℕ) (b₁ b₂ : Buffers) (answer₁ answer₂ : List ℕ)
+      (appended : Result Values Refusal) (segment : PathSegment) (r s : ℕ) (b₁ b₂ : Buffers) (answer₁ answer₂ : List ℕ)
       → Appending appended segment count command b answer r b₁ answer₁
       → Appending appended segment count command b answer s b₂ answer₂
       → (r ≡ s) × (b₁ ≡ b₂) × (answer₁ ≡ answer₂)

@@ -1,5 +1,7 @@
 -- What appending to a stored path gives to C. Definitions only.
-use Rattle.std.specs.Prelude.{ℕ, ◌≡◌, Bool, cond, not, ◌&&◌, List, ltb, eqb, length, Float}
+use Rattle.std.specs.Prelude.{ℕ, ◌≡◌, Bool, cond, not, ◌&&◌, List, ltb, eqb, length, Float, Result, Err}
+use Rattle.answers.specs.declared.refusals.Values.{Values}
+use Rattle.answers.specs.declared.refusals.Refusal.{Refusal}
 use Rattle.answers.specs.declared.refusals.Refusal.TheVariants.{BadPath}
 use Rattle.answers.specs.Report.{short}
 use Rattle.math.specs.Math as Math
@@ -8,8 +10,6 @@ use Rattle.ellipse.specs.declared.ends.Chord.{Chord}
 use Rattle.path_segment.specs.declared.segments.PathSegment.{PathSegment}
 use Rattle.path_segment.specs.Segments.{width_of, segment_of}
 use Rattle.path_stored.specs.Buffers.{Buffers}
-use Rattle.path_append.specs.declared.pushing.Appended.{Appended}
-use Rattle.path_append.specs.declared.pushing.Appended.TheVariants as Appended
 use Rattle.path_append.specs.Appending.{appended_of, answer_of, afterwards}
 use Rattle.c_answer.specs.Given.{Given}
 
@@ -39,13 +39,13 @@ abbrev pub is_segment : ℕ → List Float → Bool
 is_segment kind numbers = ltb kind 5 && eqb (length numbers) (width_of kind)
 
 -- 12 for what is no segment; else what appending it answers
-unfoldable pub pushed_of : ℕ → List Float → ℕ → ℕ → Buffers → Appended
-pushed_of kind numbers count command b = cond (is_segment kind numbers) (appended_of b count command (segment_of kind numbers)) (Appended.Refused BadPath)
+unfoldable pub pushed_of : ℕ → List Float → ℕ → ℕ → Buffers → Result Values Refusal
+pushed_of kind numbers count command b = cond (is_segment kind numbers) (appended_of b count command (segment_of kind numbers)) (Err BadPath)
 
 -- ---- what is given and stored
 
 -- the answer is reported, and the segment stored where it is accepted; with an answer that is too short nothing is appended
-pub record Appending (appended : Appended) (segment : PathSegment) (count command : ℕ) (b : Buffers) (answer : List ℕ) (returned : ℕ) (b' : Buffers) (answer' : List ℕ) : Type 0 where
+pub record Appending (appended : Result Values Refusal) (segment : PathSegment) (count command : ℕ) (b : Buffers) (answer : List ℕ) (returned : ℕ) (b' : Buffers) (answer' : List ℕ) : Type 0 where
   pub reported : Given (answer_of appended) answer returned answer'
   pub after : b' ≡ cond (short answer) b (afterwards appended b count command segment)
 

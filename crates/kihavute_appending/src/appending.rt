@@ -9,20 +9,19 @@ ghost use Rattle.arc.specs.Lines.{line_of};
 ghost use Rattle.path_segment.specs.declared.segments.PathSegment.TheVariants.{Line, Quad, Cubic};
 ghost use Rattle.kihavute_appending.specs.Appending.{Appends, Pushes, point_of, chord_of, is_segment};
 
-use answers::Refusal;
+use answers::{Refusal, Values};
 use ellipse::Chord;
 use math::Point;
-use path_append::Appended;
 use path_segment::inner::segment_at;
 use path_segment::width;
 
 // How many places of each buffer are in use now.
-fn give_appended(appended: Appended, answer: &mut [u64]) -> u32
+fn give_appended(appended: Result<Values, Refusal>, answer: &mut [u64]) -> u32
     ensures { Given (answer_of appended) answer.old result answer.new }
 {
     match appended {
-        Appended::Added(counts) => c_answer::accept(counts, answer),
-        Appended::Refused(refusal) => c_answer::refuse(refusal, answer),
+        Ok(counts) => c_answer::accept(counts, answer),
+        Err(refusal) => c_answer::refuse(refusal, answer),
     }
 }
 
@@ -30,10 +29,7 @@ fn give_appended(appended: Appended, answer: &mut [u64]) -> u32
 fn is_segment(kind: u8, numbers: &[f32]) -> bool
     ensures { result ≡ is_segment kind numbers.now }
 {
-    if kind < 5 {
-        return numbers.len() == width(kind);
-    }
-    false
+    kind < 5 && numbers.len() == width(kind)
 }
 
 // Appends the segment of a kind and of its numbers, as both are stored; its table is made anew. A kind above 4, and another count of

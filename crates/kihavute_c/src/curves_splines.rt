@@ -48,7 +48,7 @@ pub extern "C" fn kihavute_spline_rotation_deg(
     kihavute_curves::splines::kihavute_spline_rotation_deg(points, table, progress, answer)
 }
 
-// How long a spline is.
+// How long a spline is: its bits, as those of a heading.
 #[unsafe(no_mangle)]
 pub extern "C" fn kihavute_spline_length(points: &[f32], table: &[f32], answer: &mut [u64]) -> u32
     ensures { Given (measure_given (spline_measured_of points.now table.now)) answer.old result answer.new }

@@ -6,13 +6,12 @@ use mathlib.Core.List.{List}
 use lib.Dec.{T}
 use lib.ListN.{get_or}
 use lib.Ieee.{Float, le}
+use Rattle.std.specs.Prelude.{Some, Result, Ok, Err}
+use Rattle.answers.specs.declared.refusals.Refusal.{Refusal}
 use Rattle.answers.specs.Answers.{Answer}
 use Rattle.answers.specs.Report.{written}
 use Rattle.floats.specs.Floats.{zero_f, one_f, bits_of, clamp01_of}
-use Rattle.flight.specs.declared.Found.TheVariants.{Segment}
 use Rattle.flight.specs.declared.Flight.{Flight}
-use Rattle.flight.specs.declared.Flown.{Flown}
-use Rattle.flight.specs.declared.Flown.TheVariants as Flown
 use Rattle.flight.specs.Flights.{flight_given}
 use Rattle.spline.specs.Formula.{spline_sample_of, spline_direction_of}
 use Rattle.spline_query.specs.Queries.{spline_flown_of}
@@ -25,10 +24,10 @@ use Rattle.kihavute_curves.specs.Received.{SplineHolds, SplineReceived, SplineRe
 
 -- what is flown at a raw parameter
 abbrev at : List Float → Float → Flight
-at points raw = record { position = spline_sample_of points raw; tangent = spline_direction_of points raw; segment = Segment 0; raw = record { value = raw } }
+at points raw = record { position = spline_sample_of points raw; tangent = spline_direction_of points raw; segment = Some 0; raw = record { value = raw } }
 
 -- what is written is the raw parameter's
-pub spline-held : (points : List Float) (raw : Float) (before : List ℕ) {after : List ℕ} → after ≡ written (flight_given (Flown.At (at points raw))).values before → SplineHolds points raw after
+pub spline-held : (points : List Float) (raw : Float) (before : List ℕ) {after : List ℕ} → after ≡ written (flight_given (Ok (at points raw))).values before → SplineHolds points raw after
 spline-held points raw before e =
     record {
       x = ap (λ (l : List ℕ). get_or l 0 0) e;
@@ -41,15 +40,15 @@ spline-held points raw before e =
 
 module _ {before after : List ℕ} {returned : ℕ} where
   -- by what the entry below answers
-  pub spline-received : (points table : List Float) (p : Float) (flown : Flown) → flown ≡ spline_flown_of points table p → SplineOrdered flown points table
+  pub spline-received : (points table : List Float) (p : Float) (flown : Result Flight Refusal) → flown ≡ spline_flown_of points table p → SplineOrdered flown points table
       → Given (flight_given flown) before returned after → SplineReceivedBy points table p returned after
-  spline-received points table p (Flown.At x) own shows g zero =
+  spline-received points table p (Ok x) own shows g zero =
       record {
         calls = shows;
         holds = spline-held points (shows.raw p) before
-            ((given-whole (flight_given (Flown.At x)) g zero).1 ∙ ap (λ (f : Flown). written (flight_given f).values before) (own ∙ shows.answered p));
+            ((given-whole (flight_given (Ok x)) g zero).1 ∙ ap (λ (f : Result Flight Refusal). written (flight_given f).values before) (own ∙ shows.answered p));
       }
-  spline-received points table p (Flown.Refused refusal) own shows g zero = absurd (given-accepted refusal g zero)
+  spline-received points table p (Err refusal) own shows g zero = absurd (given-accepted refusal g zero)
 
 -- ---- accepted calls on the same spline
 
@@ -57,7 +56,7 @@ module _ {points table : List Float} where
   -- the raw parameter of a progress is one, whichever call shows it
   raw-once : (o other : InOrder points table) (p : Float) → other.raw p ≡ o.raw p
   raw-once o other p =
-      let both : Flown.At (at points (other.raw p)) ≡ Flown.At (at points (o.raw p)) = sym (other.answered p) ∙ o.answered p in
+      let both : Ok (at points (other.raw p)) ≡ Ok (at points (o.raw p)) = sym (other.answered p) ∙ o.answered p in
       let own : at points (other.raw p) ≡ at points (o.raw p) = cc in
       ap (λ (x : Flight). x.raw.value) own
 

@@ -11,16 +11,11 @@ use Rattle.answers.specs.Report.{Report, short, written}
 use Rattle.answers.specs.declared.refusals.Refusal.{Refusal}
 use Rattle.floats.specs.Floats.{bits_of}
 use Rattle.spline_table.specs.Tables.{spline_table_of, answer_of, answered, places_of, SplineTable}
-use Rattle.spline_table.specs.declared.tables.Tabled.{Tabled}
-use Rattle.spline_table.specs.declared.tables.Tabled.TheVariants as Tabled
-use Rattle.spline_query.specs.declared.queries.Measured.{Measured}
-use Rattle.spline_query.specs.declared.queries.Measured.TheVariants as Measured
+use Rattle.std.specs.Prelude.{Result}
+use Rattle.c_answer.specs.Counts.{count_given}
 use Rattle.c_answer.specs.Given.{Given}
-use Rattle.c_answer.proofs.Giving.{given-same}
-use Rattle.kihavute_curves.specs.Splines.{SplineTableGiven, measure_given}
-
-pub length-of-given : (measured : Measured) (total : Float) (bits : ℕ) → bits ≡ bits_of total → Measured.Length total ≡ measured → accepted (bits ∷ []) ≡ measure_given measured
-length-of-given measured total bits own at = ap (λ (b : ℕ). accepted (b ∷ [])) own ∙ ap measure_given at
+use Rattle.c_answer.proofs.Giving.{given-same, count-as}
+use Rattle.kihavute_curves.specs.Splines.{SplineTableGiven}
 
 module _ (points before : List Float) (answer : List ℕ) where
   -- a short answer
@@ -29,11 +24,11 @@ module _ (points before : List Float) (answer : List ℕ) where
       let s : short answer ≡ true = lt-ltb (length answer) 8 h in
       record { given = record { code = rw s; places = rw s }; table = rw s }
 
-  pub stored-given : 8 ≤ length answer → (r : Tabled) (after : List Float) (returned : ℕ) (answer' : List ℕ) → SplineTable points before r after → Given (answer_of r) answer returned answer'
+  pub stored-given : 8 ≤ length answer → (r : Result ℕ Refusal) (after : List Float) (returned : ℕ) (answer' : List ℕ) → SplineTable points before r after → Given (count_given r) answer returned answer'
       → SplineTableGiven points before answer returned after answer'
   stored-given h r after returned answer' t g =
       let s : short answer ≡ false = le-ltb (length answer) 8 h in
-      record { given = given-same (answer_of r) (answered (spline_table_of points (length before))) t.answer g; table = rw s t.places }
+      record { given = given-same (count_given r) (answered (spline_table_of points (length before))) (count-as answer_of (λ count. refl) (λ refusal. refl) r ∙ t.answer) g; table = rw s t.places }
 
   -- any two allowed results are equal
   pub spline-table-given-unique :

@@ -1,22 +1,17 @@
 -- What a lone segment answers at a progress, and how that leaves through C (document 01, "The answers"). Position and tangent are taken at the raw parameter that is given beside
 -- them; lengths are in path units. Definitions only.
-use Rattle.std.specs.Prelude.{cond, [], ◌∷◌, Float}
+use Rattle.std.specs.Prelude.{cond, [], ◌∷◌, Float, Result, Ok, Err}
+use Rattle.answers.specs.declared.refusals.Refusal.{Refusal}
 use Rattle.answers.specs.Answers.{Answer, accepted, refused}
 use Rattle.floats.specs.Floats.{bits_of, clamp01_of}
 use Rattle.math.specs.declared.points.Point.{Point}
-use Rattle.flight.specs.declared.single.Verdict.{Verdict}
-use Rattle.flight.specs.declared.single.Verdict.TheVariants as Verdict
 use Rattle.bezier.specs.declared.quads.QuadBezier.{QuadBezier}
-use Rattle.bezier.specs.declared.quads.MadeQuad.{MadeQuad}
 use Rattle.bezier.specs.declared.cubics.CubicBezierCurve.{CubicBezierCurve}
-use Rattle.bezier.specs.declared.cubics.MadeCubic.{MadeCubic}
 use Rattle.bezier.specs.Quads.{quad_sample_of, quad_raw, quad_tangent_at}
 use Rattle.bezier.specs.Cubics.{cubic_sample_of, cubic_raw, cubic_tangent_at}
 use Rattle.ellipse.specs.Shape.{point_on, direction_on}
 use Rattle.arc.specs.declared.lines.LineSegment.{LineSegment}
-use Rattle.arc.specs.declared.lines.MadeLine.{MadeLine}
 use Rattle.arc.specs.declared.arcs.EllipticalArc.{EllipticalArc}
-use Rattle.arc.specs.declared.arcs.MadeArc.{MadeArc}
 use Rattle.arc.specs.Lines.{line_point_of, line_tangent_of, line_length_of}
 use Rattle.arc.specs.Arcs.{chord_line, arc_raw}
 use Rattle.kihavute_curves.specs.declared.lone.Lone.{Lone}
@@ -30,9 +25,9 @@ lone_given lone =
     ∷ bits_of lone.raw.value ∷ bits_of lone.length ∷ [])
 
 -- a segment that cannot be had answers that, and any other what it is asked
-abbrev pub allowed : Verdict → Lone → Answer
-allowed Verdict.Accepted lone = lone_given lone
-allowed (Verdict.Refused refusal) lone = refused refusal
+abbrev pub asked : {Made : Type 0} → (Made → Lone) → Result Made Refusal → Answer
+asked lone (Ok made) = lone_given (lone made)
+asked lone (Err refusal) = refused refusal
 
 -- ---- what it is
 
@@ -63,14 +58,14 @@ arc_lone arc progress =
     (lone_at (point_on arc.shape (arc_raw arc.table progress)) (direction_on arc.shape (arc_raw arc.table progress)) (arc_raw arc.table progress) arc.table.total)
 
 -- ---- made and asked
-abbrev pub quad_given : MadeQuad → Float → Answer
-quad_given made progress = allowed made.verdict (quad_lone made.curve progress)
+abbrev pub quad_given : Result QuadBezier Refusal → Float → Answer
+quad_given made progress = asked (λ curve. quad_lone curve progress) made
 
-abbrev pub cubic_given : MadeCubic → Float → Answer
-cubic_given made progress = allowed made.verdict (cubic_lone made.curve progress)
+abbrev pub cubic_given : Result CubicBezierCurve Refusal → Float → Answer
+cubic_given made progress = asked (λ curve. cubic_lone curve progress) made
 
-abbrev pub line_given : MadeLine → Float → Answer
-line_given made progress = allowed made.verdict (line_lone made.line progress)
+abbrev pub line_given : Result LineSegment Refusal → Float → Answer
+line_given made progress = asked (λ line. line_lone line progress) made
 
-abbrev pub arc_given : MadeArc → Float → Answer
-arc_given made progress = allowed made.verdict (arc_lone made.arc progress)
+abbrev pub arc_given : Result EllipticalArc Refusal → Float → Answer
+arc_given made progress = asked (λ arc. arc_lone arc progress) made

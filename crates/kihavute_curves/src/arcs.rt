@@ -8,10 +8,9 @@ ghost use Rattle.kihavute_curves.specs.Lone.{line_given, arc_given};
 ghost use Rattle.kihavute_curves.specs.Arcs.{chord_of, ArcShape, ArcTable};
 
 use crate::lone::{arc_lone, give_lone, line_lone};
-use answers::Values;
-use arc::MadeArc;
+use answers::{Refusal, Values};
+use arc::EllipticalArc;
 use ellipse::Chord;
-use flight::Verdict;
 use math::Point;
 use table::Progress;
 
@@ -27,13 +26,9 @@ pub extern "C" fn kihavute_line(
 ) -> u32
     ensures { Given (line_given (made_line_of (point_of sx sy) (point_of ex ey)) progress) answer.old result answer.new }
 {
-    let made = arc::line(Point { x: sx, y: sy }, Point { x: ex, y: ey });
-    let verdict = made.verdict;
-    match verdict {
-        Verdict::Accepted => {
-            give_lone(line_lone(made.line, Progress { value: progress }), answer)
-        }
-        Verdict::Refused(refusal) => c_answer::refuse(refusal, answer),
+    match arc::line(Point { x: sx, y: sy }, Point { x: ex, y: ey }) {
+        Ok(line) => give_lone(line_lone(line, Progress { value: progress }), answer),
+        Err(refusal) => c_answer::refuse(refusal, answer),
     }
 }
 
@@ -51,7 +46,7 @@ fn made(
     sweep: u32,
     ex: f32,
     ey: f32,
-) -> MadeArc
+) -> Result<EllipticalArc, Refusal>
     ensures { result ≡ made_arc_of (chord_of sx sy rx ry rotation large sweep ex ey) }
 {
     arc::arc(Chord {
@@ -81,11 +76,9 @@ pub extern "C" fn kihavute_arc(
 ) -> u32
     ensures { Given (arc_given (made_arc_of (chord_of sx sy rx ry rotation large sweep ex ey)) progress) answer.old result answer.new }
 {
-    let made = made(sx, sy, rx, ry, rotation, large, sweep, ex, ey);
-    let verdict = made.verdict;
-    match verdict {
-        Verdict::Accepted => give_lone(arc_lone(made.arc, Progress { value: progress }), answer),
-        Verdict::Refused(refusal) => c_answer::refuse(refusal, answer),
+    match made(sx, sy, rx, ry, rotation, large, sweep, ex, ey) {
+        Ok(arc) => give_lone(arc_lone(arc, Progress { value: progress }), answer),
+        Err(refusal) => c_answer::refuse(refusal, answer),
     }
 }
 
@@ -107,14 +100,14 @@ pub extern "C" fn kihavute_arc_shape(
 ) -> u32
     ensures { ArcShape (made_arc_of (chord_of sx sy rx ry rotation large sweep ex ey)) out.old answer.old result out.new answer.new }
 {
-    let made = made(sx, sy, rx, ry, rotation, large, sweep, ex, ey);
-    let verdict = made.verdict;
-    let arc = made.arc;
-    let numbers = c_output::arc_numbers(arc.shape);
-    if arc.line_fallback {
-        return c_output::fill(verdict, &numbers, Values::One(1), out, answer);
+    match made(sx, sy, rx, ry, rotation, large, sweep, ex, ey) {
+        Ok(arc) => {
+            let numbers = c_output::arc_numbers(arc.shape);
+            let fell_back = usize::from(arc.line_fallback);
+            c_output::fill(Ok(()), &numbers, Values::One(fell_back), out, answer)
+        }
+        Err(refusal) => c_output::fill(Err(refusal), &[], Values::Nothing, out, answer),
     }
-    c_output::fill(verdict, &numbers, Values::One(0), out, answer)
 }
 
 // Its table: 32 running lengths and then their total, or nothing where it fell back to a line; and
@@ -135,12 +128,14 @@ pub extern "C" fn kihavute_arc_table(
 ) -> u32
     ensures { ArcTable (made_arc_of (chord_of sx sy rx ry rotation large sweep ex ey)) out.old answer.old result out.new answer.new }
 {
-    let made = made(sx, sy, rx, ry, rotation, large, sweep, ex, ey);
-    let verdict = made.verdict;
-    let arc = made.arc;
-    let numbers = c_output::table_numbers(arc.table);
-    if arc.line_fallback {
-        return c_output::fill(verdict, &numbers[..0], Values::One(1), out, answer);
+    match made(sx, sy, rx, ry, rotation, large, sweep, ex, ey) {
+        Ok(arc) => {
+            if arc.line_fallback {
+                return c_output::fill(Ok(()), &[], Values::One(1), out, answer);
+            }
+            let numbers = c_output::table_numbers(arc.table);
+            c_output::fill(Ok(()), &numbers, Values::One(0), out, answer)
+        }
+        Err(refusal) => c_output::fill(Err(refusal), &[], Values::Nothing, out, answer),
     }
-    c_output::fill(verdict, &numbers, Values::One(0), out, answer)
 }

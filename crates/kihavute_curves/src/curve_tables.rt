@@ -22,15 +22,17 @@ pub extern "C" fn kihavute_quad_table(
 ) -> u32
     ensures { QuadTable (made_quad_of (point_of sx sy) (point_of cx cy) (point_of ex ey)) out.old answer.old result out.new answer.new }
 {
-    let made = bezier::quad(
+    match bezier::quad(
         Point { x: sx, y: sy },
         Point { x: cx, y: cy },
         Point { x: ex, y: ey },
-    );
-    let curve = made.curve;
-    let numbers = c_output::table_numbers(curve.table);
-    let verdict = made.verdict;
-    c_output::fill(verdict, &numbers, Values::Nothing, out, answer)
+    ) {
+        Ok(curve) => {
+            let numbers = c_output::table_numbers(curve.table);
+            c_output::fill(Ok(()), &numbers, Values::Nothing, out, answer)
+        }
+        Err(refusal) => c_output::fill(Err(refusal), &[], Values::Nothing, out, answer),
+    }
 }
 
 // The table of a cubic from (sx, sy) to (ex, ey) with the controls (ax, ay) and (bx, by).
@@ -49,14 +51,16 @@ pub extern "C" fn kihavute_cubic_table(
 ) -> u32
     ensures { CubicTable (made_cubic_of (point_of sx sy) (point_of ax ay) (point_of bx by) (point_of ex ey)) out.old answer.old result out.new answer.new }
 {
-    let made = bezier::cubic(
+    match bezier::cubic(
         Point { x: sx, y: sy },
         Point { x: ax, y: ay },
         Point { x: bx, y: by },
         Point { x: ex, y: ey },
-    );
-    let curve = made.curve;
-    let numbers = c_output::table_numbers(curve.table);
-    let verdict = made.verdict;
-    c_output::fill(verdict, &numbers, Values::Nothing, out, answer)
+    ) {
+        Ok(curve) => {
+            let numbers = c_output::table_numbers(curve.table);
+            c_output::fill(Ok(()), &numbers, Values::Nothing, out, answer)
+        }
+        Err(refusal) => c_output::fill(Err(refusal), &[], Values::Nothing, out, answer),
+    }
 }

@@ -6,7 +6,6 @@ ghost use Rattle.c_answer.specs.Given.{Given};
 ghost use Rattle.kihavute_curves.specs.Lone.{quad_given, cubic_given};
 
 use crate::lone::{cubic_lone, give_lone, quad_lone};
-use flight::Verdict;
 use math::Point;
 use table::Progress;
 
@@ -24,17 +23,13 @@ pub extern "C" fn kihavute_quad(
 ) -> u32
     ensures { Given (quad_given (made_quad_of (point_of sx sy) (point_of cx cy) (point_of ex ey)) progress) answer.old result answer.new }
 {
-    let made = bezier::quad(
+    match bezier::quad(
         Point { x: sx, y: sy },
         Point { x: cx, y: cy },
         Point { x: ex, y: ey },
-    );
-    let verdict = made.verdict;
-    match verdict {
-        Verdict::Accepted => {
-            give_lone(quad_lone(made.curve, Progress { value: progress }), answer)
-        }
-        Verdict::Refused(refusal) => c_answer::refuse(refusal, answer),
+    ) {
+        Ok(curve) => give_lone(quad_lone(curve, Progress { value: progress }), answer),
+        Err(refusal) => c_answer::refuse(refusal, answer),
     }
 }
 
@@ -54,17 +49,13 @@ pub extern "C" fn kihavute_cubic(
 ) -> u32
     ensures { Given (cubic_given (made_cubic_of (point_of sx sy) (point_of ax ay) (point_of bx by) (point_of ex ey)) progress) answer.old result answer.new }
 {
-    let made = bezier::cubic(
+    match bezier::cubic(
         Point { x: sx, y: sy },
         Point { x: ax, y: ay },
         Point { x: bx, y: by },
         Point { x: ex, y: ey },
-    );
-    let verdict = made.verdict;
-    match verdict {
-        Verdict::Accepted => {
-            give_lone(cubic_lone(made.curve, Progress { value: progress }), answer)
-        }
-        Verdict::Refused(refusal) => c_answer::refuse(refusal, answer),
+    ) {
+        Ok(curve) => give_lone(cubic_lone(curve, Progress { value: progress }), answer),
+        Err(refusal) => c_answer::refuse(refusal, answer),
     }
 }

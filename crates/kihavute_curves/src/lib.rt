@@ -1,4 +1,5 @@
 // The C interface's third part: quads, cubics, lines, arcs and splines.
+// Entries that are alike stay apart: C calls each by its own name, and each takes what C lends, slice by slice.
 #![tactic(auto)]
 
 pub mod arcs;

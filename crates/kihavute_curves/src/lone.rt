@@ -6,6 +6,7 @@ ghost use Rattle.kihavute_curves.specs.Lone.{lone_given, quad_lone, cubic_lone, 
 
 use arc::{EllipticalArc, LineSegment};
 use bezier::{CubicBezierCurve, QuadBezier};
+use floats::bits;
 use math::Point;
 use table::inner::{raw_parameter, raw_parameter_in};
 use table::{Progress, RawParameter, number_of};
@@ -24,22 +25,13 @@ pub struct Lone {
 pub(crate) fn give_lone(lone: Lone, answer: &mut [u64]) -> u32
     ensures { Given (lone_given lone) answer.old result answer.new }
 {
-    let position = lone.position;
-    let tangent = lone.tangent;
-    let raw = lone.raw;
-    let x = floats::bits(position.x);
-    let y = floats::bits(position.y);
-    let tangent_x = floats::bits(tangent.x);
-    let tangent_y = floats::bits(tangent.y);
-    let parameter = floats::bits(number_of(raw));
-    let length = floats::bits(lone.length);
     c_answer::accept_six(
-        x as u64,
-        y as u64,
-        tangent_x as u64,
-        tangent_y as u64,
-        parameter as u64,
-        length as u64,
+        u64::from(bits(lone.position.x)),
+        u64::from(bits(lone.position.y)),
+        u64::from(bits(lone.tangent.x)),
+        u64::from(bits(lone.tangent.y)),
+        u64::from(bits(number_of(lone.raw))),
+        u64::from(bits(lone.length)),
         answer,
     )
 }

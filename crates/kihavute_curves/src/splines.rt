@@ -1,5 +1,4 @@
 // Splines: the table of the points that are lent, and queries of points with their table.
-ghost use Rattle.spline_table.specs.Tables.{answer_of};
 ghost use Rattle.spline_query.specs.Queries.{spline_flown_of, spline_turned_of, spline_measured_of};
 ghost use Rattle.spline_query.specs.Ordered.{SplineOrdered};
 ghost use Rattle.c_answer.specs.Given.{Given};
@@ -8,34 +7,8 @@ ghost use Rattle.c_answer.specs.Places.{turn_given};
 ghost use Rattle.kihavute_curves.specs.Splines.{SplineTableGiven, measure_given};
 ghost use Rattle.kihavute_curves.specs.Received.{SplineReceivedBy};
 
-use answers::Values;
-use c_answer::{give_flight, give_turn};
-use spline_query::Measured;
-use spline_table::Tabled;
+use c_answer::{give_count, give_flight, give_turn};
 use table::Progress;
-
-// The count of the stored entries.
-fn give_count(tabled: Tabled, answer: &mut [u64]) -> u32
-    ensures { Given (answer_of tabled) answer.old result answer.new }
-{
-    match tabled {
-        Tabled::Stored(count) => c_answer::accept(Values::One(count), answer),
-        Tabled::Refused(refusal) => c_answer::refuse(refusal, answer),
-    }
-}
-
-// The bits of the length.
-fn give_length(measured: Measured, answer: &mut [u64]) -> u32
-    ensures { Given (measure_given measured) answer.old result answer.new }
-{
-    match measured {
-        Measured::Length(total) => {
-            let bits = floats::bits(total);
-            c_answer::accept(Values::One(bits as usize), answer)
-        }
-        Measured::Refused(refusal) => c_answer::refuse(refusal, answer),
-    }
-}
 
 // Stores the running lengths of the spline through these points from the start of the table, and gives their count. A short
 // answer is judged first, and then nothing is stored.
@@ -50,8 +23,7 @@ pub extern "C" fn kihavute_spline_table(
     if answer.len() < 8 {
         return 255;
     }
-    let tabled = spline_table::spline_table(points, table);
-    give_count(tabled, answer)
+    give_count(spline_table::spline_table(points, table), answer)
 }
 
 // What is flown at a progress along a spline: position and tangent as bits, the segment 0, the raw parameter as bits.
@@ -84,11 +56,11 @@ pub extern "C" fn kihavute_spline_rotation_deg(
     give_turn(found, answer)
 }
 
-// How long a spline is.
+// How long a spline is: its bits, as those of a heading.
 #[unsafe(no_mangle)]
 pub extern "C" fn kihavute_spline_length(points: &[f32], table: &[f32], answer: &mut [u64]) -> u32
     ensures { Given (measure_given (spline_measured_of points.now table.now)) answer.old result answer.new }
 {
     let found = spline_query::spline_length(points, table);
-    give_length(found, answer)
+    give_turn(found, answer)
 }

@@ -1,6 +1,6 @@
 -- What a batch gives, by the cases of its answer and of the lent answer's length. Assumes nothing.
 use Prim.Native.Nat.{ℕ, ◌≤◌, ◌<◌}
-use mathlib.Core.Path.{◌≡◌, sym, ap, ◌∙◌}
+use mathlib.Core.Path.{◌≡◌, refl, sym, ap, ◌∙◌}
 use mathlib.Core.List.{List, [], ◌∷◌}
 use borrow.Author.Tests.{lt-ltb, le-ltb}
 use lib.Ieee.{Float}
@@ -8,19 +8,12 @@ use lib.ListN.{length}
 use Rattle.answers.specs.declared.refusals.Refusal.{Refusal}
 use Rattle.answers.specs.Answers.{accepted, refused}
 use Rattle.path_stored.specs.Buffers.{Buffers}
-use Rattle.path_batch.specs.declared.batches.Batch.{Batch}
-use Rattle.path_batch.specs.declared.batches.Batch.TheVariants as Batch
 use Rattle.path_batch.specs.Batches.{batch_answer, Places, Flights}
+use Rattle.std.specs.Prelude.{Result}
+use Rattle.c_answer.specs.Counts.{count_given}
 use Rattle.c_answer.specs.Given.{Given}
-use Rattle.c_answer.proofs.Giving.{given-same}
+use Rattle.c_answer.proofs.Giving.{given-same, count-as}
 use Rattle.kihavute_paths.specs.Batches.{PlacesGiven, FlightsGiven}
-
-module _ (batch : Batch) where
-  pub batch-filled : (count : ℕ) → Batch.Filled count ≡ batch → accepted (count ∷ []) ≡ batch_answer batch
-  batch-filled count is = ap batch_answer is
-
-  pub batch-refused : (refusal : Refusal) → Batch.Refused refusal ≡ batch → refused refusal ≡ batch_answer batch
-  batch-refused refusal is = ap batch_answer is
 
 module _ (b : Buffers) (progresses : List Float) (answer : List ℕ) where
   module _ (segments : List ℕ) (raws : List Float) where
@@ -32,14 +25,14 @@ module _ (b : Buffers) (progresses : List Float) (answer : List ℕ) where
 
     -- else the entry's own promise, reported
     pub places-reported :
-        {segments' : List ℕ} {raws' : List Float} {answer' : List ℕ} {returned : ℕ} (batch : Batch)
+        {segments' : List ℕ} {raws' : List Float} {answer' : List ℕ} {returned : ℕ} (batch : Result ℕ Refusal)
         → 8 ≤ length answer
         → Places b progresses segments raws batch segments' raws'
-        → Given (batch_answer batch) answer returned answer'
+        → Given (count_given batch) answer returned answer'
         → PlacesGiven b progresses segments raws answer returned segments' raws' answer'
     places-reported batch h p g =
         let s = le-ltb (length answer) 8 h in
-        record { reported = given-same _ _ (ap batch_answer p.answer) g; segments_after = rw s p.segments_after; raws_after = rw s p.raws_after }
+        record { reported = given-same _ _ (count-as batch_answer (λ count. refl) (λ refusal. refl) batch ∙ ap batch_answer p.answer) g; segments_after = rw s p.segments_after; raws_after = rw s p.raws_after }
 
     -- any two allowed results are equal
     pub places-given-unique :
@@ -61,14 +54,14 @@ module _ (b : Buffers) (progresses : List Float) (answer : List ℕ) where
         record { reported = record { code = rw s; places = rw s }; segments_after = rw s; raws_after = rw s; out_after = rw s }
 
     pub flights-reported :
-        {segments' : List ℕ} {raws' out' : List Float} {answer' : List ℕ} {returned : ℕ} (batch : Batch)
+        {segments' : List ℕ} {raws' out' : List Float} {answer' : List ℕ} {returned : ℕ} (batch : Result ℕ Refusal)
         → 8 ≤ length answer
         → Flights b progresses segments raws out batch segments' raws' out'
-        → Given (batch_answer batch) answer returned answer'
+        → Given (count_given batch) answer returned answer'
         → FlightsGiven b progresses segments raws out answer returned segments' raws' out' answer'
     flights-reported batch h p g =
         let s = le-ltb (length answer) 8 h in
-        record { reported = given-same _ _ (ap batch_answer p.answer) g; segments_after = rw s p.segments_after; raws_after = rw s p.raws_after; out_after = rw s p.out_after }
+        record { reported = given-same _ _ (count-as batch_answer (λ count. refl) (λ refusal. refl) batch ∙ ap batch_answer p.answer) g; segments_after = rw s p.segments_after; raws_after = rw s p.raws_after; out_after = rw s p.out_after }
 
     pub flights-given-unique :
         (r s : ℕ) (segments₁ segments₂ : List ℕ) (raws₁ raws₂ out₁ out₂ : List Float) (answer₁ answer₂ : List ℕ)

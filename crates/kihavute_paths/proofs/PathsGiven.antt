@@ -7,19 +7,13 @@ use lib.ListN.{length}
 use Rattle.answers.specs.declared.refusals.Refusal.{Refusal}
 use Rattle.answers.specs.Answers.{accepted, refused}
 use Rattle.path_stored.specs.Buffers.{Buffers}
+use Rattle.std.specs.Prelude.{Result}
 use Rattle.path_drawing.specs.Building.{Built}
+use Rattle.path_storing.specs.declared.sites.Sizes.{Sizes}
 use Rattle.path_build.specs.Answers.{answer_of, Answers}
-use Rattle.path_build.specs.declared.sizes.Building.{Building}
-use Rattle.path_build.specs.declared.sizes.Building.TheVariants as Building
 use Rattle.c_answer.specs.Given.{Given}
 use Rattle.c_answer.proofs.Giving.{given-same}
 use Rattle.kihavute_paths.specs.Paths.{PathBuilt}
-
-pub building-given : (building : Building) (segments fields tables : ℕ) → Building.Built segments fields tables ≡ building → accepted (segments ∷ fields ∷ tables ∷ segments ∷ segments ∷ []) ≡ answer_of building
-building-given building segments fields tables is = ap answer_of is
-
-pub building-refused : (building : Building) (refusal : Refusal) → Building.Refused refusal ≡ building → refused refusal ≡ answer_of building
-building-refused building refusal is = ap answer_of is
 
 module _ (built : Built) (drawers : List ℕ) (b : Buffers) (answer : List ℕ) where
   -- an answer that is too short: nothing is built
@@ -27,9 +21,9 @@ module _ (built : Built) (drawers : List ℕ) (b : Buffers) (answer : List ℕ) 
   not-built h = let s = lt-ltb (length answer) 8 h in record { reported = record { code = rw s; places = rw s }; after = rw s }
 
   -- else the entry's own promise, reported
-  pub built-reported : {b' : Buffers} {answer' : List ℕ} {returned : ℕ} (building : Building) → 8 ≤ length answer → Answers built drawers b building b'
-      → Given (answer_of building) answer returned answer' → PathBuilt built drawers b answer returned b' answer'
-  built-reported building h p g = record { reported = given-same _ _ p.answer g; after = rw (le-ltb (length answer) 8 h) p.after }
+  pub built-reported : {b' : Buffers} {answer' : List ℕ} {returned : ℕ} (sizes : Result Sizes Refusal) → 8 ≤ length answer → Answers built drawers b sizes b'
+      → Given (answer_of sizes) answer returned answer' → PathBuilt built drawers b answer returned b' answer'
+  built-reported sizes h p g = record { reported = given-same _ _ p.answer g; after = rw (le-ltb (length answer) 8 h) p.after }
 
   -- any two allowed results are equal
   pub path-built-unique : (r s : ℕ) (b₁ b₂ : Buffers) (answer₁ answer₂ : List ℕ) → PathBuilt built drawers b answer r b₁ answer₁ → PathBuilt built drawers b answer s b₂ answer₂

@@ -9,17 +9,18 @@ use Rattle.answers.specs.Answers.{Answer, accepted}
 use Rattle.answers.specs.Report.{written}
 use Rattle.floats.specs.Floats.{bits_of}
 use Rattle.resample.specs.Resample.{Outcome, answered, written_by, resample_of, Resample}
-use Rattle.resample.specs.declared.resampling.Resampled.{Resampled}
 use Rattle.morph.specs.Evaluate.{evaluate_of, Evaluate}
 use Rattle.morph.specs.Morph.{Outcomes, first_written, second_written, morph_of, Morph}
 use Rattle.morph.specs.Morph as Morphing
-use Rattle.morph.specs.declared.bounding.Bounds.{Bounds}
-use Rattle.morph.specs.declared.bounding.Bounded.TheVariants.{Within}
-use Rattle.morph.specs.declared.evaluating.Evaluated.{Evaluated}
+use Rattle.morph.specs.Evaluate as Evaluating
+use Rattle.resample.specs.Resample as Resampling
+use Rattle.answers.specs.declared.refusals.Refusal.{Refusal}
+use Rattle.std.specs.Prelude.{Result}
+use Rattle.c_answer.specs.Counts.{count_given}
 use Rattle.morph.specs.declared.morphing.Morphed.{Morphed}
 use Rattle.c_answer.specs.Given.{Given}
-use Rattle.c_answer.proofs.Giving.{given-same, given-short}
-use Rattle.kihavute_paths.specs.Morphs.{Put, PutTwo, resampled_given, evaluated_given, morphed_given, bounds_given}
+use Rattle.c_answer.proofs.Giving.{given-same, given-short, count-as}
+use Rattle.kihavute_paths.specs.Morphs.{Put, PutTwo, morphed_given}
 
 -- ---- a short answer
 pub put-short : (outcome : Outcome) (before : List Float) (answer : List ℕ) → length answer < 8 → Put outcome before answer 255 before answer
@@ -32,19 +33,19 @@ put-two-short outcome one other answer h =
 -- ---- any other
 module _ (answer answer' : List ℕ) (returned : ℕ) (long : 8 ≤ length answer) where
   pub put-resampled :
-      (points : List Float) (count : ℕ) (before after : List Float) (r : Resampled) → Resample points count before r after → Given (resampled_given r) answer returned answer'
+      (points : List Float) (count : ℕ) (before after : List Float) (r : Result ℕ Refusal) → Resample points count before r after → Given (count_given r) answer returned answer'
       → Put (resample_of points count (length before)) before answer returned after answer'
   put-resampled points count before after r p g =
-      record { given = given-same (resampled_given r) (answered (resample_of points count (length before))) p.answer g; output = rw (le-ltb (length answer) 8 long) p.output }
+      record { given = given-same (count_given r) (answered (resample_of points count (length before))) (count-as Resampling.answer_of (λ count. refl) (λ refusal. refl) r ∙ p.answer) g; output = rw (le-ltb (length answer) 8 long) p.output }
 
   pub put-evaluated :
-      (from to : List Float) (t : Float) (before after : List Float) (r : Evaluated) → Evaluate from to t before r after → Given (evaluated_given r) answer returned answer'
+      (from to : List Float) (t : Float) (before after : List Float) (r : Result ℕ Refusal) → Evaluate from to t before r after → Given (count_given r) answer returned answer'
       → Put (evaluate_of from to t (length before)) before answer returned after answer'
   put-evaluated from to t before after r p g =
-      record { given = given-same (evaluated_given r) (answered (evaluate_of from to t (length before))) p.answer g; output = rw (le-ltb (length answer) 8 long) p.output }
+      record { given = given-same (count_given r) (answered (evaluate_of from to t (length before))) (count-as Evaluating.answer_of (λ count. refl) (λ refusal. refl) r ∙ p.answer) g; output = rw (le-ltb (length answer) 8 long) p.output }
 
   pub put-morphed :
-      (from to : List Float) (count : ℕ) (one other one' other' : List Float) (r : Morphed) → Morph from to count one other r one' other' → Given (morphed_given r) answer returned answer'
+      (from to : List Float) (count : ℕ) (one other one' other' : List Float) (r : Result Morphed Refusal) → Morph from to count one other r one' other' → Given (morphed_given r) answer returned answer'
       → PutTwo (morph_of from to count (length one) (length other)) one other answer returned one' other' answer'
   put-morphed from to count one other one' other' r p g =
       record {
@@ -52,11 +53,6 @@ module _ (answer answer' : List ℕ) (returned : ℕ) (long : 8 ≤ length answe
         first = rw (le-ltb (length answer) 8 long) p.from_shape;
         second = rw (le-ltb (length answer) 8 long) p.to_shape;
       }
-
--- ---- the bits of the bounds
-pub bounds-bits : (bounds : Bounds) {a b c d : ℕ} → a ≡ bits_of bounds.min_x → b ≡ bits_of bounds.min_y → c ≡ bits_of bounds.max_x → d ≡ bits_of bounds.max_y
-    → accepted (a ∷ b ∷ c ∷ d ∷ []) ≡ bounds_given (Within bounds)
-bounds-bits bounds p q r s = rw (p, q, r, s) refl
 
 -- ---- any two allowed results are equal
 pub shape-given-unique :

@@ -6,6 +6,8 @@ use mathlib.Core.List.{List}
 use lib.Dec.{T}
 use lib.ListN.{length, get_or}
 use lib.Ieee.{Float, lt, le}
+use Rattle.std.specs.Prelude.{Result, Ok, Err}
+use Rattle.answers.specs.declared.refusals.Refusal.{Refusal}
 use Rattle.answers.specs.Answers.{Answer}
 use Rattle.answers.specs.Report.{written}
 use Rattle.floats.specs.Floats.{zero_f, one_f, epsilon_f, bits_of, clamp01_of}
@@ -13,8 +15,6 @@ use Rattle.table.specs.Spots.{path_total}
 use Rattle.table_order.specs.Stated.{NoStepBack}
 use Rattle.table_order.specs.Swept.{Inside}
 use Rattle.flight.specs.declared.Flight.{Flight}
-use Rattle.flight.specs.declared.Flown.{Flown}
-use Rattle.flight.specs.declared.Flown.TheVariants as Flown
 use Rattle.flight.specs.Flights.{flight_given}
 use Rattle.path_stored.specs.Buffers.{Buffers}
 use Rattle.path_place.specs.declared.places.Place.{Place}
@@ -30,7 +30,7 @@ use Rattle.kihavute_paths.specs.Received.{Holds, Received, ReceivedBy}
 -- ---- one call
 
 -- what is written is the pair's
-pub held : {b : Buffers} (o : Ordered b) (p : Float) (before : List ℕ) {after : List ℕ} → after ≡ written (flight_given (Flown.At (pair_flown b (o.pair p) p))).values before → Holds b (o.pair p) p after
+pub held : {b : Buffers} (o : Ordered b) (p : Float) (before : List ℕ) {after : List ℕ} → after ≡ written (flight_given (Ok (pair_flown b (o.pair p) p))).values before → Holds b (o.pair p) p after
 held o p before e =
     record {
       x = ap (λ (l : List ℕ). get_or l 0 0) e;
@@ -43,11 +43,11 @@ held o p before e =
 
 module _ {before after : List ℕ} {returned : ℕ} where
   -- by what the entry below answers
-  pub received : (b : Buffers) (p : Float) (flown : Flown) → flown ≡ flew_of b p → OrderedBy flown b → Given (flight_given flown) before returned after → ReceivedBy b p returned after
-  received b p (Flown.At x) own shows g zero some long =
+  pub received : (b : Buffers) (p : Float) (flown : Result Flight Refusal) → flown ≡ flew_of b p → OrderedBy flown b → Given (flight_given flown) before returned after → ReceivedBy b p returned after
+  received b p (Ok x) own shows g zero some long =
       let o = shows some long in
-      record { calls = o; holds = held o p before ((given-whole (flight_given (Flown.At x)) g zero).1 ∙ ap (λ (f : Flown). written (flight_given f).values before) (own ∙ o.answered p)) }
-  received b p (Flown.Refused refusal) own shows g zero some long = absurd (given-accepted refusal g zero)
+      record { calls = o; holds = held o p before ((given-whole (flight_given (Ok x)) g zero).1 ∙ ap (λ (f : Result Flight Refusal). written (flight_given f).values before) (own ∙ o.answered p)) }
+  received b p (Err refusal) own shows g zero some long = absurd (given-accepted refusal g zero)
 
 -- ---- accepted calls on the same buffers
 

@@ -13,29 +13,24 @@ use Rattle.answers.specs.declared.refusals.Refusal.{Refusal}
 use Rattle.answers.specs.declared.refusals.Refusal.TheVariants.{NoRoom, Range}
 use Rattle.answers.proofs.Settled.{refused-not-accepted}
 use Rattle.polyline.specs.Judging.{judge_two_of}
-use Rattle.polyline.specs.declared.judging.Judged.{Judged}
-use Rattle.polyline.specs.declared.judging.Judged.TheVariants as Judged
 use Rattle.resample.specs.Planning.{plan_of, rows_by}
 use Rattle.resample.specs.Resample.{Resample}
 use Rattle.resample.specs.declared.spreading.Way.{Way}
-use Rattle.resample.specs.declared.spreading.Plan.{Plan}
-use Rattle.resample.specs.declared.spreading.Plan.TheVariants as Plan
-use Rattle.resample.specs.declared.resampling.Resampled.{Resampled}
-use Rattle.resample.specs.declared.resampling.Resampled.TheVariants as Resampled
 use Rattle.resample_order.specs.Ordered.{InOrderBy}
 use Rattle.resample_order.proofs.Entry.{rows-in-order, resampled-in-order}
 use Rattle.morph.specs.Morph.{Outcomes, shapes, refusal, both, after, by_plans, plans_of, morph_of, answered, first_written, second_written, Morph}
 use Rattle.morph.specs.declared.morphing.Morphed.{Morphed}
-use Rattle.morph.specs.declared.morphing.Morphed.TheVariants as Morphed
+use Rattle.std.specs.Prelude.{Result, Ok, Err}
+use Rattle.c_answer.specs.Counts.{count_given}
 use Rattle.c_answer.specs.Given.{Given}
 use Rattle.c_answer.proofs.Giving.{given-accepted}
-use Rattle.kihavute_paths.specs.Morphs.{resampled_given, morphed_given}
+use Rattle.kihavute_paths.specs.Morphs.{morphed_given}
 
 module _ {answer answer' : List ℕ} {returned : ℕ} where
-  pub resampled-stands : (points : List Float) (count : ℕ) (before output : List Float) (r : Resampled)
-      → Resample points count before r output → Given (resampled_given r) answer returned answer' → InOrderBy points count returned output
-  resampled-stands points count before output (Resampled.Numbers n) call g zero two more long = resampled-in-order points count n before output call two more long
-  resampled-stands points count before output (Resampled.Refused reason) call g zero two more long = absurd (given-accepted reason g zero)
+  pub resampled-stands : (points : List Float) (count : ℕ) (before output : List Float) (r : Result ℕ Refusal)
+      → Resample points count before r output → Given (count_given r) answer returned answer' → InOrderBy points count returned output
+  resampled-stands points count before output (Ok n) call g zero two more long = resampled-in-order points count n before output call two more long
+  resampled-stands points count before output (Err reason) call g zero two more long = absurd (given-accepted reason g zero)
 
 -- ---- the two shapes of a morph
 
@@ -44,8 +39,8 @@ record Planned (from to : List Float) (count : ℕ) (first second : List Float) 
   few : count ≤ 4096
   one : Way
   other : Way
-  one-planned : plan_of from count ≡ Plan.Go one
-  other-planned : plan_of to count ≡ Plan.Go other
+  one-planned : plan_of from count ≡ Ok one
+  other-planned : plan_of to count ≡ Ok other
   one-rows : first ≡ rows_by from count one
   other-rows : second ≡ rows_by to count other
 
@@ -57,31 +52,31 @@ module _ (from to : List Float) (count room more : ℕ) (first second : List Flo
   unfolding morph_of plans_of
   planned = go (judge_two_of from to) (ltb 4096 count) (plan_of from count) (plan_of to count) refl refl (λ n. nltb→le 4096 count n)
     where
-      placed : (one other : Way) (b : Bool) → plan_of from count ≡ Plan.Go one → plan_of to count ≡ Plan.Go other → count ≤ 4096
+      placed : (one other : Way) (b : Bool) → plan_of from count ≡ Ok one → plan_of to count ≡ Ok other → count ≤ 4096
           → cond b (refusal (NoRoom (Two (length (rows_by from count one)) (length (rows_by to count other))))) (shapes (rows_by from count one) (rows_by to count other)) ≡ shapes first second
           → Planned from to count first second
       placed one other true p q few e = absurd (not-shapes e)
       placed one other false p q few e = record { few = few; one = one; other = other; one-planned = p; other-planned = q; one-rows = (cc); other-rows = (cc) }
 
-      go : (j : Judged) (b : Bool) (p q : Plan) → plan_of from count ≡ p → plan_of to count ≡ q → (T (not b) → count ≤ 4096)
+      go : (j : Result (Unit {0}) Refusal) (b : Bool) (p q : Result Way Refusal) → plan_of from count ≡ p → plan_of to count ≡ q → (T (not b) → count ≤ 4096)
           → after j (cond b (refusal (Range count)) (by_plans from to count room more (both p q))) ≡ shapes first second → Planned from to count first second
-      go (Judged.Refused reason) b p q e f few g = absurd (not-shapes g)
-      go Judged.Fine true p q e f few g = absurd (not-shapes g)
-      go Judged.Fine false (Plan.Refused reason) q e f few g = absurd (not-shapes g)
-      go Judged.Fine false (Plan.Go one) (Plan.Refused reason) e f few g = absurd (not-shapes g)
-      go Judged.Fine false (Plan.Go one) (Plan.Go other) e f few g =
+      go (Err reason) b p q e f few g = absurd (not-shapes g)
+      go (Ok fine) true p q e f few g = absurd (not-shapes g)
+      go (Ok fine) false (Err reason) q e f few g = absurd (not-shapes g)
+      go (Ok fine) false (Ok one) (Err reason) e f few g = absurd (not-shapes g)
+      go (Ok fine) false (Ok one) (Ok other) e f few g =
           placed one other (ltb room (length (rows_by from count one)) || ltb more (length (rows_by to count other))) e f (few tt) g
 
 module _ {answer answer' : List ℕ} {returned : ℕ} where
-  pub morphed-stands : (from to : List Float) (count : ℕ) (one other one' other' : List Float) (r : Morphed)
+  pub morphed-stands : (from to : List Float) (count : ℕ) (one other one' other' : List Float) (r : Result Morphed Refusal)
       → Morph from to count one other r one' other' → Given (morphed_given r) answer returned answer' → InOrderBy from count returned one' × InOrderBy to count returned other'
-  morphed-stands from to count one other one' other' (Morphed.Refused reason) call g = (λ zero two more long. absurd (given-accepted reason g zero), λ zero two more long. absurd (given-accepted reason g zero))
-  morphed-stands from to count one other one' other' (Morphed.Numbers a b) call g = go (morph_of from to count (length one) (length other)) refl call.answer call.from_shape call.to_shape
+  morphed-stands from to count one other one' other' (Err reason) call g = (λ zero two more long. absurd (given-accepted reason g zero), λ zero two more long. absurd (given-accepted reason g zero))
+  morphed-stands from to count one other one' other' (Ok m) call g = go (morph_of from to count (length one) (length other)) refl call.answer call.from_shape call.to_shape
     where
-      go : (o : Outcomes) → morph_of from to count (length one) (length other) ≡ o → accepted (a ∷ b ∷ []) ≡ answered o
+      go : (o : Outcomes) → morph_of from to count (length one) (length other) ≡ o → accepted (m.from ∷ m.to ∷ []) ≡ answered o
           → one' ≡ first_written o ++ drop (length (first_written o)) one → other' ≡ second_written o ++ drop (length (second_written o)) other
           → InOrderBy from count returned one' × InOrderBy to count returned other'
-      go (refusal reason) e accept f s = absurd (refused-not-accepted reason (a ∷ b ∷ []) (sym accept))
+      go (refusal reason) e accept f s = absurd (refused-not-accepted reason (m.from ∷ m.to ∷ []) (sym accept))
       go (shapes first second) e accept f s =
           let p = planned from to count (length one) (length other) first second e in (
             λ zero two more long.

@@ -1,5 +1,5 @@
 -- What resampling and a morph give to C: the answer, and one or two outputs, which stay as they were where the answer is short. Definitions only.
-use Rattle.std.specs.Prelude.{ℕ, ◌≡◌, cond, List, [], ◌∷◌, Float, length}
+use Rattle.std.specs.Prelude.{ℕ, ◌≡◌, cond, List, [], ◌∷◌, Float, length, Result, Ok, Err}
 use Rattle.std.specs.Borrow.{MutBor}
 use denote.Triple.Both.{Both}
 use Rattle.answers.specs.Answers.{Answer, accepted, refused}
@@ -7,14 +7,10 @@ use Rattle.answers.specs.Report.{written, short}
 use Rattle.floats.specs.Floats.{bits_of}
 use Rattle.resample.specs.Resample.{Outcome, answered, written_by}
 use Rattle.morph.specs.Morph.{Outcomes, morph_of, first_written, second_written}
-use Rattle.resample.specs.Resample as Resample
-use Rattle.resample.specs.declared.resampling.Resampled.{Resampled}
-use Rattle.morph.specs.Evaluate as Evaluate
 use Rattle.morph.specs.Morph as Morph
-use Rattle.morph.specs.declared.evaluating.Evaluated.{Evaluated}
+use Rattle.answers.specs.declared.refusals.Refusal.{Refusal}
 use Rattle.morph.specs.declared.morphing.Morphed.{Morphed}
-use Rattle.morph.specs.declared.bounding.Bounded.{Bounded}
-use Rattle.morph.specs.declared.bounding.Bounded.TheVariants as Bounded
+use Rattle.morph.specs.declared.bounding.Bounds.{Bounds}
 use Rattle.c_answer.specs.Given.{Given}
 
 -- one output
@@ -39,16 +35,10 @@ PutMorph from to count one other answer returned =
     returned one.exit.now other.exit.now answer.exit.now
 
 -- each case by its number and values
-abbrev pub resampled_given : Resampled → Answer
-resampled_given resampled = Resample.answer_of resampled
-
-abbrev pub evaluated_given : Evaluated → Answer
-evaluated_given evaluated = Evaluate.answer_of evaluated
-
-abbrev pub morphed_given : Morphed → Answer
+abbrev pub morphed_given : Result Morphed Refusal → Answer
 morphed_given morphed = Morph.answer_of morphed
 
 -- the bounds: the smallest x and y, then the largest
-abbrev pub bounds_given : Bounded → Answer
-bounds_given (Bounded.Within b) = accepted (bits_of b.min_x ∷ bits_of b.min_y ∷ bits_of b.max_x ∷ bits_of b.max_y ∷ [])
-bounds_given (Bounded.Refused refusal) = refused refusal
+abbrev pub bounds_given : Result Bounds Refusal → Answer
+bounds_given (Ok b) = accepted (bits_of b.min_x ∷ bits_of b.min_y ∷ bits_of b.max_x ∷ bits_of b.max_y ∷ [])
+bounds_given (Err refusal) = refused refusal

@@ -1,4 +1,5 @@
 // The C interface's fourth part: paths, built, stored and asked, the station tool, and shapes.
+// Entries that are alike stay apart: C calls each by its own name, and each takes what C lends, slice by slice.
 #![tactic(auto)]
 
 pub mod batches;

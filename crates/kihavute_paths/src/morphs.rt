@@ -1,7 +1,7 @@
 // Shapes: a line with evenly spaced points, two shapes resampled for a morph, the shape between them
 // and its bounds. A short answer is judged first, so that nothing is written then.
 ghost use Rattle.c_answer.specs.Given.{Given};
-ghost use Rattle.kihavute_paths.specs.Morphs.{Put, PutMorph, resampled_given, evaluated_given, morphed_given, bounds_given};
+ghost use Rattle.kihavute_paths.specs.Morphs.{Put, PutMorph, morphed_given, bounds_given};
 ghost use Rattle.std.specs.Prelude.{length};
 ghost use Rattle.resample.specs.Resample.{resample_of};
 ghost use Rattle.morph.specs.Evaluate.{evaluate_of};
@@ -9,19 +9,10 @@ ghost use Rattle.morph.specs.Bounds.{bounded_of};
 ghost use Rattle.morph.specs.Morph.{resolved, default_of};
 ghost use Rattle.resample_order.specs.Ordered.{InOrderBy};
 
-use answers::Values;
-use morph::{Bounded, Evaluated, Morphed};
-use resample::Resampled;
-
-// What resampling gives.
-fn give_resampled(resampled: Resampled, answer: &mut [u64]) -> u32
-    ensures { Given (resampled_given resampled) answer.old result answer.new }
-{
-    match resampled {
-        Resampled::Numbers(numbers) => c_answer::accept(Values::One(numbers), answer),
-        Resampled::Refused(refusal) => c_answer::refuse(refusal, answer),
-    }
-}
+use answers::{Refusal, Values};
+use c_answer::give_count;
+use floats::bits;
+use morph::{Bounds, Morphed};
 
 // So many points, evenly spaced along the line through the given ones.
 #[unsafe(no_mangle)]
@@ -37,17 +28,16 @@ pub extern "C" fn kihavute_resample(
     if answer.len() < 8 {
         return 255;
     }
-    let resampled = resample::resample(points, count, out);
-    give_resampled(resampled, answer)
+    give_count(resample::resample(points, count, out), answer)
 }
 
 // What a morph's making gives.
-fn give_morphed(morphed: Morphed, answer: &mut [u64]) -> u32
+fn give_morphed(morphed: Result<Morphed, Refusal>, answer: &mut [u64]) -> u32
     ensures { Given (morphed_given morphed) answer.old result answer.new }
 {
     match morphed {
-        Morphed::Numbers { from, to } => c_answer::accept(Values::Two(from, to), answer),
-        Morphed::Refused(refusal) => c_answer::refuse(refusal, answer),
+        Ok(numbers) => c_answer::accept(Values::Two(numbers.from, numbers.to), answer),
+        Err(refusal) => c_answer::refuse(refusal, answer),
     }
 }
 
@@ -91,16 +81,6 @@ pub extern "C" fn kihavute_morph_default(
     give_morphed(morphed, answer)
 }
 
-// What evaluating gives.
-fn give_evaluated(evaluated: Evaluated, answer: &mut [u64]) -> u32
-    ensures { Given (evaluated_given evaluated) answer.old result answer.new }
-{
-    match evaluated {
-        Evaluated::Numbers(numbers) => c_answer::accept(Values::One(numbers), answer),
-        Evaluated::Refused(refusal) => c_answer::refuse(refusal, answer),
-    }
-}
-
 // The shape between two shapes at a progress.
 #[unsafe(no_mangle)]
 pub extern "C" fn kihavute_evaluate(
@@ -115,23 +95,24 @@ pub extern "C" fn kihavute_evaluate(
     if answer.len() < 8 {
         return 255;
     }
-    let evaluated = morph::evaluate(from, to, t, out);
-    give_evaluated(evaluated, answer)
+    give_count(morph::evaluate(from, to, t, out), answer)
 }
 
 // What bounds give: their bits.
-fn give_bounds(bounded: Bounded, answer: &mut [u64]) -> u32
+fn give_bounds(bounded: Result<Bounds, Refusal>, answer: &mut [u64]) -> u32
     ensures { Given (bounds_given bounded) answer.old result answer.new }
 {
     match bounded {
-        Bounded::Within(bounds) => {
-            let min_x = floats::bits(bounds.min_x) as usize;
-            let min_y = floats::bits(bounds.min_y) as usize;
-            let max_x = floats::bits(bounds.max_x) as usize;
-            let max_y = floats::bits(bounds.max_y) as usize;
-            c_answer::accept(Values::Four(min_x, min_y, max_x, max_y), answer)
-        }
-        Bounded::Refused(refusal) => c_answer::refuse(refusal, answer),
+        Ok(bounds) => c_answer::accept(
+            Values::Four(
+                bits(bounds.min_x) as usize,
+                bits(bounds.min_y) as usize,
+                bits(bounds.max_x) as usize,
+                bits(bounds.max_y) as usize,
+            ),
+            answer,
+        ),
+        Err(refusal) => c_answer::refuse(refusal, answer),
     }
 }
 

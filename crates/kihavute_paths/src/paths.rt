@@ -7,23 +7,25 @@ ghost use Rattle.path_text.specs.Builds.{build_text_of, drawers_text_of};
 ghost use Rattle.c_answer.specs.Given.{Given};
 ghost use Rattle.kihavute_paths.specs.Paths.{PathBuilt};
 
-use answers::Values;
-use path_build::Building;
+use answers::{Refusal, Values};
+use path_storing::Sizes;
 
 // The counts of what was stored, one for each output.
-fn give_building(building: Building, answer: &mut [u64]) -> u32
-    ensures { Given (answer_of building) answer.old result answer.new }
+fn give_sizes(built: Result<Sizes, Refusal>, answer: &mut [u64]) -> u32
+    ensures { Given (answer_of built) answer.old result answer.new }
 {
-    match building {
-        Building::Built {
-            segments,
-            fields: own,
-            tables: more,
-        } => c_answer::accept(
-            Values::Five(segments, own, more, segments, segments),
+    match built {
+        Ok(
+            Sizes {
+                segments,
+                fields,
+                tables,
+            },
+        ) => c_answer::accept(
+            Values::Five(segments, fields, tables, segments, segments),
             answer,
         ),
-        Building::Refused(refusal) => c_answer::refuse(refusal, answer),
+        Err(refusal) => c_answer::refuse(refusal, answer),
     }
 }
 
@@ -46,10 +48,8 @@ pub extern "C" fn kihavute_build(
     if answer.len() < 8 {
         return 255;
     }
-    let building = path_build::build_path(
-        letters, numbers, kinds, fields, tables, lengths, commands,
-    );
-    give_building(building, answer)
+    let built = path_build::build_path(letters, numbers, kinds, fields, tables, lengths, commands);
+    give_sizes(built, answer)
 }
 
 // The same for a text, read and built in one call.
@@ -69,6 +69,6 @@ pub extern "C" fn kihavute_build_text(
     if answer.len() < 8 {
         return 255;
     }
-    let building = path_text::build_from_text(text, kinds, fields, tables, lengths, commands);
-    give_building(building, answer)
+    let built = path_text::build_from_text(text, kinds, fields, tables, lengths, commands);
+    give_sizes(built, answer)
 }

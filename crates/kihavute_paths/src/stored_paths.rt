@@ -3,7 +3,8 @@ ghost use Rattle.path_stored.specs.Buffers.{before};
 ghost use Rattle.c_answer.specs.Given.{Given};
 ghost use Rattle.kihavute_paths.specs.StoredPaths.{check_given};
 
-use answers::{Refusal, Values};
+use c_answer::give_count;
+use path_stored::PathBuffers;
 
 // Whether five buffers hold a stored path: returns 0 and puts the count of its segments at the start of answer; returns 12 where they
 // do not.
@@ -18,8 +19,12 @@ pub extern "C" fn kihavute_check(
 ) -> u32
     ensures { Given (check_given (before kinds fields tables lengths commands)) answer.old result answer.new }
 {
-    if path_stored::check_path(kinds, fields, tables, lengths, commands) {
-        return c_answer::accept(Values::One(kinds.len()), answer);
-    }
-    c_answer::refuse(Refusal::BadPath, answer)
+    let path = PathBuffers {
+        kinds,
+        fields,
+        tables,
+        lengths,
+        commands,
+    };
+    give_count(path_stored::len(path), answer)
 }

@@ -2,10 +2,9 @@
 use Prim.Native.Nat.{ℕ}
 use mathlib.Core.Path.{◌≡◌, refl, sym, ap, subst, ◌∙◌}
 use mathlib.Core.Bool.{Bool, true, false, ◌||◌, cond}
-use mathlib.Core.List.{List, ◌++◌}
+use mathlib.Core.List.{List}
 use native.Mathlib.Omega.{arith}
 use lib.Dec.{ltb}
-use lib.Ieee.{Float}
 use lib.ListN.{length, get_or, take, drop}
 use lib.Seq.{take_at}
 use Rattle.answers.specs.declared.refusals.Refusal.{Refusal}
@@ -15,11 +14,12 @@ use Rattle.answers.specs.Report.{written}
 use Rattle.commands.specs.declared.command.PathCommand.{PathCommand}
 use Rattle.commands.specs.Stored.{letters_of, numbers_of}
 use Rattle.svg.specs.Lists.{CommandList, written_over}
-use Rattle.svg.specs.Texts.{Outcome, commands, refusal, commands_of, offsets_of, list_of}
+use Rattle.svg.specs.Texts.{Outcome, commands, refusal, commands_of, offsets_of}
 use Rattle.svg.specs.Readings.{ReadPath, answer_of, answered, stored_of, roomed, read_path_of, read_into}
 use Rattle.svg.specs.Smooth.{entries_of}
 use Rattle.svg.specs.Told.{Told, starts_of, OwnLetters}
-use Rattle.svg.specs.declared.reading.Reading.{Reading}
+use Rattle.std.specs.Prelude.{Result}
+use Rattle.svg.specs.declared.passes.Counts.{Counts}
 use Rattle.svg.proofs.Smooth.{smooth-read}
 use Rattle.svg.proofs.Told.{offsets-told, offsets-own}
 use Rattle.svg_made.proofs.Made.{reads}
@@ -54,7 +54,7 @@ module _ (text : List ℕ) (list : List PathCommand) where
           more (NoRoom (Three (length (letters_of more)) (length (numbers_of more)) (length (offsets_of text)))) e
 
 module _ {answer answer' : List ℕ} {returned : ℕ} where
-  pub read_kept : (text : List ℕ) (before after : CommandList) (reading : Reading)
+  pub read_kept : (text : List ℕ) (before after : CommandList) (reading : Result Counts Refusal)
       → ReadPath text before reading after → Given (answer_of reading) answer returned answer' → KeptBy text returned after answer'
   read_kept text before after reading p g zero = go (read_into text before) refl (given-same _ _ p.answer g) p.memory
     where

@@ -1,34 +1,17 @@
 -- What the permissive reader and the check of a list give, by the cases of their answers and of the lent answer's length. Assumes nothing.
 use Prim.Native.Nat.{ℕ, ◌≤◌, ◌<◌}
-use mathlib.Core.Path.{◌≡◌, refl, sym, ap, ◌∙◌}
-use mathlib.Core.List.{List, [], ◌∷◌}
+use mathlib.Core.Path.{◌≡◌, sym, ◌∙◌}
+use mathlib.Core.List.{List}
 use borrow.Author.Tests.{lt-ltb, le-ltb}
 use lib.ListN.{length}
 use Rattle.answers.specs.declared.refusals.Refusal.{Refusal}
-use Rattle.answers.specs.Answers.{accepted, refused}
-use Rattle.answers.specs.Report.{Report}
-use Rattle.commands.specs.Checked.{answer_of as checked_of}
-use Rattle.commands.specs.declared.checking.Checked.{Checked}
-use Rattle.commands.specs.declared.checking.Checked.TheVariants as Checked
+use Rattle.std.specs.Prelude.{Result}
 use Rattle.svg.specs.Lists.{CommandList}
+use Rattle.svg.specs.declared.passes.Counts.{Counts}
 use Rattle.svg.specs.Readings.{ReadPath, answer_of}
-use Rattle.svg.specs.declared.reading.Reading.{Reading}
-use Rattle.svg.specs.declared.reading.Reading.TheVariants as Reading
 use Rattle.c_answer.specs.Given.{Given}
 use Rattle.c_answer.proofs.Giving.{given-same}
 use Rattle.kihavute_reading.specs.Reading.{PathRead}
-
-pub reading-given : (reading : Reading) (places count : ℕ) → Reading.Read places count ≡ reading → accepted (places ∷ count ∷ places ∷ []) ≡ answer_of reading
-reading-given reading places count is = ap answer_of is
-
-pub reading-refused : (reading : Reading) (refusal : Refusal) → Reading.Refused refusal ≡ reading → refused refusal ≡ answer_of reading
-reading-refused reading refusal is = ap answer_of is
-
-pub check-given : (checked : Checked) → Checked.WellFormed ≡ checked → accepted [] ≡ checked_of checked
-check-given checked is = ap checked_of is
-
-pub check-refused : (checked : Checked) (refusal : Refusal) → Checked.Refused refusal ≡ checked → refused refusal ≡ checked_of checked
-check-refused checked refusal is = ap checked_of is
 
 module _ (text : List ℕ) (before : CommandList) (answer : List ℕ) where
   -- an answer that is too short: nothing is read
@@ -39,7 +22,7 @@ module _ (text : List ℕ) (before : CommandList) (answer : List ℕ) where
 
   -- else the reader's own promise, reported
   pub read-reported :
-      {after : CommandList} {answer' : List ℕ} {returned : ℕ} (reading : Reading)
+      {after : CommandList} {answer' : List ℕ} {returned : ℕ} (reading : Result Counts Refusal)
       → 8 ≤ length answer
       → ReadPath text before reading after
       → Given (answer_of reading) answer returned answer'

@@ -1,11 +1,11 @@
 -- What the permissive reader gives to C. Definitions only.
 use Rattle.std.specs.Prelude.{ℕ, ◌≡◌, false, cond, List, get_or, take}
-use Rattle.answers.specs.Report.{Report, short}
+use Rattle.answers.specs.Report.{short}
 use Rattle.commands.specs.declared.command.PathCommand.TheVariants.{ClosePath}
 use Rattle.commands.specs.Stored.{letters_of, numbers_of}
 use Rattle.svg_step.specs.Steps.{origin}
 use Rattle.svg.specs.Lists.{CommandList, written_over}
-use Rattle.svg.specs.Readings.{read_path_of, read_into, answered, stored_of}
+use Rattle.svg.specs.Readings.{read_into, answered, stored_of}
 use Rattle.svg.specs.Smooth.{entries_of, commands_in, Smooth}
 use Rattle.svg.specs.Told.{Told, starts_of, OwnLetters}
 use Rattle.svg_made.specs.Made.{Reads}

@@ -5,20 +5,19 @@ ghost use Rattle.commands.specs.Checked.{check_commands_of};
 ghost use Rattle.c_answer.specs.Given.{Given};
 ghost use Rattle.kihavute_reading.specs.Reading.{KeptBy, PathRead};
 
-use answers::Values;
-use commands::Checked;
-use svg::Reading;
+use answers::{Refusal, Values};
+use svg::Counts;
 
 // The counts of what was stored.
-pub(crate) fn give_reading(reading: Reading, answer: &mut [u64]) -> u32
-    ensures { Given (answer_of reading) answer.old result answer.new }
+pub(crate) fn give_reading(read: Result<Counts, Refusal>, answer: &mut [u64]) -> u32
+    ensures { Given (answer_of read) answer.old result answer.new }
 {
-    match reading {
-        Reading::Read {
-            letters: places,
-            numbers: count,
-        } => c_answer::accept(Values::Three(places, count, places), answer),
-        Reading::Refused(refusal) => c_answer::refuse(refusal, answer),
+    match read {
+        Ok(counts) => c_answer::accept(
+            Values::Three(counts.letters, counts.numbers, counts.letters),
+            answer,
+        ),
+        Err(refusal) => c_answer::refuse(refusal, answer),
     }
 }
 
@@ -52,9 +51,8 @@ pub extern "C" fn kihavute_check_commands(
 ) -> u32
     ensures { Given (check_commands_of letters.now numbers.now) answer.old result answer.new }
 {
-    let checked = commands::check_commands(letters, numbers);
-    match checked {
-        Checked::WellFormed => c_answer::accept(Values::Nothing, answer),
-        Checked::Refused(refusal) => c_answer::refuse(refusal, answer),
+    match commands::check_commands(letters, numbers) {
+        Ok(()) => c_answer::accept(Values::Nothing, answer),
+        Err(refusal) => c_answer::refuse(refusal, answer),
     }
 }

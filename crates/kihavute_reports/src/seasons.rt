@@ -1,20 +1,7 @@
 // The sheet of a season of plans.
-ghost use Rattle.season_feed.specs.Telling.{sheet_answer};
-ghost use Rattle.c_answer.specs.Given.{Given};
 ghost use Rattle.kihavute_reports.specs.Seasons.{SeasonGiven};
 
-use answers::Values;
-use season_feed::Sheeted;
-
-// How long the sheet is, in bytes.
-fn give_sheet(sheet: Sheeted, answer: &mut [u64]) -> u32
-    ensures { Given (sheet_answer sheet) answer.old result answer.new }
-{
-    match sheet {
-        Sheeted::Written(count) => c_answer::accept(Values::One(count), answer),
-        Sheeted::Refused(refusal) => c_answer::refuse(refusal, answer),
-    }
-}
+use c_answer::give_count;
 
 // Writes the sheet of plans, each after a line with its byte count, from the output's start, and gives its length in bytes, at most 1,024.
 // More than 17,179,869,184 plans are refused with 13 and that number, then an output that is shorter than the sheet with 8 and the sheet's
@@ -26,6 +13,5 @@ pub extern "C" fn kihavute_season(input: &[u8], output: &mut [u8], answer: &mut 
     if answer.len() < 8 {
         return 255;
     }
-    let sheet = season_feed::sheet_of(input, output);
-    give_sheet(sheet, answer)
+    give_count(season_feed::sheet_of(input, output), answer)
 }

@@ -2,7 +2,8 @@
 use Prim.Native.Nat.{ℕ, ◌+◌, ◌*◌, ◌≤◌, ◌<◌}
 use mathlib.Core.Path.{◌≡◌, refl, sym, ap, ◌∙◌, subst}
 use mathlib.Core.Bool.{Bool, true, false}
-use mathlib.Core.List.{List, [], ◌∷◌, ◌++◌, append-nil}
+use Rattle.std.specs.Prelude.{Option, Some, Result, Ok, Err}
+use mathlib.Core.List.{List, [], ◌∷◌, append-nil}
 use native.Mathlib.Omega.{arith}
 use borrow.Author.Tests.{lt-ltb, le-ltb}
 use lib.Ieee.{Float}
@@ -11,20 +12,20 @@ use lib.Seq.{sets}
 use Rattle.answers.specs.declared.refusals.Values.TheVariants.{One}
 use Rattle.answers.specs.declared.refusals.Refusal.{Refusal}
 use Rattle.answers.specs.declared.refusals.Refusal.TheVariants.{NoRoom}
-use Rattle.answers.specs.Answers.{Answer, accepted, refused}
+use Rattle.answers.specs.Answers.{accepted, refused}
 use Rattle.answers.specs.Report.{written}
 use Rattle.answers.proofs.Writing.{written-more}
 use Rattle.table.specs.declared.tables.Table.{Table}
 use Rattle.path_segment.specs.declared.segments.PathSegment.{PathSegment}
-use Rattle.path_segment.specs.Segments.{kind_of, width_of, tables_of, has_table, fields_of, table_numbers}
+use Rattle.path_segment.specs.Segments.{kind_of, width_of, has_table, fields_of, table_numbers}
 use Rattle.path_segment.proofs.Widths.{one_table, none-table}
 use Rattle.path_segment.proofs.Reading.{fields-width}
 use Rattle.path_stored.specs.declared.queries.Part.{Part}
-use Rattle.path_stored.specs.declared.queries.Found.{Found}
-use Rattle.path_stored.specs.declared.queries.Found.TheVariants as Found
+use Rattle.path_stored.specs.Queries.{counted_answer}
+use Rattle.c_answer.specs.Counts.{count_given}
 use Rattle.c_answer.specs.Given.{Given}
 use Rattle.c_answer.proofs.Giving.{given-same, given-short}
-use Rattle.kihavute_segments.specs.Segments.{numbers_of, places_of, segment_answer, segment_written, SegmentGiven, found_given}
+use Rattle.kihavute_segments.specs.Segments.{numbers_of, places_of, segment_answer, SegmentGiven}
 
 -- ---- how many numbers a kind has
 pub places-some : (kind : ℕ) → has_table kind ≡ true → width_of kind + 33 ≡ places_of kind
@@ -81,66 +82,50 @@ module _ (segment : PathSegment) (table : Table) (out : List Float) where
       go false e = rw e (ap length (append-nil (fields_of segment)) ∙ fields-width segment ∙ places-none (kind_of segment) e)
 
 -- ---- the answers
-module _ (given : PathSegment → Answer) (found : Found) where
-  pub found-given : (segment : PathSegment) → found ≡ Found.Segment segment → given segment ≡ found_given given found
-  found-given segment e = ap (found_given given) (sym e)
+pub count-same : (counted : Result ℕ Refusal) → count_given counted ≡ counted_answer counted
+count-same (Ok count) = refl
+count-same (Err refusal) = refl
 
-  pub found_none : found ≡ Found.NoSegment → accepted [] ≡ found_given given found
-  found_none e = ap (found_given given) (sym e)
-
-  pub found-refused : (refusal : Refusal) → found ≡ Found.Refused refusal → refused refusal ≡ found_given given found
-  found-refused refusal e = ap (found_given given) (sym e)
-
-module _ (part : Part) (out : List Float) (answer : List ℕ) where
+module _ (found : Result (Option Part) Refusal) (out : List Float) (answer : List ℕ) where
   -- an answer that is too short: nothing is written
-  pub segment-short : length answer < 8 → SegmentGiven part out answer 255 out answer
-  segment-short h = record { reported = given-short (segment_answer part.found (length out)) answer h; out_after = rw (lt-ltb (length answer) 8 h) }
+  pub segment-short : length answer < 8 → SegmentGiven found out answer 255 out answer
+  segment-short h = record { reported = given-short (segment_answer found (length out)) answer h; out_after = rw (lt-ltb (length answer) 8 h) }
 
   module _ {answer' : List ℕ} {returned : ℕ} (h : 8 ≤ length answer) where
     pub segment-put :
-        (segment : PathSegment) (kind needed : ℕ) (out' : List Float)
-        → part.found ≡ Found.Segment segment
-        → kind ≡ kind_of segment
-        → needed ≡ places_of (kind_of segment)
+        (part : Part) (kind needed : ℕ) (out' : List Float)
+        → found ≡ Ok (Some part)
+        → kind ≡ kind_of part.segment
+        → needed ≡ places_of (kind_of part.segment)
         → needed ≤ length out
-        → out' ≡ written (numbers_of segment part.table) out
+        → out' ≡ written (numbers_of part.segment part.table) out
         → Given (accepted (kind ∷ needed ∷ [])) answer returned answer'
-        → SegmentGiven part out answer returned out' answer'
-    segment-put segment kind needed out' told own count room put g =
-        let fits = le-ltb (length out) (places_of (kind_of segment)) (subst (λ (n : ℕ). n ≤ length out) count room) in
+        → SegmentGiven found out answer returned out' answer'
+    segment-put part kind needed out' told own count room put g =
+        let fits = le-ltb (length out) (places_of (kind_of part.segment)) (subst (λ (n : ℕ). n ≤ length out) count room) in
         record {
           reported = given-same _ _ (rw (told, own, count, fits) refl) g;
           out_after = rw (le-ltb (length answer) 8 h, told, fits) put;
         }
 
     pub segment-no-room :
-        (segment : PathSegment) (needed : ℕ)
-        → part.found ≡ Found.Segment segment
-        → needed ≡ places_of (kind_of segment)
+        (part : Part) (needed : ℕ)
+        → found ≡ Ok (Some part)
+        → needed ≡ places_of (kind_of part.segment)
         → length out < needed
         → Given (refused (NoRoom (One needed))) answer returned answer'
-        → SegmentGiven part out answer returned out answer'
-    segment-no-room segment needed told count room g =
-        let short = lt-ltb (length out) (places_of (kind_of segment)) (subst (λ (n : ℕ). length out < n) count room) in
+        → SegmentGiven found out answer returned out answer'
+    segment-no-room part needed told count room g =
+        let short = lt-ltb (length out) (places_of (kind_of part.segment)) (subst (λ (n : ℕ). length out < n) count room) in
         record {
           reported = given-same _ _ (rw (told, count, short) refl) g;
           out_after = rw (le-ltb (length answer) 8 h, told, short) refl;
         }
 
-    pub segment-none : part.found ≡ Found.NoSegment → Given (accepted []) answer returned answer' → SegmentGiven part out answer returned out answer'
-    segment-none told g = record { reported = given-same _ _ (rw told refl) g; out_after = rw (le-ltb (length answer) 8 h, told) refl }
-
-    pub segment-refused : (refusal : Refusal) → part.found ≡ Found.Refused refusal → Given (refused refusal) answer returned answer' → SegmentGiven part out answer returned out answer'
-    segment-refused refusal told g = record { reported = given-same _ _ (rw told refl) g; out_after = rw (le-ltb (length answer) 8 h, told) refl }
-
   -- any two allowed results are equal
   pub segment-given-unique :
       (r s : ℕ) (out₁ out₂ : List Float) (answer₁ answer₂ : List ℕ)
-      → SegmentGiven part out answer r out₁ answer₁
-      → SegmentGiven part out answer s out₂ answer₂
+      → SegmentGiven found out answer r out₁ answer₁
+      → SegmentGiven found out answer s out₂ answer₂
       → (r ≡ s) × (out₁ ≡ out₂) × (answer₁ ≡ answer₂)
   segment-given-unique r s out₁ out₂ answer₁ answer₂ p q = (p.reported.code ∙ sym q.reported.code, p.out_after ∙ sym q.out_after, p.reported.places ∙ sym q.reported.places)
-
--- the same part gives the same
-pub segment-same : {part other : Part} {out out' : List Float} {answer answer' : List ℕ} {returned : ℕ} → part ≡ other → SegmentGiven part out answer returned out' answer' → SegmentGiven other out answer returned out' answer'
-segment-same {part} {other} {out} {out'} {answer} {answer'} {returned} e = subst (λ (p : Part). SegmentGiven p out answer returned out' answer') e

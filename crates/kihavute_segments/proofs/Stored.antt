@@ -1,19 +1,19 @@
 -- "A path or spline query: 12 only.": a segment of a stored path is never refused by its table, which the path's check found sound. Assumes nothing.
 use Prim.Native.Nat.{ℕ, zero, suc, ◌<◌}
-use mathlib.Core.Path.{◌≡◌, refl, sym, ap, ◌∙◌, subst}
+use mathlib.Core.Path.{◌≡◌, refl, subst}
 use mathlib.Core.Bool.{true}
 use mathlib.Core.List.{List}
 use native.Mathlib.Omega.{arith}
 use lib.Dec.{T}
 use lib.ListN.{length, get_or, drop}
 use lib.Ieee.{Float}
+use Rattle.std.specs.Prelude.{Result, Ok, Err}
+use Rattle.answers.specs.declared.refusals.Refusal.{Refusal}
 use Rattle.answers.specs.declared.refusals.Refusal.TheVariants.{BadPath}
 use Rattle.math.specs.declared.points.Point.{Point}
 use Rattle.floats.proofs.Tests.{passed, cond_yes, same_test}
 use Rattle.table.specs.declared.tables.Table.{Table}
 use Rattle.table.specs.Sound.{table_is_sound}
-use Rattle.flight.specs.declared.single.Placed.{Placed}
-use Rattle.flight.specs.declared.single.Placed.TheVariants as Placed
 use Rattle.bezier.specs.Curves.{placed_of}
 use Rattle.bezier.specs.Quads.{quad_placed_of, quad_position_of, quad_heading_of, quad_tangent_of}
 use Rattle.bezier.specs.Cubics.{cubic_placed_of, cubic_position_of, cubic_heading_of, cubic_tangent_of}
@@ -28,15 +28,15 @@ use Rattle.path_stored.proofs.Reading.{stored-fielded, stored-tabled, table-in-s
 use Rattle.path_part.specs.Parts.{quad_with, cubic_with, position_of, tangent_of}
 
 -- a place, and no refusal
-pub record IsPlaced (placed : Placed) : Type 0 where
+pub record IsPlaced (placed : Result Point Refusal) : Type 0 where
   pub point : Point
-  pub is : placed ≡ Placed.At point
+  pub is : placed ≡ Ok point
 
 -- ---- a segment with its table, if it has one
 module _ (table : Table) (along : Float) where
-  at-sound : (p : Point) → T (table_is_sound table.entries table.total) → placed_of table p ≡ Placed.At p
+  at-sound : (p : Point) → T (table_is_sound table.entries table.total) → placed_of table p ≡ Ok p
   unfolding placed_of
-  at-sound p sound = cond_yes (table_is_sound table.entries table.total) (Placed.At p) (Placed.Refused BadPath) sound
+  at-sound p sound = cond_yes (table_is_sound table.entries table.total) (Ok p) (Err BadPath) sound
 
   part_placed : (segment : PathSegment) → (T (has_table (kind_of segment)) → T (table_is_sound table.entries table.total)) → IsPlaced (position_of segment table along)
   unfolding position_of quad_placed_of cubic_placed_of arc_placed_of has_table tables_of

@@ -1,6 +1,6 @@
 // The segments of a stored path: how many there are, how long they are together, and one of them by its number, counted from 0. Each
 // call checks the whole path first. A number past the last segment is accepted, and gives nothing.
-ghost use Rattle.std.specs.Prelude.{◌≡◌, ◌≤◌, length};
+ghost use Rattle.std.specs.Prelude.{◌≡◌, ◌≤◌, length, Some, Ok};
 ghost use Rattle.answers.specs.Report.{written};
 ghost use Rattle.path_segment.specs.Segments.{kind_of};
 ghost use Rattle.path_stored.specs.Buffers.{before};
@@ -11,7 +11,7 @@ ghost use Rattle.kihavute_segments.specs.Segments.{places_of, numbers_of, Segmen
 use answers::{Refusal, Values};
 use path_segment::inner::{put_segment, put_table};
 use path_segment::{PathSegment, has_table, kind, width};
-use path_stored::{Counted, Emptiness, Found, Measured, Part};
+use path_stored::{Part, PathBuffers};
 use table::{Progress, Table};
 
 // How many segments there are.
@@ -27,10 +27,14 @@ pub extern "C" fn kihavute_len(
     ensures { Given (counted_answer (counted_of (before kinds fields tables lengths commands)))
         answer.old result answer.new }
 {
-    match path_stored::len(kinds, fields, tables, lengths, commands) {
-        Counted::Segments(count) => c_answer::accept(Values::One(count), answer),
-        Counted::Refused(refusal) => c_answer::refuse(refusal, answer),
-    }
+    let path = PathBuffers {
+        kinds,
+        fields,
+        tables,
+        lengths,
+        commands,
+    };
+    c_answer::give_count(path_stored::len(path), answer)
 }
 
 // Whether there are none: 1 for a yes, 0 for a no.
@@ -46,10 +50,17 @@ pub extern "C" fn kihavute_is_empty(
     ensures { Given (emptiness_answer (emptiness_of (before kinds fields tables lengths commands)))
         answer.old result answer.new }
 {
-    match path_stored::is_empty(kinds, fields, tables, lengths, commands) {
-        Emptiness::Empty => c_answer::accept(Values::One(1), answer),
-        Emptiness::NotEmpty => c_answer::accept(Values::One(0), answer),
-        Emptiness::Refused(refusal) => c_answer::refuse(refusal, answer),
+    let path = PathBuffers {
+        kinds,
+        fields,
+        tables,
+        lengths,
+        commands,
+    };
+    match path_stored::is_empty(path) {
+        Ok(true) => c_answer::accept(Values::One(1), answer),
+        Ok(false) => c_answer::accept(Values::One(0), answer),
+        Err(refusal) => c_answer::refuse(refusal, answer),
     }
 }
 
@@ -66,12 +77,16 @@ pub extern "C" fn kihavute_path_length(
     ensures { Given (measured_answer (measured_of (before kinds fields tables lengths commands)))
         answer.old result answer.new }
 {
-    match path_stored::arc_length(kinds, fields, tables, lengths, commands) {
-        Measured::Length(total) => {
-            let bits = floats::bits(total);
-            c_answer::accept(Values::One(bits as usize), answer)
-        }
-        Measured::Refused(refusal) => c_answer::refuse(refusal, answer),
+    let path = PathBuffers {
+        kinds,
+        fields,
+        tables,
+        lengths,
+        commands,
+    };
+    match path_stored::arc_length(path) {
+        Ok(total) => c_answer::accept(Values::One(floats::bits(total) as usize), answer),
+        Err(refusal) => c_answer::refuse(refusal, answer),
     }
 }
 
@@ -99,22 +114,15 @@ fn put_part(table: Table, segment: PathSegment, out: &mut [f32])
 // The kind, and how many numbers are put into out.
 fn give_part(part: Part, out: &mut [f32], answer: &mut [u64]) -> u32
     requires { 8 ≤ length answer.old }
-    ensures { SegmentGiven part out.old answer.old result out.new answer.new }
+    ensures { SegmentGiven (Ok (Some part)) out.old answer.old result out.new answer.new }
 {
-    let found = part.found;
-    match found {
-        Found::Segment(segment) => {
-            let own = kind(segment);
-            let needed = places(own);
-            if out.len() < needed {
-                return c_answer::refuse(Refusal::NoRoom(Values::One(needed)), answer);
-            }
-            put_part(part.table, segment, out);
-            c_answer::accept(Values::Two(own as usize, needed), answer)
-        }
-        Found::NoSegment => c_answer::accept(Values::Nothing, answer),
-        Found::Refused(refusal) => c_answer::refuse(refusal, answer),
+    let own = kind(part.segment);
+    let needed = places(own);
+    if out.len() < needed {
+        return c_answer::refuse(Refusal::NoRoom(Values::One(needed)), answer);
     }
+    put_part(part.table, part.segment, out);
+    c_answer::accept(Values::Two(own as usize, needed), answer)
 }
 
 // Segment i: its kind, and its numbers with those of its table from the output's start.
@@ -135,8 +143,18 @@ pub extern "C" fn kihavute_segment(
     if answer.len() < 8 {
         return 255;
     }
-    let part = path_stored::segment(kinds, fields, tables, lengths, commands, i);
-    give_part(part, out, answer)
+    let path = PathBuffers {
+        kinds,
+        fields,
+        tables,
+        lengths,
+        commands,
+    };
+    match path_stored::segment(path, i) {
+        Ok(Some(part)) => give_part(part, out, answer),
+        Ok(None) => c_answer::accept(Values::Nothing, answer),
+        Err(refusal) => c_answer::refuse(refusal, answer),
+    }
 }
 
 // The bits of x and of y of segment i at a progress along it.
@@ -154,15 +172,20 @@ pub extern "C" fn kihavute_segment_position(
     ensures { Given (position_given (part_of (before kinds fields tables lengths commands) i) along)
         answer.old result answer.new }
 {
-    let part = path_stored::segment(kinds, fields, tables, lengths, commands, i);
-    let found = part.found;
-    match found {
-        Found::Segment(segment) => {
-            let at = path_part::position(segment, part.table, Progress { value: along });
+    let path = PathBuffers {
+        kinds,
+        fields,
+        tables,
+        lengths,
+        commands,
+    };
+    match path_stored::segment(path, i) {
+        Ok(Some(part)) => {
+            let at = path_part::position(part.segment, part.table, Progress { value: along });
             c_answer::give_place(at, answer)
         }
-        Found::NoSegment => c_answer::accept(Values::Nothing, answer),
-        Found::Refused(refusal) => c_answer::refuse(refusal, answer),
+        Ok(None) => c_answer::accept(Values::Nothing, answer),
+        Err(refusal) => c_answer::refuse(refusal, answer),
     }
 }
 
@@ -181,15 +204,20 @@ pub extern "C" fn kihavute_segment_tangent(
     ensures { Given (tangent_given (part_of (before kinds fields tables lengths commands) i) along)
         answer.old result answer.new }
 {
-    let part = path_stored::segment(kinds, fields, tables, lengths, commands, i);
-    let found = part.found;
-    match found {
-        Found::Segment(segment) => {
-            let to = path_part::tangent(segment, part.table, Progress { value: along });
+    let path = PathBuffers {
+        kinds,
+        fields,
+        tables,
+        lengths,
+        commands,
+    };
+    match path_stored::segment(path, i) {
+        Ok(Some(part)) => {
+            let to = path_part::tangent(part.segment, part.table, Progress { value: along });
             c_answer::give_place(to, answer)
         }
-        Found::NoSegment => c_answer::accept(Values::Nothing, answer),
-        Found::Refused(refusal) => c_answer::refuse(refusal, answer),
+        Ok(None) => c_answer::accept(Values::Nothing, answer),
+        Err(refusal) => c_answer::refuse(refusal, answer),
     }
 }
 
@@ -208,14 +236,19 @@ pub extern "C" fn kihavute_segment_rotation(
     ensures { Given (rotation_given (part_of (before kinds fields tables lengths commands) i) along)
         answer.old result answer.new }
 {
-    let part = path_stored::segment(kinds, fields, tables, lengths, commands, i);
-    let found = part.found;
-    match found {
-        Found::Segment(segment) => {
-            let to = path_part::rotation_deg(segment, part.table, Progress { value: along });
+    let path = PathBuffers {
+        kinds,
+        fields,
+        tables,
+        lengths,
+        commands,
+    };
+    match path_stored::segment(path, i) {
+        Ok(Some(part)) => {
+            let to = path_part::rotation_deg(part.segment, part.table, Progress { value: along });
             c_answer::give_turn(to, answer)
         }
-        Found::NoSegment => c_answer::accept(Values::Nothing, answer),
-        Found::Refused(refusal) => c_answer::refuse(refusal, answer),
+        Ok(None) => c_answer::accept(Values::Nothing, answer),
+        Err(refusal) => c_answer::refuse(refusal, answer),
     }
 }

@@ -1,26 +1,25 @@
 -- What an accepted call leaves to its caller: the legs of the path, as specs/Promises.antt promises them. Assumes nothing.
 use Prim.Native.Nat.{ℕ, ◌/◌}
-use mathlib.Core.Path.{◌≡◌, refl, sym, ap, ◌∙◌}
+use mathlib.Core.Path.{◌≡◌, refl, sym, ap}
 use mathlib.Core.Bool.{Bool, true, false, cond}
 use mathlib.Core.List.{List, [], ◌∷◌}
 use native.Mathlib.Omega.{arith}
 use lib.Dec.{ltb}
 use lib.Ieee.{Float}
+use Rattle.std.specs.Prelude.{Ok}
 use lib.ListN.{length, drop, get_or}
 use Rattle.floats.specs.Floats.{bits_of}
-use Rattle.answers.specs.Answers.{Answer, accepted, refused}
+use Rattle.answers.specs.Answers.{Answer, accepted}
 use Rattle.answers.specs.Report.{written}
 use Rattle.answers.specs.declared.refusals.Values.TheVariants.{One}
-use Rattle.answers.specs.declared.refusals.Refusal.{Refusal}
 use Rattle.answers.specs.declared.refusals.Refusal.TheVariants.{BadPath, NoRoom, Range}
 use Rattle.answers.proofs.Settled.{refused-not-accepted}
 use Rattle.path_stored.specs.Buffers.{Buffers}
 use Rattle.path_stored.specs.Stored.{is_stored}
 use Rattle.flat.specs.declared.pieces.Tally.{Tally}
 use Rattle.flat.specs.Nearness.{limit_of}
-use Rattle.legs.specs.declared.flattening.Flattened.TheVariants as Flattened
 use Rattle.legs.specs.Paths.{path_legs, path_tally}
-use Rattle.legs.specs.Legs.{is_distance, Outcome, flown, refusal, roomed, outcome_of, flag, answered, written_by, Legs}
+use Rattle.legs.specs.Legs.{is_distance, Outcome, flown, refusal, outcome_of, flag, answered, written_by, Legs}
 use Rattle.legs.specs.Promises.{PathFlown}
 use Rattle.legs.proofs.Promised.{path-flown}
 
@@ -68,5 +67,5 @@ flown-path b distance before {after} n far told wrote =
 
 pub legs-flown :
     {b : Buffers} {distance : Float} {before after : List Float} {n : ℕ} {far : Bool}
-    → Legs b distance before (Flattened.Legs n far) after → PathFlown (limit_of distance) b.kinds b.fields after n far
+    → Legs b distance before (Ok (record { legs = n; far = far })) after → PathFlown (limit_of distance) b.kinds b.fields after n far
 legs-flown {b} {distance} {before} {n = n} {far = far} p = flown-path b distance before n far p.answer p.output

@@ -1,5 +1,5 @@
 -- The promises of specs/Promises.antt: of a segment, of a path, and of what an accepted call leaves to its caller. Assumes nothing.
-use Prim.Native.Nat.{ℕ, zero, suc, ◌+◌, ◌*◌, ◌≤◌, ◌<◌}
+use Prim.Native.Nat.{ℕ, zero, suc, ◌+◌, ◌*◌, ◌<◌}
 use mathlib.Core.Path.{◌≡◌, refl, sym, ap, ◌∙◌}
 use mathlib.Core.Bool.{Bool, true, false, ◌||◌, true≢false}
 use mathlib.Core.Logic.{◌⊎◌, inl, inr}
@@ -9,18 +9,15 @@ use native.Mathlib.Omega.{arith}
 use lib.Ieee.{Float}
 use lib.ListN.{length, take, drop, get_or}
 use lib.Seq.{take-append-le, take_all, drop-append-add, drop-drop}
-use Rattle.math.specs.declared.points.Point.{Point}
 use Rattle.ellipse.specs.declared.ends.Arc.{Arc}
 use Rattle.path_segment.specs.declared.segments.PathSegment.{PathSegment}
 use Rattle.path_segment.specs.declared.segments.PathSegment.TheVariants as Segment
 use Rattle.path_segment.specs.Segments.{width_of, segment_of}
 use Rattle.path_stored.specs.Stored.{before, segment_in}
 use Rattle.flat.specs.declared.curves.Curve.{Curve}
-use Rattle.flat.specs.declared.curves.Curve.TheVariants as Curve
 use Rattle.flat.specs.declared.pieces.Tally.{Tally}
-use Rattle.flat.specs.Pieces.{pieces_of, any_far, tally_of}
+use Rattle.flat.specs.Pieces.{pieces_of, tally_of}
 use Rattle.flat.specs.Promises.{Leads}
-use Rattle.flat.proofs.Halving.{few}
 use Rattle.flat.proofs.Laws.{pieces-lead, pieces-some, pieces-most, legs-lead, clear-near, set-far}
 use Rattle.legs.specs.Segments.{arc_point, arc_legs, segment_legs, segment_tally}
 use Rattle.legs.specs.Paths.{path_legs, path_tally}

@@ -5,7 +5,6 @@ use Rattle.path_segment.specs.declared.segments.PathSegment.{PathSegment}
 use Rattle.path_segment.specs.declared.segments.PathSegment.TheVariants as Segment
 use Rattle.path_stored.specs.Stored.{segment_in}
 use Rattle.flat.specs.declared.curves.Curve.{Curve}
-use Rattle.flat.specs.declared.curves.Curve.TheVariants as Curve
 use Rattle.flat.specs.Pieces.{pieces_of}
 use Rattle.flat.specs.Promises.{Leads, EachNear, SomeFar}
 use Rattle.legs.specs.Segments.{segment_legs}

@@ -15,9 +15,5 @@ ghost use Rattle.lengths.specs.Length.{length_of};
 pub fn length(x: f32, y: f32) -> f32
     ensures { result ≡ length_of x y }
 {
-    let known = alone::judged(x, y);
-    if known == 0.0 {
-        return exact::length(x, y);
-    }
-    known
+    alone::judged(x, y).unwrap_or_else(|| exact::length(x, y))
 }

@@ -18,7 +18,6 @@ use Rattle.math.specs.Math.{lerp_of, lerp_point_of}
 use Rattle.table.specs.Lookup.{at}
 use Rattle.polyline.specs.Points.{point_at, two_of, rows_of}
 use Rattle.morph.specs.Shapes.{shared_of, between_at, numbers_between, any_nan}
-use Rattle.morph.proofs.Sharing.{shared-upto, shared-upto-second}
 
 -- ---- the numbers of the points
 
@@ -86,7 +85,6 @@ or-each false false p q = refl
 pub record Filling (from to : List Float) (along : Float) (before : List Float) (half : ℕ) (now : List Float) (any : Bool) (j : ℕ) : Type 0 where
   pub all : half ≡ shared_of from to
   pub room : 2 * half ≤ length before
-  pub upto : j ≤ half
   pub size : length now ≡ length before
   pub low : (i : ℕ) → i < j → at now i ≡ number_at from to along i
   pub high : (i : ℕ) → i < j → at now (half + i) ≡ number_at from to along (half + i)
@@ -100,7 +98,6 @@ module _ {from to : List Float} {along : Float} {before : List Float} {half : �
       record {
         all = e;
         room = omega arith;
-        upto = omega arith;
         size = refl;
         low = λ i none. absurd (omega arith);
         high = λ i none. absurd (omega arith);
@@ -110,13 +107,7 @@ module _ {from to : List Float} {along : Float} {before : List Float} {half : �
 
   module _ {now : List Float} {any : Bool} {j : ℕ} (f : Filling from to along before half now any j) where
     module _ (more : j < half) where
-      -- the number past the middle stands in the two shapes and in the output, and so the other one does
-      pub filling-first : half + j < length from
-      filling-first = omega (arith, shared-upto from to, f.all)
-
-      pub filling-second : half + j < length to
-      filling-second = omega (arith, shared-upto-second from to, f.all)
-
+      -- the number past the middle stands in the output
       pub filling-room : half + j < length now
       filling-room = omega (arith, f.size, f.room)
 
@@ -144,7 +135,6 @@ module _ {from to : List Float} {along : Float} {before : List Float} {half : �
           record {
             all = f.all;
             room = f.room;
-            upto = omega arith;
             size = length-set (set now j v) (half + j) w ∙ length-set now j v ∙ f.size;
             low = below_more (λ i. at (stored v w) i ≡ number i) j (λ i below. stored_other v w i (λ e. omega arith) (λ e. omega arith) ∙ f.low i below) (stored_low v w ∙ e);
             high =
@@ -160,7 +150,7 @@ module _ {from to : List Float} {along : Float} {before : List Float} {half : �
                 ∙ ap (λ (i : ℕ). any_nan (numbers_of number i) || any_nan (numbers_of second i)) (sym (add-one j));
           }
 
-    module _ (done : half ≤ j) where
+    module _ (upto : j ≤ half) (done : half ≤ j) where
       all-numbers : numbers_of (number_at from to along) (2 * half) ≡ numbers_between from to along
       all-numbers = ap (λ (k : ℕ). numbers_of (number_at from to along) (2 * k)) f.all ∙ sym (rows-numbers from to along (shared_of from to))
 

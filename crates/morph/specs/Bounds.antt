@@ -1,14 +1,11 @@
 -- The bounds of the shape between two shapes (source document 004, `bounds_at`): 9, 13, each the first shape, then the second. Path units. Definitions only.
-use Rattle.std.specs.Prelude.{ℕ, zero, suc, cond, List, eqb, Float}
+use Rattle.std.specs.Prelude.{ℕ, zero, suc, List, Float, Result, Ok, Err}
 use Rattle.floats.specs.Floats.{zero_f, min_of, max_of}
+use Rattle.answers.specs.declared.refusals.Refusal.{Refusal}
 use Rattle.math.specs.declared.points.Point.{Point}
 use Rattle.polyline.specs.Judging.{judge_two_of}
-use Rattle.polyline.specs.declared.judging.Judged.{Judged}
-use Rattle.polyline.specs.declared.judging.Judged.TheVariants as Judged
 use Rattle.morph.specs.Shapes.{progress_of, shared_of, between_at}
 use Rattle.morph.specs.declared.bounding.Bounds.{Bounds}
-use Rattle.morph.specs.declared.bounding.Bounded.{Bounded}
-use Rattle.morph.specs.declared.bounding.Bounded.TheVariants as Bounded
 
 abbrev pub point_bounds : Point → Bounds
 point_bounds p = record { min_x = p.x; min_y = p.y; max_x = p.x; max_y = p.y }
@@ -32,9 +29,9 @@ bounds_of from to along zero = no_bounds
 bounds_of from to along (suc zero) = point_bounds (between_at from to along 0)
 bounds_of from to along (suc (suc k)) = widened (bounds_of from to along (suc k)) (between_at from to along (suc k))
 
-abbrev pub bounded_by : Judged → Bounds → Bounded
-bounded_by Judged.Fine bounds = Bounded.Within bounds
-bounded_by (Judged.Refused reason) bounds = Bounded.Refused reason
+abbrev pub bounded_by : Result (Unit {0}) Refusal → Bounds → Result Bounds Refusal
+bounded_by (Ok fine) bounds = Ok bounds
+bounded_by (Err reason) bounds = Err reason
 
-unfoldable pub bounded_of : List Float → List Float → Float → Bounded
+unfoldable pub bounded_of : List Float → List Float → Float → Result Bounds Refusal
 bounded_of from to t = bounded_by (judge_two_of from to) (bounds_of from to (progress_of t) (shared_of from to))

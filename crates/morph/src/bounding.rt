@@ -7,7 +7,7 @@ use crate::between::{between_at, progress, shared};
 use answers::Refusal;
 use floats::{max, min, tidy};
 use math::Point;
-use polyline::{Judged, judge_two};
+use polyline::judge_two;
 
 // The smallest and the largest of each coordinate, in path units.
 #[derive(Clone, Copy)]
@@ -16,12 +16,6 @@ pub struct Bounds {
     pub min_y: f32,
     pub max_x: f32,
     pub max_y: f32,
-}
-
-#[derive(Clone, Copy)]
-pub enum Bounded {
-    Within(Bounds),
-    Refused(Refusal),
 }
 
 // The bounds of one point.
@@ -66,33 +60,25 @@ fn bounds_between(from: &[f32], to: &[f32], along: f32) -> Bounds
 {
     let count = shared(from, to);
     let mut bounds = around(between_at(from, to, along, 0));
-    let mut i: usize = 1;
-    while i < count {
+    for i in 1..count {
         bounds = widen(bounds, between_at(from, to, along, i));
-        i += 1;
     }
     bounds
 }
 
 // The bounds of the shape at the progress t. Where one shape has no points, they are four zeros.
-pub fn bounds_at(from: &[f32], to: &[f32], t: f32) -> Bounded
+#[tactic(auto, unfolding(crate::specs::Bounds::bounded_of, crate::specs::Bounds::bounds_of, crate::specs::Bounds::no_bounds, floats::specs::Floats::zero_f))]
+pub fn bounds_at(from: &[f32], to: &[f32], t: f32) -> Result<Bounds, Refusal>
     ensures { result ≡ bounded_of from.now to.now t }
 {
-    match judge_two(from, to) {
-        Judged::Refused(refusal) => {
-            return Bounded::Refused(refusal);
-        }
-        Judged::Fine => {}
-    }
+    judge_two(from, to)?;
     if shared(from, to) == 0 {
-        let none = Bounds {
+        return Ok(Bounds {
             min_x: 0.0,
             min_y: 0.0,
             max_x: 0.0,
             max_y: 0.0,
-        };
-        return Bounded::Within(none);
+        });
     }
-    let bounds = bounds_between(from, to, progress(t));
-    Bounded::Within(tidied(bounds))
+    Ok(tidied(bounds_between(from, to, progress(t))))
 }

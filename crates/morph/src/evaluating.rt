@@ -9,18 +9,12 @@ use crate::between::{progress, shared};
 use answers::{Refusal, Values};
 use floats::tidy;
 use math::lerp;
-use polyline::{Judged, judge_two};
-
-#[derive(Clone, Copy)]
-pub enum Evaluated {
-    // The points are put into this many places of the output, two for each.
-    Numbers(usize),
-    Refused(Refusal),
-}
+use polyline::judge_two;
 
 // The numbers of the shape between, two for each point, each NaN in the pattern that the processor
 // gives it. Whether there is one. There are as many past the middle as before it: each step puts one
 // of each half, so that one test of two lanes asks for both.
+#[tactic(auto, using(crate::proofs::Sharing::shared_upto, crate::proofs::Sharing::shared_upto_second))]
 fn put_numbers(from: &[f32], to: &[f32], along: f32, out: &mut [f32]) -> bool
     requires { 2 * shared_of from.now to.now ≤ length out.old }
     ensures answer { result ≡ any_nan (numbers_between from.now to.now along) }
@@ -28,27 +22,22 @@ fn put_numbers(from: &[f32], to: &[f32], along: f32, out: &mut [f32]) -> bool
 {
     let half = shared(from, to);
     let mut any = false;
-    let mut j: usize = 0;
-    while j < half {
+    for j in 0..half {
         let low = lerp(from[j], to[j], along);
         let high = lerp(from[half + j], to[half + j], along);
         out[j] = low;
         out[half + j] = high;
         any = any | (low != low) | (high != high);
-        j += 1;
     }
     any
 }
 
-// The first numbers with each NaN in the one pattern.
-fn tidy_numbers(out: &mut [f32], count: usize)
-    requires { count ≤ length out.old }
-    ensures { out.new ≡ out.old }
+// The same numbers, each NaN in the one pattern.
+fn tidy_numbers(numbers: &mut [f32])
+    ensures { numbers.new ≡ numbers.old }
 {
-    let mut j: usize = 0;
-    while j < count {
-        out[j] = tidy(out[j]);
-        j += 1;
+    for number in numbers {
+        *number = tidy(*number);
     }
 }
 
@@ -59,25 +48,22 @@ fn fill_between(from: &[f32], to: &[f32], along: f32, out: &mut [f32])
     ensures { out.new ≡ written (rows_of (between_at from.now to.now along) (shared_of from.now to.now)) out.old }
 {
     if put_numbers(from, to, along, out) {
-        tidy_numbers(out, 2 * shared(from, to));
+        tidy_numbers(&mut out[..2 * shared(from, to)]);
     }
 }
 
-// The shape at the progress t, from the output's start: as many points as both shapes have. A refusal
-// writes nothing, and what stands past the counted places is left as it was.
-pub fn evaluate(from: &[f32], to: &[f32], t: f32, out: &mut [f32]) -> Evaluated
+// The shape at the progress t, from the output's start, of as many points as both shapes have: how many
+// places they take, two for each. A refusal writes nothing, and what stands past the counted places is
+// left as it was.
+#[tactic(auto, unfolding(crate::specs::Evaluate::evaluate_of, crate::specs::Evaluate::shape_of), using(crate::proofs::Answers::between_length, crate::proofs::Sharing::shared_upto))]
+pub fn evaluate(from: &[f32], to: &[f32], t: f32, out: &mut [f32]) -> Result<usize, Refusal>
     ensures { Evaluate from.now to.now t out.old result out.new }
 {
-    match judge_two(from, to) {
-        Judged::Refused(refusal) => {
-            return Evaluated::Refused(refusal);
-        }
-        Judged::Fine => {}
-    }
+    judge_two(from, to)?;
     let need = 2 * shared(from, to);
     if out.len() < need {
-        return Evaluated::Refused(Refusal::NoRoom(Values::One(need)));
+        return Err(Refusal::NoRoom(Values::One(need)));
     }
     fill_between(from, to, progress(t), out);
-    Evaluated::Numbers(need)
+    Ok(need)
 }

@@ -7,6 +7,6 @@ mod bounding;
 mod evaluating;
 mod morphing;
 
-pub use bounding::{Bounded, Bounds, bounds_at};
-pub use evaluating::{Evaluated, evaluate};
+pub use bounding::{Bounds, bounds_at};
+pub use evaluating::evaluate;
 pub use morphing::{Morphed, morph, morph_default};

@@ -7,12 +7,13 @@ use native.Mathlib.Numerals.{add-one}
 use native.Mathlib.Omega.{arith}
 use lib.Dec.{T, ltb, leb, ltb→lt, leb→le, le→leb}
 use lib.Ieee.{Float, nan, binary32, add, fits}
-use lib.Ieee.Bits.{of_bits-fits}
 use lib.Ieee.Fits.{and_i, and_l, and_r}
 use lib.Ieee.Scale.{finite}
-use lib.ListN.{length, get_or, take, drop, set, length-set, length-append, length-take}
+use lib.ListN.{length, get_or, take, drop, set, length-set, length-append}
 use lib.Seq.{sets, sets-eq, take_at, take-suc-set, get_or-take, length-take-le}
 use Rattle.answers.specs.declared.refusals.Values.{Values}
+use Rattle.std.specs.Prelude.{Result, Ok, Err}
+use Rattle.answers.specs.declared.refusals.Refusal.{Refusal}
 use Rattle.answers.specs.declared.refusals.Refusal.TheVariants.{NoRoom, RotationRange, NotFinite, BadPath, Range}
 use Rattle.floats.specs.Floats.{zero_f}
 use Rattle.table.specs.Spots as Spots
@@ -25,8 +26,6 @@ use Rattle.path_stored.specs.Layout.{extended}
 use Rattle.path_stored.specs.Stored.{before, most_segments, last_number, is_stored, Stored}
 use Rattle.path_stored.proofs.Rule.{stored-rule, rule-stored}
 use Rattle.path_stored.proofs.Extending.{all_more, stored_more}
-use Rattle.path_append.specs.declared.pushing.Appended.{Appended}
-use Rattle.path_append.specs.declared.pushing.Appended.TheVariants as Appended
 use Rattle.path_append.specs.Appending.{numbers_used, tables_used, first_of, in_use, number_before, may_follow, may_turn, grown_of, needs_of, has_room, fitting_of, appended_of, is_added, stored_at, afterwards, Append, Room}
 use Rattle.path_append.proofs.InUse.{before-take, follow-used, follow-above}
 
@@ -36,9 +35,9 @@ tests :
     → is_added
     (cond u
     (cond f
-    (cond t (cond g (cond r (Appended.Added needs) (Appended.Refused (NoRoom needs))) (Appended.Refused (NotFinite count))) (Appended.Refused (RotationRange count)))
-    (Appended.Refused (Range (count + 1))))
-    (Appended.Refused BadPath))
+    (cond t (cond g (cond r (Ok needs) (Err (NoRoom needs))) (Err (NotFinite count))) (Err (RotationRange count)))
+    (Err (Range (count + 1))))
+    (Err BadPath))
     ≡ true
     → T u × T f × T t × T g × T r
 tests count needs false f t g r e = absurd (false≢true e)
@@ -157,7 +156,7 @@ module _ (b : Buffers) (count command : ℕ) (segment : PathSegment) (value : T 
       shares : (a b x y : ℕ) → x ≡ a + b → y ≡ 33 * b → 33 * x ≡ 33 * a + y
       shares a b x y p q = omega arith
 
-  pub append-stored : {r : Appended} {b' : Buffers} → Append b count command segment r b' → is_added r ≡ true → T (in_use b' (count + 1))
+  pub append-stored : {r : Result Values Refusal} {b' : Buffers} → Append b count command segment r b' → is_added r ≡ true → T (in_use b' (count + 1))
   unfolding in_use
   append-stored {r} {b'} a added =
       let p = added-passed b count command segment (subst (λ x. is_added x ≡ true) a.answer added) in
@@ -171,6 +170,6 @@ module _ (b : Buffers) (count command : ℕ) (segment : PathSegment) (value : T 
       (rw (first_more room) (stored-then s (follow-above b count command p.follows) p.fine room)))
 
 -- ---- any two allowed results are equal
-pub append-unique : {b : Buffers} {count command : ℕ} {segment : PathSegment} {r s : Appended} {b₁ b₂ : Buffers} → Append b count command segment r b₁ → Append b count command segment s b₂
+pub append-unique : {b : Buffers} {count command : ℕ} {segment : PathSegment} {r s : Result Values Refusal} {b₁ b₂ : Buffers} → Append b count command segment r b₁ → Append b count command segment s b₂
     → (r ≡ s) × (b₁ ≡ b₂)
 append-unique {b} {count} {command} {segment} p q = let e = p.answer ∙ sym q.answer in (e, p.after ∙ ap (λ x. afterwards x b count command segment) e ∙ sym q.after)

@@ -1,13 +1,13 @@
 -- The path in use, counted over a part of the kinds or over all of them, and the ways in which it is none. Assumes nothing.
-use Prim.Native.Nat.{ℕ, zero, suc, ◌+◌, ◌-◌, ◌*◌, ◌≤◌, ◌<◌}
+use Prim.Native.Nat.{ℕ, zero, suc, ◌+◌, ◌*◌, ◌≤◌, ◌<◌}
 use mathlib.Core.Path.{◌≡◌, refl, sym, ap, ◌∙◌}
-use mathlib.Core.Bool.{Bool, true, false, ◌&&◌}
+use mathlib.Core.Bool.{Bool, true, false}
 use mathlib.Core.List.{List, [], ◌∷◌}
 use native.Mathlib.Omega.{arith}
 use borrow.Author.Tests.{le-leb, lt-leb}
 use lib.Dec.{T, leb, leb→le}
 use lib.Ieee.Fits.{and_l, and_r}
-use lib.ListN.{length, get_or, take, length-take}
+use lib.ListN.{length, take, length-take}
 use lib.Seq.{length-take-le}
 use Rattle.path_segment.specs.Segments.{width_of, tables_of}
 use Rattle.path_segment.proofs.Widths.{width-most}
@@ -31,14 +31,6 @@ numbers-bound kinds count = before-most width_of 11 width-most kinds count
 
 pub tables-bound : (kinds : List ℕ) (count : ℕ) → tables_used kinds count ≤ 33 * count
 tables-bound kinds count = omega (arith, tables-at-most kinds count)
-
--- ---- the number before a new one
-pub number-first : (commands : List ℕ) (count : ℕ) → count ≡ 0 → 0 ≡ number_before commands count
-number-first commands count e = rw e
-
-pub number-after : (commands : List ℕ) (count : ℕ) → (count ≡ 0 → ⊥) → get_or commands (count - 1) 0 ≡ number_before commands count
-number-after commands zero h = absurd (h refl)
-number-after commands (suc n) h = ap (λ i. get_or commands i 0) (let e : suc n - 1 ≡ n = omega arith in e)
 
 -- ---- no path is in use
 refuted : (b : Bool) → (T b → ⊥) → b ≡ false

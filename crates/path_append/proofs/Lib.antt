@@ -1,5 +1,3 @@
 -- Laws of appending.
 pub mod InUse
-pub mod Fitting
-pub mod Grown
 pub mod Added

@@ -1,13 +1,14 @@
 -- One segment more on a stored path with room after it (source document 002, `push_segment`, `line_to`, `quad_to`, `cubic_to`, `arc_to`; document 01, "The answers"; document 02, L5). The path
 -- is the first `count` segments of the kinds, with their numbers, tables, running lengths and command numbers at the start of each buffer; `command` is the new segment's command number, which
 -- the caller names. Definitions only.
-use Rattle.std.specs.Prelude.{ℕ, ◌+◌, ◌*◌, ◌≤◌, ◌<◌, ◌≡◌, Bool, true, false, ◌&&◌, cond, List, [], ◌∷◌, leb, ltb, length, get_or, take, set, Float}
+use Rattle.std.specs.Prelude.{ℕ, ◌+◌, ◌*◌, ◌≤◌, ◌<◌, ◌≡◌, Bool, true, false, ◌&&◌, cond, List, ◌∷◌, leb, ltb, length, get_or, take, set, Float, Result, Ok, Err}
 use Rattle.std.proofs.lemmas.List.Edits.{sets}
 use Rattle.std.specs.Float.{binary32}
 use Rattle.std.specs.Float.Ieee.{add}
 use Rattle.std.specs.Float.Ieee.Scale.{finite}
 use Rattle.answers.specs.declared.refusals.Values.{Values}
 use Rattle.answers.specs.declared.refusals.Values.TheVariants.{Five}
+use Rattle.answers.specs.declared.refusals.Refusal.{Refusal}
 use Rattle.answers.specs.declared.refusals.Refusal.TheVariants.{NoRoom, RotationRange, NotFinite, BadPath, Range}
 use Rattle.answers.specs.Answers.{Answer, accepted, refused, listed}
 use Rattle.table.specs.Spots as Spots
@@ -19,8 +20,6 @@ use Rattle.path_segment.specs.declared.segments.PathSegment.TheVariants as Segme
 use Rattle.path_segment.specs.Segments.{kind_of, width_of, tables_of, fields_of, table_stored, length_for}
 use Rattle.path_stored.specs.Buffers.{Buffers, buffers}
 use Rattle.path_stored.specs.Stored.{before, most_segments, is_stored}
-use Rattle.path_append.specs.declared.pushing.Appended.{Appended}
-use Rattle.path_append.specs.declared.pushing.Appended.TheVariants as Appended
 
 -- ---- the path in use
 
@@ -79,30 +78,30 @@ has_room b count segment =
     && ltb count (length b.commands)
 
 -- 8, where all else is right
-unfoldable pub fitting_of : Buffers → ℕ → PathSegment → Appended
+unfoldable pub fitting_of : Buffers → ℕ → PathSegment → Result Values Refusal
 unfolding needs_of has_room
-fitting_of b count segment = cond (has_room b count segment) (Appended.Added (needs_of b.kinds count segment)) (Appended.Refused (NoRoom (needs_of b.kinds count segment)))
+fitting_of b count segment = cond (has_room b count segment) (Ok (needs_of b.kinds count segment)) (Err (NoRoom (needs_of b.kinds count segment)))
 
 -- 12, 13 with the count of segments that there would be, 10, 11 with the new segment's number, 8
-unfoldable pub appended_of : Buffers → ℕ → ℕ → PathSegment → Appended
+unfoldable pub appended_of : Buffers → ℕ → ℕ → PathSegment → Result Values Refusal
 unfolding may_follow grown_of fitting_of
 appended_of b count command segment =
     cond (may_follow b count command)
     (cond (ltb count most_segments)
     (cond (may_turn segment)
-    (cond (finite (grown_of b.lengths count segment)) (fitting_of b count segment) (Appended.Refused (NotFinite count)))
-    (Appended.Refused (RotationRange count)))
-    (Appended.Refused (Range (count + 1))))
-    (Appended.Refused BadPath)
+    (cond (finite (grown_of b.lengths count segment)) (fitting_of b count segment) (Err (NotFinite count)))
+    (Err (RotationRange count)))
+    (Err (Range (count + 1))))
+    (Err BadPath)
 
 -- the number and the values of each case; an accepted call tells what is in use now
-abbrev pub answer_of : Appended → Answer
-answer_of (Appended.Added counts) = accepted (listed counts)
-answer_of (Appended.Refused refusal) = refused refusal
+abbrev pub answer_of : Result Values Refusal → Answer
+answer_of (Ok counts) = accepted (listed counts)
+answer_of (Err refusal) = refused refusal
 
-abbrev pub is_added : Appended → Bool
-is_added (Appended.Added counts) = true
-is_added (Appended.Refused refusal) = false
+abbrev pub is_added : Result Values Refusal → Bool
+is_added (Ok counts) = true
+is_added (Err refusal) = false
 
 -- ---- what is written
 
@@ -114,10 +113,10 @@ stored_at b count command segment =
     (set b.commands count command)
 
 -- "A refusal writes to no output."
-abbrev pub afterwards : Appended → Buffers → ℕ → ℕ → PathSegment → Buffers
+abbrev pub afterwards : Result Values Refusal → Buffers → ℕ → ℕ → PathSegment → Buffers
 afterwards appended b count command segment = cond (is_added appended) (stored_at b count command segment) b
 
-pub record Append (b : Buffers) (count command : ℕ) (segment : PathSegment) (r : Appended) (b' : Buffers) : Type 0 where
+pub record Append (b : Buffers) (count command : ℕ) (segment : PathSegment) (r : Result Values Refusal) (b' : Buffers) : Type 0 where
   pub answer : r ≡ appended_of b count command segment
   pub after : b' ≡ afterwards r b count command segment
 

@@ -5,7 +5,8 @@ ghost use Rattle.arc.specs.Lines.{line_of};
 ghost use Rattle.path_stored.specs.Buffers.{after, before_mut};
 ghost use Rattle.path_append.specs.Appending.{Append, arc_segment};
 
-use crate::pushing::{Appended, push_segment};
+use crate::pushing::push_segment;
+use answers::{Refusal, Values};
 use arc::{LineSegment, fallback_shape, is_fallback};
 use ellipse::{Chord, from_ends};
 use math::Point;
@@ -22,7 +23,7 @@ pub fn line_to(
     command: u32,
     start: Point,
     end: Point,
-) -> Appended
+) -> Result<Values, Refusal>
     ensures { Append (before_mut kinds numbers tables lengths commands) count command (PathSegment.Line (line_of start end)) result (after kinds numbers tables lengths commands) }
 {
     let segment = PathSegment::Line(LineSegment { start, end });
@@ -43,7 +44,7 @@ pub fn quad_to(
     start: Point,
     control: Point,
     end: Point,
-) -> Appended
+) -> Result<Values, Refusal>
     ensures { Append (before_mut kinds numbers tables lengths commands) count command (PathSegment.Quad start control end) result (after kinds numbers tables lengths commands) }
 {
     let segment = PathSegment::Quad {
@@ -69,7 +70,7 @@ pub fn cubic_to(
     control1: Point,
     control2: Point,
     end: Point,
-) -> Appended
+) -> Result<Values, Refusal>
     ensures { Append (before_mut kinds numbers tables lengths commands) count command (PathSegment.Cubic start control1 control2 end) result (after kinds numbers tables lengths commands) }
 {
     let segment = PathSegment::Cubic {
@@ -84,6 +85,7 @@ pub fn cubic_to(
 }
 
 // The arc of a chord, or its line fallback.
+#[tactic(auto, unfolding(crate::specs::Appending::arc_segment))]
 fn arc_segment(chord: Chord) -> PathSegment
     ensures { result ≡ arc_segment chord }
 {
@@ -103,7 +105,7 @@ pub fn arc_to(
     count: usize,
     command: u32,
     chord: Chord,
-) -> Appended
+) -> Result<Values, Refusal>
     ensures { Append (before_mut kinds numbers tables lengths commands) count command (arc_segment chord) result (after kinds numbers tables lengths commands) }
 {
     push_segment(

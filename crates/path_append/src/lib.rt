@@ -9,4 +9,4 @@ mod storing;
 mod used;
 
 pub use drawing::{arc_to, cubic_to, line_to, quad_to};
-pub use pushing::{Appended, push_segment};
+pub use pushing::push_segment;

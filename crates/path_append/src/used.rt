@@ -1,11 +1,11 @@
-// The path in use: the first segments of five buffers.
+// The path in use: the first `count` segments of five buffers. The caller counts them, C too, since what it lends has room after them.
 ghost use Rattle.std.specs.Prelude.{◌≡◌, ◌≤◌, length};
-ghost use Rattle.path_stored.specs.Buffers.{before};
+ghost use Rattle.path_stored.specs.Paths.{held};
 ghost use Rattle.path_stored.specs.Stored.{most_segments};
 ghost use Rattle.path_append.specs.Appending.{numbers_used, tables_used, in_use, number_before, may_follow};
 
-use path_stored::check_path;
 use path_stored::inner::{fields_before, tables_before};
+use path_stored::{PathBuffers, check_path};
 
 // How many numbers the first `count` segments have.
 pub(crate) fn numbers_used(kinds: &[u8], count: usize) -> usize
@@ -27,43 +27,36 @@ pub(crate) fn tables_used(kinds: &[u8], count: usize) -> usize
 
 // Whether the first `count` segments are a stored path: their numbers, tables, running lengths and command numbers stand at the start of
 // each buffer.
-fn is_in_use(
-    kinds: &[u8],
-    numbers: &[f32],
-    tables: &[f32],
-    lengths: &[f32],
-    commands: &[u32],
-    count: usize,
-) -> bool
-    ensures { result ≡ in_use (before kinds numbers tables lengths commands) count }
+fn is_in_use(path: PathBuffers, count: usize) -> bool
+    ensures { result ≡ in_use (held path.entry) count }
 {
-    if kinds.len() < count {
+    if path.kinds.len() < count {
         return false;
     }
     if 65536 < count {
         return false;
     }
-    if lengths.len() < count {
+    if path.lengths.len() < count {
         return false;
     }
-    if commands.len() < count {
+    if path.commands.len() < count {
         return false;
     }
-    let n = numbers_used(kinds, count);
-    if numbers.len() < n {
+    let n = numbers_used(path.kinds, count);
+    if path.fields.len() < n {
         return false;
     }
-    let m = tables_used(kinds, count);
-    if tables.len() < m {
+    let m = tables_used(path.kinds, count);
+    if path.tables.len() < m {
         return false;
     }
-    check_path(
-        &kinds[..count],
-        &numbers[..n],
-        &tables[..m],
-        &lengths[..count],
-        &commands[..count],
-    )
+    check_path(PathBuffers {
+        kinds: &path.kinds[..count],
+        fields: &path.fields[..n],
+        tables: &path.tables[..m],
+        lengths: &path.lengths[..count],
+        commands: &path.commands[..count],
+    })
 }
 
 // The last command number of the first `count`, or 0 where there is none.
@@ -79,19 +72,9 @@ fn number_before(commands: &[u32], count: usize) -> u32
 
 // Whether a segment of the command with this number may stand after the first `count`: they are a stored path, and their last number is
 // not above it.
-pub(crate) fn may_follow(
-    kinds: &[u8],
-    numbers: &[f32],
-    tables: &[f32],
-    lengths: &[f32],
-    commands: &[u32],
-    count: usize,
-    command: u32,
-) -> bool
-    ensures { result ≡ may_follow (before kinds numbers tables lengths commands) count command }
+#[tactic(auto, unfolding(crate::specs::Appending::may_follow))]
+pub(crate) fn may_follow(path: PathBuffers, count: usize, command: u32) -> bool
+    ensures { result ≡ may_follow (held path.entry) count command }
 {
-    if is_in_use(kinds, numbers, tables, lengths, commands, count) {
-        return number_before(commands, count) <= command;
-    }
-    false
+    is_in_use(path, count) && number_before(path.commands, count) <= command
 }

@@ -1,13 +1,13 @@
 -- The answers of the batches, case by case, with what each leaves in the outputs. Assumes nothing.
+use Rattle.std.specs.Prelude.{Result, Ok}
 use mathlib.Core.Path.{◌≡◌, sym, ap, ◌∙◌}
-use Prim.Native.Nat.{ℕ, ◌*◌, ◌≤◌, ◌<◌}
+use Prim.Native.Nat.{ℕ, ◌*◌, ◌≤◌}
 use mathlib.Core.Bool.{Bool, true, false}
 use mathlib.Core.List.{List}
-use borrow.Author.Tests.{lt-ltb, le-ltb}
+use borrow.Author.Tests.{le-ltb}
 use lib.ListN.{length, replicate}
 use lib.Ieee.{Float}
 use Rattle.answers.specs.declared.refusals.Refusal.{Refusal}
-use Rattle.answers.specs.declared.refusals.Refusal.TheVariants.{BadPath, NoRoom}
 use Rattle.answers.specs.declared.refusals.Values.{Values}
 use Rattle.answers.specs.declared.refusals.Values.TheVariants.{Two, Three}
 use Rattle.answers.specs.Report.{written}
@@ -15,59 +15,34 @@ use Rattle.floats.specs.Floats.{zero_f}
 use Rattle.flight.specs.Flights.{no_segment}
 use Rattle.path_stored.specs.Buffers.{Buffers}
 use Rattle.path_stored.specs.Stored.{is_stored}
-use Rattle.path_batch.specs.declared.batches.Batch.{Batch}
-use Rattle.path_batch.specs.declared.batches.Batch.TheVariants as Batch
 use Rattle.path_batch.specs.Batches.{segments_for, raws_for, numbers_for, batch_of, places_of, flights_of, given_by, Places, Flights, FilledPlaces, FilledFlights}
 use Rattle.path_batch.proofs.Filling.{segments-none, raws-none, numbers-none}
 
 -- ---- the answer, by the check and the room
 
 module _ (b : Buffers) (short : Bool) (needs : Values) (count : ℕ) where
-  batch-bad : is_stored b ≡ false → batch_of b short needs count ≡ Batch.Refused BadPath
-  unfolding batch_of
-  batch-bad bad = rw bad
-
-  batch-short : is_stored b ≡ true → short ≡ true → batch_of b short needs count ≡ Batch.Refused (NoRoom needs)
-  unfolding batch_of
-  batch-short stored e = rw (stored, e)
-
-  batch-filled : is_stored b ≡ true → short ≡ false → batch_of b short needs count ≡ Batch.Filled count
+  batch-filled : is_stored b ≡ true → short ≡ false → batch_of b short needs count ≡ Ok count
   unfolding batch_of
   batch-filled stored e = rw (stored, e)
 
 -- what an answer leaves in an output
-left : {A : Type 0} (elements before : List A) {r : Batch} (refusal : Refusal) → r ≡ Batch.Refused refusal → before ≡ written (given_by r elements) before
-left {A} elements before refusal e = sym (ap (λ (r : Batch). written (given_by r elements) before) e)
-
-stored-in : {A : Type 0} (elements before : List A) {r : Batch} {after : List A} (count : ℕ) → r ≡ Batch.Filled count → after ≡ written elements before
+stored-in : {A : Type 0} (elements before : List A) {r : Result ℕ Refusal} {after : List A} (count : ℕ) → r ≡ Ok count → after ≡ written elements before
     → after ≡ written (given_by r elements) before
-stored-in {A} elements before count e f = f ∙ sym (ap (λ (r : Batch). written (given_by r elements) before) e)
+stored-in {A} elements before count e f = f ∙ sym (ap (λ (r : Result ℕ Refusal). written (given_by r elements) before) e)
 
 -- ---- places
 module _ (b : Buffers) (progresses : List Float) (segments : List ℕ) (raws : List Float) where
   abbrev count : ℕ
   count = length progresses
 
-  abbrev is : Batch
+  abbrev is : Result ℕ Refusal
   is = places_of b count (length segments) (length raws)
 
-  places-left : (refusal : Refusal) → is ≡ Batch.Refused refusal → Places b progresses segments raws (Batch.Refused refusal) segments raws
-  places-left refusal e = record { answer = sym e; segments_after = left (segments_for b progresses) segments refusal e; raws_after = left (raws_for b progresses) raws refusal e }
-
-  pub places-bad : is_stored b ≡ false → Places b progresses segments raws (Batch.Refused BadPath) segments raws
-  places-bad bad = places-left BadPath (batch-bad b _ (Two count count) count bad)
-
   module _ (stored : is_stored b ≡ true) where
-    pub places-short-segments : length segments < count → Places b progresses segments raws (Batch.Refused (NoRoom (Two count count))) segments raws
-    places-short-segments h = places-left (NoRoom (Two count count)) (batch-short b _ (Two count count) count stored (rw (lt-ltb (length segments) count h)))
-
-    pub places-short-raws : count ≤ length segments → length raws < count → Places b progresses segments raws (Batch.Refused (NoRoom (Two count count))) segments raws
-    places-short-raws s h = places-left (NoRoom (Two count count)) (batch-short b _ (Two count count) count stored (rw (le-ltb (length segments) count s, lt-ltb (length raws) count h)))
-
     pub places-filled : (segments' : List ℕ) (raws' : List Float) → count ≤ length segments → count ≤ length raws
-        → FilledPlaces b progresses segments raws segments' raws' → Places b progresses segments raws (Batch.Filled count) segments' raws'
+        → FilledPlaces b progresses segments raws segments' raws' → Places b progresses segments raws (Ok count) segments' raws'
     places-filled segments' raws' s w f =
-        let e : is ≡ Batch.Filled count = batch-filled b _ (Two count count) count stored (rw (le-ltb (length segments) count s, le-ltb (length raws) count w)) in
+        let e : is ≡ Ok count = batch-filled b _ (Two count count) count stored (rw (le-ltb (length segments) count s, le-ltb (length raws) count w)) in
         record {
           answer = sym e;
           segments_after = stored-in (segments_for b progresses) segments count e f.segments_are;
@@ -82,38 +57,14 @@ module _ (b : Buffers) (progresses : List Float) (segments : List ℕ) (raws out
   abbrev needed : Values
   needed = Three amount amount (4 * amount)
 
-  abbrev has : Batch
+  abbrev has : Result ℕ Refusal
   has = flights_of b amount (length segments) (length raws) (length out)
 
-  flights-left : (refusal : Refusal) → has ≡ Batch.Refused refusal → Flights b progresses segments raws out (Batch.Refused refusal) segments raws out
-  flights-left refusal e =
-      record {
-        answer = sym e;
-        segments_after = left (segments_for b progresses) segments refusal e;
-        raws_after = left (raws_for b progresses) raws refusal e;
-        out_after = left (numbers_for b progresses) out refusal e;
-      }
-
-  pub flights-bad : is_stored b ≡ false → Flights b progresses segments raws out (Batch.Refused BadPath) segments raws out
-  flights-bad bad = flights-left BadPath (batch-bad b _ needed amount bad)
-
   module _ (stored : is_stored b ≡ true) where
-    pub flights-short-segments : length segments < amount → Flights b progresses segments raws out (Batch.Refused (NoRoom needed)) segments raws out
-    flights-short-segments h = flights-left (NoRoom needed) (batch-short b _ needed amount stored (rw (lt-ltb (length segments) amount h)))
-
-    pub flights-short-raws : amount ≤ length segments → length raws < amount → Flights b progresses segments raws out (Batch.Refused (NoRoom needed)) segments raws out
-    flights-short-raws s h = flights-left (NoRoom needed) (batch-short b _ needed amount stored (rw (le-ltb (length segments) amount s, lt-ltb (length raws) amount h)))
-
-    pub flights-short-out : amount ≤ length segments → amount ≤ length raws → length out < 4 * amount
-        → Flights b progresses segments raws out (Batch.Refused (NoRoom needed)) segments raws out
-    flights-short-out s w h =
-        flights-left (NoRoom needed)
-        (batch-short b _ needed amount stored (rw (le-ltb (length segments) amount s, le-ltb (length raws) amount w, lt-ltb (length out) (4 * amount) h)))
-
     pub flights-filled : (segments' : List ℕ) (raws' out' : List Float) → amount ≤ length segments → amount ≤ length raws → 4 * amount ≤ length out
-        → FilledFlights b progresses segments raws out segments' raws' out' → Flights b progresses segments raws out (Batch.Filled amount) segments' raws' out'
+        → FilledFlights b progresses segments raws out segments' raws' out' → Flights b progresses segments raws out (Ok amount) segments' raws' out'
     flights-filled segments' raws' out' s w o f =
-        let e : has ≡ Batch.Filled amount =
+        let e : has ≡ Ok amount =
         batch-filled b _ needed amount stored (rw (le-ltb (length segments) amount s, le-ltb (length raws) amount w, le-ltb (length out) (4 * amount) o)) in
         record {
           answer = sym e;

@@ -1,4 +1,6 @@
 -- A batch gives what the single query gives, element by element; and any two allowed results of a batch are equal. Assumes nothing.
+use Rattle.std.specs.Prelude.{Result}
+use Rattle.answers.specs.declared.refusals.Refusal.{Refusal}
 use mathlib.Core.Path.{◌≡◌, refl, sym, ap, ◌∙◌}
 use Prim.Native.Nat.{ℕ, zero, suc, ◌*◌, ◌<◌}
 use native.Mathlib.Omega.{arith}
@@ -8,7 +10,6 @@ use lib.Ieee.{Float, nan}
 use Rattle.flight.specs.Flights.{segment_given}
 use Rattle.path_stored.specs.Buffers.{Buffers}
 use Rattle.path_query.specs.Flights.{flight_of}
-use Rattle.path_batch.specs.declared.batches.Batch.{Batch}
 use Rattle.path_batch.specs.Batches.{numbers_of, numbers_for, Places, Flights, FilledPlaces, FilledFlights}
 use Rattle.path_batch.proofs.Filling.{each_at}
 
@@ -39,11 +40,11 @@ module _ (b : Buffers) (ps : List Float) {segments segments' : List ℕ} {raws r
 -- ---- any two allowed results are equal
 
 module _ {b : Buffers} {progresses : List Float} {segments : List ℕ} {raws : List Float} where
-  pub places-settled : {r q : Batch} {s t : List ℕ} {u v : List Float} → Places b progresses segments raws r s u
+  pub places-settled : {r q : Result ℕ Refusal} {s t : List ℕ} {u v : List Float} → Places b progresses segments raws r s u
       → Places b progresses segments raws q t v → (r ≡ q) × (s ≡ t) × (u ≡ v)
   places-settled p q = (p.answer ∙ sym q.answer, p.segments_after ∙ sym q.segments_after, p.raws_after ∙ sym q.raws_after)
 
-  pub flights-settled : {out : List Float} {r q : Batch} {s t : List ℕ} {u v x y : List Float} → Flights b progresses segments raws out r s u x
+  pub flights-settled : {out : List Float} {r q : Result ℕ Refusal} {s t : List ℕ} {u v x y : List Float} → Flights b progresses segments raws out r s u x
       → Flights b progresses segments raws out q t v y → (r ≡ q) × (s ≡ t) × (u ≡ v) × (x ≡ y)
   flights-settled p q = (
     p.answer ∙ sym q.answer,

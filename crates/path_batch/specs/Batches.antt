@@ -1,5 +1,6 @@
 -- Many progresses along one path (document 01, "The answers"): each as the single query gives it, in the order of the progresses. Refused with 12, then with 8. Definitions only.
-use Rattle.std.specs.Prelude.{ℕ, ◌*◌, ◌≤◌, ◌≡◌, Bool, ◌||◌, cond, List, [], ◌∷◌, ◌++◌, ltb, length, Float}
+use Rattle.std.specs.Prelude.{ℕ, ◌*◌, ◌≤◌, ◌≡◌, Bool, ◌||◌, cond, List, [], ◌∷◌, ◌++◌, ltb, length, Float, Result, Ok, Err}
+use Rattle.answers.specs.declared.refusals.Refusal.{Refusal}
 use Rattle.answers.specs.declared.refusals.Refusal.TheVariants.{BadPath, NoRoom}
 use Rattle.answers.specs.declared.refusals.Values.{Values}
 use Rattle.answers.specs.declared.refusals.Values.TheVariants.{Two, Three}
@@ -11,8 +12,6 @@ use Rattle.flight.specs.declared.Flight.{Flight}
 use Rattle.flight.specs.Flights.{segment_given}
 use Rattle.path_stored.specs.Buffers.{Buffers}
 use Rattle.path_stored.specs.Stored.{is_stored, most_segments}
-use Rattle.path_batch.specs.declared.batches.Batch.{Batch}
-use Rattle.path_batch.specs.declared.batches.Batch.TheVariants as Batch
 use Rattle.path_query.specs.Flights.{flight_of, Flyable}
 
 -- ---- what is given for each progress
@@ -40,35 +39,35 @@ numbers_for b (progress ∷ progresses) = numbers_of (flight_of b progress) ++ n
 -- ---- the answers
 
 -- 8: "all else is right and a lent output is too short", with "the count needed of each output, in the call's order"
-unfoldable pub batch_of : Buffers → Bool → Values → ℕ → Batch
-batch_of b short needs count = cond (is_stored b) (cond short (Batch.Refused (NoRoom needs)) (Batch.Filled count)) (Batch.Refused BadPath)
+unfoldable pub batch_of : Buffers → Bool → Values → ℕ → Result ℕ Refusal
+batch_of b short needs count = cond (is_stored b) (cond short (Err (NoRoom needs)) (Ok count)) (Err BadPath)
 
 -- by how many progresses there are, and how many places of each output
-abbrev pub places_of : Buffers → ℕ → ℕ → ℕ → Batch
+abbrev pub places_of : Buffers → ℕ → ℕ → ℕ → Result ℕ Refusal
 places_of b count segments raws = batch_of b (ltb segments count || ltb raws count) (Two count count) count
 
-abbrev pub flights_of : Buffers → ℕ → ℕ → ℕ → ℕ → Batch
+abbrev pub flights_of : Buffers → ℕ → ℕ → ℕ → ℕ → Result ℕ Refusal
 flights_of b count segments raws out = batch_of b (ltb segments count || (ltb raws count || ltb out (4 * count))) (Three count count (4 * count)) count
 
-abbrev pub batch_answer : Batch → Answer
-batch_answer (Batch.Filled count) = accepted (count ∷ [])
-batch_answer (Batch.Refused refusal) = refused refusal
+abbrev pub batch_answer : Result ℕ Refusal → Answer
+batch_answer (Ok count) = accepted (count ∷ [])
+batch_answer (Err refusal) = refused refusal
 
 -- "A refusal writes to no output."
-abbrev pub given_by : {A : Type 0} → Batch → List A → List A
-given_by (Batch.Filled count) elements = elements
-given_by (Batch.Refused refusal) elements = []
+abbrev pub given_by : {A : Type 0} → Result ℕ Refusal → List A → List A
+given_by (Ok count) elements = elements
+given_by (Err refusal) elements = []
 
-pub record Places (b : Buffers) (progresses : List Float) (segments : List ℕ) (raws : List Float) (r : Batch) (segments' : List ℕ) (raws' : List Float) : Type 0 where
+pub record Places (b : Buffers) (progresses : List Float) (segments : List ℕ) (raws : List Float) (r : Result ℕ Refusal) (segments' : List ℕ) (raws' : List Float) : Type 0 where
   pub answer : r ≡ places_of b (length progresses) (length segments) (length raws)
   pub segments_after : segments' ≡ written (given_by (places_of b (length progresses) (length segments) (length raws)) (segments_for b progresses)) segments
   pub raws_after : raws' ≡ written (given_by (places_of b (length progresses) (length segments) (length raws)) (raws_for b progresses)) raws
 
 -- the batch's answer, by what it is lent
-abbrev pub flights_by : Buffers → List Float → List ℕ → List Float → List Float → Batch
+abbrev pub flights_by : Buffers → List Float → List ℕ → List Float → List Float → Result ℕ Refusal
 flights_by b progresses segments raws out = flights_of b (length progresses) (length segments) (length raws) (length out)
 
-pub record Flights (b : Buffers) (progresses : List Float) (segments : List ℕ) (raws out : List Float) (r : Batch) (segments' : List ℕ) (raws' out' : List Float) : Type 0 where
+pub record Flights (b : Buffers) (progresses : List Float) (segments : List ℕ) (raws out : List Float) (r : Result ℕ Refusal) (segments' : List ℕ) (raws' out' : List Float) : Type 0 where
   pub answer : r ≡ flights_by b progresses segments raws out
   pub segments_after : segments' ≡ written (given_by (flights_by b progresses segments raws out) (segments_for b progresses)) segments
   pub raws_after : raws' ≡ written (given_by (flights_by b progresses segments raws out) (raws_for b progresses)) raws

@@ -4,4 +4,4 @@
 mod batches;
 pub mod inner;
 
-pub use batches::{Batch, flights, places};
+pub use batches::{flights, places};

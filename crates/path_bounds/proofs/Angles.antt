@@ -2,14 +2,14 @@
 use mathlib.Core.Path.{◌≡◌, refl, sym, subst}
 use mathlib.Core.Logic.{inl, inr}
 use Prim.Native.Nat.{ℕ, zero, suc, ◌+◌, ◌*◌, ◌≤◌, ◌<◌, ◌^◌}
-use native.Mathlib.Nat.{zero-lt-suc, le_trans, le_of_eq, mul-one, one-mul, zero-mul, mul_right_comm, mul-le-mul_right, le_of_mul-le-mul_right}
+use native.Mathlib.Nat.{zero-lt-suc, le_trans, le_of_eq, mul-one, zero-mul, mul_right_comm, mul-le-mul_right, le_of_mul-le-mul_right}
 use native.Mathlib.Omega.{arith}
-use mathlib.Core.Bool.{Bool, true, false, not, ◌&&◌, cond}
+use mathlib.Core.Bool.{Bool, true, false, ◌&&◌, cond}
 use lib.Dec.{T, ltb, lt→ltb, eqb, eqb→eq, lit≤}
 use lib.IntN.{pos}
 use lib.Pow.{pow_pos}
 use lib.Ieee.{Float, nan, inf, fin, Format, binary32, of_bits, up, down, prec, emax, low, odd, units, round, neg, add, sub, mul, div, le, lt, eq, ne, is_nan, fits, unlike}
-use lib.Ieee.Fits.{round_is, and_i, and_l, and_r, cond-fits, neg-fits, sub-fits, div-fits}
+use lib.Ieee.Fits.{round_is, and_l, and_r, cond-fits, neg-fits, sub-fits, div-fits}
 use lib.Ieee.Positive.{num}
 use lib.Ieee.Scale.{finite}
 use Rattle.floats.specs.Floats.{zero_f, one_f, epsilon_f, max_of, clamp_of}

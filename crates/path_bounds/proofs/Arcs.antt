@@ -1,13 +1,13 @@
 -- An arc whose centre and radii are within 2^40 and whose angles are at most 16 radians has its samples within 2^54, so that its length is within 2^69. Assumes nothing.
 use mathlib.Core.Path.{◌≡◌, refl, sym, subst}
-use Prim.Native.Nat.{ℕ, ◌+◌, ◌*◌, ◌≤◌, ◌^◌}
+use Prim.Native.Nat.{ℕ, ◌*◌, ◌≤◌, ◌^◌}
 use native.Mathlib.Nat.{le_trans, le_of_eq, mul-one}
 use native.Mathlib.Omega.{arith}
 use mathlib.Core.Bool.{true, false, ◌&&◌}
 use lib.Dec.{T}
 use lib.IntN.{pos}
-use lib.Pow.{pow-add, pow_mono}
-use lib.Ieee.{Float, nan, inf, fin, binary32, of_bits, up, down, neg, add, sub, mul, le, lt, eq}
+use lib.Pow.{pow_mono}
+use lib.Ieee.{Float, nan, inf, fin, binary32, of_bits, up, down, neg, add, mul, le, lt, eq}
 use lib.Ieee.Fits.{and_l, and_r}
 use Rattle.floats.specs.Floats.{clamp01_of}
 use Rattle.floats.proofs.Signs.{le→signed}
@@ -20,7 +20,7 @@ use Rattle.ellipse.specs.Shape.{product, on_ellipse, angle_at, point_turned, poi
 use Rattle.path_segment.specs.Segments.{length_for}
 use Rattle.path_segment.specs.declared.segments.PathSegment.TheVariants as Segment
 use Rattle.path_bounds.specs.Calm.{wide_f, wide_back_f, is_narrow, is_calm, is_calm_arc}
-use Rattle.floats.proofs.Within.{Within, within-le, Holds, holds-scaled, add-within, mul-within}
+use Rattle.floats.proofs.Within.{Within, within-le, add-within, mul-within}
 use Rattle.path_bounds.proofs.Tested.{Near, calm-near, clamped-within}
 use Rattle.path_bounds.proofs.Roots.{holds-power, add-power, sub-power}
 use Rattle.path_bounds.proofs.Lengths.{total-within}

@@ -1,13 +1,11 @@
 -- Samples, tables and running lengths: interpolation by a clamped parameter stays within four times the bound, each step of a table within 2^64, and a sum of so many
 -- parts within so many times the bound of one. Assumes nothing.
-use mathlib.Core.Path.{◌≡◌, refl, sym, ap, ◌∙◌, subst}
+use mathlib.Core.Path.{◌≡◌, sym, ap, ◌∙◌, subst}
 use Prim.Native.Nat.{ℕ, zero, suc, zero-le, ◌+◌, ◌*◌, ◌≤◌, ◌<◌, ◌^◌}
-use native.Mathlib.Nat.{mul-one, one-mul, add-mul, add-zero, zero-add, add-suc, suc-add, le_of_eq}
+use native.Mathlib.Nat.{mul-one, one-mul, add-mul, add-zero, zero-add, add-suc, suc-add}
 use native.Mathlib.Omega.{arith}
 use native.Mathlib.Numerals.{add-one}
-use mathlib.Core.List.{List, [], ◌∷◌}
 use lib.ListN.{length}
-use lib.Dec.{T}
 use lib.Pow.{pow_mono}
 use lib.Ieee.{Float, binary32, of_bits, add, sub, mul}
 use Rattle.floats.specs.Floats.{zero_f, clamp01_of}

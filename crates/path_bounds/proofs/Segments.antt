@@ -1,5 +1,4 @@
 -- The length of a line, a quad or a cubic between calm points is within 2^69, so that no path of up to 65,536 such segments has a running length that is not finite. Assumes nothing.
-use mathlib.Core.Path.{◌≡◌}
 use Prim.Native.Nat.{ℕ, suc, ◌*◌, ◌≤◌, ◌<◌, ◌^◌}
 use native.Mathlib.Omega.{arith}
 use lib.Dec.{T}

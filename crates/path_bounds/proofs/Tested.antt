@@ -1,15 +1,14 @@
 -- What passes the test is within 2^40; a clamped parameter is within 1. Assumes nothing.
 use mathlib.Core.Path.{◌≡◌, refl, sym, subst}
-use Prim.Native.Nat.{ℕ, ◌*◌, ◌≤◌, ◌^◌}
+use Prim.Native.Nat.{ℕ, ◌*◌, ◌^◌}
 use native.Mathlib.Nat.{le_trans, le_of_eq, one-mul, mul-one}
-use mathlib.Core.Bool.{Bool, true, false, ◌&&◌, ◌||◌}
-use lib.IntN.{ℤ, pos}
+use mathlib.Core.Bool.{true, false}
+use lib.IntN.{pos}
 use lib.Dec.{T}
-use lib.Ieee.{Float, nan, inf, fin, binary32, of_bits, up, down, neg, le, lt, eq, below, level}
+use lib.Ieee.{Float, nan, inf, fin, of_bits, up, down, neg, le, lt, eq}
 use lib.Ieee.Fits.{and_l, and_r}
-use lib.Ieee.Positive.{num, den}
+use lib.Ieee.Positive.{den}
 use Rattle.floats.specs.Floats.{clamp01_of}
-use Rattle.floats.proofs.Tests.{passed}
 use Rattle.floats.proofs.Signs.{le→signed}
 use Rattle.floats.proofs.Clamping.{clamp01-nonneg, clamp01-at-most, at_most_one}
 use Rattle.math.specs.declared.points.Point.{Point}

@@ -14,7 +14,7 @@ use lib.Ieee.Scale.{finite}
 use Rattle.floats.specs.Floats.{zero_f, one_f}
 use Rattle.floats.proofs.Tests.{passed}
 use Rattle.floats.proofs.Signs.{SignedLe, le→signed, signed→le}
-use Rattle.floats.proofs.Within.{Within, within-le, add-within, mul-within}
+use Rattle.floats.proofs.Within.{Within, within-le, mul-within}
 use Rattle.trig_rule.specs.Steps.{sine_of, cosine_of}
 use Rattle.trig_rule.proofs.Sizes.{within-reach, sine-within, cosine-within}
 use Rattle.math.specs.declared.points.Point.{Point}

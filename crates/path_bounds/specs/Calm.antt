@@ -8,6 +8,10 @@ use Rattle.rotation.specs.Rotation.{phi_of}
 use Rattle.ellipse.specs.declared.ends.Arc.{Arc}
 use Rattle.ellipse.specs.declared.ends.Way.{Way}
 
+-- x is at most `bound` in size; a NaN is not
+abbrev pub is_within : Float → Float → Bool
+is_within bound x = le x bound && le (neg bound) x
+
 -- 2^40 and -2^40
 unfoldable pub far_f : Float
 far_f = of_bits binary32 0x5380_0000

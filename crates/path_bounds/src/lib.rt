@@ -2,38 +2,56 @@
 // proofs/ say so of lines, quads, cubics, arcs and whole paths.
 #![tactic(auto)]
 
-ghost use Rattle.std.specs.Prelude.{◌≡◌};
+ghost use Rattle.std.specs.Prelude.{◌≡◌, ◌&&◌};
 ghost use Rattle.ellipse.specs.Ends.{from_ends_of};
-ghost use Rattle.path_bounds.specs.Calm.{is_near, is_calm, is_narrow, is_calm_arc, is_mild, is_mild_point, is_mild_way};
+ghost use Rattle.path_bounds.specs.Calm.{is_within, is_near, is_calm, is_narrow, is_calm_arc, is_mild_point, is_mild_way};
 
 use ellipse::{Arc, Chord, Way, from_ends, way_of};
 use floats::is_finite;
 use math::Point;
 use rotation::phi;
 
-// Whether x is at most 2^40 in size. A NaN is not.
-pub fn is_near(x: f32) -> bool
-    ensures { result ≡ is_near x }
+// Whether x is at most `bound` in size. A NaN is not.
+fn is_within(x: f32, bound: f32) -> bool
+    ensures { result ≡ is_within bound x }
 {
-    (x <= 1099511627776.0) & (-1099511627776.0 <= x)
+    (x <= bound) & (-bound <= x)
 }
 
 // Whether both coordinates of a point are.
+fn is_point_within(p: Point, bound: f32) -> bool
+    ensures { result ≡ (is_within bound p.x && is_within bound p.y) }
+{
+    is_within(p.x, bound) & is_within(p.y, bound)
+}
+
+// Whether x is at most 2^40 in size. A NaN is not.
+#[tactic(auto, unfolding(crate::specs::Calm::is_near, crate::specs::Calm::far_f, crate::specs::Calm::back_f))]
+pub fn is_near(x: f32) -> bool
+    ensures { result ≡ is_near x }
+{
+    is_within(x, 1099511627776.0)
+}
+
+// Whether both coordinates of a point are.
+#[tactic(auto, unfolding(crate::specs::Calm::is_calm, crate::specs::Calm::is_near, crate::specs::Calm::far_f, crate::specs::Calm::back_f))]
 pub fn is_calm(p: Point) -> bool
     ensures { result ≡ is_calm p }
 {
-    is_near(p.x) & is_near(p.y)
+    is_point_within(p, 1099511627776.0)
 }
 
 // Whether x is at most 16 in size. A NaN is not.
+#[tactic(auto, unfolding(crate::specs::Calm::is_narrow, crate::specs::Calm::wide_f, crate::specs::Calm::wide_back_f))]
 fn is_narrow(x: f32) -> bool
     ensures { result ≡ is_narrow x }
 {
-    (x <= 16.0) & (-16.0 <= x)
+    is_within(x, 16.0)
 }
 
 // Whether an arc's centre and radii are calm and its angles at most 16 radians, those of its rotation too: then each of its samples is
 // near, so that its length is known to be finite before its table is made.
+#[tactic(auto, unfolding(crate::specs::Calm::is_calm_arc))]
 pub fn is_calm_arc(shape: Arc) -> bool
     ensures { result ≡ is_calm_arc shape }
 {
@@ -44,21 +62,16 @@ pub fn is_calm_arc(shape: Arc) -> bool
     angles & is_narrow(phi(shape.x_axis_rotation))
 }
 
-// Whether x is at most 2^30 in size. A NaN is not.
-fn is_mild(x: f32) -> bool
-    ensures { result ≡ is_mild x }
-{
-    (x <= 1073741824.0) & (-1073741824.0 <= x)
-}
-
-// Whether both coordinates of a point are.
+// Whether both coordinates of a point are at most 2^30 in size.
+#[tactic(auto, unfolding(crate::specs::Calm::is_mild_point, crate::specs::Calm::is_mild, crate::specs::Calm::mild_f, crate::specs::Calm::mild_back_f))]
 fn is_mild_point(p: Point) -> bool
     ensures { result ≡ is_mild_point p }
 {
-    is_mild(p.x) & is_mild(p.y)
+    is_point_within(p, 1073741824.0)
 }
 
 // Whether all points that stand before an arc's angles are.
+#[tactic(auto, unfolding(crate::specs::Calm::is_mild_way))]
 fn is_mild_way(way: Way) -> bool
     ensures { result ≡ is_mild_way way }
 {

@@ -4,11 +4,10 @@ use mathlib.Core.Path.{◌≡◌, refl, sym, ap, subst, ◌∙◌}
 use mathlib.Core.List.{List, [], ◌∷◌, ◌++◌}
 use native.Mathlib.Omega.{arith}
 use lib.ListN.{length, drop}
+use Rattle.std.specs.Prelude.{Option, Some, None, Result, Ok, Err}
 use Rattle.answers.specs.declared.refusals.Refusal.{Refusal}
 use Rattle.commands.specs.Stored.{arguments_of}
 use Rattle.commands.specs.declared.command.PathCommand.{PathCommand}
-use Rattle.commands.specs.declared.encoding.Decoded.{Decoded}
-use Rattle.commands.specs.declared.encoding.Decoded.TheVariants.{Command, Bad}
 use Rattle.path_segment.specs.declared.segments.PathSegment.{PathSegment}
 use Rattle.path_stored.specs.Buffers.{Buffers}
 use Rattle.path_drawing.specs.Drawing.{draw_of}
@@ -16,9 +15,8 @@ use Rattle.path_drawing.specs.Building.{Built, path, refusal, build_of, drawers_
 use Rattle.path_storing.specs.Sites.{start_of, advance_of, drawn_by, FewAt, Holds, Room, Laid}
 use Rattle.path_storing.specs.Tallies.{tally_of, FewIn, tallied_of}
 use Rattle.path_storing.specs.declared.sites.Site.{Site}
-use Rattle.path_storing.specs.declared.sites.Advanced.TheVariants.{To, Refused}
+use Rattle.path_storing.specs.declared.sites.Sizes.{Sizes}
 use Rattle.path_storing.specs.declared.tallies.Tally.{Tally}
-use Rattle.path_storing.specs.declared.tallies.Tallied.TheVariants as Tallied
 use Rattle.path_storing.proofs.Along.{At, at_none, at-few, at_all, at_next, at-refused}
 use Rattle.path_storing.proofs.Judged.{room_at, laid-at}
 use Rattle.path_storing.proofs.Filling.{Filling, filling-none, filling-more, roomed, same-kinds, same-fields, same_tables, same-lengths, same-commands}
@@ -27,8 +25,6 @@ use Rattle.path_build.specs.Lists.{StoredList}
 use Rattle.path_build.specs.Answers.{measure_of, Holding, Filled}
 use Rattle.path_build.specs.Paths.{build_list_of, drawers_list_of}
 use Rattle.path_build.specs.Letters.{stride_of, drawn_at}
-use Rattle.path_build.specs.declared.sizes.Size.{Size}
-use Rattle.path_build.specs.declared.sizes.Size.TheVariants as Size
 use Rattle.path_build.proofs.Letters.{stride-is, drawn-command}
 use Rattle.path_build.proofs.Lists.{Formed, built-formed, letter_in, decoded_at, Passed, passed_none, passed-builds, all-built, all-drawers, passed-bad, passed-fits, passed-next}
 
@@ -36,11 +32,11 @@ use Rattle.path_build.proofs.Lists.{Formed, built-formed, letter_in, decoded_at,
 
 pub counts-are :
     {commands : List PathCommand} {done : List PathSegment} {site : Site} {built : Built} → At commands done site → built ≡ path done
-    → Size.Counted site.segments site.fields site.tables ≡ measure_of built
+    → Ok site.sizes ≡ measure_of built
 unfolding measure_of
-counts-are k e = rw e (rw (k.kinds, k.fields, k.tables))
+counts-are k e = rw e (rw (← k.kinds, ← k.fields, ← k.tables))
 
-pub refused-is : {reason : Refusal} {built : Built} → built ≡ refusal reason → Size.Refused reason ≡ measure_of built
+pub refused-is : {reason : Refusal} {built : Built} → built ≡ refusal reason → Err reason ≡ measure_of built
 unfolding measure_of
 refused-is e = rw e
 
@@ -60,26 +56,26 @@ module _ {list : StoredList} {site : Site} {letter_at at : ℕ} (k : Measuring l
   pub measuring-inside : at ≤ length list.numbers
   measuring-inside = k.passed.inside
 
-  pub measured-all : length list.letters ≤ letter_at → Size.Counted site.segments site.fields site.tables ≡ measure_of (build_list_of list)
+  pub measured-all : length list.letters ≤ letter_at → Ok site.sizes ≡ measure_of (build_list_of list)
   measured-all past = counts-are k.known (all-built k.passed past ∙ at_all k.known)
 
   module _ (here : letter_at < length list.letters) where
     pub measuring-few : FewAt site
     measuring-few = at-few k.known (omega (arith, k.passed.few, k.passed.count))
 
-    pub measuring-bad : decoded_at list letter_at at ≡ Bad → ⊥
+    pub measuring-bad : decoded_at list letter_at at ≡ None → ⊥
     measuring-bad = passed-bad k.passed here
 
-    module _ {command : PathCommand} (e : decoded_at list letter_at at ≡ Command command) where
+    module _ {command : PathCommand} (e : decoded_at list letter_at at ≡ Some command) where
       pub measuring-fits : at + length (arguments_of command) ≤ length list.numbers
       measuring-fits = passed-fits k.passed here e
 
-      pub measured-refused : {reason : Refusal} → advance_of site command ≡ Refused reason → Size.Refused reason ≡ measure_of (build_list_of list)
+      pub measured-refused : {reason : Refusal} → advance_of site command ≡ Err reason → Err reason ≡ measure_of (build_list_of list)
       measured-refused {reason} a =
           let n = passed-next k.passed here e refl in
           refused-is (passed-builds n.1 ∙ at-refused k.known command reason a n.0)
 
-      pub measuring-more : {width : ℕ} {next : Site} → width ≡ length (arguments_of command) → advance_of site command ≡ To next → Measuring list next (letter_at + 1) (at + width)
+      pub measuring-more : {width : ℕ} {next : Site} → width ≡ length (arguments_of command) → advance_of site command ≡ Ok next → Measuring list next (letter_at + 1) (at + width)
       measuring-more {width} {next} w a =
           let n = passed-next k.passed here e w in
           record {
@@ -103,10 +99,10 @@ surveying-none f = record { site = start_of; same = refl; calm = calm-start; mea
 
 -- what a tally of such a site says
 pub counted-at :
-    (site : Site) {tally : Tally} {size : Size} → tally_of site ≡ tally → Size.Counted site.segments site.fields site.tables ≡ size
-    → Size.Counted tally.segments tally.fields tally.tables ≡ size
+    (site : Site) {tally : Tally} {size : Result Sizes Refusal} → tally_of site ≡ tally → Ok site.sizes ≡ size
+    → Ok tally.sizes ≡ size
 unfolding tally_of
-counted-at site {tally} {size} e h = subst (λ (t : Tally). Size.Counted t.segments t.fields t.tables ≡ size) e h
+counted-at site {tally} {size} e h = subst (λ (t : Tally). Ok t.sizes ≡ size) e h
 
 pub few-in : (site : Site) {tally : Tally} → tally_of site ≡ tally → FewAt site → FewIn tally
 unfolding tally_of
@@ -116,7 +112,7 @@ module _ {list : StoredList} {tally : Tally} {letter_at at : ℕ} (k : Surveying
   pub surveying-inside : at ≤ length list.numbers
   surveying-inside = k.measuring.passed.inside
 
-  pub surveyed-all : length list.letters ≤ letter_at → Size.Counted tally.segments tally.fields tally.tables ≡ measure_of (build_list_of list)
+  pub surveyed-all : length list.letters ≤ letter_at → Ok tally.sizes ≡ measure_of (build_list_of list)
   surveyed-all past = counted-at k.site k.same (measured-all k.measuring past)
 
   module _ (here : letter_at < length list.letters) where
@@ -126,11 +122,11 @@ module _ {list : StoredList} {tally : Tally} {letter_at at : ℕ} (k : Surveying
     pub surveying-few : FewIn tally
     surveying-few = few-in k.site k.same few
 
-    module _ {command : PathCommand} (e : decoded_at list letter_at at ≡ Command command) where
+    module _ {command : PathCommand} (e : decoded_at list letter_at at ≡ Some command) where
       pub surveying-fits : at + length (arguments_of command) ≤ length list.numbers
       surveying-fits = measuring-fits k.measuring here e
 
-      pub surveying-more : {width : ℕ} {next : Tally} → width ≡ length (arguments_of command) → tallied_of tally command ≡ Tallied.To next → Surveying list next (letter_at + 1) (at + width)
+      pub surveying-more : {width : ℕ} {next : Tally} → width ≡ length (arguments_of command) → tallied_of tally command ≡ Some next → Surveying list next (letter_at + 1) (at + width)
       surveying-more {width} {next} w a =
           let f = foreseen k.site few k.calm command next (ap (λ t. tallied_of t command) k.same ∙ a) in
           record { site = f.0; same = f.2; calm = f.3; measuring = measuring-more k.measuring here e w f.1 }
@@ -194,7 +190,7 @@ module _ {list : StoredList} {site : Site} {letter_at at : ℕ} {b₀ b : Buffer
     pub storing-number : letter_at < 65536
     storing-number = omega (arith, k.passed.few)
 
-    module _ {command : PathCommand} (e : decoded_at list letter_at at ≡ Command command) where
+    module _ {command : PathCommand} (e : decoded_at list letter_at at ≡ Some command) where
       -- what `lay` asks
       storing-room : FewAt site × Room site (draw_of site.pen command) b
       storing-room =
@@ -216,12 +212,12 @@ module _ {list : StoredList} {site : Site} {letter_at at : ℕ} {b₀ b : Buffer
           }
 
     -- the same by its letter
-    decoded : (command : PathCommand) × (decoded_at list letter_at at ≡ Command command)
+    decoded : (command : PathCommand) × (decoded_at list letter_at at ≡ Some command)
     decoded = by (decoded_at list letter_at at) refl
       where
-        by : (d : Decoded) → decoded_at list letter_at at ≡ d → (command : PathCommand) × (decoded_at list letter_at at ≡ Command command)
-        by (Command command) e = (command, e)
-        by Bad e = absurd (passed-bad k.passed here e)
+        by : (d : Option PathCommand) → decoded_at list letter_at at ≡ d → (command : PathCommand) × (decoded_at list letter_at at ≡ Some command)
+        by (Some command) e = (command, e)
+        by None e = absurd (passed-bad k.passed here e)
 
     stride-here : stride_of (letter_in list letter_at) ≡ length (arguments_of decoded.0)
     stride-here = stride-is (drop at list.numbers) (letter_in list letter_at) decoded.0 decoded.1

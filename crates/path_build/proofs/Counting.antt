@@ -11,12 +11,12 @@ use lib.Dec.{eqb}
 use lib.Ieee.{Float, nan}
 use lib.ListN.{length, get_or, drop, length-drop, drop_of_length-le}
 use lib.Seq.{drop-cons, get_or-drop}
+use Rattle.std.specs.Prelude.{Some, Ok}
 use Rattle.math.specs.declared.points.Point.{Point}
 use Rattle.commands.specs.Stored.{arguments_of}
 use Rattle.commands.specs.Listed.{number_at, point_at, well_formed, prepend}
 use Rattle.commands.specs.declared.command.PathCommand.{PathCommand}
 use Rattle.commands.specs.declared.command.PathCommand.TheVariants.{MoveTo, LineTo, QuadTo, CubicTo, ClosePath}
-use Rattle.commands.specs.declared.encoding.Decoded.TheVariants.{Command}
 use Rattle.commands.proofs.Decoding.{is_move, is-line, is-quad, is-cubic, is-close}
 use Rattle.commands.proofs.Listing.{listed_from, from_next, from_end}
 use Rattle.arc.specs.Lines.{line_of}
@@ -25,16 +25,15 @@ use Rattle.path_segment.proofs.Tables.{table_none}
 use Rattle.path_segment.specs.declared.segments.PathSegment.TheVariants.{Line}
 use Rattle.path_bounds.specs.Calm.{is_near, is_calm}
 use Rattle.path_drawing.specs.Drawing.{moved_of, drawn_of, draw_of}
+use Rattle.path_drawing.specs.declared.pens.Pen.{Pen}
 use Rattle.path_storing.specs.Sites.{start_of}
 use Rattle.path_storing.specs.Tallies.{tally_of, stayed_of, grown_of, stroked_of, counted_of, tallied_of}
 use Rattle.path_storing.specs.declared.tallies.Tally.{Tally}
-use Rattle.path_storing.specs.declared.tallies.Tallied.TheVariants.{To}
 use Rattle.path_storing.proofs.Tallying.{line-tallied, quad-tallied, cubic-tallied}
-use Rattle.path_build.specs.Answers.{measure_of}
+use Rattle.path_build.specs.Answers.{sizes_of, measure_of}
 use Rattle.path_build.specs.Lists.{StoredList}
 use Rattle.path_build.specs.Paths.{build_list_of}
 use Rattle.path_build.specs.Plain.{one_if, count_in, all_near}
-use Rattle.path_build.specs.declared.sizes.Size.TheVariants as Size
 use Rattle.path_build.proofs.Lists.{decoded_at, listing_from}
 use Rattle.path_build.proofs.Along.{Surveying, surveying-none, surveying-more, surveyed-all}
 
@@ -96,7 +95,7 @@ both_l false b e = e
 
 both_r : (a b : Bool) → (a && b) ≡ true → b ≡ true
 both_r true b e = e
-both_r false b e = let z : ◌≡◌ {A = ℕ} 0 1 = cc in absurd (omega arith)
+both_r false b e = cc
 
 near-at : (numbers : List Float) (i : ℕ) → all_near numbers ≡ true → i < length numbers → is_near (get_or numbers i nan) ≡ true
 unfolding all_near
@@ -193,34 +192,38 @@ module _ (list : StoredList) (near : all_near list.numbers ≡ true) where
   abbrev tbls : ℕ → ℕ
   tbls letter_at = 33 * (of 81 letter_at + of 67 letter_at)
 
+  -- there is a current point
+  abbrev Placed : Pen → Type 0
+  Placed pen = (point : Point) × (pen.current ≡ Some point)
+
   -- a tally goes on, and what is counted and what is left to count stay the same together
   record Tells (tally : Tally) (letter_at : ℕ) (command : PathCommand) : Type 0 where
     next : Tally
-    is : tallied_of tally command ≡ To next
-    placed : next.pen.placed ≡ true
-    segments : tally.segments + segs letter_at ≡ next.segments + segs (letter_at + 1)
-    fields : tally.fields + flds letter_at ≡ next.fields + flds (letter_at + 1)
-    tables : tally.tables + tbls letter_at ≡ next.tables + tbls (letter_at + 1)
+    is : tallied_of tally command ≡ Some next
+    placed : Placed next.pen
+    segments : tally.sizes.segments + segs letter_at ≡ next.sizes.segments + segs (letter_at + 1)
+    fields : tally.sizes.fields + flds letter_at ≡ next.sizes.fields + flds (letter_at + 1)
+    tables : tally.sizes.tables + tbls letter_at ≡ next.sizes.tables + tbls (letter_at + 1)
 
   record PlainStep (n letter_at at : ℕ) : Type 0 where
     command : PathCommand
-    decoded : decoded_at list letter_at at ≡ Command command
+    decoded : decoded_at list letter_at at ≡ Some command
     width : ℕ
     wide : width ≡ length (arguments_of command)
     left : Left n (letter_at + 1) (at + width)
-    tells : (tally : Tally) → tally.pen.placed ≡ true → Tells tally letter_at command
+    tells : (tally : Tally) → Placed tally.pen → Tells tally letter_at command
 
-  stroked-is : (tally : Tally) (calm : Bool) (end : Point) (own more : ℕ) → calm ≡ true → tally.pen.placed ≡ true → stroked_of tally calm end own more ≡ To (grown_of tally (drawn_of tally.pen end) own more)
+  stroked-is : (tally : Tally) (calm : Bool) (end : Point) (own more : ℕ) → calm ≡ true → Placed tally.pen → stroked_of tally calm end own more ≡ Some (grown_of tally (drawn_of tally.pen end) own more)
   unfolding stroked_of
-  stroked-is tally calm end own more e p = rw (e, p)
+  stroked-is tally calm end own more e p = rw (e, p.1)
 
-  moved-is : (tally : Tally) (point : Point) → is_calm point ≡ true → tallied_of tally (MoveTo point) ≡ To (stayed_of tally (moved_of point))
+  moved-is : (tally : Tally) (point : Point) → is_calm point ≡ true → tallied_of tally (MoveTo point) ≡ Some (stayed_of tally (moved_of point))
   unfolding tallied_of counted_of draw_of
   moved-is tally point e = rw e
 
-  closed_is : (tally : Tally) → tally.pen.placed ≡ true → tallied_of tally ClosePath ≡ To (grown_of tally (drawn_of tally.pen tally.pen.start) 4 0)
+  closed_is : (tally : Tally) → Placed tally.pen → tallied_of tally ClosePath ≡ Some (grown_of tally (drawn_of tally.pen tally.pen.start) 4 0)
   unfolding tallied_of counted_of draw_of has_table tables_of
-  closed_is tally p = rw (p, table_none (Line (line_of tally.pen.current tally.pen.start)) refl)
+  closed_is tally p = rw (p.1, table_none (Line (line_of p.0 tally.pen.start)) refl)
 
   module _ (n letter_at at : ℕ) (left : Left (suc n) letter_at at) where
     inside : letter_at < length letters
@@ -252,8 +255,8 @@ module _ (list : StoredList) (near : all_near list.numbers ≡ true) where
           }
 
       told :
-          {tally next : Tally} {command : PathCommand} → tallied_of tally command ≡ To next → next.pen.placed ≡ true → next.segments ≡ tally.segments + (l + q + c + z)
-          → next.fields ≡ tally.fields + (4 * (l + z) + 6 * q + 8 * c) → next.tables ≡ tally.tables + 33 * (q + c) → Tells tally letter_at command
+          {tally next : Tally} {command : PathCommand} → tallied_of tally command ≡ Some next → Placed next.pen → next.sizes.segments ≡ tally.sizes.segments + (l + q + c + z)
+          → next.sizes.fields ≡ tally.sizes.fields + (4 * (l + z) + 6 * q + 8 * c) → next.sizes.tables ≡ tally.sizes.tables + 33 * (q + c) → Tells tally letter_at command
       told {next = next} is placed es ef et =
           record {
             next = next;
@@ -270,7 +273,7 @@ module _ (list : StoredList) (near : all_near list.numbers ≡ true) where
 
       move-tells : (tally : Tally) → Tells tally letter_at (MoveTo p₀)
       move-tells tally =
-          told move-counts refl (moved-is tally p₀ (calm-from at 0 (omega (arith, fits move-counts refl {w = 2} refl)))) refl (omega arith) (omega arith) (omega arith)
+          told move-counts refl (moved-is tally p₀ (calm-from at 0 (omega (arith, fits move-counts refl {w = 2} refl)))) (p₀, refl) (omega arith) (omega arith) (omega arith)
 
       move_step : PlainStep n letter_at at
       move_step =
@@ -294,7 +297,7 @@ module _ (list : StoredList) (near : all_near list.numbers ≡ true) where
           wide = refl;
           left = left_after s refl refl;
           tells = λ tally placed.
-              told s refl (sym (line-tallied tally p₀) ∙ stroked-is tally (is_calm p₀) p₀ 4 0 (calm-from at 0 (omega (arith, f))) placed) refl (omega arith) (omega arith) (omega arith);
+              told s refl (sym (line-tallied tally p₀) ∙ stroked-is tally (is_calm p₀) p₀ 4 0 (calm-from at 0 (omega (arith, f))) placed) (p₀, refl) (omega arith) (omega arith) (omega arith);
         }
 
     quad-step : get_or letters letter_at 0 ≡ 81 → PlainStep n letter_at at
@@ -309,7 +312,7 @@ module _ (list : StoredList) (near : all_near list.numbers ≡ true) where
           wide = refl;
           left = left_after s refl refl;
           tells = λ tally placed.
-              told s refl (sym (quad-tallied tally p₀ p₂) ∙ stroked-is tally (is_calm p₀ && is_calm p₂) p₂ 6 33 calm placed) refl (omega arith) (omega arith) (omega arith);
+              told s refl (sym (quad-tallied tally p₀ p₂) ∙ stroked-is tally (is_calm p₀ && is_calm p₂) p₂ 6 33 calm placed) (p₂, refl) (omega arith) (omega arith) (omega arith);
         }
 
     cubic-step : get_or letters letter_at 0 ≡ 67 → PlainStep n letter_at at
@@ -325,7 +328,7 @@ module _ (list : StoredList) (near : all_near list.numbers ≡ true) where
           wide = refl;
           left = left_after s refl refl;
           tells = λ tally placed.
-              told s refl (sym (cubic-tallied tally p₀ p₂ p₄) ∙ stroked-is tally ((is_calm p₀ && is_calm p₂) && is_calm p₄) p₄ 8 33 calm placed) refl (omega arith) (omega arith) (omega arith);
+              told s refl (sym (cubic-tallied tally p₀ p₂ p₄) ∙ stroked-is tally ((is_calm p₀ && is_calm p₂) && is_calm p₄) p₄ 8 33 calm placed) (p₄, refl) (omega arith) (omega arith) (omega arith);
         }
 
     close-step : get_or letters letter_at 0 ≡ 90 → PlainStep n letter_at at
@@ -337,7 +340,7 @@ module _ (list : StoredList) (near : all_near list.numbers ≡ true) where
           width = 0;
           wide = refl;
           left = left_after s refl refl;
-          tells = λ tally placed. told s refl (closed_is tally placed) refl (omega arith) (omega arith) (omega arith);
+          tells = λ tally placed. told s refl (closed_is tally placed) (tally.pen.start, refl) (omega arith) (omega arith) (omega arith);
         }
 
     plain_step : PlainStep n letter_at at
@@ -380,17 +383,17 @@ module _ (list : StoredList) (near : all_near list.numbers ≡ true) where
             ∙ ap (prepend s.command) r.1,
       )
 
-  counted-from : (n letter_at at : ℕ) (tally : Tally) → Left n letter_at at → Surveying list tally letter_at at → tally.pen.placed ≡ true
-      → Size.Counted (tally.segments + segs letter_at) (tally.fields + flds letter_at) (tally.tables + tbls letter_at) ≡ measure_of (build_list_of list)
+  counted-from : (n letter_at at : ℕ) (tally : Tally) → Left n letter_at at → Surveying list tally letter_at at → Placed tally.pen
+      → Ok (sizes_of (tally.sizes.segments + segs letter_at) (tally.sizes.fields + flds letter_at) (tally.sizes.tables + tbls letter_at)) ≡ measure_of (build_list_of list)
   counted-from zero letter_at at tally left k placed =
       let past : length letters ≤ letter_at = omega (arith, left.letters-left) in
       let l = no_more letter_at past 76 in
       let q = no_more letter_at past 81 in
       let c = no_more letter_at past 67 in
       let z = no_more letter_at past 90 in
-      let es : tally.segments + segs letter_at ≡ tally.segments = omega (arith, l, q, c, z) in
-      let ef : tally.fields + flds letter_at ≡ tally.fields = omega (arith, l, q, c, z) in
-      let et : tally.tables + tbls letter_at ≡ tally.tables = omega (arith, q, c) in
+      let es : tally.sizes.segments + segs letter_at ≡ tally.sizes.segments = omega (arith, l, q, c, z) in
+      let ef : tally.sizes.fields + flds letter_at ≡ tally.sizes.fields = omega (arith, l, q, c, z) in
+      let et : tally.sizes.tables + tbls letter_at ≡ tally.sizes.tables = omega (arith, q, c) in
       rw (es, ef, et) (surveyed-all k past)
   counted-from (suc n) letter_at at tally left k placed =
       let s = plain_step n letter_at at left in
@@ -404,12 +407,12 @@ pub plain-told :
     → m ≡ count_in 77 list.letters → l ≡ count_in 76 list.letters → q ≡ count_in 81 list.letters → c ≡ count_in 67 list.letters → z ≡ count_in 90 list.letters
     → 0 < length list.letters → length list.letters ≤ 65536 → get_or list.letters 0 0 ≡ 77
     → m + l + q + c + z ≡ length list.letters → 2 * (m + l) + 4 * q + 6 * c ≡ length list.numbers → all_near list.numbers ≡ true
-    → Size.Counted (l + q + c + z) (4 * (l + z) + 6 * q + 8 * c) (33 * (q + c)) ≡ measure_of (build_list_of list)
+    → Ok (sizes_of (l + q + c + z) (4 * (l + z) + 6 * q + 8 * c) (33 * (q + c))) ≡ measure_of (build_list_of list)
 unfolding listed_from tally_of start_of move_step
 plain-told list {m} {l} {q} {c} {z} em el eq ec ez some few first known widths near =
     by_length (length list.letters) refl
   where
-    by_length : (n : ℕ) → length list.letters ≡ n → Size.Counted (l + q + c + z) (4 * (l + z) + 6 * q + 8 * c) (33 * (q + c)) ≡ measure_of (build_list_of list)
+    by_length : (n : ℕ) → length list.letters ≡ n → Ok (sizes_of (l + q + c + z) (4 * (l + z) + 6 * q + 8 * c) (33 * (q + c))) ≡ measure_of (build_list_of list)
     by_length zero e = absurd (omega arith)
     by_length (suc n) e =
         let left : Left list near (suc n) 0 0 =
@@ -419,7 +422,7 @@ plain-told list {m} {l} {q} {c} {z} em el eq ec ez some few first known widths n
         let t = move-tells list near n 0 0 left first (tally_of start_of) in
         let more = surveying-more (surveying-none (record { few = few; commands = f.0; is = f.1 })) (inside list near n 0 0 left) {command = s.command} s.decoded {width = s.width} s.wide t.is in
         let counted = counted-from list near n (0 + 1) (0 + s.width) t.next s.left more t.placed in
-        let es : l + q + c + z ≡ t.next.segments + segs list near (0 + 1) = omega (arith, t.segments, el, eq, ec, ez) in
-        let ef : 4 * (l + z) + 6 * q + 8 * c ≡ t.next.fields + flds list near (0 + 1) = omega (arith, t.fields, el, eq, ec, ez) in
-        let et : 33 * (q + c) ≡ t.next.tables + tbls list near (0 + 1) = omega (arith, t.tables, eq, ec) in
+        let es : l + q + c + z ≡ t.next.sizes.segments + segs list near (0 + 1) = omega (arith, t.segments, el, eq, ec, ez) in
+        let ef : 4 * (l + z) + 6 * q + 8 * c ≡ t.next.sizes.fields + flds list near (0 + 1) = omega (arith, t.fields, el, eq, ec, ez) in
+        let et : 33 * (q + c) ≡ t.next.sizes.tables + tbls list near (0 + 1) = omega (arith, t.tables, eq, ec) in
         rw (es, ef, et) counted

@@ -8,28 +8,26 @@ use native.Mathlib.Omega.{arith}
 use lib.Dec.{ltb, eqb}
 use lib.Ieee.{Float}
 use lib.ListN.{length, drop, length-drop}
+use Rattle.std.specs.Prelude.{Option, Some, None}
 use Rattle.math.specs.declared.points.Point.{Point}
 use Rattle.floats.specs.Floats.{bits_of}
 use Rattle.commands.specs.Stored.{arguments_of}
 use Rattle.commands.specs.Listed.{number_at, point_at, is_flag, is_set, arc_of, enough, command_of}
 use Rattle.commands.specs.declared.command.PathCommand.{PathCommand}
 use Rattle.commands.specs.declared.command.PathCommand.TheVariants.{MoveTo, LineTo, QuadTo, CubicTo, ArcTo, ClosePath}
-use Rattle.commands.specs.declared.encoding.Decoded.{Decoded}
-use Rattle.commands.specs.declared.encoding.Decoded.TheVariants.{Command, Bad}
 use Rattle.commands.proofs.Decoding.{point-from, is-line, is-quad, is-cubic}
 use Rattle.path_drawing.specs.Drawing.{draw_of}
 use Rattle.path_drawing.specs.declared.pens.Pen.{Pen}
-use Rattle.path_drawing.specs.declared.strokes.Drawn.TheVariants.{OutOfRange}
 use Rattle.path_build.specs.Letters.{stride_of, drawn_at}
 
 -- ---- a letter takes the numbers of its command
 
-abbrev Strides : ℕ → Decoded → Type 0
-Strides width (Command command) = width ≡ length (arguments_of command)
-Strides width Bad = Unit {0}
+abbrev Strides : ℕ → Option PathCommand → Type 0
+Strides width (Some command) = width ≡ length (arguments_of command)
+Strides width None = Unit {0}
 
 module _ (numbers : List Float) where
-  enough-strides : (width : ℕ) (short : Bool) (decoded : Decoded) → Strides width decoded → Strides width (cond short Bad decoded)
+  enough-strides : (width : ℕ) (short : Bool) (decoded : Option PathCommand) → Strides width decoded → Strides width (cond short None decoded)
   enough-strides width true decoded s = tt
   enough-strides width false decoded s = s
 
@@ -39,7 +37,7 @@ module _ (numbers : List Float) where
     where
       by :
           (b : Bool)
-          → Strides 7 (cond b (Command (ArcTo (point_at numbers 0) (number_at numbers 2) (is_set (bits_of (number_at numbers 3))) (is_set (bits_of (number_at numbers 4))) (point_at numbers 5))) Bad)
+          → Strides 7 (cond b (Some (ArcTo (point_at numbers 0) (number_at numbers 2) (is_set (bits_of (number_at numbers 3))) (is_set (bits_of (number_at numbers 4))) (point_at numbers 5))) None)
       by true = refl
       by false = tt
 
@@ -50,31 +48,31 @@ module _ (numbers : List Float) where
       by :
           (m l q c a z : Bool)
           → Strides (cond m 2 (cond l 2 (cond q 4 (cond c 6 (cond a 7 0)))))
-          (cond m (enough 2 numbers (Command (MoveTo (point_at numbers 0))))
-          (cond l (enough 2 numbers (Command (LineTo (point_at numbers 0))))
-          (cond q (enough 4 numbers (Command (QuadTo (point_at numbers 0) (point_at numbers 2))))
-          (cond c (enough 6 numbers (Command (CubicTo (point_at numbers 0) (point_at numbers 2) (point_at numbers 4))))
+          (cond m (enough 2 numbers (Some (MoveTo (point_at numbers 0))))
+          (cond l (enough 2 numbers (Some (LineTo (point_at numbers 0))))
+          (cond q (enough 4 numbers (Some (QuadTo (point_at numbers 0) (point_at numbers 2))))
+          (cond c (enough 6 numbers (Some (CubicTo (point_at numbers 0) (point_at numbers 2) (point_at numbers 4))))
           (cond a (enough 7 numbers (arc_of numbers))
-          (cond z (Command ClosePath)
-          Bad))))))
-      by true l q c a z = enough-strides 2 (ltb (length numbers) 2) (Command (MoveTo (point_at numbers 0))) refl
-      by false true q c a z = enough-strides 2 (ltb (length numbers) 2) (Command (LineTo (point_at numbers 0))) refl
-      by false false true c a z = enough-strides 4 (ltb (length numbers) 4) (Command (QuadTo (point_at numbers 0) (point_at numbers 2))) refl
-      by false false false true a z = enough-strides 6 (ltb (length numbers) 6) (Command (CubicTo (point_at numbers 0) (point_at numbers 2) (point_at numbers 4))) refl
+          (cond z (Some ClosePath)
+          None))))))
+      by true l q c a z = enough-strides 2 (ltb (length numbers) 2) (Some (MoveTo (point_at numbers 0))) refl
+      by false true q c a z = enough-strides 2 (ltb (length numbers) 2) (Some (LineTo (point_at numbers 0))) refl
+      by false false true c a z = enough-strides 4 (ltb (length numbers) 4) (Some (QuadTo (point_at numbers 0) (point_at numbers 2))) refl
+      by false false false true a z = enough-strides 6 (ltb (length numbers) 6) (Some (CubicTo (point_at numbers 0) (point_at numbers 2) (point_at numbers 4))) refl
       by false false false false true z = enough-strides 7 (ltb (length numbers) 7) (arc_of numbers) arc-strides
       by false false false false false true = refl
       by false false false false false false = tt
 
-  pub stride-is : (letter : ℕ) (command : PathCommand) → command_of letter numbers ≡ Command command → stride_of letter ≡ length (arguments_of command)
+  pub stride-is : (letter : ℕ) (command : PathCommand) → command_of letter numbers ≡ Some command → stride_of letter ≡ length (arguments_of command)
   stride-is letter command e = subst (Strides (stride_of letter)) e (stride-told letter)
 
 -- ---- what a letter draws
 
-pub drawn-command : (pen : Pen) {decoded : Decoded} {command : PathCommand} → decoded ≡ Command command → drawn_at pen decoded ≡ draw_of pen command
+pub drawn-command : (pen : Pen) {decoded : Option PathCommand} {command : PathCommand} → decoded ≡ Some command → drawn_at pen decoded ≡ draw_of pen command
 unfolding drawn_at
 drawn-command pen e = ap (drawn_at pen) e
 
-pub drawn-bad : (pen : Pen) {decoded : Decoded} → decoded ≡ Bad → drawn_at pen decoded ≡ OutOfRange
+pub drawn-bad : (pen : Pen) {decoded : Option PathCommand} → decoded ≡ None → drawn_at pen decoded ≡ None
 unfolding drawn_at
 drawn-bad pen e = ap (drawn_at pen) e
 

@@ -7,6 +7,7 @@ use native.Mathlib.Omega.{arith}
 use borrow.Author.Tests.{ltb-true, ltb-false, le-ltb}
 use lib.Dec.{ltb}
 use lib.ListN.{length, get_or, drop, length-append, length-drop}
+use Rattle.std.specs.Prelude.{Option, Some, None}
 use Rattle.answers.specs.Answers.{refused, accepted}
 use Rattle.answers.specs.declared.refusals.Refusal.{Refusal}
 use Rattle.answers.specs.declared.refusals.Refusal.TheVariants.{BadList, Range}
@@ -15,8 +16,6 @@ use Rattle.commands.specs.Stored.{arguments_of}
 use Rattle.commands.specs.Listed.{command_of, Listing, well_formed, malformed, prepend}
 use Rattle.commands.specs.Checked.{judged, check_commands_of}
 use Rattle.commands.specs.declared.command.PathCommand.{PathCommand}
-use Rattle.commands.specs.declared.encoding.Decoded.{Decoded}
-use Rattle.commands.specs.declared.encoding.Decoded.TheVariants.{Command, Bad}
 use Rattle.commands.proofs.ReadBack.{read_back, length-letters}
 use Rattle.commands.proofs.Listing.{command-fits, listed_from, from_next, from-bad, from-left-over, from_end}
 use Rattle.path_segment.specs.declared.segments.PathSegment.{PathSegment}
@@ -68,10 +67,10 @@ module _ (list : StoredList) where
     where
       by-listing : size ≤ 65536 → (l : Listing) → listing_of list ≡ l → built_by l ≡ path segments → Formed list
       by-listing few (well_formed commands) e f = record { few = few; commands = commands; is = e }
-      by-listing few (malformed k) e f = let z : ◌≡◌ {A = ℕ} 0 1 = cc in absurd (omega arith)
+      by-listing few (malformed k) e f = cc
 
       by_size : (b : Bool) → ltb 65536 size ≡ b → cond b (refusal (Range size)) (built_by (listing_of list)) ≡ path segments → Formed list
-      by_size true e f = let z : ◌≡◌ {A = ℕ} 0 1 = cc in absurd (omega arith)
+      by_size true e f = cc
       by_size false e f = by-listing (ltb-false 65536 size e) (listing_of list) refl f
 
 pub formed-builds : {list : StoredList} (f : Formed list) → build_list_of list ≡ build_of f.commands
@@ -92,7 +91,7 @@ module _ (commands : List PathCommand) where
 abbrev pub letter_in : StoredList → ℕ → ℕ
 letter_in list letter_at = get_or list.letters letter_at 0
 
-abbrev pub decoded_at : StoredList → ℕ → ℕ → Decoded
+abbrev pub decoded_at : StoredList → ℕ → ℕ → Option PathCommand
 decoded_at list letter_at at = command_of (letter_in list letter_at) (drop at list.numbers)
 
 -- the commands from here on
@@ -123,7 +122,7 @@ module _ {list : StoredList} {letter_at at : ℕ} {commands rest : List PathComm
       by_order : (b : Bool) → ltb at (length list.numbers) ≡ b → rest ≡ []
       by_order true e =
           let l = sym (from-left-over list.letters list.numbers letter_at at past (ltb-true at (length list.numbers) e)) ∙ p.left in
-          let z : ◌≡◌ {A = ℕ} 0 1 = cc in absurd (omega arith)
+          cc
       by_order false e =
           let l = sym (from_end list.letters list.numbers letter_at at past (ltb-false at (length list.numbers) e)) ∙ p.left in
           let f : rest ≡ [] = cc in f
@@ -139,12 +138,12 @@ module _ {list : StoredList} {letter_at at : ℕ} {commands rest : List PathComm
     all-drawers = ap drawers_by p.whole ∙ ap drawers_of all
 
   module _ (here : letter_at < length list.letters) where
-    pub passed-bad : decoded_at list letter_at at ≡ Bad → ⊥
+    pub passed-bad : decoded_at list letter_at at ≡ None → ⊥
     passed-bad e =
         let l = sym (from-bad list.letters list.numbers letter_at at here e) ∙ p.left in
-        let z : ◌≡◌ {A = ℕ} 0 1 = cc in omega arith
+        cc
 
-    module _ {command : PathCommand} (e : decoded_at list letter_at at ≡ Command command) where
+    module _ {command : PathCommand} (e : decoded_at list letter_at at ≡ Some command) where
       pub passed-fits : at + length (arguments_of command) ≤ length list.numbers
       passed-fits =
           let h = command-fits (drop at list.numbers) (letter_in list letter_at) command e in
@@ -169,4 +168,4 @@ module _ {list : StoredList} {letter_at at : ℕ} {commands rest : List PathComm
                   inside = omega (arith, passed-fits, w);
                 },
               )
-          by-listing (malformed k) f g = let z : ◌≡◌ {A = ℕ} 0 1 = cc in absurd (omega arith)
+          by-listing (malformed k) f g = cc

@@ -11,6 +11,7 @@ use lib.Ieee.Fits.{and_i}
 use lib.Ieee.Scale.{finite}
 use lib.ListN.{length, get_or, take}
 use Rattle.answers.specs.declared.refusals.Refusal.TheVariants.{NotFinite}
+use Rattle.std.specs.Prelude.{Option, Some, None}
 use Rattle.floats.specs.Floats.{zero_f}
 use Rattle.math.specs.declared.points.Point.{Point}
 use Rattle.commands.specs.declared.command.PathCommand.{PathCommand}
@@ -21,7 +22,7 @@ use Rattle.path_drawing.specs.Drawing.{fresh_of, draw_of}
 use Rattle.path_drawing.specs.Building.{Built, path, refusal, prepend, length_after, follow, build_from, build_of, named, drawers_from, drawers_of}
 use Rattle.path_drawing.specs.declared.pens.Pen.{Pen}
 use Rattle.path_drawing.specs.declared.strokes.Drawn.{Drawn}
-use Rattle.path_drawing.specs.declared.strokes.Drawn.TheVariants.{Moved, Segment, OutOfRange}
+use Rattle.path_drawing.specs.declared.strokes.Drawn.TheVariants.{Moved, Segment}
 
 -- ---- the numbers rise
 
@@ -30,11 +31,11 @@ unfolding never_fall drawers_from
 rise-from [] n pen from h = tt
 rise-from (command ∷ commands) n pen from h = by-drawn (rise-from commands (suc n)) (draw_of pen command)
   where
-    by-drawn : ((pen : Pen) (from : ℕ) → from ≤ suc n → T (never_fall from (drawers_from commands (suc n) pen))) → (drawn : Drawn)
+    by-drawn : ((pen : Pen) (from : ℕ) → from ≤ suc n → T (never_fall from (drawers_from commands (suc n) pen))) → (drawn : Option Drawn)
         → T (never_fall from (named n drawn (drawers_from commands (suc n))))
-    by-drawn smaller (Moved next) = smaller next from (omega arith)
-    by-drawn smaller (Segment segment next) = and_i (leb from n) (never_fall n (drawers_from commands (suc n) next)) (le→leb from n h) (smaller next n (omega arith))
-    by-drawn smaller OutOfRange = tt
+    by-drawn smaller (Some (Moved next)) = smaller next from (omega arith)
+    by-drawn smaller (Some (Segment segment next)) = and_i (leb from n) (never_fall n (drawers_from commands (suc n) next)) (le→leb from n h) (smaller next n (omega arith))
+    by-drawn smaller None = tt
 
 pub drawers-rise : (commands : List PathCommand) → T (never_fall 0 (drawers_of commands))
 unfolding drawers_of
@@ -50,21 +51,21 @@ record Begun (commands : List PathCommand) (k : ℕ) (before : Float) (segment :
   builds : build_from commands (suc k) (length_after before segment) next ≡ path rest
 
 module _ (commands : List PathCommand) (k : ℕ) (before : Float) (segment : PathSegment) (next : Pen) (list : List PathSegment) where
-  begun : follow k before (Segment segment next) (build_from commands) ≡ path list → Begun commands k before segment next list
+  begun : follow k before (Some (Segment segment next)) (build_from commands) ≡ path list → Begun commands k before segment next list
   begun = by_length (finite (length_after before segment)) refl
     where
       by-built :
           finite (length_after before segment) ≡ true → (built : Built) → build_from commands (suc k) (length_after before segment) next ≡ built → prepend segment built ≡ path list
           → Begun commands k before segment next list
       by-built f (path rest) g h = let l : list ≡ segment ∷ rest = cc in record { fine = f; rest = rest; is = l; builds = g }
-      by-built f (refusal reason) g h = let z : ◌≡◌ {A = ℕ} 0 1 = cc in absurd (omega arith)
+      by-built f (refusal reason) g h = cc
 
       by_length :
           (b : Bool) → finite (length_after before segment) ≡ b
           → cond b (prepend segment (build_from commands (suc k) (length_after before segment) next)) (refusal (NotFinite k)) ≡ path list
           → Begun commands k before segment next list
       by_length true f g = by-built f (build_from commands (suc k) (length_after before segment) next) refl g
-      by_length false f g = let z : ◌≡◌ {A = ℕ} 0 1 = cc in absurd (omega arith)
+      by_length false f g = cc
 
 count-from : (commands : List PathCommand) (n k : ℕ) (before : Float) (pen : Pen) (list : List PathSegment) → build_from commands k before pen ≡ path list
     → length (drawers_from commands n pen) ≡ length list
@@ -75,12 +76,12 @@ count-from (command ∷ commands) n k before pen list e = by-drawn (count-from c
     Smaller : Type 0
     Smaller = (k : ℕ) (before : Float) (pen : Pen) (list : List PathSegment) → build_from commands k before pen ≡ path list → length (drawers_from commands (suc n) pen) ≡ length list
 
-    by-drawn : Smaller → (drawn : Drawn) → follow k before drawn (build_from commands) ≡ path list → length (named n drawn (drawers_from commands (suc n))) ≡ length list
-    by-drawn smaller (Moved next) f = smaller k before next list f
-    by-drawn smaller (Segment segment next) f =
+    by-drawn : Smaller → (drawn : Option Drawn) → follow k before drawn (build_from commands) ≡ path list → length (named n drawn (drawers_from commands (suc n))) ≡ length list
+    by-drawn smaller (Some (Moved next)) f = smaller k before next list f
+    by-drawn smaller (Some (Segment segment next)) f =
         let b = begun commands k before segment next list f in
         ap suc (smaller (suc k) (length_after before segment) next b.rest b.builds) ∙ sym (ap length b.is)
-    by-drawn smaller OutOfRange f = let z : ◌≡◌ {A = ℕ} 0 1 = cc in absurd (omega arith)
+    by-drawn smaller None f = cc
 
 pub drawers-count : (commands : List PathCommand) (list : List PathSegment) → build_of commands ≡ path list → length (drawers_of commands) ≡ length list
 unfolding build_of drawers_of
@@ -106,7 +107,7 @@ made-from (command ∷ commands) n k before pen list i e h = by-drawn (made-from
     Smaller = (k : ℕ) (before : Float) (pen : Pen) (list : List PathSegment) (i : ℕ) → build_from commands k before pen ≡ path list → i < length list → Made commands (suc n) k before pen list i
 
     by_index :
-        Smaller → (segment : PathSegment) (next : Pen) → draw_of pen command ≡ Segment segment next → finite (length_after before segment) ≡ true
+        Smaller → (segment : PathSegment) (next : Pen) → draw_of pen command ≡ Some (Segment segment next) → finite (length_after before segment) ≡ true
         → (rest : List PathSegment) → build_from commands (suc k) (length_after before segment) next ≡ path rest → (i : ℕ) → i < suc (length rest)
         → Made (command ∷ commands) n k before pen (segment ∷ rest) i
     by_index smaller segment next d f rest b zero g = record { at = 0; is = rw d (omega arith); inside = omega arith; lacks = refl; has = rw (d, f) }
@@ -120,14 +121,14 @@ made-from (command ∷ commands) n k before pen list i e h = by-drawn (made-from
           has = rw (d, f, m.has);
         }
 
-    by-drawn : Smaller → (drawn : Drawn) → draw_of pen command ≡ drawn → follow k before drawn (build_from commands) ≡ path list → Made (command ∷ commands) n k before pen list i
-    by-drawn smaller (Moved next) d f =
+    by-drawn : Smaller → (drawn : Option Drawn) → draw_of pen command ≡ drawn → follow k before drawn (build_from commands) ≡ path list → Made (command ∷ commands) n k before pen list i
+    by-drawn smaller (Some (Moved next)) d f =
         let m = smaller k before next list i f h in
         record { at = suc m.at; is = rw d (m.is ∙ omega arith); inside = omega (arith, m.inside); lacks = rw d m.lacks; has = rw d m.has }
-    by-drawn smaller (Segment segment next) d f =
+    by-drawn smaller (Some (Segment segment next)) d f =
         let b = begun commands k before segment next list f in
         subst (λ l. Made (command ∷ commands) n k before pen l i) (sym b.is) (by_index smaller segment next d b.fine b.rest b.builds i (omega (arith, ap length b.is)))
-    by-drawn smaller OutOfRange d f = let z : ◌≡◌ {A = ℕ} 0 1 = cc in absurd (omega arith)
+    by-drawn smaller None d f = cc
 
 module _ (commands : List PathCommand) (list : List PathSegment) (builds : build_of commands ≡ path list) (i : ℕ) (inside : i < length list) where
   abbrev number : ℕ

@@ -8,6 +8,7 @@ use lib.Dec.{T}
 use lib.Ieee.{Float}
 use lib.Ieee.Scale.{finite}
 use lib.ListN.{length, drop}
+use Rattle.std.specs.Prelude.{Option, Some, None}
 use Rattle.answers.specs.declared.refusals.Values.TheVariants.{Five}
 use Rattle.answers.specs.declared.refusals.Refusal.TheVariants.{NotFinite, NoRoom}
 use Rattle.floats.specs.Floats.{zero_f}
@@ -15,8 +16,6 @@ use Rattle.table.specs.Sound.{all_finite}
 use Rattle.commands.specs.Stored.{arguments_of}
 use Rattle.commands.specs.Listed.{command_of, Listing, well_formed, malformed, prepend as prepend_command, follow as follow_command, listed}
 use Rattle.commands.specs.declared.command.PathCommand.{PathCommand}
-use Rattle.commands.specs.declared.encoding.Decoded.{Decoded}
-use Rattle.commands.specs.declared.encoding.Decoded.TheVariants.{Command, Bad}
 use Rattle.path_segment.specs.declared.segments.PathSegment.{PathSegment}
 use Rattle.path_stored.specs.Layout.{running_of, lengths_of_all, laid_wholly}
 use Rattle.path_stored.specs.Stored.{is_stored}
@@ -25,11 +24,11 @@ use Rattle.path_drawing.specs.Drawing.{fresh_of, draw_of}
 use Rattle.path_drawing.specs.Building.{Built, path, refusal, prepend, length_after, follow, build_from, build_of, drawers_of}
 use Rattle.path_drawing.specs.declared.pens.Pen.{Pen}
 use Rattle.path_drawing.specs.declared.strokes.Drawn.{Drawn}
-use Rattle.path_drawing.specs.declared.strokes.Drawn.TheVariants.{Moved, Segment, OutOfRange}
+use Rattle.path_drawing.specs.declared.strokes.Drawn.TheVariants.{Moved, Segment}
 use Rattle.path_build.specs.Answers.{is_short, counts_of, roomed}
 use Rattle.path_build.specs.Lists.{StoredList}
 use Rattle.path_build.specs.Paths.{drawers_by, build_list_of, drawers_list_of, build_path_of}
-use Rattle.path_build.specs.declared.sizes.Counts.{Counts}
+use Rattle.path_build.specs.declared.room.Counts.{Counts}
 use Rattle.path_build.proofs.Lists.{built-formed, formed-builds}
 use Rattle.path_build.proofs.Numbering.{drawers-count, drawers-rise}
 
@@ -54,19 +53,19 @@ sound-from (command ∷ commands) k before pen list e = by-drawn (sound-from com
         let l : list ≡ segment ∷ rest = cc in
         let s = smaller (suc k) (length_after before segment) next rest g in
         rw l (omega (arith, s.0), rw f s.1)
-    by-built smaller segment next f (refusal reason) g h = let z : ◌≡◌ {A = ℕ} 0 1 = cc in absurd (omega arith)
+    by-built smaller segment next f (refusal reason) g h = cc
 
     by_length :
         Smaller → (segment : PathSegment) (next : Pen) (b : Bool) → finite (length_after before segment) ≡ b
         → cond b (prepend segment (build_from commands (suc k) (length_after before segment) next)) (refusal (NotFinite k)) ≡ path list
         → (length list ≤ suc (length commands)) × T (all_finite (running_of before list))
     by_length smaller segment next true f g = by-built smaller segment next f (build_from commands (suc k) (length_after before segment) next) refl g
-    by_length smaller segment next false f g = let z : ◌≡◌ {A = ℕ} 0 1 = cc in absurd (omega arith)
+    by_length smaller segment next false f g = cc
 
-    by-drawn : Smaller → (drawn : Drawn) → follow k before drawn (build_from commands) ≡ path list → (length list ≤ suc (length commands)) × T (all_finite (running_of before list))
-    by-drawn smaller (Moved next) f = let s = smaller k before next list f in (omega (arith, s.0), s.1)
-    by-drawn smaller (Segment segment next) f = by_length smaller segment next (finite (length_after before segment)) refl f
-    by-drawn smaller OutOfRange f = let z : ◌≡◌ {A = ℕ} 0 1 = cc in absurd (omega arith)
+    by-drawn : Smaller → (drawn : Option Drawn) → follow k before drawn (build_from commands) ≡ path list → (length list ≤ suc (length commands)) × T (all_finite (running_of before list))
+    by-drawn smaller (Some (Moved next)) f = let s = smaller k before next list f in (omega (arith, s.0), s.1)
+    by-drawn smaller (Some (Segment segment next)) f = by_length smaller segment next (finite (length_after before segment)) refl f
+    by-drawn smaller None f = cc
 
 -- what commands build is a stored path
 pub built-stored :
@@ -82,7 +81,7 @@ built-stored commands list few e =
 listed-count : (letters : List ℕ) (k : ℕ) (numbers : List Float) (commands : List PathCommand) → listed k letters numbers ≡ well_formed commands → length commands ≡ length letters
 unfolding listed
 listed-count [] k [] commands e = let f : commands ≡ [] = cc in ap length f
-listed-count [] k (number ∷ numbers) commands e = let z : ◌≡◌ {A = ℕ} 0 1 = cc in absurd (omega arith)
+listed-count [] k (number ∷ numbers) commands e = cc
 listed-count (letter ∷ letters) k numbers commands e = by-decoded (listed-count letters) (command_of letter numbers) e
   where
     Smaller : Type 0
@@ -94,23 +93,23 @@ listed-count (letter ∷ letters) k numbers commands e = by-decoded (listed-coun
     by-listing smaller command more (well_formed rest) f g =
         let h : commands ≡ command ∷ rest = cc in
         ap length h ∙ ap suc (smaller (suc k) more rest f)
-    by-listing smaller command more (malformed j) f g = let z : ◌≡◌ {A = ℕ} 0 1 = cc in absurd (omega arith)
+    by-listing smaller command more (malformed j) f g = cc
 
-    by-decoded : Smaller → (decoded : Decoded) → follow_command k numbers decoded (listed (suc k) letters) ≡ well_formed commands → length commands ≡ suc (length letters)
-    by-decoded smaller (Command command) f =
+    by-decoded : Smaller → (decoded : Option PathCommand) → follow_command k numbers decoded (listed (suc k) letters) ≡ well_formed commands → length commands ≡ suc (length letters)
+    by-decoded smaller (Some command) f =
         by-listing smaller command (drop (length (arguments_of command)) numbers) (listed (suc k) letters (drop (length (arguments_of command)) numbers)) refl f
-    by-decoded smaller Bad f = let z : ◌≡◌ {A = ℕ} 0 1 = cc in absurd (omega arith)
+    by-decoded smaller None f = cc
 
 -- ---- what the entry builds
 
 pub roomed-path : (lent : Counts) (built : Built) (list : List PathSegment) → roomed lent built ≡ path list → built ≡ path list
-roomed-path lent (refusal reason) list e = let z : ◌≡◌ {A = ℕ} 0 1 = cc in absurd (omega arith)
+roomed-path lent (refusal reason) list e = cc
 roomed-path lent (path own) list e = by-room (is_short (counts_of own) lent) e
   where
     by-room :
         (b : Bool) → cond b (refusal (NoRoom (Five (counts_of own).kinds (counts_of own).fields (counts_of own).tables (counts_of own).lengths (counts_of own).commands))) (path own) ≡ path list
         → path own ≡ path list
-    by-room true f = let z : ◌≡◌ {A = ℕ} 0 1 = cc in absurd (omega arith)
+    by-room true f = cc
     by-room false f = f
 
 -- "what it builds always passes check_path"

@@ -1,26 +1,22 @@
 -- What is answered and written where a path is built (document 01, "The answers"; document 02, L5). Counts are of places: kinds, fields, tables, lengths, commands. Definitions
 -- only.
-use Rattle.std.specs.Prelude.{ℕ, ◌≡◌, Bool, ◌||◌, cond, List, [], ◌∷◌, ltb, length}
+use Rattle.std.specs.Prelude.{ℕ, ◌≡◌, Bool, ◌||◌, cond, List, [], ◌∷◌, Option, Some, None, Result, Ok, Err, ltb, length}
 use Rattle.answers.specs.Answers.{Answer, refused, accepted}
 use Rattle.answers.specs.declared.refusals.Values.TheVariants.{Five}
+use Rattle.answers.specs.declared.refusals.Refusal.{Refusal}
 use Rattle.answers.specs.declared.refusals.Refusal.TheVariants.{NoRoom}
 use Rattle.path_segment.specs.declared.segments.PathSegment.{PathSegment}
 use Rattle.path_stored.specs.Buffers.{Buffers}
 use Rattle.path_stored.specs.Layout.{kinds_of, fields_of_all, tables_of_all, lengths_of_all}
 use Rattle.path_drawing.specs.Building.{Built, path, refusal}
 use Rattle.path_storing.specs.Sites.{path_written, Holds}
-use Rattle.path_storing.specs.declared.tallies.Outlook.{Outlook}
-use Rattle.path_storing.specs.declared.tallies.Outlook.TheVariants as Outlook
-use Rattle.path_build.specs.declared.sizes.Building.{Building}
-use Rattle.path_build.specs.declared.sizes.Building.TheVariants as Building
-use Rattle.path_build.specs.declared.sizes.Size.{Size}
-use Rattle.path_build.specs.declared.sizes.Size.TheVariants as Size
-use Rattle.path_build.specs.declared.sizes.Counts.{Counts}
+use Rattle.path_storing.specs.declared.sites.Sizes.{Sizes}
+use Rattle.path_build.specs.declared.room.Counts.{Counts}
 
 -- the number and the values of each case: kinds, lengths and commands are one a segment
-abbrev pub answer_of : Building → Answer
-answer_of (Building.Built segments fields tables) = accepted (segments ∷ fields ∷ tables ∷ segments ∷ segments ∷ [])
-answer_of (Building.Refused reason) = refused reason
+abbrev pub answer_of : Result Sizes Refusal → Answer
+answer_of (Ok sizes) = accepted (sizes.segments ∷ sizes.fields ∷ sizes.tables ∷ sizes.segments ∷ sizes.segments ∷ [])
+answer_of (Err reason) = refused reason
 
 -- "a lent output is too short"
 abbrev pub is_short : Counts → Counts → Bool
@@ -65,31 +61,33 @@ numbers_written (path list) drawers = drawers
 numbers_written (refusal reason) drawers = []
 
 -- what is built is answered and written, with the numbers of the commands that draw
-pub record Answers (built : Built) (drawers : List ℕ) (b : Buffers) (r : Building) (b' : Buffers) : Type 0 where
+pub record Answers (built : Built) (drawers : List ℕ) (b : Buffers) (r : Result Sizes Refusal) (b' : Buffers) : Type 0 where
   pub answer : answer_of r ≡ answered built
   pub after : b' ≡ path_written (segments_written built) (numbers_written built drawers) b
 
 -- ---- what the passes ask and leave
 
 -- the places that a path of so many segments needs; kinds, lengths and commands are one a segment
-abbrev pub needed_of : ℕ → ℕ → ℕ → Counts
-needed_of segments fields tables = record { kinds = segments; fields = fields; tables = tables; lengths = segments; commands = segments }
+abbrev pub needed_of : Sizes → Counts
+needed_of sizes = record { kinds = sizes.segments; fields = sizes.fields; tables = sizes.tables; lengths = sizes.segments; commands = sizes.segments }
 
--- what is answered to what a first pass tells, where the buffers have these places
-abbrev pub building_of : Size → Counts → Building
-building_of (Size.Refused reason) lent = Building.Refused reason
-building_of (Size.Counted segments fields tables) lent =
-    cond (is_short (needed_of segments fields tables) lent) (Building.Refused (NoRoom (Five segments fields tables segments segments))) (Building.Built segments fields tables)
+-- what is answered to the sizes that a first pass tells, where the buffers have these places
+abbrev pub building_of : Sizes → Counts → Result Sizes Refusal
+building_of sizes lent =
+    cond (is_short (needed_of sizes) lent) (Err (NoRoom (Five sizes.segments sizes.fields sizes.tables sizes.segments sizes.segments))) (Ok sizes)
+
+abbrev pub sizes_of : ℕ → ℕ → ℕ → Sizes
+sizes_of segments fields tables = record { segments = segments; fields = fields; tables = tables }
 
 -- the counts of what is built, or why it is not
-unfoldable pub measure_of : Built → Size
-measure_of (path list) = Size.Counted (length (kinds_of list)) (length (fields_of_all list)) (length (tables_of_all list))
-measure_of (refusal reason) = Size.Refused reason
+unfoldable pub measure_of : Built → Result Sizes Refusal
+measure_of (path list) = Ok (sizes_of (length (kinds_of list)) (length (fields_of_all list)) (length (tables_of_all list)))
+measure_of (refusal reason) = Err reason
 
 -- what a count that measures nothing tells of what is built, where it tells anything
-abbrev pub Foretells : Built → Outlook → Type 0
-Foretells built (Outlook.Counted segments fields tables) = Size.Counted segments fields tables ≡ measure_of built
-Foretells built Outlook.Unsure = Unit {0}
+abbrev pub Foretells : Built → Option Sizes → Type 0
+Foretells built (Some sizes) = Ok sizes ≡ measure_of built
+Foretells built None = Unit {0}
 
 -- it builds, and has room in the buffers
 abbrev pub Holding : Built → Buffers → Type 0

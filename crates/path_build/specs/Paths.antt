@@ -1,13 +1,14 @@
 -- What a command list builds (document 01, "The answers"; document 02, L5). Definitions only.
-use Rattle.std.specs.Prelude.{ℕ, cond, List, [], ltb, length}
+use Rattle.std.specs.Prelude.{ℕ, cond, List, [], Result, ltb, length}
+use Rattle.answers.specs.declared.refusals.Refusal.{Refusal}
 use Rattle.answers.specs.declared.refusals.Refusal.TheVariants.{BadList, Range}
 use Rattle.commands.specs.Listed.{Listing, well_formed, malformed}
 use Rattle.path_stored.specs.Buffers.{Buffers}
 use Rattle.path_drawing.specs.Building.{Built, refusal, build_of, drawers_of}
 use Rattle.path_build.specs.Lists.{StoredList, listing_of}
 use Rattle.path_build.specs.Answers.{roomed, Answers}
-use Rattle.path_build.specs.declared.sizes.Building.{Building}
-use Rattle.path_build.specs.declared.sizes.Counts.{Counts}
+use Rattle.path_storing.specs.declared.sites.Sizes.{Sizes}
+use Rattle.path_build.specs.declared.room.Counts.{Counts}
 
 -- "9 over the whole list, then segment by segment 10 before 11"
 abbrev pub built_by : Listing → Built
@@ -35,5 +36,5 @@ abbrev pub build_path_of : StoredList → Counts → Built
 build_path_of list lent = roomed lent (build_list_of list)
 
 -- the entry's one record of equations
-abbrev pub BuildPath : StoredList → Buffers → Building → Buffers → Type 0
+abbrev pub BuildPath : StoredList → Buffers → Result Sizes Refusal → Buffers → Type 0
 BuildPath list b r b' = Answers (build_path_of list (lent_of b)) (drawers_list_of list) b r b'

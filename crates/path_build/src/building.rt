@@ -4,11 +4,13 @@ ghost use Rattle.path_build.specs.Lists.{given_list};
 ghost use Rattle.path_build.specs.Paths.{BuildPath};
 
 use crate::passes::{fill, sized};
-use crate::sizes::{Building, Counts, room};
+use crate::room::{Counts, room};
+use answers::Refusal;
+use path_storing::Sizes;
 
 // Builds the stored path of a command list: a kind, a running length and the number of its command for each segment, its fields and its
-// table, each from its buffer's start. A refusal writes nothing, and what stands past the counted places is left as it was. Within its
-// callers it takes less stack (tests/c/stack.c).
+// table, each from its buffer's start, and gives their counts. A refusal writes nothing, and what stands past the counted places is left
+// as it was. Within its callers it takes less stack (tests/c/stack.c).
 #[inline(always)]
 pub fn build_path(
     letters: &[u8],
@@ -18,7 +20,7 @@ pub fn build_path(
     tables: &mut [f32],
     lengths: &mut [f32],
     commands: &mut [u32],
-) -> Building
+) -> Result<Sizes, Refusal>
     ensures { BuildPath (given_list letters numbers) (before_mut kinds fields tables lengths commands) result (after kinds fields tables lengths commands) }
 {
     let lent = Counts {
@@ -28,21 +30,7 @@ pub fn build_path(
         lengths: lengths.len(),
         commands: commands.len(),
     };
-    match room(sized(letters, numbers), lent) {
-        Building::Refused(refusal) => {
-            return Building::Refused(refusal);
-        }
-        Building::Built {
-            segments,
-            fields: own,
-            tables: more,
-        } => {
-            fill(letters, numbers, kinds, fields, tables, lengths, commands);
-            return Building::Built {
-                segments,
-                fields: own,
-                tables: more,
-            };
-        }
-    }
+    let sizes = room(sized(letters, numbers)?, lent)?;
+    fill(letters, numbers, kinds, fields, tables, lengths, commands);
+    Ok(sizes)
 }

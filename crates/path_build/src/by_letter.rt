@@ -5,17 +5,17 @@ ghost use Rattle.path_stored.specs.Buffers.{after, before_mut, lent_mut};
 ghost use Rattle.path_storing.specs.Sites.{FewAt, Room, Laid};
 ghost use Rattle.path_build.specs.Letters.{stride_of, drawn_at};
 
-use commands::inner::{Decoded, decode, point_at};
+use commands::inner::{decode, point_at};
 use path_storing::Site;
 use path_storing::inner::{cubic_to, lay_any, line_to, quad_to};
 
 // How many numbers a letter takes. An unknown one takes none.
+#[tactic(auto, unfolding(crate::specs::Letters::stride_of))]
 pub(crate) fn stride(letter: u8) -> usize
     ensures { result ≡ stride_of letter }
 {
     match letter {
-        b'M' => 2,
-        b'L' => 2,
+        b'M' | b'L' => 2,
         b'Q' => 4,
         b'C' => 6,
         b'A' => 7,
@@ -45,32 +45,30 @@ pub(crate) fn lay_at(
     match letter {
         b'L' => {
             let end = point_at(numbers, at);
-            return line_to(site, number, end, kinds, fields, tables, lengths, commands);
+            line_to(site, number, end, kinds, fields, tables, lengths, commands)
         }
         b'Q' => {
             let control = point_at(numbers, at);
             let end = point_at(numbers, at + 2);
-            return quad_to(
+            quad_to(
                 site, number, control, end, kinds, fields, tables, lengths, commands,
-            );
+            )
         }
         b'C' => {
             let control1 = point_at(numbers, at);
             let control2 = point_at(numbers, at + 2);
             let end = point_at(numbers, at + 4);
-            return cubic_to(
+            cubic_to(
                 site, number, control1, control2, end, kinds, fields, tables, lengths, commands,
-            );
+            )
         }
         _ => match decode(letter, numbers, at) {
-            Decoded::Bad => {
-                return site;
-            }
-            Decoded::Command(command) => {
-                return lay_any(
+            Some(command) => {
+                lay_any(
                     site, number, command, kinds, fields, tables, lengths, commands,
-                );
+                )
             }
+            None => site,
         },
     }
 }

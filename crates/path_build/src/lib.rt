@@ -7,7 +7,6 @@ mod by_letter;
 pub mod inner;
 mod passes;
 mod plain;
-mod sizes;
+mod room;
 
 pub use building::build_path;
-pub use sizes::Building;

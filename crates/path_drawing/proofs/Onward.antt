@@ -1,5 +1,5 @@
 -- Building command by command: what the commands passed have drawn does not depend on those to come. Assumes nothing.
-use Prim.Native.Nat.{ℕ, suc, ◌+◌}
+use Prim.Native.Nat.{ℕ, suc}
 use native.Mathlib.Numerals.{add-one}
 use mathlib.Core.Path.{◌≡◌, refl, sym, ap, ◌∙◌}
 use mathlib.Core.Bool.{true, false}
@@ -7,6 +7,7 @@ use mathlib.Core.List.{List, [], ◌∷◌, ◌++◌, append_assoc, append-nil}
 use lib.Ieee.{Float}
 use lib.Ieee.Scale.{finite}
 use lib.ListN.{length, length-append}
+use Rattle.std.specs.Prelude.{Option, Some, None}
 use Rattle.answers.specs.declared.refusals.Refusal.TheVariants.{RotationRange, NotFinite}
 use Rattle.floats.specs.Floats.{zero_f}
 use Rattle.commands.specs.declared.command.PathCommand.{PathCommand}
@@ -15,7 +16,7 @@ use Rattle.path_drawing.specs.Drawing.{fresh_of, draw_of}
 use Rattle.path_drawing.specs.Building.{Built, path, refusal, prepend, length_after, follow, build_from, build_of, named_by, named, drawers_from, drawers_of}
 use Rattle.path_drawing.specs.declared.pens.Pen.{Pen}
 use Rattle.path_drawing.specs.declared.strokes.Drawn.{Drawn}
-use Rattle.path_drawing.specs.declared.strokes.Drawn.TheVariants.{Moved, Segment, OutOfRange}
+use Rattle.path_drawing.specs.declared.strokes.Drawn.TheVariants.{Moved, Segment}
 
 -- ---- segments before what is built
 
@@ -60,14 +61,14 @@ module _ {commands : List PathCommand} {done : List PathSegment} {k : ℕ} {befo
     unfolding drawers_from
     drew-named = d.drawers (command ∷ []) ∙ ap (λ l. drawers_of commands ++ l) (alone (draw_of pen command))
       where
-        alone : (drawn : Drawn) → named (length commands) drawn (drawers_from [] (suc (length commands))) ≡ named_by (length commands) drawn
-        alone (Moved next) = refl
-        alone (Segment segment next) = refl
-        alone OutOfRange = refl
+        alone : (drawn : Option Drawn) → named (length commands) drawn (drawers_from [] (suc (length commands))) ≡ named_by (length commands) drawn
+        alone (Some (Moved next)) = refl
+        alone (Some (Segment segment next)) = refl
+        alone None = refl
 
     -- and so are those of the commands after it, which start from the pen that it leaves
     next-drawers :
-        (drawn : Drawn) (next : Pen) → draw_of pen command ≡ drawn → ((rest : Pen → List ℕ) → named (length commands) drawn rest ≡ named_by (length commands) drawn ++ rest next)
+        (drawn : Option Drawn) (next : Pen) → draw_of pen command ≡ drawn → ((rest : Pen → List ℕ) → named (length commands) drawn rest ≡ named_by (length commands) drawn ++ rest next)
         → (rest : List PathCommand) → drawers_of ((commands ++ (command ∷ [])) ++ rest) ≡ drawers_of (commands ++ (command ∷ [])) ++ drawers_from rest (length (commands ++ (command ∷ []))) next
     unfolding drawers_from
     next-drawers drawn next e onwards rest =
@@ -81,17 +82,17 @@ module _ {commands : List PathCommand} {done : List PathSegment} {k : ℕ} {befo
         ∙ ap (λ n. drawers_of (commands ++ (command ∷ [])) ++ drawers_from rest n next) (sym (length-append commands (command ∷ []) ∙ add-one (length commands)))
 
     -- it draws nothing
-    pub drew-moved : (next : Pen) → draw_of pen command ≡ Moved next → Drew (commands ++ (command ∷ [])) done k before next
+    pub drew-moved : (next : Pen) → draw_of pen command ≡ Some (Moved next) → Drew (commands ++ (command ∷ [])) done k before next
     drew-moved next e =
         record {
           onward = λ rest. next-taken rest ∙ ap (λ x. onto done (follow k before x (build_from rest))) e;
-          drawers = next-drawers (Moved next) next e (λ rest. refl);
+          drawers = next-drawers (Some (Moved next)) next e (λ rest. refl);
           count = ap length (drew-named ∙ ap (λ x. drawers_of commands ++ named_by (length commands) x) e ∙ append-nil (drawers_of commands)) ∙ d.count;
         }
 
     -- it draws a segment
     pub drew-segment :
-        (segment : PathSegment) (next : Pen) → draw_of pen command ≡ Segment segment next → finite (length_after before segment) ≡ true
+        (segment : PathSegment) (next : Pen) → draw_of pen command ≡ Some (Segment segment next) → finite (length_after before segment) ≡ true
         → Drew (commands ++ (command ∷ [])) (done ++ (segment ∷ [])) (suc k) (length_after before segment) next
     drew-segment segment next e f =
         record {
@@ -99,7 +100,7 @@ module _ {commands : List PathCommand} {done : List PathSegment} {k : ℕ} {befo
               next-taken rest
               ∙ ap (λ x. onto done (follow k before x (build_from rest))) e
               ∙ rw f (onto-prepend done segment (build_from rest (suc k) (length_after before segment) next));
-          drawers = next-drawers (Segment segment next) next e (λ rest. refl);
+          drawers = next-drawers (Some (Segment segment next)) next e (λ rest. refl);
           count =
               ap length (drew-named ∙ ap (λ x. drawers_of commands ++ named_by (length commands) x) e)
               ∙ length-append (drawers_of commands) (length commands ∷ [])
@@ -109,9 +110,9 @@ module _ {commands : List PathCommand} {done : List PathSegment} {k : ℕ} {befo
 
     -- it is refused
     pub drew-infinite :
-        (segment : PathSegment) (next : Pen) → draw_of pen command ≡ Segment segment next → finite (length_after before segment) ≡ false
+        (segment : PathSegment) (next : Pen) → draw_of pen command ≡ Some (Segment segment next) → finite (length_after before segment) ≡ false
         → (rest : List PathCommand) → build_of ((commands ++ (command ∷ [])) ++ rest) ≡ refusal (NotFinite k)
     drew-infinite segment next e f rest = next-taken rest ∙ ap (λ x. onto done (follow k before x (build_from rest))) e ∙ rw f
 
-    pub drew-turned : draw_of pen command ≡ OutOfRange → (rest : List PathCommand) → build_of ((commands ++ (command ∷ [])) ++ rest) ≡ refusal (RotationRange k)
+    pub drew-turned : draw_of pen command ≡ None → (rest : List PathCommand) → build_of ((commands ++ (command ∷ [])) ++ rest) ≡ refusal (RotationRange k)
     drew-turned e rest = next-taken rest ∙ ap (λ x. onto done (follow k before x (build_from rest))) e

@@ -1,6 +1,6 @@
 -- The segments of a list of commands (source document 002, `from_commands`; document 01, "The answers" and "Lengths, tables and lookup"), and which command made each (document 02, L5).
 -- Segments and commands count from 0, lengths are `f32` values in path units. Definitions only.
-use Rattle.std.specs.Prelude.{ℕ, suc, cond, List, [], ◌∷◌, Float}
+use Rattle.std.specs.Prelude.{ℕ, suc, cond, Option, Some, None, List, [], ◌∷◌, Float}
 use Rattle.std.specs.Float.{binary32}
 use Rattle.std.specs.Float.Ieee.{add}
 use Rattle.std.specs.Float.Ieee.Scale.{finite}
@@ -13,7 +13,7 @@ use Rattle.path_segment.specs.declared.segments.PathSegment.{PathSegment}
 use Rattle.path_drawing.specs.Drawing.{fresh_of, draw_of}
 use Rattle.path_drawing.specs.declared.pens.Pen.{Pen}
 use Rattle.path_drawing.specs.declared.strokes.Drawn.{Drawn}
-use Rattle.path_drawing.specs.declared.strokes.Drawn.TheVariants.{Moved, Segment, OutOfRange}
+use Rattle.path_drawing.specs.declared.strokes.Drawn.TheVariants.{Moved, Segment}
 
 -- what building gives: the segments in drawing order, or the first refusal
 pub data Built : Type 0 where
@@ -29,11 +29,11 @@ abbrev pub length_after : Float → PathSegment → Float
 length_after before segment = add binary32 before (length_for segment)
 
 -- "segment by segment 10 before 11": what follows from the segment numbered k on, which has the running length `before` before it, where `rest` builds on
-abbrev pub follow : ℕ → Float → Drawn → (ℕ → Float → Pen → Built) → Built
-follow k before (Moved next) rest = rest k before next
-follow k before (Segment segment next) rest =
+abbrev pub follow : ℕ → Float → Option Drawn → (ℕ → Float → Pen → Built) → Built
+follow k before (Some (Moved next)) rest = rest k before next
+follow k before (Some (Segment segment next)) rest =
     cond (finite (length_after before segment)) (prepend segment (rest (suc k) (length_after before segment) next)) (refusal (NotFinite k))
-follow k before OutOfRange rest = refusal (RotationRange k)
+follow k before None rest = refusal (RotationRange k)
 
 unfoldable pub build_from : List PathCommand → ℕ → Float → Pen → Built
 build_from [] k before pen = path []
@@ -47,16 +47,16 @@ build_of commands = build_from commands 0 zero_f fresh_of
 -- ---- "each segment the number of its command": a command that draws none is counted too
 
 -- the number of a command, where it draws a segment
-abbrev pub named_by : ℕ → Drawn → List ℕ
-named_by n (Moved next) = []
-named_by n (Segment segment next) = n ∷ []
-named_by n OutOfRange = []
+abbrev pub named_by : ℕ → Option Drawn → List ℕ
+named_by n (Some (Moved next)) = []
+named_by n (Some (Segment segment next)) = n ∷ []
+named_by n None = []
 
 -- what follows from the command numbered n on, where `rest` goes on from the pen after it
-abbrev pub named : ℕ → Drawn → (Pen → List ℕ) → List ℕ
-named n (Moved next) rest = rest next
-named n (Segment segment next) rest = n ∷ rest next
-named n OutOfRange rest = []
+abbrev pub named : ℕ → Option Drawn → (Pen → List ℕ) → List ℕ
+named n (Some (Moved next)) rest = rest next
+named n (Some (Segment segment next)) rest = n ∷ rest next
+named n None rest = []
 
 -- the numbers of the commands that draw, by the recursion of `build_from`
 unfoldable pub drawers_from : List PathCommand → ℕ → Pen → List ℕ

@@ -1,5 +1,5 @@
 -- What one command draws (source document 002, `from_commands`; document 01, "Lengths, tables and lookup", "Building"). Definitions only.
-use Rattle.std.specs.Prelude.{Bool, true, false, cond}
+use Rattle.std.specs.Prelude.{cond, Option, Some, None}
 use Rattle.std.specs.Float.Ieee.Scale.{finite}
 use Rattle.math.specs.Math.{origin_f}
 use Rattle.math.specs.declared.points.Point.{Point}
@@ -13,45 +13,54 @@ use Rattle.path_segment.specs.declared.segments.PathSegment.{PathSegment}
 use Rattle.path_segment.specs.declared.segments.PathSegment.TheVariants.{Line, Quad, Cubic, Arc, Fallback}
 use Rattle.path_drawing.specs.declared.pens.Pen.{Pen}
 use Rattle.path_drawing.specs.declared.strokes.Drawn.{Drawn}
-use Rattle.path_drawing.specs.declared.strokes.Drawn.TheVariants.{Moved, Segment, OutOfRange}
+use Rattle.path_drawing.specs.declared.strokes.Drawn.TheVariants.{Moved, Segment}
 
 -- ---- the pen
 
 -- no current point; the subpath's start is (0, 0) until a MoveTo
 unfoldable pub fresh_of : Pen
-fresh_of = record { current = origin_f; start = origin_f; placed = false }
+fresh_of = record { current = None; start = origin_f }
 
 -- after a MoveTo
 abbrev pub moved_of : Point → Pen
-moved_of point = record { current = point; start = point; placed = true }
+moved_of point = record { current = Some point; start = point }
 
 -- after a command that ends at a point: the subpath's start stays, also where no MoveTo came before
 abbrev pub drawn_of : Pen → Point → Pen
-drawn_of pen end = record { current = end; start = pen.start; placed = true }
+drawn_of pen end = record { current = Some end; start = pen.start }
 
 -- ---- what a command makes
 
 -- "a drawing command without current point makes no segment but sets the point"
-abbrev pub stroke_of : Bool → PathSegment → Pen → Drawn
-stroke_of placed segment next = cond placed (Segment segment next) (Moved next)
+abbrev pub stroke_of : Option Point → (Point → PathSegment) → Pen → Drawn
+stroke_of (Some start) segment next = Segment (segment start) next
+stroke_of None segment next = Moved next
 
 -- `EllipticalArc::from_svg`: the line fallback, which may have any rotation; else 10 is "for a rotation that is NaN or infinite"
-unfoldable pub arc_of : Chord → Pen → Drawn
-arc_of chord next = cond (is_fallback chord) (Segment (Fallback (fallback_shape chord)) next) (cond (finite chord.x_axis_rotation) (Segment (Arc (from_ends_of chord)) next) OutOfRange)
+unfoldable pub arc_of : Chord → Pen → Option Drawn
+arc_of chord next =
+    cond (is_fallback chord) (Some (Segment (Fallback (fallback_shape chord)) next)) (cond (finite chord.x_axis_rotation) (Some (Segment (Arc (from_ends_of chord)) next)) None)
 
 -- the same for an arc, of which nothing is judged without a current point
-unfoldable pub arc_stroke_of : Bool → Chord → Pen → Drawn
+unfoldable pub arc_stroke_of : Option Point → (Point → Chord) → Pen → Option Drawn
 unfolding arc_of
-arc_stroke_of placed chord next = cond placed (arc_of chord next) (Moved next)
+arc_stroke_of (Some start) chord next = arc_of (chord start) next
+arc_stroke_of None chord next = Some (Moved next)
 
-unfoldable pub draw_of : Pen → PathCommand → Drawn
+-- a close, which leaves the pen as it is without a current point
+abbrev pub close_of : Option Point → Pen → Drawn
+close_of (Some current) pen = Segment (Line (line_of current pen.start)) (drawn_of pen pen.start)
+close_of None pen = Moved pen
+
+-- nothing for a rotation out of range
+unfoldable pub draw_of : Pen → PathCommand → Option Drawn
 unfolding arc_stroke_of
-draw_of pen (MoveTo point) = Moved (moved_of point)
-draw_of pen (LineTo end) = stroke_of pen.placed (Line (line_of pen.current end)) (drawn_of pen end)
-draw_of pen (QuadTo control end) = stroke_of pen.placed (Quad pen.current control end) (drawn_of pen end)
-draw_of pen (CubicTo control1 control2 end) = stroke_of pen.placed (Cubic pen.current control1 control2 end) (drawn_of pen end)
+draw_of pen (MoveTo point) = Some (Moved (moved_of point))
+draw_of pen (LineTo end) = Some (stroke_of pen.current (λ start. Line (line_of start end)) (drawn_of pen end))
+draw_of pen (QuadTo control end) = Some (stroke_of pen.current (λ start. Quad start control end) (drawn_of pen end))
+draw_of pen (CubicTo control1 control2 end) = Some (stroke_of pen.current (λ start. Cubic start control1 control2 end) (drawn_of pen end))
 draw_of pen (ArcTo radii rotation large sweep end) =
-    let chord : Chord = record { start = pen.current; radii = radii; x_axis_rotation = rotation; large_arc = large; sweep = sweep; end = end } in
-    arc_stroke_of pen.placed chord (drawn_of pen end)
+    let chord : Point → Chord = λ start. record { start = start; radii = radii; x_axis_rotation = rotation; large_arc = large; sweep = sweep; end = end } in
+    arc_stroke_of pen.current chord (drawn_of pen end)
 -- "ClosePath adds a line even of length 0, and nothing without a current point": it ends at the subpath's start
-draw_of pen ClosePath = cond pen.placed (Segment (Line (line_of pen.current pen.start)) (drawn_of pen pen.start)) (Moved pen)
+draw_of pen ClosePath = Some (close_of pen.current pen)

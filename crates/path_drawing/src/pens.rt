@@ -6,21 +6,19 @@ use math::Point;
 
 #[derive(Clone, Copy)]
 pub struct Pen {
-    // The current point, which there is where `placed` is true.
-    pub current: Point,
+    pub current: Option<Point>,
     // The subpath's start: the point of the last MoveTo, or (0, 0) before the first.
     pub start: Point,
-    pub placed: bool,
 }
 
 // The pen before the first command.
+#[tactic(auto, unfolding(crate::specs::Drawing::fresh_of, math::specs::Math::origin_f, floats::specs::Floats::zero_f))]
 pub fn fresh() -> Pen
     ensures { result ≡ fresh_of }
 {
     Pen {
-        current: Point { x: 0.0, y: 0.0 },
+        current: None,
         start: Point { x: 0.0, y: 0.0 },
-        placed: false,
     }
 }
 
@@ -29,9 +27,8 @@ pub fn moved(point: Point) -> Pen
     ensures { result ≡ moved_of point }
 {
     Pen {
-        current: point,
+        current: Some(point),
         start: point,
-        placed: true,
     }
 }
 
@@ -41,8 +38,7 @@ pub fn drawn(pen: Pen, end: Point) -> Pen
 {
     let start = pen.start;
     Pen {
-        current: end,
+        current: Some(end),
         start,
-        placed: true,
     }
 }

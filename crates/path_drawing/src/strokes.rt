@@ -1,13 +1,12 @@
 // What one command makes: nothing, a segment, or the refusal of an arc's rotation.
 ghost use Rattle.std.specs.Prelude.{◌≡◌};
-ghost use Rattle.path_drawing.specs.Drawing.{stroke_of, arc_of, arc_stroke_of, draw_of};
+ghost use Rattle.path_drawing.specs.Drawing.{arc_of, draw_of};
 
 use crate::pens::{Pen, drawn, moved};
 use arc::{LineSegment, fallback_shape, is_fallback};
 use commands::PathCommand;
 use ellipse::{Chord, from_ends};
 use floats::is_finite;
-use math::Point;
 use path_segment::PathSegment;
 
 #[derive(Clone, Copy)]
@@ -16,84 +15,72 @@ pub enum Drawn {
     Moved(Pen),
     // A segment, and the pen after it.
     Segment { segment: PathSegment, next: Pen },
-    // The rotation of an arc that is no line fallback is infinite or a NaN.
-    OutOfRange,
 }
 
-// A segment that a drawing command makes where there is a current point; without one the point is set all the same.
-fn stroke(placed: bool, segment: PathSegment, next: Pen) -> Drawn
-    ensures { result ≡ stroke_of placed segment next }
-{
-    if placed {
-        return Drawn::Segment { segment, next };
-    }
-    Drawn::Moved(next)
-}
-
-// An arc, its line fallback, or the refusal of its rotation.
-fn arc_drawn(chord: Chord, next: Pen) -> Drawn
+// An arc or its line fallback; nothing where the rotation of an arc that is no line fallback is infinite or a NaN.
+#[tactic(auto, unfolding(crate::specs::Drawing::arc_of))]
+fn arc_drawn(chord: Chord, next: Pen) -> Option<Drawn>
     ensures { result ≡ arc_of chord next }
 {
     if is_fallback(chord) {
-        return Drawn::Segment {
+        return Some(Drawn::Segment {
             segment: PathSegment::Fallback(fallback_shape(chord)),
             next,
-        };
+        });
     }
     if is_finite(chord.x_axis_rotation) {
-        return Drawn::Segment {
+        return Some(Drawn::Segment {
             segment: PathSegment::Arc(from_ends(chord)),
             next,
-        };
+        });
     }
-    Drawn::OutOfRange
+    None
 }
 
-// The same where there may be no current point.
-fn arc_stroke(placed: bool, chord: Chord, next: Pen) -> Drawn
-    ensures { result ≡ arc_stroke_of placed chord next }
-{
-    if placed {
-        return arc_drawn(chord, next);
-    }
-    Drawn::Moved(next)
-}
-
-// What a command makes, and where the pen is after it.
-pub fn draw(pen: Pen, command: PathCommand) -> Drawn
+// What a command makes, and where the pen is after it; nothing where its rotation is out of range. A drawing command without a current
+// point makes no segment and sets the point all the same.
+#[tactic(auto, unfolding(crate::specs::Drawing::arc_stroke_of, crate::specs::Drawing::draw_of))]
+pub fn draw(pen: Pen, command: PathCommand) -> Option<Drawn>
     ensures { result ≡ draw_of pen command }
 {
-    let current = pen.current;
-    let start = pen.start;
     match command {
-        PathCommand::MoveTo(point) => Drawn::Moved(moved(point)),
+        PathCommand::MoveTo(point) => Some(Drawn::Moved(moved(point))),
         PathCommand::LineTo(end) => {
-            let segment = PathSegment::Line(LineSegment {
-                start: current,
-                end,
-            });
-            stroke(pen.placed, segment, drawn(pen, end))
+            let next = drawn(pen, end);
+            let Some(start) = pen.current else {
+                return Some(Drawn::Moved(next));
+            };
+            let segment = PathSegment::Line(LineSegment { start, end });
+            Some(Drawn::Segment { segment, next })
         }
         PathCommand::QuadTo { control, end } => {
+            let next = drawn(pen, end);
+            let Some(start) = pen.current else {
+                return Some(Drawn::Moved(next));
+            };
             let segment = PathSegment::Quad {
-                start: current,
+                start,
                 control,
                 end,
             };
-            stroke(pen.placed, segment, drawn(pen, end))
+            Some(Drawn::Segment { segment, next })
         }
         PathCommand::CubicTo {
             control1,
             control2,
             end,
         } => {
+            let next = drawn(pen, end);
+            let Some(start) = pen.current else {
+                return Some(Drawn::Moved(next));
+            };
             let segment = PathSegment::Cubic {
-                start: current,
+                start,
                 control1,
                 control2,
                 end,
             };
-            stroke(pen.placed, segment, drawn(pen, end))
+            Some(Drawn::Segment { segment, next })
         }
         PathCommand::ArcTo {
             radii,
@@ -102,28 +89,33 @@ pub fn draw(pen: Pen, command: PathCommand) -> Drawn
             sweep,
             end,
         } => {
+            let next = drawn(pen, end);
+            let Some(start) = pen.current else {
+                return Some(Drawn::Moved(next));
+            };
             let chord = Chord {
-                start: current,
+                start,
                 radii,
                 x_axis_rotation: rotation,
                 large_arc,
                 sweep,
                 end,
             };
-            arc_stroke(pen.placed, chord, drawn(pen, end))
+            arc_drawn(chord, next)
         }
         PathCommand::ClosePath => {
-            if pen.placed {
-                let segment = PathSegment::Line(LineSegment {
-                    start: current,
-                    end: start,
-                });
-                return Drawn::Segment {
-                    segment,
-                    next: drawn(pen, start),
-                };
-            }
-            Drawn::Moved(pen)
+            let Some(current) = pen.current else {
+                return Some(Drawn::Moved(pen));
+            };
+            let start = pen.start;
+            let segment = PathSegment::Line(LineSegment {
+                start: current,
+                end: start,
+            });
+            Some(Drawn::Segment {
+                segment,
+                next: drawn(pen, start),
+            })
         }
     }
 }

@@ -13,6 +13,7 @@ use table::{Progress, RawParameter};
 
 // Where a segment heads at a local progress, with the length 1, or (0, 0) where nothing tells. `raw` is the raw parameter of the local
 // progress, and the segment's table starts at `first`, if it has one.
+#[tactic(auto, unfolding(crate::specs::Headings::heading_of, path_segment::specs::Segments::has_table, path_segment::specs::Segments::tables_of))]
 pub fn heading(
     segment: PathSegment,
     tables: &[f32],

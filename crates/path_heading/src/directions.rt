@@ -1,4 +1,5 @@
-// The directions of quads and cubics whose table starts at `first` of the tables.
+// The directions of quads and cubics whose table starts at `first` of the tables. Both lend the same part of it; one function over the
+// curve would be as long as the two.
 ghost use Rattle.std.specs.Prelude.{◌≡◌};
 ghost use Rattle.bezier.specs.Curves.{ahead_of};
 ghost use Rattle.bezier.specs.Cubics.{cubic_direction};

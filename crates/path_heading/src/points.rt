@@ -9,6 +9,7 @@ use path_segment::PathSegment;
 use table::RawParameter;
 
 // The point of a segment at its raw parameter. Compiled, a NaN of it is 7FC00000.
+#[tactic(auto, unfolding(crate::specs::Headings::sample_of))]
 pub fn sample(segment: PathSegment, raw: RawParameter) -> Point
     ensures { result ≡ sample_of segment raw.value }
 {

@@ -2,12 +2,12 @@
 use mathlib.Core.Path.{◌≡◌, refl, sym, ap, ◌∙◌}
 use mathlib.Core.Logic.{◌≢◌}
 use Prim.Native.Nat.{ℕ, zero, suc, ◌+◌, ◌*◌, ◌-◌, ◌/◌, ◌%◌, ◌^◌, ◌≤◌, ◌<◌}
-use native.Mathlib.Nat.{add-mul, one-mul, zero-mul, div-lt_iff_lt-mul, div-mul-le_self, mod-eq_of_lt, lt_of_mul-lt-mul_right, lt_of_lt_of_le, lt_of_not-le}
+use native.Mathlib.Nat.{add-mul, one-mul, zero-mul, div-lt_iff_lt-mul, div-mul-le_self, mod-eq_of_lt, lt_of_mul-lt-mul_right, lt_of_lt_of_le}
 use native.Mathlib.Omega.{arith}
 use borrow.Author.Count.{below_more}
 use mathlib.Core.List.{List}
 use lib.ListN.{length, get_or, set, replicate, length-set}
-use lib.Pow.{pow_pos, pow_mono, pow-lt, pow-add}
+use lib.Pow.{pow_pos, pow-lt}
 use lib.Seq.{get_or-set_same, get_or-set_other}
 use Rattle.path_stored.proofs.Counting.{before-zero}
 use Rattle.path_place.specs.declared.cursors.Cursor.{Cursor}
@@ -17,14 +17,6 @@ use Rattle.path_place.proofs.Walks.{walked_from, walked-fields, walked-tables}
 use Rattle.path_marks.specs.Marks.{segment_of, mark_of, Reach, Sized, Marks, Markable, Leap}
 
 -- ---- the shift
-
--- twice as far, one more
-pub reach-next : (shift : ℕ) {reach : ℕ} → reach ≡ 256 * 2 ^ shift → 2 * reach ≡ 256 * 2 ^ (shift + 1)
-reach-next shift e = let h = pow-add 2 shift 1 in omega arith
-
--- 256 marks, 256 segments apart, reach over the longest path
-pub reach_few : (count shift reach : ℕ) → count ≤ 65536 → reach ≡ 256 * 2 ^ shift → reach < count → shift < 8
-reach_few count shift reach few e more = lt_of_not-le (λ h. let p : 2 ^ 8 ≤ 2 ^ shift = pow_mono h in omega arith)
 
 -- so many segments are between two marks
 pub apart-is : {count shift : ℕ} → Reach count shift → (1 * 2 ^ shift) % 2 ^ 64 ≡ 2 ^ shift
@@ -62,6 +54,14 @@ setting-first {kinds} shift m e =
     let some = m.some in
     let none : segment_of shift 0 ≡ 0 = zero-mul (2 ^ shift) in
     record { is = e ∙ ap (cursor_of kinds) (sym none); inside = omega arith; set = record { sized = m.sized; are = λ m h. absurd (omega arith) } }
+
+-- no mark past the 256 stands on the path
+pub setting-past : {kinds : List ℕ} {shift k : ℕ} {at : Cursor} {fields tables : List ℕ} → Setting kinds shift at k fields tables → Reach (length kinds) shift → k ≡ 256 → ⊥
+setting-past {kinds} {shift} {k} s r e =
+    let same : segment_of shift k ≡ segment_of shift 256 = ap (segment_of shift) e in
+    let inside = s.inside in
+    let far = r.far in
+    omega arith
 
 module _ {kinds : List ℕ} {shift k : ℕ} {at : Cursor} {fields tables : List ℕ} (few : length kinds ≤ 65536) (s : Setting kinds shift at k fields tables) where
   -- the cursor stands at its own segment

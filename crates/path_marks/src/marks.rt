@@ -16,13 +16,12 @@ fn shift_for(count: usize) -> usize
     requires { count ≤ 65536 }
     ensures { Reach count result }
 {
-    let mut shift = 0usize;
-    let mut reach = 256usize;
-    while reach < count {
-        reach = 2 * reach;
-        shift += 1;
+    for shift in 0..UNSET {
+        if count <= 256usize << shift {
+            return shift;
+        }
     }
-    shift
+    UNSET
 }
 
 // Sets the marks of a path, as near to each other as 256 allow, and gives their shift.
@@ -34,16 +33,15 @@ fn set_marks(kinds: &[u8], fields: &mut [u32; 256], tables: &mut [u32; 256]) -> 
     let shift = shift_for(count);
     let apart = 1usize << shift;
     let mut at = first_cursor(kinds);
-    let mut k = 0usize;
-    loop {
+    for k in 0..256 {
         fields[k] = at.fields as u32;
         tables[k] = at.tables as u32;
         if count - at.segment <= apart {
             return shift;
         }
         at = forward(kinds, at, at.segment + apart);
-        k += 1;
     }
+    shift
 }
 
 // Sets the marks before the first step back of more than 16 segments, and gives their shift.
@@ -72,7 +70,7 @@ fn distance(a: usize, b: usize) -> usize {
     if a <= b { b - a } else { a - b }
 }
 
-// The same number.
+// The same number: std has no `From` for it.
 fn wide(x: u32) -> usize
     ensures { result ≡ x }
 {

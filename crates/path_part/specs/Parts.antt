@@ -1,11 +1,9 @@
 -- `position`, `tangent` and `rotation_deg` of a `PathSegment` (source document 002), a case for each kind in its order. The progress is along the segment and is clamped; the table is the
 -- segment's own: one that is not sound is refused, and a line and a line fallback have none. Definitions only.
-use Rattle.std.specs.Prelude.{false, Float}
+use Rattle.std.specs.Prelude.{false, Float, Result, Ok}
+use Rattle.answers.specs.declared.refusals.Refusal.{Refusal}
 use Rattle.math.specs.declared.points.Point.{Point}
 use Rattle.table.specs.declared.tables.Table.{Table}
-use Rattle.flight.specs.declared.single.Placed.{Placed}
-use Rattle.flight.specs.declared.single.Placed.TheVariants as Placed
-use Rattle.flight.specs.declared.single.Turned.{Turned}
 use Rattle.bezier.specs.declared.quads.QuadBezier.{QuadBezier}
 use Rattle.bezier.specs.declared.cubics.CubicBezierCurve.{CubicBezierCurve}
 use Rattle.bezier.specs.Quads.{quad_placed_of, quad_heading_of}
@@ -28,22 +26,22 @@ abbrev pub arc_with : Arc → Table → EllipticalArc
 arc_with shape table = record { shape = shape; line_fallback = false; table = table }
 
 -- `position`: of a line `lerp_point` at the clamped t, whatever its length; of a fallback its line's
-unfoldable pub position_of : PathSegment → Table → Float → Placed
-position_of (Segment.Line line) table along = Placed.At (line_position_of line along)
+unfoldable pub position_of : PathSegment → Table → Float → Result Point Refusal
+position_of (Segment.Line line) table along = Ok (line_position_of line along)
 position_of (Segment.Quad start control end) table along = quad_placed_of (quad_with start control end table) along
 position_of (Segment.Cubic start control1 control2 end) table along = cubic_placed_of (cubic_with start control1 control2 end table) along
 position_of (Segment.Arc shape) table along = arc_placed_of (arc_with shape table) along
-position_of (Segment.Fallback shape) table along = Placed.At (line_position_of (chord_line shape) along)
+position_of (Segment.Fallback shape) table along = Ok (line_position_of (chord_line shape) along)
 
 -- `tangent`
-unfoldable pub tangent_of : PathSegment → Table → Float → Placed
-tangent_of (Segment.Line line) table along = Placed.At (line_tangent_of line)
+unfoldable pub tangent_of : PathSegment → Table → Float → Result Point Refusal
+tangent_of (Segment.Line line) table along = Ok (line_tangent_of line)
 tangent_of (Segment.Quad start control end) table along = quad_heading_of (quad_with start control end table) along
 tangent_of (Segment.Cubic start control1 control2 end) table along = cubic_heading_of (cubic_with start control1 control2 end table) along
 tangent_of (Segment.Arc shape) table along = arc_heading_of (arc_with shape table) along
-tangent_of (Segment.Fallback shape) table along = Placed.At (line_tangent_of (chord_line shape))
+tangent_of (Segment.Fallback shape) table along = Ok (line_tangent_of (chord_line shape))
 
 -- `rotation_deg`: that of the tangent
-unfoldable pub rotation_of : PathSegment → Table → Float → Turned
+unfoldable pub rotation_of : PathSegment → Table → Float → Result Float Refusal
 unfolding tangent_of
 rotation_of segment table along = in_degrees (tangent_of segment table along)

@@ -3,21 +3,23 @@
 ghost use Rattle.std.specs.Prelude.{◌≡◌};
 ghost use Rattle.path_part.specs.Parts.{position_of, tangent_of, rotation_of};
 
+use answers::Refusal;
 use arc::{EllipticalArc, arc_position, arc_tangent, chord_line, line_position, line_tangent};
 use bezier::{
     CubicBezierCurve, QuadBezier, cubic_position, cubic_tangent, quad_position, quad_tangent,
 };
-use flight::{Placed, Turned};
 use floats::tidy;
+use math::Point;
 use path_segment::PathSegment;
 use table::{Progress, Table};
 
 // Where a segment is.
-pub fn position(segment: PathSegment, table: Table, along: Progress) -> Placed
+#[tactic(auto, unfolding(crate::specs::Parts::position_of))]
+pub fn position(segment: PathSegment, table: Table, along: Progress) -> Result<Point, Refusal>
     ensures { result ≡ position_of segment table along.value }
 {
     match segment {
-        PathSegment::Line(line) => Placed::At(line_position(line, along)),
+        PathSegment::Line(line) => Ok(line_position(line, along)),
         PathSegment::Quad {
             start,
             control,
@@ -54,16 +56,17 @@ pub fn position(segment: PathSegment, table: Table, along: Progress) -> Placed
             };
             arc_position(arc, along)
         }
-        PathSegment::Fallback(shape) => Placed::At(line_position(chord_line(shape), along)),
+        PathSegment::Fallback(shape) => Ok(line_position(chord_line(shape), along)),
     }
 }
 
 // Where it heads, with the length 1, or (0, 0) where nothing tells.
-pub fn tangent(segment: PathSegment, table: Table, along: Progress) -> Placed
+#[tactic(auto, unfolding(crate::specs::Parts::tangent_of))]
+pub fn tangent(segment: PathSegment, table: Table, along: Progress) -> Result<Point, Refusal>
     ensures { result ≡ tangent_of segment table along.value }
 {
     match segment {
-        PathSegment::Line(line) => Placed::At(line_tangent(line)),
+        PathSegment::Line(line) => Ok(line_tangent(line)),
         PathSegment::Quad {
             start,
             control,
@@ -100,16 +103,15 @@ pub fn tangent(segment: PathSegment, table: Table, along: Progress) -> Placed
             };
             arc_tangent(arc, along)
         }
-        PathSegment::Fallback(shape) => Placed::At(line_tangent(chord_line(shape))),
+        PathSegment::Fallback(shape) => Ok(line_tangent(chord_line(shape))),
     }
 }
 
 // That heading in degrees from the x axis towards the y axis.
-pub fn rotation_deg(segment: PathSegment, table: Table, along: Progress) -> Turned
+#[tactic(auto, unfolding(crate::specs::Parts::rotation_of))]
+pub fn rotation_deg(segment: PathSegment, table: Table, along: Progress) -> Result<f32, Refusal>
     ensures { result ≡ rotation_of segment table along.value }
 {
-    match tangent(segment, table, along) {
-        Placed::At(to) => Turned::Degrees(tidy(angles::rotation_deg(to))),
-        Placed::Refused(refusal) => Turned::Refused(refusal),
-    }
+    let to = tangent(segment, table, along)?;
+    Ok(tidy(angles::rotation_deg(to)))
 }

@@ -9,7 +9,7 @@ use lib.ListN.{length, get_or}
 use lib.Ieee.{Float, of_bits, lt, le, eq}
 use Rattle.floats.specs.Floats.{zero_f, one_f, epsilon_f, clamp01_of}
 use Rattle.table.specs.declared.tables.Spot.{Spot}
-use Rattle.table.specs.Lookup.{at, last_of, first_not_below, raw_of}
+use Rattle.table.specs.Lookup.{last_of, first_not_below, raw_of}
 use Rattle.table.specs.Spots.{path_total, spot_of}
 use Rattle.floats.proofs.Tests.{clashing, cond_yes}
 use Rattle.floats.proofs.Order.{le-le-trans}

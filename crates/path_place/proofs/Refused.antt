@@ -1,23 +1,22 @@
 -- What `Demand3` forbids: each wrong lookup that the letter and document 01 name fails it on a small stored path, while the lookup of the code meets it there (`kept`). Every path here is one
 -- curve, or two lines of length 1; every table is a few lengths, each repeated. proofs/Allowed.antt has what the demand does not forbid. Assumes nothing.
 use Prim.Native.Nat.{ℕ, ◌+◌, ◌-◌}
-use mathlib.Core.Bool.{◌&&◌, not, cond}
+use mathlib.Core.Bool.{◌&&◌, cond}
 use mathlib.Core.List.{List, [], ◌∷◌, ◌++◌}
 use lib.Dec.{ltb}
-use lib.ListN.{length, get_or, replicate}
+use lib.ListN.{length, replicate}
 use lib.Ieee.{Float, binary32, of_bits, sub, div, neg, le, eq}
 use Rattle.floats.specs.Floats.{zero_f, one_f, epsilon_f, max_of, clamp01_of}
 use Rattle.table.specs.declared.tables.Spot.{Spot}
 use Rattle.table.specs.Lookup.{at, last_of, first_not_below, target_of, share_of}
-use Rattle.table.specs.Spots.{before, path_total, spotted, spot_within, spot_of}
+use Rattle.table.specs.Spots.{path_total, spotted, spot_within}
 use Rattle.table_order.proofs.Fused.{fused_of}
 use Rattle.table_order.proofs.Division.{whole, quotient_of}
 use Rattle.table_order.proofs.Above.{first_above}
 use Rattle.table_order.proofs.Variants.{reciprocal, product_join, fused_share_join, fused_number_join, way_of}
-use Rattle.path_segment.specs.Segments.{has_table}
 use Rattle.path_stored.specs.Buffers.{Buffers, buffers}
 use Rattle.path_place.specs.Places.{placed, raw_within, place_in, place_of}
-use Rattle.path_place.specs.Demand.{table_on, target_along}
+use Rattle.path_place.specs.Demand.{target_along}
 use Rattle.path_place.proofs.AnyLookup.{with_way}
 use Rattle.path_place.proofs.Refuting.{Lookup, Refused, computing, steps_back, strays-refused, misplaces-refused}
 

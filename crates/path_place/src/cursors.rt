@@ -26,6 +26,7 @@ pub fn first_cursor(kinds: &[u8]) -> Cursor
 }
 
 // A segment, by counting all that stands before it.
+#[tactic(auto, unfolding(crate::specs::Cursors::cursor_of))]
 pub fn cursor_at(kinds: &[u8], segment: usize) -> Cursor
     requires kinds_len_bound { length kinds.now ≤ most_segments }
     requires segment_in_bounds { segment ≤ length kinds.now }
@@ -43,14 +44,12 @@ pub fn forward(kinds: &[u8], from: Cursor, segment: usize) -> Cursor
     requires { Onward kinds.now from segment }
     ensures { result ≡ cursor_of kinds.now segment }
 {
-    let mut at = from.segment;
     let mut fields = from.fields;
     let mut tables = from.tables;
-    while at < segment {
+    for at in from.segment..segment {
         let kind = kinds[at];
         fields += width(kind);
         tables += table_width(kind);
-        at += 1;
     }
     Cursor {
         segment,
@@ -59,16 +58,14 @@ pub fn forward(kinds: &[u8], from: Cursor, segment: usize) -> Cursor
     }
 }
 
-// From a segment back to an earlier one.
+// From a segment back to an earlier one. One walk over either direction would choose at each step between a sum and a difference.
 pub fn back(kinds: &[u8], from: Cursor, segment: usize) -> Cursor
     requires { Backward kinds.now from segment }
     ensures { result ≡ cursor_of kinds.now segment }
 {
-    let mut at = from.segment;
     let mut fields = from.fields;
     let mut tables = from.tables;
-    while segment < at {
-        at -= 1;
+    for at in (segment..from.segment).rev() {
         let kind = kinds[at];
         fields -= width(kind);
         tables -= table_width(kind);

@@ -21,6 +21,7 @@ pub fn raw_in(tables: &[f32], first: usize, along: Progress) -> RawParameter
 
 // The raw parameter of a local progress on a segment of a kind, whose table starts at `first`, if it
 // has one. A line and an arc that fell back to one are looked up in a single 0.
+#[tactic(auto, unfolding(crate::specs::Places::raw_for))]
 pub fn raw_for(kind: u8, tables: &[f32], first: usize, along: Progress) -> RawParameter
     requires { T (has_table kind) → TableThere tables.now first }
     ensures { result.value ≡ raw_for kind tables.now first along.value }

@@ -9,7 +9,7 @@ use lib.ListN.{length}
 use lib.Ieee.{Float}
 use Rattle.answers.specs.declared.refusals.Refusal.TheVariants.{BadPath}
 use Rattle.flight.specs.declared.Flight.{Flight}
-use Rattle.flight.specs.declared.Flown.TheVariants as Flown
+use Rattle.std.specs.Prelude.{Ok, Err}
 use Rattle.path_stored.specs.Buffers.{Buffers}
 use Rattle.path_stored.specs.Stored.{is_stored}
 use Rattle.path_query.specs.Flights.{nowhere_f, flown_of, flight_of}
@@ -29,10 +29,10 @@ module _ (b : Buffers) (p : Float) where
   flight-none none = rw (eq-eqb _ _ none)
 
   -- ---- the answers
-  pub flew-well : (flight : Flight) → is_stored b ≡ true → flight ≡ flight_of b p → Flown.At flight ≡ flew_of b p
+  pub flew-well : (flight : Flight) → is_stored b ≡ true → flight ≡ flight_of b p → Ok flight ≡ flew_of b p
   unfolding flew_of
-  flew-well flight stored same = rw stored (ap Flown.At same)
+  flew-well flight stored same = rw stored (ap Ok same)
 
-  pub flew-bad : is_stored b ≡ false → Flown.Refused BadPath ≡ flew_of b p
+  pub flew-bad : is_stored b ≡ false → Err BadPath ≡ flew_of b p
   unfolding flew_of
   flew-bad bad = rw bad

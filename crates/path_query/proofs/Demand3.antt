@@ -7,14 +7,14 @@ use mathlib.Core.Bool.{true}
 use lib.Dec.{T}
 use lib.ListN.{length}
 use lib.Ieee.{Float, lt, le}
+use Rattle.std.specs.Prelude.{Result, Ok}
+use Rattle.answers.specs.declared.refusals.Refusal.{Refusal}
 use Rattle.floats.specs.Floats.{zero_f, one_f, epsilon_f, clamp01_of}
 use Rattle.floats.proofs.Tests.{passed}
 use Rattle.table.specs.Spots.{path_total}
 use Rattle.table_order.specs.Stated.{NoStepBack}
 use Rattle.table_order.specs.Swept.{Inside}
 use Rattle.flight.specs.declared.Flight.{Flight}
-use Rattle.flight.specs.declared.Flown.{Flown}
-use Rattle.flight.specs.declared.Flown.TheVariants as Flown
 use Rattle.flight.specs.Flights.{segment_given}
 use Rattle.path_stored.specs.Buffers.{Buffers}
 use Rattle.path_stored.specs.Stored.{is_stored}
@@ -31,7 +31,7 @@ use Rattle.path_query.proofs.Answering.{flight-some, flew-well}
 
 module _ (b : Buffers) (stored : is_stored b ≡ true) (some : 0 < length b.kinds) where
   -- what is answered is the pair of the lookup, its sample and its tangent
-  pub flown-there : (p : Float) → flew_of b p ≡ Flown.At (pair_flown b (place_of b p) p)
+  pub flown-there : (p : Float) → flew_of b p ≡ Ok (pair_flown b (place_of b p) p)
   unfolding flown_of
   flown-there p = sym (flew-well b p (flown_of b p) stored (flight-some b p some))
 
@@ -45,8 +45,8 @@ module _ (b : Buffers) (stored : is_stored b ≡ true) (some : 0 < length b.kind
       }
 
 -- what an answer shows, the answer's definition shows
-pub ordered_same : (b : Buffers) {r s : Flown} → r ≡ s → OrderedBy r b → OrderedBy s b
-ordered_same b e o = subst (λ (f : Flown). OrderedBy f b) e o
+pub ordered_same : (b : Buffers) {r s : Result Flight Refusal} → r ≡ s → OrderedBy r b → OrderedBy s b
+ordered_same b e o = subst (λ (f : Result Flight Refusal). OrderedBy f b) e o
 
 -- ---- accepted calls on the same buffers, each answering by its contract
 
@@ -55,9 +55,9 @@ abbrev pub pair_in : Flight → Place
 pair_in flight = placed (segment_given flight.segment) flight.raw.value
 
 module _ {b : Buffers} (o : Ordered b) where
-  pub pair-answered : (p : Float) (x : Flight) → Flown.At x ≡ flew_of b p → pair_in x ≡ o.pair p
+  pub pair-answered : (p : Float) (x : Flight) → Ok x ≡ flew_of b p → pair_in x ≡ o.pair p
   pair-answered p x e =
-      let both : Flown.At x ≡ Flown.At (pair_flown b (o.pair p) p) = e ∙ o.answered p in
+      let both : Ok x ≡ Ok (pair_flown b (o.pair p) p) = e ∙ o.answered p in
       let own : x ≡ pair_flown b (o.pair p) p = cc in
       ap pair_in own
 
@@ -66,21 +66,21 @@ module _ {b : Buffers} (o : Ordered b) where
   pair-once other p = pair-answered p (pair_flown b (other.pair p) p) (sym (other.answered p))
 
   -- the one whose progress counts for no less has the pair that is no earlier
-  pub two-calls : (p q : Float) (x y : Flight) → Flown.At x ≡ flew_of b p → Flown.At y ≡ flew_of b q → T (le (clamp01_of p) (clamp01_of q))
+  pub two-calls : (p q : Float) (x y : Flight) → Ok x ≡ flew_of b p → Ok y ≡ flew_of b q → T (le (clamp01_of p) (clamp01_of q))
       → NoStepBack (segment_given x.segment) x.raw.value (segment_given y.segment) y.raw.value
   two-calls p q x y d e h =
       subst (λ (pair : Place). NoStepBack pair.segment pair.raw.value (segment_given y.segment) y.raw.value) (sym (pair-answered p x d))
       (subst (λ (pair : Place). NoStepBack (o.pair p).segment (o.pair p).raw.value pair.segment pair.raw.value) (sym (pair-answered q y e)) (o.demand.order p q h))
 
   -- at 0 and at 1
-  pub first-call : (x : Flight) → Flown.At x ≡ flew_of b zero_f → pair_in x ≡ placed 0 zero_f
+  pub first-call : (x : Flight) → Ok x ≡ flew_of b zero_f → pair_in x ≡ placed 0 zero_f
   first-call x e = pair-answered zero_f x e ∙ o.demand.starts
 
-  pub last-call : (x : Flight) → Flown.At x ≡ flew_of b one_f → pair_in x ≡ placed (length b.kinds - 1) one_f
+  pub last-call : (x : Flight) → Ok x ≡ flew_of b one_f → pair_in x ≡ placed (length b.kinds - 1) one_f
   last-call x e = pair-answered one_f x e ∙ o.demand.ends
 
   -- between them
-  module _ (p : Float) (x : Flight) (e : Flown.At x ≡ flew_of b p) (inside : Inside (path_total b.lengths) (target_along b.lengths p)) where
+  module _ (p : Float) (x : Flight) (e : Ok x ≡ flew_of b p) (inside : Inside (path_total b.lengths) (target_along b.lengths p)) where
     pub call-enclosed : EnclosedBy b p (pair_in x)
     call-enclosed = subst (EnclosedBy b p) (sym (pair-answered p x e)) (o.demand.enclosed p inside)
 

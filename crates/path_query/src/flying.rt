@@ -1,10 +1,10 @@
 // The query without the check, for callers that know the path to be a stored one.
-ghost use Rattle.std.specs.Prelude.{◌≡◌};
-ghost use Rattle.path_stored.specs.Buffers.{before, lent};
-ghost use Rattle.path_stored.specs.Stored.{Stored, segment_in};
-ghost use Rattle.path_query.specs.Flights.{Flyable, Seated, flight_of, flown_of, flown_within, nowhere_f};
+ghost use Rattle.std.specs.Prelude.{◌≡◌, ◌<◌, length};
+ghost use Rattle.path_stored.specs.Paths.{held};
+ghost use Rattle.path_stored.specs.Stored.{segment_in};
+ghost use Rattle.path_query.specs.Flights.{Seated, flight_of, flown_of, flown_within, nowhere_f};
 
-use flight::{Flight, Found};
+use flight::Flight;
 use math::{Point, tidy_point};
 use path_heading::inner::heading;
 use path_heading::sample;
@@ -12,57 +12,46 @@ use path_place::Cursor;
 use path_place::inner::{cursor_at, raw_within};
 use path_segment::PathSegment;
 use path_segment::inner::segment_at;
+use path_stored::StoredPath;
 use table::Progress;
 use table::inner::{raw_parameter_in, spot};
 
 // The segment at which a cursor stands.
-fn segment_here(kinds: &[u8], fields: &[f32], tables: &[f32], at: Cursor) -> PathSegment
-    requires { Seated kinds.now fields.now tables.now at }
-    ensures { result ≡ segment_in kinds.now fields.now at.segment }
+fn segment_here(path: StoredPath, at: Cursor) -> PathSegment
+    requires { Seated path.buffers.kinds.now at }
+    ensures { result ≡ segment_in path.entry.buffers.kinds.now path.entry.buffers.fields.now at.segment }
 {
-    let segment = at.segment;
-    segment_at(kinds[segment], fields, at.fields)
+    let buffers = path.buffers;
+    segment_at(buffers.kinds[at.segment], buffers.fields, at.fields)
 }
 
 // What is flown at a local progress on the segment at which a cursor stands.
-pub fn flown_within(
-    kinds: &[u8],
-    fields: &[f32],
-    tables: &[f32],
-    at: Cursor,
-    along: Progress,
-) -> Flight
-    requires { Seated kinds.now fields.now tables.now at }
-    ensures { result ≡ flown_within kinds.now fields.now tables.now at.segment along.value }
+pub fn flown_within(path: StoredPath, at: Cursor, along: Progress) -> Flight
+    requires { Seated path.buffers.kinds.now at }
+    ensures { result ≡ flown_within path.entry.buffers.kinds.now path.entry.buffers.fields.now path.entry.buffers.tables.now at.segment along.value }
 {
-    let segment = segment_here(kinds, fields, tables, at);
-    let raw = raw_within(kinds, tables, at, along);
+    let buffers = path.buffers;
+    let segment = segment_here(path, at);
+    let raw = raw_within(buffers.kinds, buffers.tables, at, along);
     let position = tidy_point(sample(segment, raw));
-    let tangent = tidy_point(heading(segment, tables, at.tables, along, raw));
+    let tangent = tidy_point(heading(segment, buffers.tables, at.tables, along, raw));
     Flight {
         position,
         tangent,
-        segment: Found::Segment(at.segment),
+        segment: Some(at.segment),
         raw,
     }
 }
 
 // What is flown at a progress along a path with a segment.
-fn flown(
-    kinds: &[u8],
-    fields: &[f32],
-    tables: &[f32],
-    lengths: &[f32],
-    commands: &[u32],
-    progress: Progress,
-) -> Flight
-    requires { Flyable (lent kinds fields tables lengths commands) }
-    ensures { result ≡ flown_of (before kinds fields tables lengths commands) progress.value }
+fn flown(path: StoredPath, progress: Progress) -> Flight
+    requires { 0 < length path.buffers.kinds.now }
+    ensures { result ≡ flown_of (held path.entry.buffers) progress.value }
 {
-    let found = spot(lengths, progress);
-    let along = found.progress;
-    let at = cursor_at(kinds, found.segment);
-    flown_within(kinds, fields, tables, at, along)
+    let buffers = path.buffers;
+    let found = spot(buffers.lengths, progress);
+    let at = cursor_at(buffers.kinds, found.segment);
+    flown_within(path, at, found.progress)
 }
 
 // What is flown on a path without segments: nothing, at (0, 0), with the raw parameter 0.
@@ -75,25 +64,18 @@ pub fn nowhere() -> Flight
     Flight {
         position: origin,
         tangent: origin,
-        segment: Found::Nothing,
+        segment: None,
         raw,
     }
 }
 
 // What is flown at a progress.
-pub fn flight(
-    kinds: &[u8],
-    fields: &[f32],
-    tables: &[f32],
-    lengths: &[f32],
-    commands: &[u32],
-    progress: Progress,
-) -> Flight
-    requires { Stored (lent kinds fields tables lengths commands) }
-    ensures { result ≡ flight_of (before kinds fields tables lengths commands) progress.value }
+#[tactic(auto, unfolding(crate::specs::Flights::flight_of))]
+pub fn flight(path: StoredPath, progress: Progress) -> Flight
+    ensures { result ≡ flight_of (held path.entry.buffers) progress.value }
 {
-    if kinds.len() == 0 {
+    if path.buffers.kinds.is_empty() {
         return nowhere();
     }
-    flown(kinds, fields, tables, lengths, commands, progress)
+    flown(path, progress)
 }

@@ -1,17 +1,15 @@
 -- A stored segment is read back: its kind and its fields settle it, and have the kind's width. Assumes nothing.
-use Prim.Native.Nat.{ℕ, ◌+◌, ◌≤◌, ◌<◌}
+use Prim.Native.Nat.{ℕ, ◌+◌, ◌≤◌}
 use mathlib.Core.Path.{◌≡◌, refl, sym, ap, ◌∙◌}
-use native.Mathlib.Omega.{arith}
 use mathlib.Core.List.{List, ◌++◌}
 use lib.ListN.{length, drop}
 use lib.Ieee.{Float}
 use Rattle.path_segment.specs.declared.segments.PathSegment.{PathSegment}
 use Rattle.path_segment.specs.declared.segments.PathSegment.TheVariants as Segment
 use Rattle.math.specs.declared.points.Point.{Point}
-use Rattle.ellipse.specs.declared.ends.Arc.{Arc}
 use Rattle.commands.specs.Listed.{point_at}
 use Rattle.commands.proofs.Decoding.{point-first, point-later}
-use Rattle.path_segment.specs.Segments.{kind_of, width_of, fields_of, shape_of, segment_of}
+use Rattle.path_segment.specs.Segments.{kind_of, width_of, fields_of, segment_of}
 use Rattle.path_segment.proofs.Widths.{width-most}
 
 pub segment-back : (s : PathSegment) (rest : List Float) → segment_of (kind_of s) (fields_of s ++ rest) ≡ s
@@ -37,34 +35,10 @@ fields-most s = rw (fields-width s) (width-most (kind_of s))
 pub fields-counted : (s : PathSegment) {n kind : ℕ} → n ≡ width_of kind → kind ≡ kind_of s → n ≡ length (fields_of s)
 fields-counted s e k = e ∙ ap width_of k ∙ sym (fields-width s)
 
--- ---- the arms of `segment_at`
-pub fifth : (kind : ℕ) → (kind ≡ 0 → ⊥) → (kind ≡ 1 → ⊥) → (kind ≡ 2 → ⊥) → (kind ≡ 3 → ⊥) → kind < 5 → kind ≡ 4
-fifth kind a b c d h = omega arith
-
+-- ---- an arm of `segment_at`
 module _ {kind : ℕ} (fields : List Float) (at : ℕ) where
-  pub line_at :
-      {start end : Point} → start ≡ point_at fields at → end ≡ point_at fields (at + 2) → kind ≡ 0
-      → Segment.Line (record { start = start; end = end }) ≡ segment_of kind (drop at fields)
-  unfolding segment_of
-  line_at p q e = rw (point-first fields at p, point-later fields at 2 q, e)
-
-  pub quad_at :
-      {start control end : Point} → start ≡ point_at fields at → control ≡ point_at fields (at + 2) → end ≡ point_at fields (at + 4) → kind ≡ 1
-      → Segment.Quad start control end ≡ segment_of kind (drop at fields)
-  unfolding segment_of
-  quad_at p q r e = rw (point-first fields at p, point-later fields at 2 q, point-later fields at 4 r, e)
-
   pub cubic-at :
       {start control1 control2 end : Point} → start ≡ point_at fields at → control1 ≡ point_at fields (at + 2) → control2 ≡ point_at fields (at + 4) → end ≡ point_at fields (at + 6)
       → kind ≡ 2 → Segment.Cubic start control1 control2 end ≡ segment_of kind (drop at fields)
   unfolding segment_of
   cubic-at p q r s e = rw (point-first fields at p, point-later fields at 2 q, point-later fields at 4 r, point-later fields at 6 s, e)
-
-module _ {kind : ℕ} (fields : List Float) {shape : Arc} (p : shape ≡ shape_of fields) where
-  pub arc-at : kind ≡ 3 → Segment.Arc shape ≡ segment_of kind fields
-  unfolding segment_of
-  arc-at e = rw (p, e)
-
-  pub fallback-at : kind ≡ 4 → Segment.Fallback shape ≡ segment_of kind fields
-  unfolding segment_of
-  fallback-at e = rw (p, e)

@@ -5,26 +5,6 @@ use mathlib.Core.Bool.{true, false, false≢true}
 use native.Mathlib.Omega.{arith}
 use Rattle.path_segment.specs.Segments.{width_of, tables_of, has_table}
 
--- ---- kinds that are none of those listed
-
-pub unknown-width : (kind : ℕ) → (kind ≡ 0 → ⊥) → (kind ≡ 1 → ⊥) → (kind ≡ 2 → ⊥) → (kind ≡ 3 → ⊥) → (kind ≡ 4 → ⊥) → 0 ≡ width_of kind
-unfolding width_of
-unknown-width zero a b c d e = absurd (a refl)
-unknown-width (suc zero) a b c d e = absurd (b refl)
-unknown-width (suc (suc zero)) a b c d e = absurd (c refl)
-unknown-width (suc (suc (suc zero))) a b c d e = absurd (d refl)
-unknown-width (suc (suc (suc (suc zero)))) a b c d e = absurd (e refl)
-unknown-width (suc (suc (suc (suc (suc kind))))) a b c d e = refl
-
-pub no-table-for : (kind : ℕ) → (kind ≡ 1 → ⊥) → (kind ≡ 2 → ⊥) → (kind ≡ 3 → ⊥) → false ≡ has_table kind
-unfolding has_table tables_of
-no-table-for zero b c d = refl
-no-table-for (suc zero) b c d = absurd (b refl)
-no-table-for (suc (suc zero)) b c d = absurd (c refl)
-no-table-for (suc (suc (suc zero))) b c d = absurd (d refl)
-no-table-for (suc (suc (suc (suc zero)))) b c d = refl
-no-table-for (suc (suc (suc (suc (suc kind))))) b c d = refl
-
 -- ---- bounds
 
 pub width-most : (kind : ℕ) → width_of kind ≤ 11

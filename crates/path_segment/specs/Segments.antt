@@ -11,7 +11,6 @@ use Rattle.bezier.specs.Cubics.{cubic_sample_of}
 use Rattle.ellipse.specs.declared.ends.Arc.{Arc}
 use Rattle.ellipse.specs.Shape.{point_on}
 use Rattle.commands.specs.Listed.{number_at, point_at}
-use Rattle.arc.specs.declared.lines.LineSegment.{LineSegment}
 use Rattle.arc.specs.Lines.{line_length_of}
 use Rattle.arc.specs.Arcs.{no_table, chord_line}
 use Rattle.path_segment.specs.declared.segments.PathSegment.{PathSegment}

@@ -102,6 +102,7 @@ fn shape_at(fields: &[f32], at: usize) -> Arc
 }
 
 // The segment of a known kind, whose fields stand from `at` on.
+#[tactic(auto, unfolding(crate::specs::Segments::width_of, crate::specs::Segments::segment_of))]
 pub fn segment_at(kind: u8, fields: &[f32], at: usize) -> PathSegment
     requires kind_bound { kind < 5 }
     requires kind_in_bounds { at + width_of kind ≤ length fields.now }
@@ -135,10 +136,9 @@ pub fn table_at(tables: &[f32], at: usize) -> Table
     ensures { result ≡ table_at tables.now at }
 {
     let mut entries = [0.0f32; 32];
-    let mut k = 0usize;
-    while k < 32 {
+    // `copy_from_slice` is a memmove, which modules for 32-bit processors must not have (DECISIONS 222).
+    for k in 0..32 {
         entries[k] = tables[at + k];
-        k += 1;
     }
     Table {
         entries,
@@ -153,15 +153,14 @@ pub fn put_table(tables: &mut [f32], at: usize, table: Table)
     ensures { tables.new ≡ sets tables.old at (table_numbers table) }
 {
     let entries = table.entries;
-    let mut k = 0usize;
-    while k < 32 {
+    for k in 0..32 {
         tables[at + k] = tidy(entries[k]);
-        k += 1;
     }
     tables[at + 32] = tidy(table.total);
 }
 
 // Stores a segment's table from `at` on, where it has one, and gives the segment's length.
+#[tactic(auto, unfolding(crate::specs::Segments::table_stored))]
 pub fn store_table(tables: &mut [f32], at: usize, segment: PathSegment) -> f32
     requires { at + length (table_stored segment) ≤ length tables.old }
     ensures { TableStored at segment tables.old result tables.new }

@@ -31,29 +31,21 @@ pub enum PathSegment {
     Fallback(Arc),
 }
 
-// The byte under which a segment is stored.
+// The byte under which a segment is stored. A kind is a number since a stored path's kinds are bytes in the C interface.
 pub fn kind(segment: PathSegment) -> u8
     ensures { result ≡ kind_of segment }
 {
     match segment {
         PathSegment::Line(_) => 0,
-        PathSegment::Quad {
-            start: _,
-            control: _,
-            end: _,
-        } => 1,
-        PathSegment::Cubic {
-            start: _,
-            control1: _,
-            control2: _,
-            end: _,
-        } => 2,
+        PathSegment::Quad { .. } => 1,
+        PathSegment::Cubic { .. } => 2,
         PathSegment::Arc(_) => 3,
         PathSegment::Fallback(_) => 4,
     }
 }
 
 // How many fields a segment of a kind has. An unknown kind has none.
+#[tactic(auto, unfolding(crate::specs::Segments::width_of))]
 pub fn width(kind: u8) -> usize
     ensures { result ≡ width_of kind }
 {
@@ -68,18 +60,15 @@ pub fn width(kind: u8) -> usize
 }
 
 // Whether a segment of a kind stores a table.
+#[tactic(auto, unfolding(crate::specs::Segments::has_table, crate::specs::Segments::tables_of))]
 pub fn has_table(kind: u8) -> bool
     ensures { result ≡ has_table kind }
 {
-    match kind {
-        1 => true,
-        2 => true,
-        3 => true,
-        _ => false,
-    }
+    matches!(kind, 1 | 2 | 3)
 }
 
 // How many numbers the table of a kind stores.
+#[tactic(auto, unfolding(crate::specs::Segments::has_table))]
 pub fn table_width(kind: u8) -> usize
     ensures { result ≡ 33 * tables_of kind }
 {
@@ -90,6 +79,7 @@ pub fn table_width(kind: u8) -> usize
 }
 
 // The table of a segment. A line and a line fallback store none; what stands for it is not sound.
+#[tactic(auto, unfolding(crate::specs::Segments::table_for))]
 pub fn segment_table(segment: PathSegment) -> Table
     ensures { result ≡ table_for segment }
 {
@@ -112,18 +102,21 @@ pub fn segment_table(segment: PathSegment) -> Table
 }
 
 // How long a quad, a cubic and an arc are. Each has a function of its own, so that their tables take turns on the stack.
+#[tactic(auto, unfolding(crate::specs::Segments::length_for))]
 fn quad_length(start: Point, control: Point, end: Point) -> f32
     ensures { result ≡ length_for (Segment.Quad start control end) }
 {
     tidy(quad_table(start, control, end).total)
 }
 
+#[tactic(auto, unfolding(crate::specs::Segments::length_for))]
 fn cubic_length(start: Point, control1: Point, control2: Point, end: Point) -> f32
     ensures { result ≡ length_for (Segment.Cubic start control1 control2 end) }
 {
     tidy(cubic_table(start, control1, control2, end).total)
 }
 
+#[tactic(auto, unfolding(crate::specs::Segments::length_for))]
 fn arc_length(shape: Arc) -> f32
     ensures { result ≡ length_for (Segment.Arc shape) }
 {
@@ -132,6 +125,7 @@ fn arc_length(shape: Arc) -> f32
 
 // How long a segment is: its table's total, or the length of its line. Infinite or a NaN where that is so. Within its callers it takes
 // less stack (tests/c/stack.c).
+#[tactic(auto, unfolding(crate::specs::Segments::length_for))]
 #[inline(always)]
 pub fn segment_length(segment: PathSegment) -> f32
     ensures { result ≡ length_for segment }

@@ -2,31 +2,30 @@
 -- holds of what a slice of f32 has. Assumes nothing.
 use Prim.Native.Nat.{ℕ, zero, suc, ◌+◌, ◌*◌, ◌≤◌, ◌<◌}
 use mathlib.Core.Path.{◌≡◌, refl, sym, ap, ◌∙◌, subst}
-use mathlib.Core.Bool.{Bool, true, false, not, ◌&&◌}
+use mathlib.Core.Bool.{Bool, true}
 use mathlib.Core.List.{List, [], ◌∷◌, ◌++◌, append_assoc, append-nil}
 use native.Mathlib.Omega.{arith}
 use lib.Dec.{T, leb, le→leb, leb→le}
-use lib.Ieee.{Float, nan, binary32, add, lt, le, fits}
+use lib.Ieee.{Float, nan, binary32, add, le, fits}
 use lib.Ieee.Bits.{of_bits-fits}
 use lib.Ieee.Fits.{and_i, and_l, and_r, add-fits}
 use lib.Ieee.Scale.{finite}
 use lib.ListN.{length, get_or, take, drop, length-append, length-drop, get_or-append}
-use lib.Seq.{take-append-le, drop-append-le, drop-append_seam, take_at, get_or_at, get_or-append-add, get_or-append_seam}
+use lib.Seq.{take-append-le, drop-append-le, drop-append_seam, take_at, get_or_at, get_or-append-add}
 use Rattle.floats.specs.Floats.{zero_f}
 use Rattle.floats.specs.Kinds.{nonneg}
 use Rattle.floats.proofs.Between.{nonneg-from, finite-real}
 use Rattle.floats.proofs.Bounds.{add-above, finite-parts}
 use Rattle.floats.proofs.Constants.{zero_held}
 use Rattle.floats.proofs.Fractions.{nonneg-real}
-use Rattle.floats.proofs.Held.{Held}
 use Rattle.floats.proofs.Order.{not-lt→le}
 use Rattle.math.specs.declared.points.Point.{Point}
 use Rattle.table.specs.declared.tables.Table.{Table}
-use Rattle.table.specs.Lookup.{at, last_of}
+use Rattle.table.specs.Lookup.{at}
 use Rattle.table.specs.Sound.{all_finite, climbs, lengths_are_sound, table_is_sound}
 use Rattle.table.specs.Spots.{before, path_total}
-use Rattle.table.proofs.Lengths.{Sound, table-sound, path-sound, total-nonneg}
-use Rattle.table_samples.specs.Samples.{lengths_of, total_of, table_of}
+use Rattle.table.proofs.Lengths.{table-sound, path-sound, total-nonneg}
+use Rattle.table_samples.specs.Samples.{table_of}
 use Rattle.table_samples.proofs.Made.{distance-not-below, made-sound}
 use Rattle.arc.specs.Lines.{line_length_of}
 use Rattle.path_segment.specs.declared.segments.PathSegment.{PathSegment}

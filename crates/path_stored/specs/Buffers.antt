@@ -1,5 +1,5 @@
 -- The five buffers of a stored path as one value (document 01, "Lengths, tables and lookup"; document 02, L5): kinds, fields, tables, running lengths and command numbers travel together in
--- every contract. The code stays on slices. Definitions only.
+-- every contract; `Paths.antt` has what the code holds of them. Definitions only.
 use Rattle.std.specs.Prelude.{ℕ, List, Float}
 use Rattle.std.specs.Borrow.{Bor, MutBor}
 use denote.Triple.Both.{Both}

@@ -1,6 +1,5 @@
 -- "Stored path check" (document 01, "Lengths, tables and lookup"; document 02, L5): the five buffers of a path. Segments, tables and commands count from 0; -0 equals 0. Definitions only.
-use Rattle.std.specs.Prelude.{ℕ, zero, suc, ◌+◌, ◌*◌, ◌≤◌, ◌<◌, ◌≡◌, Bool, true, false, ◌&&◌, cond, List, [], ◌∷◌, T, leb, ltb, eqb, length, get_or, take, drop, Float}
-use Rattle.std.specs.Float.{nan}
+use Rattle.std.specs.Prelude.{ℕ, zero, suc, ◌+◌, ◌*◌, ◌≤◌, ◌<◌, ◌≡◌, Bool, true, ◌&&◌, cond, List, [], ◌∷◌, T, leb, ltb, eqb, length, get_or, drop, Float}
 use Rattle.table.specs.declared.tables.Table.{Table}
 use Rattle.table.specs.Sound.{lengths_are_sound, table_is_sound}
 use Rattle.arc.specs.Arcs.{no_table}

@@ -45,14 +45,12 @@ fn fields_of_few(kinds: &[u8], from: usize, to: usize) -> usize
     let mut from2 = 0u8;
     let mut from3 = 0u8;
     let mut from5 = 0u8;
-    let mut j = from;
-    while j < to {
+    for j in from..to {
         let kind = kinds[j];
         from1 += one_from(1, kind);
         from2 += one_from(2, kind);
         from3 += one_from(3, kind);
         from5 += one_from(5, kind);
-        j += 1;
     }
     let most = 4 * (to - from) + 2 * wide(from1) + 2 * wide(from2) + 3 * wide(from3);
     most - 11 * wide(from5)
@@ -63,15 +61,15 @@ fn tables_of_few(kinds: &[u8], from: usize, to: usize) -> usize
     ensures { Adds tables_of kinds.now from to result }
 {
     let mut sum = 0u8;
-    let mut j = from;
-    while j < to {
+    for j in from..to {
         sum += one_table(kinds[j]);
-        j += 1;
     }
     wide(sum)
 }
 
-// How many fields the segments from one on to before another have.
+// How many fields the segments from one on to before another have. No `chunks`: an Option of a slice is in a form that modules for 32-bit
+// processors must not have (DECISIONS 222). `tables_between` differs in what it counts; one function over that would have to ask of it
+// what a piece may be and how much it may have.
 pub fn fields_between(kinds: &[u8], from: usize, to: usize) -> usize
     requires { Span kinds.now from to }
     ensures { Adds width_of kinds.now from to result }

@@ -8,7 +8,11 @@ pub mod inner;
 mod leaving;
 mod near;
 mod parts;
+mod path_buffers;
+mod paths;
 mod queries;
 
 pub use checking::check_path;
-pub use queries::{Counted, Emptiness, Found, Measured, Part, arc_length, is_empty, len, segment};
+pub use path_buffers::PathBuffers;
+pub use paths::StoredPath;
+pub use queries::{Part, arc_length, is_empty, len, segment};

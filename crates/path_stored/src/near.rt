@@ -5,7 +5,7 @@ ghost use Rattle.path_segment.specs.Segments.{width_of, tables_of};
 ghost use Rattle.path_stored.specs.Counts.{Adds};
 ghost use Rattle.path_stored.specs.Near.{Eight, LastFew, Near, WordBefore, itself, laid, more_fields};
 
-// The same number.
+// The same number, and that it is a byte, which the sums of lanes rest on: `From` would say the first alone.
 fn wide(kind: u8) -> u64
     ensures { (result ≡ kind) × (result < 256) }
 {

@@ -2,6 +2,7 @@
 use mathlib.Core.Path.{◌≡◌, refl, ap}
 use mathlib.Core.Bool.{true}
 use lib.ListN.{length}
+use Rattle.std.specs.Prelude.{Some}
 use Rattle.ellipse.specs.declared.ends.Chord.{Chord}
 use Rattle.ellipse.specs.Ends.{from_ends_of}
 use Rattle.arc.specs.Arcs.{fallback_shape}
@@ -13,13 +14,12 @@ use Rattle.path_drawing.specs.declared.pens.Pen.{Pen}
 use Rattle.path_drawing.specs.declared.strokes.Drawn.TheVariants.{Segment}
 use Rattle.path_storing.specs.Tallies.{grown_of, counted_of}
 use Rattle.path_storing.specs.declared.tallies.Tally.{Tally}
-use Rattle.path_storing.specs.declared.tallies.Tallied.TheVariants.{To}
 
 module _ (tally : Tally) (chord : Chord) (next : Pen) where
-  pub fallback-counted : To (grown_of tally next 11 0) ≡ counted_of tally (Segment (Fallback (fallback_shape chord)) next)
+  pub fallback_counted : Some (grown_of tally next 11 0) ≡ counted_of tally (Some (Segment (Fallback (fallback_shape chord)) next))
   unfolding counted_of has_table tables_of
-  fallback-counted = rw (ap length (table_none (Fallback (fallback_shape chord)) refl))
+  fallback_counted = rw (ap length (table_none (Fallback (fallback_shape chord)) refl))
 
-  pub arc-counted : is_calm_arc (from_ends_of chord) ≡ true → To (grown_of tally next 11 33) ≡ counted_of tally (Segment (Arc (from_ends_of chord)) next)
+  pub arc_counted : is_calm_arc (from_ends_of chord) ≡ true → Some (grown_of tally next 11 33) ≡ counted_of tally (Some (Segment (Arc (from_ends_of chord)) next))
   unfolding counted_of has_table tables_of
-  arc-counted calm = rw (calm, table-some (Arc (from_ends_of chord)) refl)
+  arc_counted calm = rw (calm, table-some (Arc (from_ends_of chord)) refl)

@@ -5,6 +5,7 @@ use mathlib.Core.List.{List, [], ◌∷◌, ◌++◌, append_assoc}
 use native.Mathlib.Omega.{arith}
 use lib.ListN.{length, length-append}
 use lib.Seq.{sets}
+use Rattle.std.specs.Prelude.{Option}
 use Rattle.answers.specs.Report.{written}
 use Rattle.answers.proofs.Writing.{written-more, length-written}
 use Rattle.floats.specs.Floats.{zero_f}
@@ -75,7 +76,7 @@ module _ {commands : List PathCommand} {site : Site} {b₀ b : Buffers} (k : Fil
         ∙ length-written (drawers_of commands) b₀.commands (omega (arith, first.commands_fit, k.known.drew.count, k.known.kinds))
 
   module _ (command : PathCommand) (rest : List PathCommand) (builds : build_of ((commands ++ (command ∷ [])) ++ rest) ≡ path list) where
-    abbrev drawn : Drawn
+    abbrev drawn : Option Drawn
     drawn = draw_of site.pen command
 
     here : build_of (commands ++ (command ∷ rest)) ≡ path list

@@ -1,33 +1,26 @@
 // Counting what an arc stores: whether it is long is judged by what stands before its angles, which are not taken.
 ghost use Rattle.std.specs.Prelude.{◌≡◌};
-ghost use Rattle.path_drawing.specs.Drawing.{drawn_of, arc_stroke_of};
+ghost use Rattle.path_drawing.specs.Drawing.{arc_of};
 ghost use Rattle.path_storing.specs.Tallies.{FewIn, counted_of};
 
-use crate::tallies::{Tallied, Tally, grown, stayed};
+use crate::tallies::{Tally, grown};
 use arc::is_fallback;
 use ellipse::Chord;
 use floats::is_finite;
 use path_bounds::is_calm_chord;
-use path_drawing::drawn;
+use path_drawing::Pen;
 
-// What an arc from the current point comes to, where both its ends are calm.
-pub(crate) fn count_arc(so_far: Tally, chord: Chord) -> Tallied
+// What an arc comes to, where both its ends are calm.
+#[tactic(auto, using(crate::proofs::ArcTallying::arc_counted, crate::proofs::ArcTallying::fallback_counted), unfolding(crate::specs::Tallies::counted_of, path_drawing::specs::Drawing::arc_of))]
+pub(crate) fn count_arc(so_far: Tally, chord: Chord, next: Pen) -> Option<Tally>
     requires { FewIn so_far }
-    ensures { result ≡ counted_of so_far (arc_stroke_of so_far.pen.placed chord (drawn_of so_far.pen chord.end)) }
+    ensures { result ≡ counted_of so_far (arc_of chord next) }
 {
-    let pen = so_far.pen;
-    let end = chord.end;
-    let next = drawn(pen, end);
-    if pen.placed {
-        if is_fallback(chord) {
-            return Tallied::To(grown(so_far, next, 11, 0));
-        }
-        if is_finite(chord.x_axis_rotation) {
-            if is_calm_chord(chord) {
-                return Tallied::To(grown(so_far, next, 11, 33));
-            }
-        }
-        return Tallied::Unsure;
+    if is_fallback(chord) {
+        return Some(grown(so_far, next, 11, 0));
     }
-    Tallied::To(stayed(so_far, next))
+    if is_finite(chord.x_axis_rotation) && is_calm_chord(chord) {
+        return Some(grown(so_far, next, 11, 33));
+    }
+    None
 }

@@ -24,11 +24,12 @@ fn put_point(fields: &mut [f32], at: usize, p: Point)
     fields[at + 1] = p.y;
 }
 
-// Stores the line from the current point to an end. Only what builds is stored, so that the running length is finite and no number of
+// Stores the line from the current point, `start`, to an end. Only what builds is stored, so that the running length is finite and no number of
 // the line is a NaN.
 fn lay_line(
     site: Site,
     number: u32,
+    start: Point,
     end: Point,
     kinds: &mut [u8],
     fields: &mut [f32],
@@ -36,14 +37,12 @@ fn lay_line(
     lengths: &mut [f32],
     commands: &mut [u32],
 ) -> Site
-    requires { FewAt site × Room site (Segment (Line (line_of site.pen.current end)) (drawn_of site.pen end)) (lent_mut kinds fields tables lengths commands) }
-    ensures { Laid site number (Segment (Line (line_of site.pen.current end)) (drawn_of site.pen end))
+    requires { FewAt site × Room site (Some (Segment (Line (line_of start end)) (drawn_of site.pen end))) (lent_mut kinds fields tables lengths commands) }
+    ensures { Laid site number (Some (Segment (Line (line_of start end)) (drawn_of site.pen end)))
         (before_mut kinds fields tables lengths commands) result (after kinds fields tables lengths commands) }
 {
-    let pen = site.pen;
-    let start = pen.current;
-    let index = site.segments;
-    let at = site.fields;
+    let index = site.sizes.segments;
+    let at = site.sizes.fields;
     kinds[index] = 0;
     put_point(fields, at, start);
     put_point(fields, at + 2, end);
@@ -51,11 +50,9 @@ fn lay_line(
     lengths[index] = length;
     commands[index] = number;
     Site {
-        pen: drawn(pen, end),
+        pen: drawn(site.pen, end),
         length,
-        segments: index + 1,
-        fields: at + 4,
-        tables: site.tables,
+        sizes: site.sizes.grown(4, 0),
     }
 }
 
@@ -73,11 +70,12 @@ pub fn line_to(
     requires { FewAt site × Room site (draw_of site.pen (LineTo end)) (lent_mut kinds fields tables lengths commands) }
     ensures { Laid site number (draw_of site.pen (LineTo end)) (before_mut kinds fields tables lengths commands) result (after kinds fields tables lengths commands) }
 {
-    let pen = site.pen;
-    if pen.placed {
-        return lay_line(site, number, end, kinds, fields, tables, lengths, commands);
-    }
-    moved(site, drawn(pen, end))
+    let Some(start) = site.pen.current else {
+        return moved(site, drawn(site.pen, end));
+    };
+    lay_line(
+        site, number, start, end, kinds, fields, tables, lengths, commands,
+    )
 }
 
 // Stores what a QuadTo draws at a site.
@@ -95,36 +93,32 @@ pub fn quad_to(
     requires { FewAt site × Room site (draw_of site.pen (QuadTo control end)) (lent_mut kinds fields tables lengths commands) }
     ensures { Laid site number (draw_of site.pen (QuadTo control end)) (before_mut kinds fields tables lengths commands) result (after kinds fields tables lengths commands) }
 {
-    let pen = site.pen;
-    if pen.placed {
-        let start = pen.current;
-        let segment = PathSegment::Quad {
-            start,
-            control,
-            end,
-        };
-        let length = store_segment(
-            site.length,
-            site.segments,
-            site.fields,
-            site.tables,
-            number,
-            segment,
-            kinds,
-            fields,
-            tables,
-            lengths,
-            commands,
-        );
-        return Site {
-            pen: drawn(pen, end),
-            length,
-            segments: site.segments + 1,
-            fields: site.fields + 6,
-            tables: site.tables + 33,
-        };
+    let Some(start) = site.pen.current else {
+        return moved(site, drawn(site.pen, end));
+    };
+    let segment = PathSegment::Quad {
+        start,
+        control,
+        end,
+    };
+    let length = store_segment(
+        site.length,
+        site.sizes.segments,
+        site.sizes.fields,
+        site.sizes.tables,
+        number,
+        segment,
+        kinds,
+        fields,
+        tables,
+        lengths,
+        commands,
+    );
+    Site {
+        pen: drawn(site.pen, end),
+        length,
+        sizes: site.sizes.grown(6, 33),
     }
-    moved(site, drawn(pen, end))
 }
 
 // Stores what a CubicTo draws at a site.
@@ -143,35 +137,31 @@ pub fn cubic_to(
     requires { FewAt site × Room site (draw_of site.pen (CubicTo control1 control2 end)) (lent_mut kinds fields tables lengths commands) }
     ensures { Laid site number (draw_of site.pen (CubicTo control1 control2 end)) (before_mut kinds fields tables lengths commands) result (after kinds fields tables lengths commands) }
 {
-    let pen = site.pen;
-    if pen.placed {
-        let start = pen.current;
-        let segment = PathSegment::Cubic {
-            start,
-            control1,
-            control2,
-            end,
-        };
-        let length = store_segment(
-            site.length,
-            site.segments,
-            site.fields,
-            site.tables,
-            number,
-            segment,
-            kinds,
-            fields,
-            tables,
-            lengths,
-            commands,
-        );
-        return Site {
-            pen: drawn(pen, end),
-            length,
-            segments: site.segments + 1,
-            fields: site.fields + 8,
-            tables: site.tables + 33,
-        };
+    let Some(start) = site.pen.current else {
+        return moved(site, drawn(site.pen, end));
+    };
+    let segment = PathSegment::Cubic {
+        start,
+        control1,
+        control2,
+        end,
+    };
+    let length = store_segment(
+        site.length,
+        site.sizes.segments,
+        site.sizes.fields,
+        site.sizes.tables,
+        number,
+        segment,
+        kinds,
+        fields,
+        tables,
+        lengths,
+        commands,
+    );
+    Site {
+        pen: drawn(site.pen, end),
+        length,
+        sizes: site.sizes.grown(8, 33),
     }
-    moved(site, drawn(pen, end))
 }

@@ -7,7 +7,7 @@ ghost use Rattle.path_drawing.specs.declared.strokes.Drawn.TheVariants.{Segment}
 ghost use Rattle.path_storing.specs.Sites.{FewAt, site_at, Room, SegmentLaid, Laid, after_of, moved_of, advance_of};
 
 use crate::direct::line_to;
-use crate::sites::{Advanced, Site};
+use crate::sites::Site;
 use answers::Refusal;
 use commands::PathCommand;
 use floats::{is_finite, tidy};
@@ -26,41 +26,34 @@ fn after(site: Site, segment: PathSegment, length: f32, pen: Pen) -> Site
     Site {
         pen,
         length,
-        segments: site.segments + 1,
-        fields: site.fields + own,
-        tables: site.tables + more,
+        sizes: site.sizes.grown(own, more),
     }
 }
 
 // The site after a command that draws no segment.
+#[tactic(auto, unfolding(crate::specs::Sites::moved_of))]
 pub(crate) fn moved(site: Site, pen: Pen) -> Site
     ensures { result ≡ moved_of site pen }
 {
-    Site {
-        pen,
-        length: site.length,
-        segments: site.segments,
-        fields: site.fields,
-        tables: site.tables,
-    }
+    Site { pen, ..site }
 }
 
-// Judges a command at a site and counts what it stores.
-pub fn advance(site: Site, command: PathCommand) -> Advanced
+// Judges a command at a site and counts what it stores: the next site, or `RotationRange` or `NotFinite`.
+#[tactic(auto, unfolding(crate::specs::Sites::moved_of, crate::specs::Sites::judged_of, crate::specs::Sites::advance_of))]
+pub fn advance(site: Site, command: PathCommand) -> Result<Site, Refusal>
     requires { FewAt site }
     ensures { result ≡ advance_of site command }
 {
-    let pen = site.pen;
-    match draw(pen, command) {
-        Drawn::Moved(next) => Advanced::To(moved(site, next)),
-        Drawn::Segment { segment, next } => {
+    match draw(site.pen, command) {
+        Some(Drawn::Moved(next)) => Ok(moved(site, next)),
+        Some(Drawn::Segment { segment, next }) => {
             let length = tidy(site.length + segment_length(segment));
-            if is_finite(length) {
-                return Advanced::To(after(site, segment, length, next));
+            if !is_finite(length) {
+                return Err(Refusal::NotFinite(site.sizes.segments));
             }
-            Advanced::Refused(Refusal::NotFinite(site.segments))
+            Ok(after(site, segment, length, next))
         }
-        Drawn::OutOfRange => Advanced::Refused(Refusal::RotationRange(site.segments)),
+        None => Err(Refusal::RotationRange(site.sizes.segments)),
     }
 }
 
@@ -79,7 +72,7 @@ pub(crate) fn store_segment(
     lengths: &mut [f32],
     commands: &mut [u32],
 ) -> f32
-    requires { Room (site_at passed index own more) (Segment segment fresh_of) (lent_mut kinds fields tables lengths commands) }
+    requires { Room (site_at passed index own more) (Some (Segment segment fresh_of)) (lent_mut kinds fields tables lengths commands) }
     ensures { SegmentLaid (site_at passed index own more) number segment (before_mut kinds fields tables lengths commands) result (after kinds fields tables lengths commands) }
 {
     kinds[index] = kind(segment);
@@ -102,14 +95,14 @@ fn lay_segment(
     lengths: &mut [f32],
     commands: &mut [u32],
 ) -> Site
-    requires { FewAt site × Room site (Segment segment pen) (lent_mut kinds fields tables lengths commands) }
-    ensures { Laid site number (Segment segment pen) (before_mut kinds fields tables lengths commands) result (after kinds fields tables lengths commands) }
+    requires { FewAt site × Room site (Some (Segment segment pen)) (lent_mut kinds fields tables lengths commands) }
+    ensures { Laid site number (Some (Segment segment pen)) (before_mut kinds fields tables lengths commands) result (after kinds fields tables lengths commands) }
 {
     let length = store_segment(
         site.length,
-        site.segments,
-        site.fields,
-        site.tables,
+        site.sizes.segments,
+        site.sizes.fields,
+        site.sizes.tables,
         number,
         segment,
         kinds,
@@ -137,15 +130,14 @@ pub fn lay_any(
     requires { FewAt site × Room site (draw_of site.pen command) (lent_mut kinds fields tables lengths commands) }
     ensures { Laid site number (draw_of site.pen command) (before_mut kinds fields tables lengths commands) result (after kinds fields tables lengths commands) }
 {
-    let pen = site.pen;
-    match draw(pen, command) {
-        Drawn::Moved(next) => moved(site, next),
-        Drawn::Segment { segment, next } => {
+    match draw(site.pen, command) {
+        Some(Drawn::Moved(next)) => moved(site, next),
+        Some(Drawn::Segment { segment, next }) => {
             lay_segment(
                 site, number, segment, next, kinds, fields, tables, lengths, commands,
             )
         }
-        Drawn::OutOfRange => site,
+        None => site,
     }
 }
 

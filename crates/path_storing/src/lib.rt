@@ -9,5 +9,5 @@ mod laying;
 mod sites;
 mod tallies;
 
-pub use sites::{Advanced, Site, start};
-pub use tallies::{Outlook, Tallied, Tally, opening};
+pub use sites::{Site, Sizes, start};
+pub use tallies::{Tally, opening};

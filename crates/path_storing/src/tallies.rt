@@ -6,6 +6,7 @@ ghost use Rattle.path_storing.specs.Sites.{start_of};
 ghost use Rattle.path_storing.specs.Tallies.{FewIn, tally_of, stayed_of, grown_of, stroked_of, is_bounded, counted_of, tallied_of};
 
 use crate::arc_tallies::count_arc;
+use crate::sites::Sizes;
 use commands::PathCommand;
 use ellipse::Chord;
 use math::Point;
@@ -17,41 +18,22 @@ use path_segment::{PathSegment, kind, table_width, width};
 #[derive(Clone, Copy)]
 pub struct Tally {
     pub pen: Pen,
-    // How many segments there are so far, how many fields they have, and how many numbers their tables.
-    pub segments: usize,
-    pub fields: usize,
-    pub tables: usize,
-}
-
-// What a command comes to.
-#[derive(Clone, Copy)]
-pub enum Tallied {
-    To(Tally),
-    // A point is far away, or an arc is large or refused: only measuring tells.
-    Unsure,
-}
-
-// What all commands come to.
-#[derive(Clone, Copy)]
-pub enum Outlook {
-    // They build, and need these places: one kind and one running length a segment.
-    Counted {
-        segments: usize,
-        fields: usize,
-        tables: usize,
-    },
-    Unsure,
+    // What is drawn so far.
+    pub sizes: Sizes,
 }
 
 // The tally before the first command.
+#[tactic(auto, unfolding(crate::specs::Sites::start_of, crate::specs::Tallies::tally_of))]
 pub fn opening() -> Tally
     ensures { result ≡ tally_of start_of }
 {
     Tally {
         pen: fresh(),
-        segments: 0,
-        fields: 0,
-        tables: 0,
+        sizes: Sizes {
+            segments: 0,
+            fields: 0,
+            tables: 0,
+        },
     }
 }
 
@@ -59,12 +41,7 @@ pub fn opening() -> Tally
 pub(crate) fn stayed(so_far: Tally, pen: Pen) -> Tally
     ensures { result ≡ stayed_of so_far pen }
 {
-    Tally {
-        pen,
-        segments: so_far.segments,
-        fields: so_far.fields,
-        tables: so_far.tables,
-    }
+    Tally { pen, ..so_far }
 }
 
 // The tally after a segment of `own` fields, with `more` numbers in its table.
@@ -74,26 +51,24 @@ pub(crate) fn grown(so_far: Tally, pen: Pen, own: usize, more: usize) -> Tally
 {
     Tally {
         pen,
-        segments: so_far.segments + 1,
-        fields: so_far.fields + own,
-        tables: so_far.tables + more,
+        sizes: so_far.sizes.grown(own, more),
     }
 }
 
-// A line or a curve up to a point, where all its points are calm.
-fn stroked(so_far: Tally, calm: bool, end: Point, own: usize, more: usize) -> Tallied
+// A line or a curve up to a point, where all its points are calm. Where one is far away, only measuring tells.
+#[tactic(auto, unfolding(crate::specs::Tallies::stroked_of))]
+fn stroked(so_far: Tally, calm: bool, end: Point, own: usize, more: usize) -> Option<Tally>
     requires { FewIn so_far × (own ≤ 11) × (more ≤ 33) }
     ensures { result ≡ stroked_of so_far calm end own more }
 {
-    if calm {
-        let pen = so_far.pen;
-        let next = drawn(pen, end);
-        if pen.placed {
-            return Tallied::To(grown(so_far, next, own, more));
-        }
-        return Tallied::To(stayed(so_far, next));
+    if !calm {
+        return None;
     }
-    Tallied::Unsure
+    let next = drawn(so_far.pen, end);
+    match so_far.pen.current {
+        Some(_) => Some(grown(so_far, next, own, more)),
+        None => Some(stayed(so_far, next)),
+    }
 }
 
 // Whether a segment between calm points is not long: an arc is judged by its fields.
@@ -101,55 +76,47 @@ fn is_bounded(segment: PathSegment) -> bool
     ensures { result ≡ is_bounded segment }
 {
     match segment {
-        PathSegment::Line(_) => true,
-        PathSegment::Quad {
-            start: _,
-            control: _,
-            end: _,
-        } => true,
-        PathSegment::Cubic {
-            start: _,
-            control1: _,
-            control2: _,
-            end: _,
-        } => true,
         PathSegment::Arc(shape) => is_calm_arc(shape),
-        PathSegment::Fallback(_) => true,
+        PathSegment::Line(_)
+        | PathSegment::Quad { .. }
+        | PathSegment::Cubic { .. }
+        | PathSegment::Fallback(_) => true,
     }
 }
 
-// What any command draws, where it names calm points.
-fn count_any(so_far: Tally, command: PathCommand) -> Tallied
+// What any command draws, where it names calm points: nothing where an arc is large or refused.
+#[tactic(auto, unfolding(crate::specs::Tallies::counted_of))]
+fn count_any(so_far: Tally, command: PathCommand) -> Option<Tally>
     requires { FewIn so_far }
     ensures { result ≡ counted_of so_far (draw_of so_far.pen command) }
 {
-    let pen = so_far.pen;
-    match draw(pen, command) {
-        Drawn::Moved(next) => Tallied::To(stayed(so_far, next)),
-        Drawn::Segment { segment, next } => {
-            if is_bounded(segment) {
-                let byte = kind(segment);
-                let own = width(byte);
-                let more = table_width(byte);
-                return Tallied::To(grown(so_far, next, own, more));
+    match draw(so_far.pen, command) {
+        Some(Drawn::Moved(next)) => Some(stayed(so_far, next)),
+        Some(Drawn::Segment { segment, next }) => {
+            if !is_bounded(segment) {
+                return None;
             }
-            Tallied::Unsure
+            let byte = kind(segment);
+            let own = width(byte);
+            let more = table_width(byte);
+            Some(grown(so_far, next, own, more))
         }
-        Drawn::OutOfRange => Tallied::Unsure,
+        None => None,
     }
 }
 
-// Counts what a command stores.
-pub fn count(so_far: Tally, command: PathCommand) -> Tallied
+// Counts what a command stores, where no length need be measured to tell: no point is far away, and no arc large or refused.
+#[tactic(auto, unfolding(crate::specs::Tallies::tallied_of, crate::specs::Tallies::counted_of, path_drawing::specs::Drawing::draw_of, path_drawing::specs::Drawing::arc_stroke_of))]
+pub fn count(so_far: Tally, command: PathCommand) -> Option<Tally>
     requires { FewIn so_far }
     ensures { result ≡ tallied_of so_far command }
 {
     match command {
         PathCommand::MoveTo(point) => {
-            if is_calm(point) {
-                return Tallied::To(stayed(so_far, moved(point)));
+            if !is_calm(point) {
+                return None;
             }
-            Tallied::Unsure
+            Some(stayed(so_far, moved(point)))
         }
         PathCommand::LineTo(end) => stroked(so_far, is_calm(end), end, 4, 0),
         PathCommand::QuadTo { control, end } => {
@@ -170,20 +137,22 @@ pub fn count(so_far: Tally, command: PathCommand) -> Tallied
             sweep,
             end,
         } => {
-            if is_calm(end) {
-                let pen = so_far.pen;
-                let current = pen.current;
-                let chord = Chord {
-                    start: current,
-                    radii,
-                    x_axis_rotation: rotation,
-                    large_arc,
-                    sweep,
-                    end,
-                };
-                return count_arc(so_far, chord);
+            if !is_calm(end) {
+                return None;
             }
-            Tallied::Unsure
+            let next = drawn(so_far.pen, end);
+            let Some(start) = so_far.pen.current else {
+                return Some(stayed(so_far, next));
+            };
+            let chord = Chord {
+                start,
+                radii,
+                x_axis_rotation: rotation,
+                large_arc,
+                sweep,
+                end,
+            };
+            count_arc(so_far, chord, next)
         }
         PathCommand::ClosePath => count_any(so_far, command),
     }

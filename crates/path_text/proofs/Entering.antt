@@ -7,6 +7,7 @@ use native.Mathlib.Omega.{arith}
 use borrow.Author.Tests.{lt-ltb, le-ltb, ltb-false}
 use lib.Dec.{ltb}
 use lib.ListN.{length}
+use Rattle.std.specs.Prelude.{Result, Err}
 use Rattle.answers.specs.declared.refusals.Refusal.{Refusal}
 use Rattle.answers.specs.declared.refusals.Refusal.TheVariants.{TooLong}
 use Rattle.commands.specs.declared.command.PathCommand.{PathCommand}
@@ -17,9 +18,8 @@ use Rattle.path_drawing.specs.Building.{path, refusal, build_of}
 use Rattle.path_build.specs.Lists.{list_for}
 use Rattle.path_build.specs.Answers.{roomed, measure_of}
 use Rattle.path_build.specs.Paths.{drawers_list_of, build_path_of}
-use Rattle.path_build.specs.declared.sizes.Counts.{Counts}
-use Rattle.path_build.specs.declared.sizes.Size.{Size}
-use Rattle.path_build.specs.declared.sizes.Size.TheVariants as Size
+use Rattle.path_build.specs.declared.room.Counts.{Counts}
+use Rattle.path_storing.specs.declared.sites.Sizes.{Sizes}
 use Rattle.path_build.proofs.Lists.{stored-builds, stored-drawers}
 use Rattle.path_build.proofs.Along.{refused-is}
 use Rattle.path_text.specs.Builds.{built_from, drawers_in, build_read_of, build_text_of}
@@ -38,15 +38,15 @@ module _ (text : List ℕ) where
     where
       by-outcome : length text ≤ 65536 → (outcome : Outcome) → commands_of text ≡ outcome → built_from outcome ≡ path segments → Reads text segments
       by-outcome short (commands list) e f = record { short = short; list = list; is = e; builds = f }
-      by-outcome short (unread reason) e f = let z : ◌≡◌ {A = ℕ} 0 1 = cc in absurd (omega arith)
+      by-outcome short (unread reason) e f = cc
 
       by_length : (b : Bool) → ltb 65536 (length text) ≡ b → cond b (refusal (TooLong (length text))) (built_from (commands_of text)) ≡ path segments → Reads text segments
-      by_length true e f = let z : ◌≡◌ {A = ℕ} 0 1 = cc in absurd (omega arith)
+      by_length true e f = cc
       by_length false e f = by-outcome (ltb-false 65536 (length text) e) (commands_of text) refl f
 
   -- ---- the length first
 
-  pub too_long : 65536 < length text → Size.Refused (TooLong (length text)) ≡ measure_of (build_read_of text)
+  pub too_long : 65536 < length text → Err (TooLong (length text)) ≡ measure_of (build_read_of text)
   unfolding build_read_of
   too_long h = let e : build_read_of text ≡ refusal (TooLong (length text)) = rw (lt-ltb 65536 (length text) h) in refused-is e
 
@@ -54,19 +54,19 @@ module _ (text : List ℕ) where
   unfolding build_read_of
   short-reads h = rw (le-ltb 65536 (length text) h)
 
-  pub short-size : {size : Size} → length text ≤ 65536 → size ≡ measure_of (built_from (commands_of text)) → size ≡ measure_of (build_read_of text)
+  pub short-size : {size : Result Sizes Refusal} → length text ≤ 65536 → size ≡ measure_of (built_from (commands_of text)) → size ≡ measure_of (build_read_of text)
   short-size h e = e ∙ ap measure_of (sym (short-reads h))
 
   -- ---- reading before building
 
   -- the text does not read
-  pub unread-size : {reason : Refusal} → commands_of text ≡ unread reason → Size.Refused reason ≡ measure_of (built_from (commands_of text))
+  pub unread-size : {reason : Refusal} → commands_of text ≡ unread reason → Err reason ≡ measure_of (built_from (commands_of text))
   unread-size e = refused-is (ap built_from e)
 
   -- it reads, and a segment is refused
   pub unbuilt-size :
       {reason : Refusal} {list : List PathCommand} → ((list : List PathCommand) → commands_of text ≡ commands list → build_of list ≡ refusal reason)
-      → commands_of text ≡ commands list → Size.Refused reason ≡ measure_of (built_from (commands_of text))
+      → commands_of text ≡ commands list → Err reason ≡ measure_of (built_from (commands_of text))
   unbuilt-size {reason} {list} f e = refused-is (ap built_from e ∙ f list e)
 
   -- ---- "equal to reading and building after each other": building the stored list of what is read

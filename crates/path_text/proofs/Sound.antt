@@ -10,7 +10,7 @@ use Rattle.path_stored.specs.Stored.{is_stored}
 use Rattle.svg.specs.Texts.{Outcome, commands_of}
 use Rattle.svg.proofs.Texts.{commands-few}
 use Rattle.path_drawing.specs.Building.{path}
-use Rattle.path_build.specs.declared.sizes.Counts.{Counts}
+use Rattle.path_build.specs.declared.room.Counts.{Counts}
 use Rattle.path_build.proofs.Sound.{built-stored, roomed-path}
 use Rattle.path_text.specs.Builds.{drawers_in, build_read_of, build_text_of}
 use Rattle.path_text.proofs.Entering.{reads}

@@ -4,6 +4,7 @@ use mathlib.Core.Path.{◌≡◌, refl, sym, ap, subst, ◌∙◌}
 use mathlib.Core.List.{List, [], ◌∷◌, ◌++◌}
 use native.Mathlib.Omega.{arith}
 use lib.ListN.{length, length-append}
+use Rattle.std.specs.Prelude.{Some, None, Ok, Err}
 use Rattle.answers.specs.declared.refusals.Refusal.{Refusal}
 use Rattle.commands.specs.declared.command.PathCommand.{PathCommand}
 use Rattle.path_stored.specs.Buffers.{Buffers}
@@ -11,7 +12,7 @@ use Rattle.path_segment.specs.declared.segments.PathSegment.{PathSegment}
 use Rattle.svg_step.specs.Steps.{fresh_of, read_step_of}
 use Rattle.svg.specs.Texts.{Outcome, commands, refusal as unread, read_from, commands_of}
 use Rattle.svg_step.specs.declared.steps.Reader.{Reader}
-use Rattle.svg_step.specs.declared.steps.Step.TheVariants.{Command, Done, Refused as StepRefused}
+use Rattle.svg_step.specs.declared.steps.Stepped.{Stepped}
 use Rattle.svg_step.proofs.Ahead.{step-ahead}
 use Rattle.svg.proofs.PassLaws.{onto as onto_commands, Known, known-none, known-all, known-refused, known_more}
 use Rattle.path_drawing.specs.Drawing.{draw_of}
@@ -19,14 +20,11 @@ use Rattle.path_drawing.specs.Building.{path, refusal, build_of}
 use Rattle.path_storing.specs.Sites.{start_of, advance_of, drawn_by, FewAt, Room, Laid}
 use Rattle.path_storing.specs.Tallies.{tally_of, FewIn, tallied_of}
 use Rattle.path_storing.specs.declared.sites.Site.{Site}
-use Rattle.path_storing.specs.declared.sites.Advanced.TheVariants.{To, Refused}
 use Rattle.path_storing.specs.declared.tallies.Tally.{Tally}
-use Rattle.path_storing.specs.declared.tallies.Tallied.TheVariants as Tallied
 use Rattle.path_storing.proofs.Along.{At, at_none, at-few, at_all, at_next, at-refused}
 use Rattle.path_storing.proofs.Filling.{Filling, filling-none, filling-more, roomed, same-kinds, same-fields, same_tables, same-lengths, same-commands}
 use Rattle.path_storing.proofs.Foreseen.{Calm, calm-start, foreseen}
 use Rattle.path_build.specs.Answers.{measure_of, Holding, Filled}
-use Rattle.path_build.specs.declared.sizes.Size.TheVariants as Size
 use Rattle.path_build.proofs.Along.{counts-are, counted-at, few-in, Holdable, holdable, filled_is}
 use Rattle.path_text.specs.Builds.{built_from, drawers_in, build_read_of}
 use Rattle.path_text.proofs.Entering.{Reads, reads, short-reads}
@@ -34,7 +32,7 @@ use Rattle.path_text.proofs.Entering.{Reads, reads, short-reads}
 -- the rest of a text whose first commands are known
 rest_of : (done list : List PathCommand) (outcome : Outcome) → onto_commands done outcome ≡ commands list → (rest : List PathCommand) × (list ≡ done ++ rest)
 rest_of done list (commands rest) e = (rest, let f : list ≡ done ++ rest = cc in f)
-rest_of done list (unread reason) e = let z : ◌≡◌ {A = ℕ} 0 1 = cc in absurd (omega arith)
+rest_of done list (unread reason) e = cc
 
 -- ---- the first pass
 
@@ -49,32 +47,32 @@ pub measuring-none : (text : List ℕ) → Measuring text fresh_of start_of
 measuring-none text = record { passed = []; known = known-none text; few = omega arith; done = []; drawn = at_none }
 
 module _ {text : List ℕ} {reader : Reader} {site : Site} (k : Measuring text reader site) where
-  pub measured-all : read_step_of text reader ≡ Done → Size.Counted site.segments site.fields site.tables ≡ measure_of (built_from (commands_of text))
+  pub measured-all : read_step_of text reader ≡ Ok None → Ok site.sizes ≡ measure_of (built_from (commands_of text))
   measured-all e = counts-are k.drawn (ap built_from (known-all text reader k.passed k.known e) ∙ at_all k.drawn)
 
-  pub measured-unread : {reason : Refusal} → read_step_of text reader ≡ StepRefused reason → commands_of text ≡ unread reason
+  pub measured-unread : {reason : Refusal} → read_step_of text reader ≡ Err reason → commands_of text ≡ unread reason
   measured-unread {reason} e = known-refused text reader k.passed k.known reason e
 
-  module _ {command : PathCommand} {next : Reader} (e : read_step_of text reader ≡ Command command next) where
-    more : Known text next (k.passed ++ (command ∷ []))
-    more = known_more text reader k.passed k.known command next e
+  module _ {step : Stepped} (e : read_step_of text reader ≡ Ok (Some step)) where
+    more : Known text step.next (k.passed ++ (step.command ∷ []))
+    more = known_more text reader k.passed k.known step e
 
     pub measuring-few : length text ≤ 65536 → FewAt site
-    measuring-few h = at-few k.drawn (omega (arith, step-ahead text reader next command e, k.few))
+    measuring-few h = at-few k.drawn (omega (arith, step-ahead text reader step e, k.few))
 
-    pub measured-unbuilt : {reason : Refusal} → advance_of site command ≡ Refused reason → (list : List PathCommand) → commands_of text ≡ commands list → build_of list ≡ refusal reason
+    pub measured-unbuilt : {reason : Refusal} → advance_of site step.command ≡ Err reason → (list : List PathCommand) → commands_of text ≡ commands list → build_of list ≡ refusal reason
     measured-unbuilt {reason} a list c =
-        let r = rest_of (k.passed ++ (command ∷ [])) list (read_from more.steps text next) (sym more.whole ∙ c) in
-        ap build_of r.1 ∙ at-refused k.drawn command reason a r.0
+        let r = rest_of (k.passed ++ (step.command ∷ [])) list (read_from more.steps text step.next) (sym more.whole ∙ c) in
+        ap build_of r.1 ∙ at-refused k.drawn step.command reason a r.0
 
-    pub measuring-more : {further : Site} → advance_of site command ≡ To further → Measuring text next further
+    pub measuring-more : {further : Site} → advance_of site step.command ≡ Ok further → Measuring text step.next further
     measuring-more {further} a =
         record {
-          passed = k.passed ++ (command ∷ []);
+          passed = k.passed ++ (step.command ∷ []);
           known = more;
-          few = omega (arith, length-append k.passed (command ∷ []), step-ahead text reader next command e, k.few);
-          done = k.done ++ drawn_by (draw_of site.pen command);
-          drawn = at_next k.drawn command further a;
+          few = omega (arith, length-append k.passed (step.command ∷ []), step-ahead text reader step e, k.few);
+          done = k.done ++ drawn_by (draw_of site.pen step.command);
+          drawn = at_next k.drawn step.command further a;
         }
 
 -- ---- the first pass, where nothing is measured: a site that the tally is of
@@ -89,19 +87,19 @@ pub surveying-none : (text : List ℕ) → Surveying text fresh_of (tally_of sta
 surveying-none text = record { site = start_of; same = refl; calm = calm-start; measuring = measuring-none text }
 
 module _ {text : List ℕ} {reader : Reader} {tally : Tally} (k : Surveying text reader tally) where
-  pub surveyed-all : read_step_of text reader ≡ Done → Size.Counted tally.segments tally.fields tally.tables ≡ measure_of (built_from (commands_of text))
+  pub surveyed-all : read_step_of text reader ≡ Ok None → Ok tally.sizes ≡ measure_of (built_from (commands_of text))
   surveyed-all e = counted-at k.site k.same (measured-all k.measuring e)
 
-  module _ {command : PathCommand} {next : Reader} (e : read_step_of text reader ≡ Command command next) (short : length text ≤ 65536) where
+  module _ {step : Stepped} (e : read_step_of text reader ≡ Ok (Some step)) (short : length text ≤ 65536) where
     few : FewAt k.site
     few = measuring-few k.measuring e short
 
     pub surveying-few : FewIn tally
     surveying-few = few-in k.site k.same few
 
-    pub surveying-more : {further : Tally} → tallied_of tally command ≡ Tallied.To further → Surveying text next further
+    pub surveying-more : {further : Tally} → tallied_of tally step.command ≡ Some further → Surveying text step.next further
     surveying-more {further} a =
-        let f = foreseen k.site few k.calm command further (ap (λ t. tallied_of t command) k.same ∙ a) in
+        let f = foreseen k.site few k.calm step.command further (ap (λ t. tallied_of t step.command) k.same ∙ a) in
         record { site = f.0; same = f.2; calm = f.3; measuring = measuring-more k.measuring e f.1 }
 
 -- ---- the second pass
@@ -148,36 +146,36 @@ module _ {text : List ℕ} {reader : Reader} {site : Site} {number : ℕ} {b₀ 
   stored-commands = same-commands k.filling h.holds here.0 here.1
 
   -- a text that builds is read to its end
-  pub storing-unread : {reason : Refusal} → read_step_of text reader ≡ StepRefused reason → ⊥
+  pub storing-unread : {reason : Refusal} → read_step_of text reader ≡ Err reason → ⊥
   storing-unread {reason} e =
       let f = sym (known-refused text reader k.passed k.known reason e) ∙ all.is in
-      let z : ◌≡◌ {A = ℕ} 0 1 = cc in omega arith
+      cc
 
-  pub stored-all : read_step_of text reader ≡ Done → Filled (build_read_of text) (drawers_in (commands_of text)) b₀ b
+  pub stored-all : read_step_of text reader ≡ Ok None → Filled (build_read_of text) (drawers_in (commands_of text)) b₀ b
   stored-all e =
       let known = known-all text reader k.passed k.known e in
       filled_is k.filling (short-reads text all.short ∙ ap built_from known) (ap drawers_in known)
 
-  module _ {command : PathCommand} {next : Reader} (e : read_step_of text reader ≡ Command command next) where
-    ahead : (rest : List PathCommand) × (build_of ((k.passed ++ (command ∷ [])) ++ rest) ≡ path h.list)
-    ahead = whole (k.passed ++ (command ∷ [])) next (known_more text reader k.passed k.known command next e)
+  module _ {step : Stepped} (e : read_step_of text reader ≡ Ok (Some step)) where
+    ahead : (rest : List PathCommand) × (build_of ((k.passed ++ (step.command ∷ [])) ++ rest) ≡ path h.list)
+    ahead = whole (k.passed ++ (step.command ∷ [])) step.next (known_more text reader k.passed k.known step e)
 
     -- what `lay` asks
-    pub storing-room : FewAt site × Room site (draw_of site.pen command) b
+    pub storing-room : FewAt site × Room site (draw_of site.pen step.command) b
     storing-room = (
-      at-few k.filling.known (omega (arith, step-ahead text reader next command e, k.few, all.short)),
-      roomed k.filling h.holds command ahead.0 ahead.1,
+      at-few k.filling.known (omega (arith, step-ahead text reader step e, k.few, all.short)),
+      roomed k.filling h.holds step.command ahead.0 ahead.1,
     )
 
     pub storing-number : number < 65536
-    storing-number = omega (arith, step-ahead text reader next command e, k.few, k.count, all.short)
+    storing-number = omega (arith, step-ahead text reader step e, k.few, k.count, all.short)
 
-    pub storing-more : {further : Site} {b' : Buffers} → Laid site number (draw_of site.pen command) b further b' → Storing text next further (number + 1) b₀ b'
+    pub storing-more : {further : Site} {b' : Buffers} → Laid site number (draw_of site.pen step.command) b further b' → Storing text step.next further (number + 1) b₀ b'
     storing-more {further} {b'} laid =
         record {
-          passed = k.passed ++ (command ∷ []);
-          known = known_more text reader k.passed k.known command next e;
-          few = omega (arith, length-append k.passed (command ∷ []), step-ahead text reader next command e, k.few);
-          count = length-append k.passed (command ∷ []) ∙ ap (λ n. n + 1) k.count;
-          filling = filling-more k.filling h.holds command ahead.0 ahead.1 (subst (λ n. Laid site n (draw_of site.pen command) b further b') (sym k.count) laid);
+          passed = k.passed ++ (step.command ∷ []);
+          known = known_more text reader k.passed k.known step e;
+          few = omega (arith, length-append k.passed (step.command ∷ []), step-ahead text reader step e, k.few);
+          count = length-append k.passed (step.command ∷ []) ∙ ap (λ n. n + 1) k.count;
+          filling = filling-more k.filling h.holds step.command ahead.0 ahead.1 (subst (λ n. Laid site n (draw_of site.pen step.command) b further b') (sym k.count) laid);
         }

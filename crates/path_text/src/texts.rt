@@ -4,23 +4,16 @@ ghost use Rattle.svg.specs.Texts.{commands_of};
 ghost use Rattle.path_stored.specs.Buffers.{after, before_mut, lent_mut};
 ghost use Rattle.path_build.specs.Answers.{measure_of, Foretells, Holding, Filled};
 ghost use Rattle.path_text.specs.Builds.{built_from, build_read_of, drawers_text_of, Finds};
-ghost use Rattle.path_text.specs.declared.texts.Found.TheVariants.{Unbuilt};
+ghost use Rattle.path_text.specs.declared.texts.TextRefusal.TheVariants.{Unbuilt};
 
 use answers::Refusal;
-use path_build::inner::Size;
 use path_storing::inner::{advance, count, lay};
-use path_storing::{Advanced, Outlook, Tallied, opening, start};
-use svg_step::{Step, fresh, read_step};
+use path_storing::{Sizes, opening, start};
+use svg_step::{fresh, read_step};
 
-// What the first pass finds.
-#[derive(Clone, Copy)]
-pub enum Found {
-    // The places needed: one kind, one running length and one command number a segment.
-    Counted {
-        segments: usize,
-        fields: usize,
-        tables: usize,
-    },
+// Why a first pass finds no path.
+#[derive(Clone, Copy, Debug, PartialEq, Eq)]
+pub enum TextRefusal {
     // The text does not read.
     Unread(Refusal),
     // A segment is refused, where the text reads on or not.
@@ -28,7 +21,7 @@ pub enum Found {
 }
 
 // What a text builds, where it reads and no length need be measured to tell.
-fn survey(text: &[u8]) -> Outlook
+fn survey(text: &[u8]) -> Option<Sizes>
     requires { length text.now ≤ 65536 }
     ensures { Foretells (built_from (commands_of text.now)) result }
 {
@@ -36,31 +29,18 @@ fn survey(text: &[u8]) -> Outlook
     let mut tally = opening();
     loop {
         match read_step(text, reader) {
-            Step::Done => {
-                return Outlook::Counted {
-                    segments: tally.segments,
-                    fields: tally.fields,
-                    tables: tally.tables,
-                };
+            Ok(Some(step)) => {
+                tally = count(tally, step.command)?;
+                reader = step.next;
             }
-            Step::Refused(_) => {
-                return Outlook::Unsure;
-            }
-            Step::Command { command, next } => match count(tally, command) {
-                Tallied::Unsure => {
-                    return Outlook::Unsure;
-                }
-                Tallied::To(further) => {
-                    reader = next;
-                    tally = further;
-                }
-            },
+            Ok(None) => return Some(tally.sizes),
+            Err(_) => return None,
         }
     }
 }
 
 // Reads and judges segment by segment, up to the first refusal of either kind.
-fn judge(text: &[u8]) -> Found
+fn judge(text: &[u8]) -> Result<Sizes, TextRefusal>
     requires { length text.now ≤ 65536 }
     ensures { Finds text.now result }
 {
@@ -68,70 +48,42 @@ fn judge(text: &[u8]) -> Found
     let mut site = start();
     loop {
         match read_step(text, reader) {
-            Step::Done => {
-                return Found::Counted {
-                    segments: site.segments,
-                    fields: site.fields,
-                    tables: site.tables,
-                };
-            }
-            Step::Refused(refusal) => {
-                return Found::Unread(refusal);
-            }
-            Step::Command { command, next } => match advance(site, command) {
-                Advanced::Refused(refusal) => {
-                    return Found::Unbuilt(refusal);
-                }
-                Advanced::To(further) => {
-                    reader = next;
+            Ok(Some(step)) => match advance(site, step.command) {
+                Ok(further) => {
                     site = further;
+                    reader = step.next;
                 }
+                Err(refusal) => return Err(TextRefusal::Unbuilt(refusal)),
             },
+            Ok(None) => return Ok(site.sizes),
+            Err(refusal) => return Err(TextRefusal::Unread(refusal)),
         }
     }
 }
 
 // What a text builds, up to the first refusal of either kind.
-pub(crate) fn measure(text: &[u8]) -> Found
+pub(crate) fn measure(text: &[u8]) -> Result<Sizes, TextRefusal>
     requires { length text.now ≤ 65536 }
     ensures { Finds text.now result }
 {
     match survey(text) {
-        Outlook::Counted {
-            segments,
-            fields,
-            tables,
-        } => {
-            return Found::Counted {
-                segments,
-                fields,
-                tables,
-            };
-        }
-        Outlook::Unsure => {
-            return judge(text);
-        }
+        Some(sizes) => Ok(sizes),
+        None => judge(text),
     }
 }
 
-// What a text comes to where a segment is refused: a refusal of reading further on comes first. It steps as the other passes do, since
-// a pass of its own would lie on the stack of every call.
-pub(crate) fn unbuilt(text: &[u8], refusal: Refusal) -> Size
-    requires { (length text.now ≤ 65536) × Finds text.now (Unbuilt refusal) }
-    ensures { result ≡ measure_of (built_from (commands_of text.now)) }
+// Why nothing is built of a text of which a segment is refused: a refusal of reading further on comes first. It steps as the other
+// passes do, since a pass of its own would lie on the stack of every call.
+pub(crate) fn unbuilt(text: &[u8], refusal: Refusal) -> Refusal
+    requires { (length text.now ≤ 65536) × Finds text.now (Err (Unbuilt refusal)) }
+    ensures { Err result ≡ measure_of (built_from (commands_of text.now)) }
 {
     let mut reader = fresh();
     loop {
         match read_step(text, reader) {
-            Step::Done => {
-                return Size::Refused(refusal);
-            }
-            Step::Refused(first) => {
-                return Size::Refused(first);
-            }
-            Step::Command { command: _, next } => {
-                reader = next;
-            }
+            Ok(Some(step)) => reader = step.next,
+            Ok(None) => return refusal,
+            Err(first) => return first,
         }
     }
 }
@@ -154,19 +106,22 @@ pub(crate) fn fill(
     let mut number: u32 = 0;
     loop {
         match read_step(text, reader) {
-            Step::Done => {
-                return;
-            }
-            Step::Refused(_) => {
-                return;
-            }
-            Step::Command { command, next } => {
+            Ok(Some(step)) => {
                 site = lay(
-                    site, number, command, kinds, fields, tables, lengths, commands,
+                    site,
+                    number,
+                    step.command,
+                    kinds,
+                    fields,
+                    tables,
+                    lengths,
+                    commands,
                 );
-                reader = next;
+                reader = step.next;
                 number += 1;
             }
+            Ok(None) => return,
+            Err(_) => return,
         }
     }
 }

@@ -3,4 +3,3 @@ pub mod Legs
 pub mod FirstNotFinite
 pub mod Measuring
 pub mod Rows
-pub mod Judgements

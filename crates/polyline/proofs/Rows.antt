@@ -1,19 +1,16 @@
 -- Points written one after the other: one more point at its two places writes one more row. Assumes nothing.
-use mathlib.Core.Path.{◌≡◌, refl, sym, ap, ◌∙◌, subst}
+use mathlib.Core.Path.{◌≡◌, refl, sym, ap, ◌∙◌}
 use Prim.Native.Nat.{ℕ, zero, suc, ◌+◌, ◌-◌, ◌*◌, ◌≤◌}
 use native.Mathlib.Numerals.{add-one}
 use native.Mathlib.Omega.{arith}
-use mathlib.Core.List.{List, [], ◌∷◌, ◌++◌}
-use lib.ListN.{length, drop, set, length-append}
+use mathlib.Core.List.{List, ◌++◌}
+use lib.ListN.{length, drop, length-append}
 use lib.Seq.{sets, drop-append-add, drop-drop}
 use lib.Ieee.{Float}
 use Rattle.answers.specs.Report.{written}
 use Rattle.answers.proofs.Writing.{written-more, length-written}
 use Rattle.math.specs.declared.points.Point.{Point}
 use Rattle.polyline.specs.Points.{two_of, rows_of}
-
-pub two-put : (l : List Float) (i : ℕ) (p : Point) (x y : Float) → x ≡ p.x → y ≡ p.y → set (set l i x) (i + 1) y ≡ sets l i (two_of p)
-two-put l i p x y e f = rw (e, f, add-one)
 
 pub rows-length : (point : ℕ → Point) (k : ℕ) → length (rows_of point k) ≡ 2 * k
 unfolding rows_of

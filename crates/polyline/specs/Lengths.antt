@@ -1,12 +1,12 @@
 -- The running lengths of the line through points (source document 004, `resample`): 0 at the first point, then one more leg at each. Path units; each sum rounds once.
 -- Definitions only.
-use Rattle.std.specs.Prelude.{ℕ, zero, suc, ◌-◌, cond, List, [], ◌∷◌, ltb, length, Float}
+use Rattle.std.specs.Prelude.{ℕ, zero, suc, ◌-◌, cond, List, [], ◌∷◌, ltb, length, Float, Result, Ok, Err}
 use Rattle.std.specs.Float.Ieee.Scale.{finite}
+use Rattle.answers.specs.declared.refusals.Refusal.{Refusal}
+use Rattle.answers.specs.declared.refusals.Refusal.TheVariants.{NotFinite}
 use Rattle.math.specs.Math.{distance_of}
 use Rattle.table.specs.Sums.{running_sums, sum_of}
 use Rattle.polyline.specs.Points.{count_of, point_at}
-use Rattle.polyline.specs.declared.outline.Measured.{Measured}
-use Rattle.polyline.specs.declared.outline.Measured.TheVariants.{Total, NotFinite}
 
 -- the distance from the point i to the next
 unfoldable pub leg_of : List Float → ℕ → Float
@@ -33,7 +33,8 @@ unfoldable pub first_not_finite : List Float → ℕ
 first_not_finite [] = 0
 first_not_finite (own ∷ lengths) = cond (finite own) (suc (first_not_finite lengths)) 0
 
-unfoldable pub measured_of : List Float → Measured
+-- the total, or 11 with that point
+unfoldable pub measured_of : List Float → Result Float Refusal
 measured_of points =
     let place = first_not_finite (lengths_of points) in
-    cond (ltb place (length (lengths_of points))) (NotFinite place) (Total (total_of points))
+    cond (ltb place (length (lengths_of points))) (Err (NotFinite place)) (Ok (total_of points))

@@ -1,2 +1,2 @@
 // What asks more of its callers than an entry may: handed on to crates that are proved to meet it.
-pub use crate::outline::{Measured, leg, measure, point_at, put_point};
+pub use crate::outline::{leg, measure, point_at, put_point};

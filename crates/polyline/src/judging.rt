@@ -4,12 +4,6 @@ ghost use Rattle.polyline.specs.Judging.{is_odd, is_long, judge_of, judge_two_of
 
 use answers::Refusal;
 
-#[derive(Clone, Copy)]
-pub enum Judged {
-    Fine,
-    Refused(Refusal),
-}
-
 fn is_odd(points: &[f32]) -> bool
     ensures { result ≡ is_odd points.now }
 {
@@ -23,33 +17,35 @@ fn is_long(points: &[f32]) -> bool
 }
 
 // One list.
-pub fn judge(points: &[f32]) -> Judged
+#[tactic(auto, unfolding(crate::specs::Judging::judge_of))]
+pub fn judge(points: &[f32]) -> Result<(), Refusal>
     ensures { result ≡ judge_of points.now }
 {
     if is_odd(points) {
-        return Judged::Refused(Refusal::BadList(points.len() / 2));
+        return Err(Refusal::BadList(points.len() / 2));
     }
     if is_long(points) {
-        return Judged::Refused(Refusal::Range(points.len() / 2));
+        return Err(Refusal::Range(points.len() / 2));
     }
-    Judged::Fine
+    Ok(())
 }
 
 // Two lists: each step judges the first, then the second.
-pub fn judge_two(first: &[f32], second: &[f32]) -> Judged
+#[tactic(auto, unfolding(crate::specs::Judging::judge_two_of))]
+pub fn judge_two(first: &[f32], second: &[f32]) -> Result<(), Refusal>
     ensures { result ≡ judge_two_of first.now second.now }
 {
     if is_odd(first) {
-        return Judged::Refused(Refusal::BadList(first.len() / 2));
+        return Err(Refusal::BadList(first.len() / 2));
     }
     if is_odd(second) {
-        return Judged::Refused(Refusal::BadList(second.len() / 2));
+        return Err(Refusal::BadList(second.len() / 2));
     }
     if is_long(first) {
-        return Judged::Refused(Refusal::Range(first.len() / 2));
+        return Err(Refusal::Range(first.len() / 2));
     }
     if is_long(second) {
-        return Judged::Refused(Refusal::Range(second.len() / 2));
+        return Err(Refusal::Range(second.len() / 2));
     }
-    Judged::Fine
+    Ok(())
 }

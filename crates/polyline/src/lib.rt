@@ -6,4 +6,4 @@ pub mod inner;
 mod judging;
 mod outline;
 
-pub use judging::{Judged, judge, judge_two};
+pub use judging::{judge, judge_two};

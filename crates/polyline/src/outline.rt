@@ -4,10 +4,12 @@ ghost use Rattle.std.proofs.lemmas.List.Edits.{sets};
 ghost use Rattle.polyline.specs.Points.{count_of, point_at, two_of};
 ghost use Rattle.polyline.specs.Lengths.{leg_of, measured_of};
 
+use answers::Refusal;
 use floats::{is_finite, tidy};
 use math::{Point, distance};
 
 // The point number i.
+#[tactic(auto, unfolding(crate::specs::Points::point_at))]
 pub fn point_at(points: &[f32], i: usize) -> Point
     requires { i < count_of points.now }
     ensures { result ≡ point_at points.now i }
@@ -28,6 +30,7 @@ pub fn put_point(out: &mut [f32], i: usize, p: Point)
 }
 
 // The distance from the point number i to the next one.
+#[tactic(auto, unfolding(crate::specs::Lengths::leg_of))]
 pub fn leg(points: &[f32], i: usize) -> f32
     requires { i + 1 < count_of points.now }
     ensures { result ≡ leg_of points.now i }
@@ -35,26 +38,18 @@ pub fn leg(points: &[f32], i: usize) -> f32
     distance(point_at(points, i), point_at(points, i + 1))
 }
 
-// The length of a line through points: the sum of its legs, or the first point at which a running
+// The length of a line through points: the sum of its legs. 11 carries the first point at which a running
 // length is not finite.
-#[derive(Clone, Copy)]
-pub enum Measured {
-    Total(f32),
-    NotFinite(usize),
-}
-
-pub fn measure(points: &[f32]) -> Measured
+pub fn measure(points: &[f32]) -> Result<f32, Refusal>
     ensures { result ≡ measured_of points.now }
 {
     let count = points.len() / 2;
-    let mut total: f32 = 0.0;
-    let mut i: usize = 0;
-    while i + 1 < count {
-        total = total + leg(points, i);
-        i += 1;
-        if is_finite(total) {} else {
-            return Measured::NotFinite(i);
+    let mut total = 0.0f32;
+    for i in 1..count {
+        total += leg(points, i - 1);
+        if !is_finite(total) {
+            return Err(Refusal::NotFinite(i));
         }
     }
-    Measured::Total(total)
+    Ok(total)
 }

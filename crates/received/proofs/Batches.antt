@@ -4,6 +4,8 @@ use Prim.Native.Nat.{ℕ, ◌-◌, ◌≤◌, ◌<◌}
 use mathlib.Core.Path.{◌≡◌, refl, sym, ap, ◌∙◌, subst}
 use mathlib.Core.Bool.{Bool, true, false, cond}
 use mathlib.Core.List.{List}
+use Rattle.std.specs.Prelude.{Result, Ok, Err}
+use Rattle.answers.specs.declared.refusals.Refusal.{Refusal}
 use native.Mathlib.Omega.{arith}
 use borrow.Author.Tests.{ltb-false}
 use lib.Dec.{T, ltb}
@@ -18,8 +20,6 @@ use Rattle.path_place.specs.declared.places.Place.{Place}
 use Rattle.path_place.specs.Places.{placed}
 use Rattle.path_place.specs.Demand.{target_along, EnclosedBy, SweptBy}
 use Rattle.path_query.proofs.Demand3.{pair-once}
-use Rattle.path_batch.specs.declared.batches.Batch.{Batch}
-use Rattle.path_batch.specs.declared.batches.Batch.TheVariants as Batch
 use Rattle.path_batch.specs.Batches.{batch_answer, flights_by}
 use Rattle.path_batch.specs.Ordered.{OrderedPlaces, OrderedBatch, OrderedFlights, OrderedFlown}
 use Rattle.c_answer.specs.Given.{Given}
@@ -46,9 +46,9 @@ module _ (b : Buffers) (progresses : List Float) (answer : List ℕ) {answer' : 
   places-received segments raws {segments'} {raws'} given ordered =
       go (places_by b progresses segments raws) given.reported (ordered (long-enough answer _ given.reported.code zero))
     where
-      go : (batch : Batch) → Given (batch_answer batch) answer returned answer' → OrderedBatch batch b progresses segments' raws' → OrderedPlaces b progresses segments' raws'
-      go (Batch.Filled count) g shows = shows some long
-      go (Batch.Refused refusal) g shows = absurd (given-accepted refusal g zero)
+      go : (batch : Result ℕ Refusal) → Given (batch_answer batch) answer returned answer' → OrderedBatch batch b progresses segments' raws' → OrderedPlaces b progresses segments' raws'
+      go (Ok count) g shows = shows some long
+      go (Err refusal) g shows = absurd (given-accepted refusal g zero)
 
   -- and four numbers of each pair
   pub flights-received : (segments : List ℕ) (raws out : List Float) {segments' : List ℕ} {raws' out' : List Float}
@@ -58,9 +58,9 @@ module _ (b : Buffers) (progresses : List Float) (answer : List ℕ) {answer' : 
   flights-received segments raws out {segments'} {raws'} {out'} given ordered =
       go (flights_by b progresses segments raws out) given.reported (ordered (long-enough answer _ given.reported.code zero))
     where
-      go : (batch : Batch) → Given (batch_answer batch) answer returned answer' → OrderedFlown batch b progresses segments' raws' out' → OrderedFlights b progresses segments' raws' out'
-      go (Batch.Filled count) g shows = shows some long
-      go (Batch.Refused refusal) g shows = absurd (given-accepted refusal g zero)
+      go : (batch : Result ℕ Refusal) → Given (batch_answer batch) answer returned answer' → OrderedFlown batch b progresses segments' raws' out' → OrderedFlights b progresses segments' raws' out'
+      go (Ok count) g shows = shows some long
+      go (Err refusal) g shows = absurd (given-accepted refusal g zero)
 
 -- ---- the places of outputs, of one call or of two on the same buffers
 

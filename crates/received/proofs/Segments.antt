@@ -4,39 +4,33 @@ use Prim.Native.Nat.{ℕ, zero, suc, ◌<◌}
 use mathlib.Core.Path.{◌≡◌, refl, sym, ap, ◌∙◌, subst}
 use mathlib.Core.Bool.{Bool, true, false, cond}
 use mathlib.Core.List.{List}
+use Rattle.std.specs.Prelude.{Option, Some, Result, Ok, Err}
 use native.Mathlib.Omega.{arith}
 use borrow.Author.Tests.{lt-ltb}
-use lib.Dec.{T, ltb}
+use lib.Dec.{T}
 use lib.ListN.{length, get_or, drop}
 use lib.Ieee.{Float}
-use Rattle.answers.specs.Answers.{Answer}
-use Rattle.answers.specs.Report.{written}
+use Rattle.answers.specs.declared.refusals.Refusal.{Refusal}
 use Rattle.answers.specs.declared.refusals.Refusal.TheVariants.{BadPath}
-use Rattle.floats.specs.Floats.{clamp01_of, bits_of}
+use Rattle.floats.specs.Floats.{bits_of}
 use Rattle.floats.proofs.Tests.{passed, cond_yes, same_test}
 use Rattle.math.specs.declared.points.Point.{Point}
 use Rattle.table.specs.declared.tables.Table.{Table}
 use Rattle.table.specs.Sound.{table_is_sound, SoundPath}
-use Rattle.table.specs.Lookup.{raw_of}
 use Rattle.table.specs.Spots.{spot_of}
-use Rattle.flight.specs.declared.single.Placed.{Placed}
-use Rattle.flight.specs.declared.single.Placed.TheVariants as Placed
 use Rattle.flight.specs.declared.Flight.{Flight}
-use Rattle.flight.specs.declared.Flown.{Flown}
-use Rattle.flight.specs.declared.Flown.TheVariants as Flown
 use Rattle.bezier.specs.Curves.{ahead_of, placed_of}
-use Rattle.bezier.specs.Quads.{quad_placed_of, quad_position_of, quad_heading_of, quad_tangent_of, quad_tangent_at, quad_direction}
-use Rattle.bezier.specs.Cubics.{cubic_placed_of, cubic_position_of, cubic_heading_of, cubic_tangent_of, cubic_tangent_at, cubic_direction}
-use Rattle.arc.specs.Lines.{line_point_of, line_position_of, line_tangent_of}
-use Rattle.arc.specs.Arcs.{chord_line, arc_placed_of, arc_position_of, arc_heading_of, arc_tangent_of}
+use Rattle.bezier.specs.Quads.{quad_placed_of, quad_position_of, quad_heading_of, quad_tangent_of, quad_tangent_at}
+use Rattle.bezier.specs.Cubics.{cubic_placed_of, cubic_position_of, cubic_heading_of, cubic_tangent_of, cubic_tangent_at}
+use Rattle.arc.specs.Lines.{line_position_of}
+use Rattle.arc.specs.Arcs.{arc_placed_of, arc_position_of, arc_heading_of, arc_tangent_of}
 use Rattle.path_segment.specs.declared.segments.PathSegment.{PathSegment}
 use Rattle.path_segment.specs.declared.segments.PathSegment.TheVariants as Segment
 use Rattle.path_segment.specs.Segments.{kind_of, width_of, tables_of, has_table, table_at, segment_of}
 use Rattle.path_stored.specs.Buffers.{Buffers}
-use Rattle.path_stored.specs.Stored.{before, is_stored, Fielded, segment_in, table_in}
+use Rattle.path_stored.specs.Stored.{before, is_stored, segment_in, table_in}
 use Rattle.path_stored.specs.Queries.{part_of}
 use Rattle.path_stored.specs.declared.queries.Part.{Part}
-use Rattle.path_stored.specs.declared.queries.Found.TheVariants as Found
 use Rattle.path_stored.proofs.Rule.{stored-rule}
 use Rattle.path_stored.proofs.Reading.{stored-fielded, stored-tabled, table-in-sound}
 use Rattle.path_part.specs.Parts.{position_of, tangent_of}
@@ -51,8 +45,8 @@ use Rattle.path_query.proofs.Demand3.{flown-there, pair-answered}
 use Rattle.c_answer.specs.Given.{Given}
 use Rattle.c_answer.specs.Places.{place_given}
 use Rattle.c_answer.proofs.Giving.{given-same, given-whole}
-use Rattle.kihavute_paths.specs.Received.{Holds, Received}
-use Rattle.kihavute_segments.specs.Segments.{found_given, position_given, tangent_given}
+use Rattle.kihavute_paths.specs.Received.{Received}
+use Rattle.kihavute_segments.specs.Segments.{position_given, tangent_given}
 
 -- ---- a segment with its table, if it has one
 
@@ -60,13 +54,13 @@ module _ (tables : List Float) (first : ℕ) (along : Float) where
   abbrev own : Table
   own = table_at tables first
 
-  at-sound : (p : Point) → T (table_is_sound own.entries own.total) → placed_of own p ≡ Placed.At p
+  at-sound : (p : Point) → T (table_is_sound own.entries own.total) → placed_of own p ≡ Ok p
   unfolding placed_of
-  at-sound p sound = cond_yes (table_is_sound own.entries own.total) (Placed.At p) (Placed.Refused BadPath) sound
+  at-sound p sound = cond_yes (table_is_sound own.entries own.total) (Ok p) (Err BadPath) sound
 
   module _ (table : Table) where
     position_at : (segment : PathSegment) → (T (has_table (kind_of segment)) → (table ≡ table_at tables first) × T (table_is_sound (table_at tables first).entries (table_at tables first).total))
-        → position_of segment table along ≡ Placed.At (sample_of segment (raw_for (kind_of segment) tables first along))
+        → position_of segment table along ≡ Ok (sample_of segment (raw_for (kind_of segment) tables first along))
     unfolding position_of quad_placed_of quad_position_of cubic_placed_of cubic_position_of arc_placed_of arc_position_of line_position_of sample_of raw_for raw_in has_table tables_of
     position_at (Segment.Line line) there = refl
     position_at (Segment.Quad start control end) there = rw (there tt).0 (at-sound _ (there tt).1)
@@ -75,7 +69,7 @@ module _ (tables : List Float) (first : ℕ) (along : Float) where
     position_at (Segment.Fallback shape) there = refl
 
     tangent-at : (segment : PathSegment) → (T (has_table (kind_of segment)) → (table ≡ table_at tables first) × T (table_is_sound (table_at tables first).entries (table_at tables first).total))
-        → tangent_of segment table along ≡ Placed.At (heading_of segment (raw_for (kind_of segment) tables first along) (raw_in tables first (ahead_of along)))
+        → tangent_of segment table along ≡ Ok (heading_of segment (raw_for (kind_of segment) tables first along) (raw_in tables first (ahead_of along)))
     unfolding tangent_of quad_heading_of quad_tangent_of quad_tangent_at cubic_heading_of cubic_tangent_of cubic_tangent_at arc_heading_of arc_tangent_of heading_of raw_for raw_in has_table tables_of
     tangent-at (Segment.Line line) there = refl
     tangent-at (Segment.Quad start control end) there = rw (there tt).0 (at-sound _ (there tt).1)
@@ -112,28 +106,28 @@ module _ (b : Buffers) (stored : is_stored b ≡ true) (i : ℕ) (inside : i < l
       let is : table_in b.kinds b.tables i ≡ table_at b.tables (table_start b.kinds i) = rw curve refl in
       (is, subst (λ (t : Table). T (table_is_sound t.entries t.total)) is (table-in-sound (stored-tabled b (passed stored)) i inside curve))
 
-  part-is : part_of b i ≡ record { found = Found.Segment (segment_in b.kinds b.fields i); table = table_in b.kinds b.tables i }
+  part-is : part_of b i ≡ Ok (Some (record { segment = segment_in b.kinds b.fields i; table = table_in b.kinds b.tables i }))
   unfolding part_of
   part-is = rw (stored, lt-ltb i (length b.kinds) inside) refl
 
   -- its own queries are the sample and the heading at the raw parameter of the local progress
-  pub segment-position : position_given (part_of b i) along ≡ place_given (Placed.At (sample_of (segment_in b.kinds b.fields i) (raw_within b.kinds b.tables i along)))
+  pub segment-position : position_given (part_of b i) along ≡ place_given (Ok (sample_of (segment_in b.kinds b.fields i) (raw_within b.kinds b.tables i along)))
   unfolding raw_within
   segment-position =
-      ap (λ (part : Part). position_given part along) part-is
+      ap (λ (found : Result (Option Part) Refusal). position_given found along) part-is
       ∙ ap place_given
       (position_at b.tables (table_start b.kinds i) along (table_in b.kinds b.tables i) segment table-there
-      ∙ ap (λ (k : ℕ). Placed.At (sample_of segment (raw_for k b.tables (table_start b.kinds i) along))) kind-is)
+      ∙ ap (λ (k : ℕ). Ok (sample_of segment (raw_for k b.tables (table_start b.kinds i) along))) kind-is)
 
   pub segment-tangent : tangent_given (part_of b i) along
       ≡ place_given
-      (Placed.At (heading_of (segment_in b.kinds b.fields i) (raw_within b.kinds b.tables i along) (raw_in b.tables (table_start b.kinds i) (ahead_of along))))
+      (Ok (heading_of (segment_in b.kinds b.fields i) (raw_within b.kinds b.tables i along) (raw_in b.tables (table_start b.kinds i) (ahead_of along))))
   unfolding raw_within
   segment-tangent =
-      ap (λ (part : Part). tangent_given part along) part-is
+      ap (λ (found : Result (Option Part) Refusal). tangent_given found along) part-is
       ∙ ap place_given
       (tangent-at b.tables (table_start b.kinds i) along (table_in b.kinds b.tables i) segment table-there
-      ∙ ap (λ (k : ℕ). Placed.At (heading_of segment (raw_for k b.tables (table_start b.kinds i) along) (raw_in b.tables (table_start b.kinds i) (ahead_of along)))) kind-is)
+      ∙ ap (λ (k : ℕ). Ok (heading_of segment (raw_for k b.tables (table_start b.kinds i) along) (raw_in b.tables (table_start b.kinds i) (ahead_of along)))) kind-is)
 
 -- ---- beside a flight
 
@@ -142,7 +136,7 @@ checked : {b : Buffers} → Ordered b → (p : Float) → is_stored b ≡ true
 unfolding flew_of
 checked {b} o p = go (is_stored b) (flight_of b p) refl (o.answered p)
   where
-    go : (t : Bool) (x : Flight) → is_stored b ≡ t → cond t (Flown.At x) (Flown.Refused BadPath) ≡ Flown.At (pair_flown b (o.pair p) p) → is_stored b ≡ true
+    go : (t : Bool) (x : Flight) → is_stored b ≡ t → cond t (Ok x) (Err BadPath) ≡ Ok (pair_flown b (o.pair p) p) → is_stored b ≡ true
     go true x e f = e
     go false x e f = let z : ◌≡◌ {A = ℕ} 0 1 = cc in absurd (omega (arith, z))
 

@@ -7,7 +7,7 @@ use native.Mathlib.Omega.{arith}
 use lib.Dec.{T}
 use lib.IntN.{pos}
 use lib.ListN.{length}
-use lib.Ieee.{Float, binary32, round, of_int, lt}
+use lib.Ieee.{binary32, round, of_int, lt}
 use lib.Ieee.Exact.{HasValue}
 use lib.Ieee.Back.{round_whole}
 use Rattle.floats.specs.Floats.{epsilon_f}
@@ -37,5 +37,5 @@ module _ (n : ℕ) (least : 2 ≤ n) (most : n ≤ 1000) (k : ℕ) (inside : k <
 -- of any plan whose path has a segment and is longer than 2^-23
 pub listing-stations : (input : List ℕ) (a : Accepted input) → 0 < length a.segments → T (lt epsilon_f (path_total (lengths_of_all a.segments))) → StationsAt (built a) a.count
 listing-stations input a some long =
-    let ask = asked input a.count a.next 0 a.asks in
+    let ask = asked input _ 0 a.asks in
     record { ordered = listing-enclosed input a some long; nearest = λ k inside. station-nearest a.count ask.least ask.most k inside }

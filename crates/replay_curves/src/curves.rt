@@ -1,10 +1,9 @@
 // Quads and cubics: the Rust's answers.
 ghost use Rattle.std.specs.Prelude.{◌+◌, ◌≤◌, length};
 
-use flight::{Placed, Turned};
-use replay_records::{
-    Count, float, has_bits, number_of, pattern, point, same_answers, same_numbers, seen,
-};
+use answers::Refusal;
+use math::Point;
+use replay_records::{Count, float, has_bits, pattern, point, same_answers, same_numbers, seen};
 use std::io;
 use std::io::Read;
 use table::{Progress, Table};
@@ -57,24 +56,19 @@ fn quad_agrees(text: &[u8], line: usize) -> bool
     let start = point(text, 9);
     let control = point(text, 25);
     let end = point(text, 57);
-    let made = bezier::quad(start, control, end);
-    let curve = made.curve;
     let number = pattern(text, 1);
-    let verdict = made.verdict;
-    if number_of(verdict) != number {
-        return false;
-    }
-    if number != 0 {
-        return true;
-    }
     let progress = Progress {
         value: float(pattern(text, line)),
     };
-    let position = bezier::quad_position(curve, progress);
-    let tangent = bezier::quad_tangent(curve, progress);
-    let turned = bezier::quad_rotation_deg(curve, progress);
-    let table = curve.table;
-    same_curve(table, position, tangent, turned, text, line)
+    match bezier::quad(start, control, end) {
+        Ok(curve) => {
+            let position = bezier::quad_position(curve, progress);
+            let tangent = bezier::quad_tangent(curve, progress);
+            let turned = bezier::quad_rotation_deg(curve, progress);
+            number == 0 && same_curve(curve.table, position, tangent, turned, text, line)
+        }
+        Err(refusal) => refusal.number() == number,
+    }
 }
 
 fn cubic_agrees(text: &[u8], line: usize) -> bool
@@ -85,32 +79,27 @@ fn cubic_agrees(text: &[u8], line: usize) -> bool
     let control1 = point(text, 25);
     let control2 = point(text, 41);
     let end = point(text, 57);
-    let made = bezier::cubic(start, control1, control2, end);
-    let curve = made.curve;
     let number = pattern(text, 1);
-    let verdict = made.verdict;
-    if number_of(verdict) != number {
-        return false;
-    }
-    if number != 0 {
-        return true;
-    }
     let progress = Progress {
         value: float(pattern(text, line)),
     };
-    let position = bezier::cubic_position(curve, progress);
-    let tangent = bezier::cubic_tangent(curve, progress);
-    let turned = bezier::cubic_rotation_deg(curve, progress);
-    let table = curve.table;
-    same_curve(table, position, tangent, turned, text, line)
+    match bezier::cubic(start, control1, control2, end) {
+        Ok(curve) => {
+            let position = bezier::cubic_position(curve, progress);
+            let tangent = bezier::cubic_tangent(curve, progress);
+            let turned = bezier::cubic_rotation_deg(curve, progress);
+            number == 0 && same_curve(curve.table, position, tangent, turned, text, line)
+        }
+        Err(refusal) => refusal.number() == number,
+    }
 }
 
 // Whether the block holds this table, and the line at `line` these answers.
 fn same_curve(
     table: Table,
-    position: Placed,
-    tangent: Placed,
-    turned: Turned,
+    position: Result<Point, Refusal>,
+    tangent: Result<Point, Refusal>,
+    turned: Result<f32, Refusal>,
     text: &[u8],
     line: usize,
 ) -> bool

@@ -1,10 +1,12 @@
 // Lookups of a progress: the Rust's answers.
 ghost use Rattle.std.specs.Prelude.{◌+◌, ◌≤◌};
 
-use replay_records::{Count, float, has_bits, lent, pattern, read_numbers, seen};
+use crate::rows::numbers_at;
+use answers::Refusal;
+use replay_records::{Count, float, has_bits, lent, pattern, seen};
 use std::io;
 use std::io::Read;
-use table::{Looked, Progress, Spotted, Table};
+use table::{Progress, RawParameter, Spot, Table};
 
 // A block has running lengths and 16 lookups. Its first line has a letter (t: a table by value, e: a
 // table's entries, p: a path), the count of lengths, 32 lengths and the total; each further line has
@@ -40,7 +42,7 @@ fn agrees(text: &[u8], line: usize) -> bool
     if text.len() < BLOCK {
         return false;
     }
-    let lengths = lengths_at(text, 11);
+    let lengths = numbers_at::<32>(text, 11);
     let total = float(pattern(text, 299));
     let count = lent(pattern(text, 2), &lengths);
     let progress = Progress {
@@ -72,27 +74,19 @@ fn agrees(text: &[u8], line: usize) -> bool
     }
 }
 
-// The 32 patterns from this place on, as floats.
-fn lengths_at(text: &[u8], at: usize) -> [f32; 32] {
-    let mut lengths = [0.0f32; 32];
-    read_numbers(text, at, 9, &mut lengths);
-    lengths
-}
-
-fn looked(found: Looked, number: u32, first: u32) -> bool {
+fn looked(found: Result<RawParameter, Refusal>, number: u32, first: u32) -> bool {
     match found {
-        Looked::At(raw) => number == 0 && has_bits(table::number_of(raw), first),
-        Looked::Refused(refusal) => answers::number(refusal) == number,
+        Ok(raw) => number == 0 && has_bits(table::number_of(raw), first),
+        Err(refusal) => refusal.number() == number,
     }
 }
 
-fn spotted(found: Spotted, number: u32, first: u32, second: u32) -> bool {
+fn spotted(found: Result<Option<Spot>, Refusal>, number: u32, first: u32, second: u32) -> bool {
     match found {
-        Spotted::At(spot) => {
-            let along = spot.progress;
-            number == 0 && spot.segment == first as usize && has_bits(along.value, second)
+        Ok(Some(spot)) => {
+            number == 0 && spot.segment == first as usize && has_bits(spot.progress.value, second)
         }
-        Spotted::NoSegment => number == 0,
-        Spotted::Refused(refusal) => answers::number(refusal) == number,
+        Ok(None) => number == 0,
+        Err(refusal) => refusal.number() == number,
     }
 }

@@ -5,6 +5,7 @@
 
 mod curves;
 mod lookups;
+mod rows;
 mod segments;
 mod shapes;
 mod splines;

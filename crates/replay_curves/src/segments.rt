@@ -3,10 +3,7 @@ ghost use Rattle.std.specs.Prelude.{◌+◌, ◌≤◌, length};
 
 use arc::{EllipticalArc, LineSegment};
 use ellipse::Chord;
-use flight::{Placed, Turned};
-use replay_records::{
-    Count, float, has_bits, number_of, pattern, point, same_answers, same_numbers, seen,
-};
+use replay_records::{Count, float, has_bits, pattern, point, same_answers, same_numbers, seen};
 use std::io;
 use std::io::Read;
 use table::Progress;
@@ -57,20 +54,10 @@ fn arc_agrees(text: &[u8], line: usize) -> bool
     requires in_bounds { 715 ≤ length text.now }
     requires line_in_bounds { line + 49 ≤ length text.now }
 {
-    let made = arc::arc(chord(text));
     let number = pattern(text, 1);
-    let verdict = made.verdict;
-    if number_of(verdict) != number {
-        return false;
-    }
-    if number != 0 {
-        return true;
-    }
-    let own = made.arc;
-    if same_shape(own, text) {
-        arc_answers(own, text, line)
-    } else {
-        false
+    match arc::arc(chord(text)) {
+        Ok(own) => number == 0 && same_shape(own, text) && arc_answers(own, text, line),
+        Err(refusal) => refusal.number() == number,
     }
 }
 
@@ -78,20 +65,14 @@ fn line_agrees(text: &[u8], line: usize) -> bool
     requires in_bounds { 715 ≤ length text.now }
     requires line_in_bounds { line + 49 ≤ length text.now }
 {
-    let made = arc::line(point(text, 9), point(text, 49));
     let number = pattern(text, 1);
-    let verdict = made.verdict;
-    if number_of(verdict) != number {
-        return false;
-    }
-    if number != 0 {
-        return true;
-    }
-    let own = made.line;
-    if has_bits(arc::line_length(own), pattern(text, 68)) {
-        line_answers(own, text, line)
-    } else {
-        false
+    match arc::line(point(text, 9), point(text, 49)) {
+        Ok(own) => {
+            number == 0
+                && has_bits(arc::line_length(own), pattern(text, 68))
+                && line_answers(own, text, line)
+        }
+        Err(refusal) => refusal.number() == number,
     }
 }
 
@@ -126,9 +107,9 @@ fn line_answers(own: LineSegment, text: &[u8], line: usize) -> bool
     requires { line + 49 ≤ length text.now }
 {
     let progress = progress_at(text, line);
-    let position = Placed::At(arc::line_position(own, progress));
-    let tangent = Placed::At(arc::line_tangent(own));
-    let turned = Turned::Degrees(arc::line_rotation_deg(own));
+    let position = Ok(arc::line_position(own, progress));
+    let tangent = Ok(arc::line_tangent(own));
+    let turned = Ok(arc::line_rotation_deg(own));
     same_answers(position, tangent, turned, text, line + 8)
 }
 

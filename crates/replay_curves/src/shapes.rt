@@ -1,10 +1,10 @@
 // Shapes: the Rust's resampling, morphs and bounds.
 ghost use Rattle.std.specs.Prelude.{◌≤◌};
 
+use crate::rows::numbers_at;
 use answers::{Refusal, Values};
-use morph::{Bounded, Evaluated, Morphed};
+use morph::Morphed;
 use replay_records::{Count, float, has_bits, lent, pattern, read_numbers, same_numbers, seen};
-use resample::Resampled;
 use std::io;
 use std::io::Read;
 
@@ -55,8 +55,8 @@ fn agrees(line: &[u8]) -> bool {
     if line.len() < LINE {
         return false;
     }
-    let from = numbers_at(line, 38);
-    let to = numbers_at(line, TO);
+    let from = numbers_at::<16>(line, 38);
+    let to = numbers_at::<16>(line, TO);
     let n = lent(pattern(line, 2), &from);
     let m = lent(pattern(line, 11), &to);
     let count = pattern(line, 20) as usize;
@@ -68,13 +68,6 @@ fn agrees(line: &[u8]) -> bool {
         b'b' => bounded(line, &from[..n], &to[..m], t),
         _ => false,
     }
-}
-
-// The 16 patterns from this place on, as floats.
-fn numbers_at(line: &[u8], at: usize) -> [f32; 16] {
-    let mut numbers = [0.0f32; 16];
-    read_numbers(line, at, 9, &mut numbers);
-    numbers
 }
 
 // Whether the answer that is recorded from this place on has this number and these values.
@@ -89,43 +82,37 @@ fn answered(line: &[u8], at: usize, number: u32, values: Values) -> bool
     match values {
         Values::Nothing => true,
         Values::One(a) => first == a,
-        Values::Two(a, b) => { if first == a { second == b } else { false } }
-        Values::Three(_, _, _) => false,
-        Values::Four(_, _, _, _) => false,
-        Values::Five(_, _, _, _, _) => false,
+        Values::Two(a, b) => first == a && second == b,
+        _ => false,
     }
 }
 
 fn refused(line: &[u8], at: usize, refusal: Refusal) -> bool
     requires { at ≤ 4664 }
 {
-    answered(
-        line,
-        at,
-        answers::number(refusal),
-        answers::carried(refusal),
-    )
+    answered(line, at, refusal.number(), refusal.carried())
+}
+
+// Whether so many numbers were given, or the refusal.
+fn counted(line: &[u8], given: Result<usize, Refusal>) -> bool {
+    match given {
+        Ok(numbers) => answered(line, NUMBER, 0, Values::One(numbers)),
+        Err(refusal) => refused(line, NUMBER, refusal),
+    }
 }
 
 fn resampled(line: &[u8], points: &[f32], count: usize) -> bool {
     let mut out = [float(BEFORE); 16];
     let given = resample::resample(points, count, &mut out);
-    if same_numbers(&out, line, FIRST, 9) {
-        match given {
-            Resampled::Numbers(numbers) => answered(line, NUMBER, 0, Values::One(numbers)),
-            Resampled::Refused(refusal) => refused(line, NUMBER, refusal),
-        }
-    } else {
-        false
-    }
+    same_numbers(&out, line, FIRST, 9) && counted(line, given)
 }
 
-fn of_morph(line: &[u8], at: usize, given: Morphed) -> bool
+fn of_morph(line: &[u8], at: usize, given: Result<Morphed, Refusal>) -> bool
     requires { at ≤ 4664 }
 {
     match given {
-        Morphed::Numbers { from, to } => answered(line, at, 0, Values::Two(from, to)),
-        Morphed::Refused(refusal) => refused(line, at, refusal),
+        Ok(numbers) => answered(line, at, 0, Values::Two(numbers.from, numbers.to)),
+        Err(refusal) => refused(line, at, refusal),
     }
 }
 
@@ -133,22 +120,9 @@ fn morphed(line: &[u8], from: &[f32], to: &[f32], resolution: usize) -> bool {
     let mut one = [float(BEFORE); 16];
     let mut other = [float(BEFORE); 16];
     let given = morph::morph(from, to, resolution, &mut one, &mut other);
-    if same_numbers(&one, line, FIRST, 9) {
-        if same_numbers(&other, line, SECOND, 9) {
-            of_morph(line, NUMBER, given)
-        } else {
-            false
-        }
-    } else {
-        false
-    }
-}
-
-// The 258 patterns from this place on, as floats.
-fn wide_numbers_at(line: &[u8], at: usize) -> [f32; 258] {
-    let mut numbers = [0.0f32; 258];
-    read_numbers(line, at, 9, &mut numbers);
-    numbers
+    same_numbers(&one, line, FIRST, 9)
+        && same_numbers(&other, line, SECOND, 9)
+        && of_morph(line, NUMBER, given)
 }
 
 // Whether the morph of a whole wide line gives what is recorded.
@@ -156,35 +130,22 @@ fn morphed_by_default(line: &[u8]) -> bool {
     if line.len() < WIDE {
         return false;
     }
-    let from = wide_numbers_at(line, 20);
-    let to = wide_numbers_at(line, WIDE_TO);
+    let from = numbers_at::<258>(line, 20);
+    let to = numbers_at::<258>(line, WIDE_TO);
     let n = lent(pattern(line, 2), &from);
     let m = lent(pattern(line, 11), &to);
     let mut one = [float(BEFORE); 258];
     let mut other = [float(BEFORE); 258];
     let given = morph::morph_default(&from[..n], &to[..m], &mut one, &mut other);
-    if same_numbers(&one, line, WIDE_FIRST, 9) {
-        if same_numbers(&other, line, WIDE_SECOND, 9) {
-            of_morph(line, WIDE_NUMBER, given)
-        } else {
-            false
-        }
-    } else {
-        false
-    }
+    same_numbers(&one, line, WIDE_FIRST, 9)
+        && same_numbers(&other, line, WIDE_SECOND, 9)
+        && of_morph(line, WIDE_NUMBER, given)
 }
 
 fn evaluated(line: &[u8], from: &[f32], to: &[f32], t: f32) -> bool {
     let mut out = [float(BEFORE); 16];
     let given = morph::evaluate(from, to, t, &mut out);
-    if same_numbers(&out, line, FIRST, 9) {
-        match given {
-            Evaluated::Numbers(numbers) => answered(line, NUMBER, 0, Values::One(numbers)),
-            Evaluated::Refused(refusal) => refused(line, NUMBER, refusal),
-        }
-    } else {
-        false
-    }
+    same_numbers(&out, line, FIRST, 9) && counted(line, given)
 }
 
 // Whether one bound has the pattern at this place.
@@ -194,24 +155,13 @@ fn bound(line: &[u8], at: usize, x: f32) -> bool {
 
 fn bounded(line: &[u8], from: &[f32], to: &[f32], t: f32) -> bool {
     match morph::bounds_at(from, to, t) {
-        Bounded::Within(bounds) => {
-            if pattern(line, NUMBER) != 0 {
-                return false;
-            }
-            if bound(line, NUMBER + 9, bounds.min_x) {
-                if bound(line, NUMBER + 18, bounds.min_y) {
-                    if bound(line, NUMBER + 27, bounds.max_x) {
-                        bound(line, NUMBER + 36, bounds.max_y)
-                    } else {
-                        false
-                    }
-                } else {
-                    false
-                }
-            } else {
-                false
-            }
+        Ok(bounds) => {
+            pattern(line, NUMBER) == 0
+                && bound(line, NUMBER + 9, bounds.min_x)
+                && bound(line, NUMBER + 18, bounds.min_y)
+                && bound(line, NUMBER + 27, bounds.max_x)
+                && bound(line, NUMBER + 36, bounds.max_y)
         }
-        Bounded::Refused(refusal) => refused(line, NUMBER, refusal),
+        Err(refusal) => refused(line, NUMBER, refusal),
     }
 }

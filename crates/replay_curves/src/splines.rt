@@ -1,12 +1,10 @@
 // Splines: the tables that the Rust makes, and what it answers.
 ghost use Rattle.std.specs.Prelude.{◌+◌, ◌≤◌, length};
 
-use flight::{Flown, Found};
-use replay_records::{
-    Count, first_of, float, has_bits, lent, pattern, read_numbers, same_point, seen, turned,
-};
-use spline_query::Measured;
-use spline_table::Tabled;
+use crate::rows::numbers_at;
+use answers::Refusal;
+use flight::Flight;
+use replay_records::{Count, first_of, float, has_bits, lent, pattern, same_point, seen, turned};
 use std::io;
 use std::io::Read;
 use table::{Progress, number_of};
@@ -43,13 +41,13 @@ fn replay_block(count: Count, text: &[u8]) -> Count {
 // What making a table answered, and the places it was lent a part of, zeros where nothing was stored.
 #[derive(Clone, Copy)]
 struct Made {
-    answer: Tabled,
+    answer: Result<usize, Refusal>,
     table: [f32; 64],
 }
 
 // Makes the table of a block's points in the places that it lends.
 fn made_of(text: &[u8]) -> Made {
-    let numbers = numbers_at(text, 9);
+    let numbers = numbers_at::<9>(text, 9);
     let count = lent(pattern(text, 0), &numbers);
     let mut table = [0.0f32; 64];
     let room = lent(pattern(text, 90), &table);
@@ -78,25 +76,17 @@ fn agrees(text: &[u8], line: usize) -> bool
     let made = made_of(text);
     let whole = made.table;
     let table = damaged(whole, pattern(text, 270), float(pattern(text, 279)));
-    let numbers = numbers_at(text, 9);
+    let numbers = numbers_at::<9>(text, 9);
     let count = lent(pattern(text, 0), &numbers);
     let size = lent(pattern(text, 117), &table);
     told(text, line, &numbers[..count], &table[..size])
 }
 
-// The nine patterns from this place on, as floats.
-fn numbers_at(text: &[u8], at: usize) -> [f32; 9] {
-    let mut numbers = [0.0f32; 9];
-    read_numbers(text, at, 9, &mut numbers);
-    numbers
-}
-
-fn tabled(found: Tabled, number: u32, value: u32) -> bool {
+fn tabled(found: Result<usize, Refusal>, number: u32, value: u32) -> bool {
     match found {
-        Tabled::Stored(count) => number == 0 && count == value as usize,
-        Tabled::Refused(refusal) => {
-            answers::number(refusal) == number
-                && first_of(answers::carried(refusal)) == value as usize
+        Ok(count) => number == 0 && count == value as usize,
+        Err(refusal) => {
+            refusal.number() == number && first_of(refusal.carried()) == value as usize
         }
     }
 }
@@ -167,35 +157,28 @@ fn told(text: &[u8], line: usize, numbers: &[f32], table: &[f32]) -> bool
 }
 
 // Whether the point at `at` is the position, the one past it the tangent, and `raw` the parameter, on segment 0.
-fn flown(found: Flown, number: u32, text: &[u8], at: usize, raw: u32) -> bool
+fn flown(found: Result<Flight, Refusal>, number: u32, text: &[u8], at: usize, raw: u32) -> bool
     requires { at + 36 ≤ length text.now }
 {
     match found {
-        Flown::At(flight) => {
-            let own = flight.segment;
-            let position = flight.position;
-            let tangent = flight.tangent;
-            let parameter = flight.raw;
+        Ok(flight) => {
             number == 0
-                && is_first(own)
-                && same_point(position, pattern(text, at), pattern(text, at + 9))
-                && same_point(tangent, pattern(text, at + 18), pattern(text, at + 27))
-                && has_bits(number_of(parameter), raw)
+                && flight.segment == Some(0)
+                && same_point(flight.position, pattern(text, at), pattern(text, at + 9))
+                && same_point(
+                    flight.tangent,
+                    pattern(text, at + 18),
+                    pattern(text, at + 27),
+                )
+                && has_bits(number_of(flight.raw), raw)
         }
-        Flown::Refused(refusal) => answers::number(refusal) == number,
+        Err(refusal) => refusal.number() == number,
     }
 }
 
-fn is_first(found: Found) -> bool {
+fn measured(found: Result<f32, Refusal>, number: u32, length: u32) -> bool {
     match found {
-        Found::Segment(number) => number == 0,
-        Found::Nothing => false,
-    }
-}
-
-fn measured(found: Measured, number: u32, length: u32) -> bool {
-    match found {
-        Measured::Length(own) => number == 0 && has_bits(own, length),
-        Measured::Refused(refusal) => answers::number(refusal) == number,
+        Ok(own) => number == 0 && has_bits(own, length),
+        Err(refusal) => refusal.number() == number,
     }
 }

@@ -1,7 +1,9 @@
 // One record: a stored path of two segments, a distance, the length of the output, and what is answered and written.
 ghost use Rattle.std.specs.Prelude.{◌<◌, length};
 
-use legs::Flattened;
+use answers::Refusal;
+use flat::Tally;
+use path_stored::PathBuffers;
 use replay_records::{Count, first_of, float, lent, one, pattern, read_numbers, seen, two};
 use std::io;
 use std::io::Read;
@@ -70,15 +72,14 @@ fn flattened_as(
     let lengths = [0.0f32; 2];
     let commands = [0u32; 2];
     let room = lent(wanted, out);
-    let flattened = legs::legs(
+    let path = PathBuffers {
         kinds,
         fields,
         tables,
-        &lengths,
-        &commands,
-        distance,
-        &mut out[..room],
-    );
+        lengths: &lengths,
+        commands: &commands,
+    };
+    let flattened = legs::legs(path, distance, &mut out[..room]);
     answers_as(flattened, number, value, flag) & (mixed(out) == due as u64)
 }
 
@@ -90,16 +91,14 @@ fn kind_at(line: &[u8], at: usize) -> u8
 }
 
 // Whether the number, the value and the flag are those of the answer.
-fn answers_as(flattened: Flattened, number: usize, value: u32, flag: usize) -> bool {
+fn answers_as(flattened: Result<Tally, Refusal>, number: usize, value: u32, flag: usize) -> bool {
     match flattened {
-        Flattened::Legs(legs, far) => {
-            let own = if far { 1 } else { 0 };
-            (number == 0) & (legs == value as usize) & (flag == own)
+        Ok(tally) => {
+            (number == 0) & (tally.legs == value as usize) & (flag == usize::from(tally.far))
         }
-        Flattened::Refused(refusal) => {
-            let carried = first_of(answers::carried(refusal));
-            (number == answers::number(refusal) as usize)
-                & (carried == value as usize)
+        Err(refusal) => {
+            (number == refusal.number() as usize)
+                & (first_of(refusal.carried()) == value as usize)
                 & (flag == 0)
         }
     }
@@ -111,8 +110,8 @@ fn mixed(numbers: &[f32]) -> u64
     ensures { result < 4294967296 }
 {
     let mut sum = 0u64;
-    for i in 0..numbers.len() {
-        sum = (sum * FACTOR + floats::bits(numbers[i]) as u64) % 0x1_0000_0000;
+    for &number in numbers {
+        sum = (sum * FACTOR + u64::from(floats::bits(number))) % 0x1_0000_0000;
     }
     sum
 }

@@ -1,5 +1,5 @@
 // Decimal numbers: the answers of the Rust's own reader.
-use answers::Values;
+use answers::{Refusal, Values};
 use decimal::Read;
 use replay_records::{Count, has_bits, pattern, seen, three};
 use std::io;
@@ -30,13 +30,11 @@ fn agrees(line: &[u8]) -> bool {
     same(decimal::number(&line[15..to], 0), line[0], due, offset)
 }
 
-fn same(read: Read, letter: u8, due: u32, offset: usize) -> bool {
+fn same(read: Result<Read, Refusal>, letter: u8, due: u32, offset: usize) -> bool {
     match read {
-        Read::Value(value, end) => letter == b'v' && has_bits(value, due) && end == offset,
-        Read::Refused(refusal) => {
-            letter == b'r'
-                && answers::number(refusal) == due
-                && only(answers::carried(refusal)) == offset
+        Ok(read) => letter == b'v' && has_bits(read.value, due) && read.end == offset,
+        Err(refusal) => {
+            letter == b'r' && refusal.number() == due && only(refusal.carried()) == offset
         }
     }
 }

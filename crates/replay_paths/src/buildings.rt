@@ -1,8 +1,8 @@
 // Building: the answers of the Rust, and what the buffers hold afterwards.
 ghost use Rattle.std.specs.Prelude.{◌+◌, ◌≤◌, ◌<◌, length};
 
-use answers::Values;
-use path_build::Building;
+use answers::{Refusal, Values};
+use path_storing::Sizes;
 use replay_records::{Count, pattern, same_bytes, seen, three, two};
 use std::io;
 use std::io::Read;
@@ -40,7 +40,7 @@ fn agrees(line: &[u8]) -> bool {
     let mut lengths = [77.0f32; 8];
     let mut commands = [77u32; 8];
     let to = 2 + size;
-    let building = path_text::build_from_text(
+    let built = path_text::build_from_text(
         &line[2..to],
         &mut kinds,
         &mut fields,
@@ -48,7 +48,7 @@ fn agrees(line: &[u8]) -> bool {
         &mut lengths,
         &mut commands,
     );
-    let answered = answers_as(building, &lengths, line, 92);
+    let answered = answers_as(built, &lengths, line, 92);
     let of_kinds = same_bytes(&kinds, b'0', line, 111);
     let sum = numbered(
         mixed(mixed(mixed(0, &fields), &tables), &lengths),
@@ -64,16 +64,10 @@ fn mixed(before: u64, numbers: &[f32]) -> u64
     ensures { result < 4294967296 }
 {
     let mut sum = before;
-    for i in 0..numbers.len() {
-        sum = (sum * FACTOR + floats::bits(numbers[i]) as u64) % 0x1_0000_0000;
+    for &number in numbers {
+        sum = (sum * FACTOR + u64::from(floats::bits(number))) % 0x1_0000_0000;
     }
     sum
-}
-
-fn wide(x: u32) -> u64
-    ensures { result < 4294967296 }
-{
-    x as u64
 }
 
 // The same for whole numbers.
@@ -82,30 +76,32 @@ fn numbered(before: u64, numbers: &[u32]) -> u64
     ensures { result < 4294967296 }
 {
     let mut sum = before;
-    for i in 0..numbers.len() {
-        sum = (sum * FACTOR + wide(numbers[i])) % 0x1_0000_0000;
+    for &number in numbers {
+        sum = (sum * FACTOR + u64::from(number)) % 0x1_0000_0000;
     }
     sum
 }
 
-// Whether the number, the values and the whole length at this place are those of the building.
-fn answers_as(building: Building, lengths: &[f32], line: &[u8], at: usize) -> bool
+// Whether the number, the values and the whole length at this place are those of what was built.
+fn answers_as(built: Result<Sizes, Refusal>, lengths: &[f32], line: &[u8], at: usize) -> bool
     requires { at + 19 ≤ length line.now }
 {
     let number = two(line, at);
     let whole = pattern(line, at + 11);
-    match building {
-        Building::Built {
-            segments,
-            fields,
-            tables,
-        } => {
+    match built {
+        Ok(
+            Sizes {
+                segments,
+                fields,
+                tables,
+            },
+        ) => {
             let counted = has(segments, fields, tables, line, at + 2);
             (number == 0) & counted & (whole_length(lengths, segments) == whole)
         }
-        Building::Refused(refusal) => {
-            let carried = carries(answers::carried(refusal), line, at + 2);
-            (number == answers::number(refusal) as usize) & carried & (whole == 0)
+        Err(refusal) => {
+            let carried = carries(refusal.carried(), line, at + 2);
+            (number == refusal.number() as usize) & carried & (whole == 0)
         }
     }
 }
@@ -132,9 +128,8 @@ fn carries(values: Values, line: &[u8], at: usize) -> bool
         Values::Nothing => has(0, 0, 0, line, at),
         Values::One(a) => has(a, 0, 0, line, at),
         Values::Two(a, b) => has(a, b, 0, line, at),
-        Values::Three(_, _, _) => false,
-        Values::Four(_, _, _, _) => false,
         Values::Five(a, b, c, d, e) => has(a, b, c, line, at) & (a == d) & (a == e),
+        _ => false,
     }
 }
 

@@ -1,9 +1,10 @@
 // Queries of a stored path: the Rust's answers, each progress by itself and all of a path as a batch.
 ghost use Rattle.std.specs.Prelude.{◌≤◌};
 
-use flight::{Flown, Found, Turned};
-use path_batch::Batch;
-use path_build::Building;
+use answers::Refusal;
+use flight::Flight;
+use path_stored::PathBuffers;
+use path_storing::Sizes;
 use replay_records::{Count, float, has_bits, pattern, same_point, seen, turned, two};
 use std::io;
 use std::io::Read;
@@ -52,80 +53,72 @@ fn agrees(text: &[u8], i: usize) -> bool {
     let mut lengths = [0.0f32; 8];
     let mut commands = [0u32; 8];
     let to = 2 + size;
-    let building = path_text::build_from_text(
+    match path_text::build_from_text(
         &text[2..to],
         &mut kinds,
         &mut fields,
         &mut tables,
         &mut lengths,
         &mut commands,
-    );
-    match building {
-        Building::Built {
-            segments,
-            fields: own,
-            tables: more,
-        } => agrees_in(
-            &kinds, &fields, &tables, &lengths, &commands, segments, own, more, text, i,
+    ) {
+        Ok(sizes) => agrees_in(
+            PathBuffers {
+                kinds: &kinds,
+                fields: &fields,
+                tables: &tables,
+                lengths: &lengths,
+                commands: &commands,
+            },
+            sizes,
+            text,
+            i,
         ),
-        Building::Refused(_) => false,
+        Err(_) => false,
     }
 }
 
 // The same for a path that stands in so many places of these buffers.
-fn agrees_in(
-    kinds: &[u8],
-    fields: &[f32],
-    tables: &[f32],
-    lengths: &[f32],
-    commands: &[u32],
-    segments: usize,
-    own: usize,
-    more: usize,
-    text: &[u8],
-    i: usize,
-) -> bool {
-    if kinds.len() < segments {
+fn agrees_in(room: PathBuffers, sizes: Sizes, text: &[u8], i: usize) -> bool {
+    let Sizes {
+        segments,
+        fields,
+        tables,
+    } = sizes;
+    if room.kinds.len() < segments {
         return false;
     }
-    if fields.len() < own {
+    if room.fields.len() < fields {
         return false;
     }
-    if tables.len() < more {
+    if room.tables.len() < tables {
         return false;
     }
-    if lengths.len() < segments {
+    if room.lengths.len() < segments {
         return false;
     }
-    if commands.len() < segments {
+    if room.commands.len() < segments {
         return false;
     }
     agrees_on(
-        &kinds[..segments],
-        &fields[..own],
-        &tables[..more],
-        &lengths[..segments],
-        &commands[..segments],
+        PathBuffers {
+            kinds: &room.kinds[..segments],
+            fields: &room.fields[..fields],
+            tables: &room.tables[..tables],
+            lengths: &room.lengths[..segments],
+            commands: &room.commands[..segments],
+        },
         text,
         i,
     )
 }
 
 // The same for a stored path.
-fn agrees_on(
-    kinds: &[u8],
-    fields: &[f32],
-    tables: &[f32],
-    lengths: &[f32],
-    commands: &[u32],
-    text: &[u8],
-    i: usize,
-) -> bool {
+fn agrees_on(path: PathBuffers, text: &[u8], i: usize) -> bool {
     let progress = Progress {
         value: progress_at(text, i),
     };
-    let flown = path_query::flight(kinds, fields, tables, lengths, commands, progress);
-    let heading = path_query::rotation_deg(kinds, fields, tables, lengths, commands, progress);
+    let flown = path_query::flight(path, progress);
+    let heading = path_query::rotation_deg(path, progress);
     let progresses = [
         progress_at(text, 0),
         progress_at(text, 1),
@@ -139,27 +132,8 @@ fn agrees_on(
     let mut segments = [77u32; 6];
     let mut raws = [77.0f32; 6];
     let mut numbers = [77.0f32; 24];
-    let places = path_batch::places(
-        kinds,
-        fields,
-        tables,
-        lengths,
-        commands,
-        &progresses,
-        &mut columns,
-        &mut others,
-    );
-    let flights = path_batch::flights(
-        kinds,
-        fields,
-        tables,
-        lengths,
-        commands,
-        &progresses,
-        &mut segments,
-        &mut raws,
-        &mut numbers,
-    );
+    let places = path_batch::places(path, &progresses, &mut columns, &mut others);
+    let flights = path_batch::flights(path, &progresses, &mut segments, &mut raws, &mut numbers);
     holds(flown, heading, text, i)
         && is_filled(places)
         && is_filled(flights)
@@ -181,37 +155,46 @@ fn progress_at(text: &[u8], i: usize) -> f32 {
 }
 
 // Whether a batch looked six progresses up.
-fn is_filled(batch: Batch) -> bool {
-    match batch {
-        Batch::Filled(count) => count == LINES,
-        Batch::Refused(_) => false,
+fn is_filled(looked_up: Result<usize, Refusal>) -> bool {
+    match looked_up {
+        Ok(count) => count == LINES,
+        Err(_) => false,
     }
 }
 
 // Whether line i holds what is flown, and the heading.
-fn holds(flown: Flown, heading: Turned, text: &[u8], i: usize) -> bool {
+fn holds(
+    flown: Result<Flight, Refusal>,
+    heading: Result<f32, Refusal>,
+    text: &[u8],
+    i: usize,
+) -> bool {
     let line = line_at(i);
     match flown {
-        Flown::At(there) => {
-            let found = there.segment;
-            let raw = there.raw;
-            let position = there.position;
-            let tangent = there.tangent;
-            has_number(found, pattern(text, line + 8))
-                && has_bits(table::number_of(raw), pattern(text, line + 16))
-                && same_point(position, pattern(text, line + 24), pattern(text, line + 32))
-                && same_point(tangent, pattern(text, line + 40), pattern(text, line + 48))
+        Ok(there) => {
+            has_number(there.segment, pattern(text, line + 8))
+                && has_bits(table::number_of(there.raw), pattern(text, line + 16))
+                && same_point(
+                    there.position,
+                    pattern(text, line + 24),
+                    pattern(text, line + 32),
+                )
+                && same_point(
+                    there.tangent,
+                    pattern(text, line + 40),
+                    pattern(text, line + 48),
+                )
                 && turned(heading, 0, pattern(text, line + 56))
         }
-        Flown::Refused(_) => false,
+        Err(_) => false,
     }
 }
 
 // Whether a segment has this number. FFFFFFFF is none.
-fn has_number(found: Found, due: u32) -> bool {
+fn has_number(found: Option<usize>, due: u32) -> bool {
     match found {
-        Found::Segment(number) => number == due as usize,
-        Found::Nothing => due == 0xffff_ffff,
+        Some(number) => number == due as usize,
+        None => due == 0xffff_ffff,
     }
 }
 

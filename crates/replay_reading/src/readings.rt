@@ -1,11 +1,11 @@
 // Permissive reading: the answers of the Rust's reader, and what the buffers hold afterwards.
 ghost use Rattle.std.specs.Prelude.{◌+◌, ◌≤◌, length};
 
-use answers::Values;
+use answers::{Refusal, Values};
 use replay_records::{Count, first_of, one, same_bytes, same_numbers, seen, three, two};
 use std::io;
 use std::io::Read;
-use svg::Reading;
+use svg::Counts;
 
 // The bytes of a record: the text's length as two digits; the text, which has at most 32 bytes, and
 // blanks up to 32; the refusal's number, or 0, and three values as three digits each; what the buffers
@@ -33,8 +33,8 @@ fn agrees(line: &[u8]) -> bool {
     let mut numbers = [77.0f32; 8];
     let mut offsets = [77u32; 6];
     let to = 2 + size;
-    let reading = svg::read_path(&line[2..to], &mut letters, &mut numbers, &mut offsets);
-    let answered = answers_as(reading, line, 34);
+    let read = svg::read_path(&line[2..to], &mut letters, &mut numbers, &mut offsets);
+    let answered = answers_as(read, line, 34);
     let lettered = same_bytes(&letters, 0, line, 44);
     let offset = same_offsets(offsets, line, 50);
     let numbered = same_numbers(&numbers, line, 62, 8);
@@ -59,24 +59,17 @@ fn same_offsets(offsets: [u32; 6], line: &[u8], at: usize) -> bool
 }
 
 // Whether the number and the three values at this place are the reader's.
-fn answers_as(reading: Reading, line: &[u8], at: usize) -> bool
+fn answers_as(read: Result<Counts, Refusal>, line: &[u8], at: usize) -> bool
     requires { at + 10 ≤ length line.now }
 {
-    match reading {
-        Reading::Read { letters, numbers } => same_answer(
+    match read {
+        Ok(counts) => same_answer(
             0,
-            Values::Three(letters, numbers, letters),
+            Values::Three(counts.letters, counts.numbers, counts.letters),
             line,
             at,
         ),
-        Reading::Refused(refusal) => {
-            same_answer(
-                answers::number(refusal),
-                answers::carried(refusal),
-                line,
-                at,
-            )
-        }
+        Err(refusal) => same_answer(refusal.number(), refusal.carried(), line, at),
     }
 }
 
@@ -110,12 +103,7 @@ fn reads_as(text: &[u8], number: u32, value: usize) -> bool {
     let mut numbers = [77.0f32; 8];
     let mut offsets = [77u32; 6];
     match svg::read_path(text, &mut letters, &mut numbers, &mut offsets) {
-        Reading::Read {
-            letters: count,
-            numbers: _,
-        } => (number == 0) & (count == value),
-        Reading::Refused(refusal) => {
-            (answers::number(refusal) == number) & (first_of(answers::carried(refusal)) == value)
-        }
+        Ok(counts) => (number == 0) & (counts.letters == value),
+        Err(refusal) => (refusal.number() == number) & (first_of(refusal.carried()) == value),
     }
 }

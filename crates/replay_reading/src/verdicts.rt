@@ -1,8 +1,8 @@
 // Strict reading: the verdicts of a general parser.
+use answers::Refusal;
 use replay_records::{Count, seen, two};
 use std::io;
 use std::io::Read;
-use strict::Verdict;
 
 // The bytes of a record: the edition's number, y or n, the text's length as two digits, the text,
 // which has at most 59 bytes, blanks up to 59, and a line's end.
@@ -37,10 +37,10 @@ fn numbered(digit: u8) -> u32 {
     }
 }
 
-fn letter(verdict: Verdict) -> u8 {
+fn letter(verdict: Result<bool, Refusal>) -> u8 {
     match verdict {
-        Verdict::Yes => b'y',
-        Verdict::No => b'n',
-        Verdict::Refused(_) => b'r',
+        Ok(true) => b'y',
+        Ok(false) => b'n',
+        Err(_) => b'r',
     }
 }

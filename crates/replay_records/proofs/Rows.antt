@@ -1,5 +1,6 @@
 -- A row of a record, one pattern after the other: what those before are, and that the rest decides. Past the text's end all offsets are alike. Assumes nothing.
-use Rattle.std.proofs.Common.{◌≡◌, ℕ, zero, suc, ◌+◌, ◌-◌, ◌<◌, ◌≤◌, Bool, true, false, cond, ◌&&◌, eqb, ltb, List, [], ◌∷◌, ◌++◌, length, get_or, take, drop, set, sym, refl, ap, ◌∙◌, add-one, arith, length-set, drop_of_length-le, take_all, drop-cons, take-suc-set, ltb-false, eq-eqb, ne_eqb}
+use Rattle.std.proofs.Common.{◌≡◌, ℕ, zero, suc, ◌+◌, ◌-◌, ◌<◌, ◌≤◌, Bool, true, false, cond, ◌&&◌, ◌==◌, eqb, ltb, List, [], ◌∷◌, ◌++◌, length, get_or, take, drop, set, sym, refl, ap, ◌∙◌, add-one, arith, length-set, drop_of_length-le, take_all, drop-cons, take-suc-set, ltb-false, eq-eqb, ne_eqb}
+use Rattle.std.specs.List.{list_all, zip}
 use lib.Seq.{append_snoc}
 use lib.Ieee.{Float, nan}
 use Rattle.floats.specs.Floats.{bits_of}
@@ -120,32 +121,12 @@ module _ (numbers : List Float) (text : List ℕ) (at step : ℕ) where
     unfolding same_numbers
     agreeing-done past = ap (λ (xs : List Float). same_numbers xs text offset step) (sym (drop_of_length-le numbers past)) ∙ a.rest
 
--- ---- bytes held against bytes
-pub record Matching (bytes : List ℕ) (by : ℕ) (text : List ℕ) (at i : ℕ) : Type 0 where
-  pub upto : i ≤ length bytes
-  pub rest : same_bytes (drop i bytes) by text (at + i) ≡ same_bytes bytes by text at
-
-module _ (bytes : List ℕ) (by : ℕ) (text : List ℕ) (at : ℕ) where
-  pub matching-start : Matching bytes by text at 0
-  matching-start = record { upto = omega arith; rest = ap (same_bytes bytes by text) (let e : at + 0 ≡ at = omega arith in e) }
-
-  module _ (i : ℕ) (m : Matching bytes by text at i) where
-    module _ (inside : i < length bytes) (same : Bool) (s : same ≡ eqb (get_or bytes i 0 + by) (get_or text (at + i) 0)) where
-      split : same_bytes (drop i bytes) by text (at + i) ≡ (same && same_bytes (drop (i + 1) bytes) by text (at + (i + 1)))
-      unfolding same_bytes
-      split =
-          let up : at + (i + 1) ≡ at + i + 1 = omega arith in
-          rw (drop-cons bytes i 0 inside, s, up, add-one i) refl
-
-      pub matching-more : same ≡ true → Matching bytes by text at (i + 1)
-      matching-more e = record {
-        upto = omega arith;
-        rest = sym (split ∙ ap (λ (b : Bool). b && same_bytes (drop (i + 1) bytes) by text (at + (i + 1))) e) ∙ m.rest;
-      }
-
-      pub matching-not : same ≡ false → false ≡ same_bytes bytes by text at
-      matching-not e = sym (split ∙ ap (λ (b : Bool). b && same_bytes (drop (i + 1) bytes) by text (at + (i + 1))) e) ∙ m.rest
-
-    pub matching-done : length bytes ≤ i → true ≡ same_bytes bytes by text at
-    unfolding same_bytes
-    matching-done past = ap (λ (xs : List ℕ). same_bytes xs by text (at + i)) (sym (drop_of_length-le bytes past)) ∙ m.rest
+-- ---- bytes held against bytes: pair by pair with the part of the text where they are looked for
+pub same_bytes-zip :
+    (by : ℕ) (text bytes : List ℕ) (at count : ℕ) → count ≡ length bytes → at + count ≤ length text
+    → list_all (λ p. p.0 + by == p.1) (zip bytes (take count (drop at text))) ≡ same_bytes bytes by text at
+unfolding same_bytes
+same_bytes-zip by text [] at count e inside = refl
+same_bytes-zip by text (b ∷ bytes) at count e inside =
+    rw (e, drop-cons text at 0 (omega arith), add-one at)
+    (ap (λ (rest : Bool). b + by == get_or text at 0 && rest) (same_bytes-zip by text bytes (suc at) (length bytes) refl (omega arith)))

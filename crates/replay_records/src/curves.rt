@@ -4,44 +4,44 @@ ghost use Rattle.replay_records.specs.Curves.{verdict_number, placed_as, turned_
 
 use crate::given::{has_bits, same_point};
 use crate::pattern;
-use answers::number;
-use flight::{Placed, Turned, Verdict};
+use answers::Refusal;
+use math::Point;
 
 // The number of a refusal, or 0.
-pub fn number_of(verdict: Verdict) -> u32
+pub fn number_of(verdict: Result<(), Refusal>) -> u32
     ensures { result ≡ verdict_number verdict }
 {
     match verdict {
-        Verdict::Accepted => 0,
-        Verdict::Refused(refusal) => number(refusal),
+        Ok(()) => 0,
+        Err(refusal) => refusal.number(),
     }
 }
 
 // Whether a place or a direction was given with these bits and the refusal's number is 0, or it was refused under that number.
-pub fn placed(found: Placed, due: u32, x: u32, y: u32) -> bool
+pub fn placed(found: Result<Point, Refusal>, due: u32, x: u32, y: u32) -> bool
     ensures { result ≡ placed_as found due x y }
 {
     match found {
-        Placed::At(p) => (due == 0) & same_point(p, x, y),
-        Placed::Refused(refusal) => number(refusal) == due,
+        Ok(p) => (due == 0) & same_point(p, x, y),
+        Err(refusal) => refusal.number() == due,
     }
 }
 
 // The same of a heading.
-pub fn turned(found: Turned, due: u32, degrees: u32) -> bool
+pub fn turned(found: Result<f32, Refusal>, due: u32, degrees: u32) -> bool
     ensures { result ≡ turned_as found due degrees }
 {
     match found {
-        Turned::Degrees(own) => (due == 0) & has_bits(own, degrees),
-        Turned::Refused(refusal) => number(refusal) == due,
+        Ok(own) => (due == 0) & has_bits(own, degrees),
+        Err(refusal) => refusal.number() == due,
     }
 }
 
 // Whether a place, a direction and a heading were given and have the five patterns from this offset on.
 pub fn same_answers(
-    position: Placed,
-    tangent: Placed,
-    heading: Turned,
+    position: Result<Point, Refusal>,
+    tangent: Result<Point, Refusal>,
+    heading: Result<f32, Refusal>,
     text: &[u8],
     at: usize,
 ) -> bool

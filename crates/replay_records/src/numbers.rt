@@ -22,11 +22,9 @@ pub fn read_numbers(text: &[u8], at: usize, step: u32, out: &mut [f32])
     ensures { out.new ≡ numbers_of text.now at step (length out.old) }
 {
     let mut offset = at;
-    let mut i = 0usize;
-    while i < out.len() {
-        out[i] = float(pattern(text, offset));
+    for x in out.iter_mut() {
+        *x = float(pattern(text, offset));
         offset = onward(text, offset, step);
-        i += 1;
     }
 }
 
@@ -48,21 +46,13 @@ pub fn same_numbers(numbers: &[f32], text: &[u8], at: usize, step: u32) -> bool
     ensures { result ≡ same_numbers numbers.now text.now at step }
 {
     let mut offset = at;
-    let mut i = 0usize;
-    while i < numbers.len() {
-        if bits(numbers[i]) != pattern(text, offset) {
+    for x in numbers {
+        if bits(*x) != pattern(text, offset) {
             return false;
         }
         offset = onward(text, offset, step);
-        i += 1;
     }
     true
-}
-
-fn is_above(byte: u8, by: u8, due: u8) -> bool
-    ensures { result ≡ (byte + by == due) }
-{
-    byte as u32 + by as u32 == due as u32
 }
 
 // Whether the text has these bytes from `at` on, each raised by `by`: 0 for letters, b'0' for numbers that are recorded as digits.
@@ -70,13 +60,6 @@ pub fn same_bytes(bytes: &[u8], by: u8, text: &[u8], at: usize) -> bool
     requires { at + length bytes.now ≤ length text.now }
     ensures { result ≡ same_bytes bytes.now by text.now at }
 {
-    let mut i = 0usize;
-    while i < bytes.len() {
-        if is_above(bytes[i], by, text[at + i]) {
-            i += 1;
-        } else {
-            return false;
-        }
-    }
-    true
+    let due = &text[at..at + bytes.len()];
+    bytes.iter().zip(due).all(|(byte, due)| u32::from(*byte) + u32::from(by) == u32::from(*due))
 }

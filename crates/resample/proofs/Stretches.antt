@@ -1,35 +1,31 @@
 -- The rows of evenly spaced points as the loop makes them: what is written so far, and a stretch that is not past the next target's. Assumes nothing.
 use mathlib.Core.Path.{◌≡◌, refl, sym, ap, ◌∙◌, subst}
-use Prim.Native.Nat.{ℕ, suc, ◌+◌, ◌-◌, ◌*◌, ◌≤◌, ◌<◌, zero-le}
+use Prim.Native.Nat.{ℕ, ◌+◌, ◌-◌, ◌*◌, ◌≤◌, ◌<◌, zero-le}
 use native.Mathlib.Nat.{le_refl}
 use native.Mathlib.Omega.{arith}
-use mathlib.Core.Bool.{true, false}
 use mathlib.Core.List.{List}
 use borrow.Author.Tests.{eq-eqb, ne_eqb}
 use lib.Dec.{T}
 use lib.ListN.{length}
-use lib.Seq.{sets, length-sets}
+use lib.Seq.{sets}
 use lib.Ieee.{Float}
 use lib.Ieee.Scale.{finite}
 use Rattle.floats.specs.Floats.{zero_f}
 use Rattle.floats.specs.Kinds.{nonneg}
 use Rattle.answers.specs.Report.{written}
 use Rattle.math.specs.declared.points.Point.{Point}
-use Rattle.table.specs.Lookup.{at}
 use Rattle.table.proofs.Lengths.{table-sound, total-nonneg}
 use Rattle.polyline.specs.Points.{count_of, point_at, two_of, rows_of}
 use Rattle.polyline.specs.Lengths.{lengths_of, total_of}
 use Rattle.polyline.proofs.Legs.{lengths-first, lengths-sound}
 use Rattle.polyline.proofs.Rows.{rows_none, rows_more, rows-size, rows-length, written_over}
-use Rattle.resample.specs.Spacing.{target_at, pick_of, stretch_at, between_of, along_of, spread_at, Evenly, Reached, Spread}
+use Rattle.resample.specs.Spacing.{target_at, pick_of, stretch_at, between_of, along_of, spread_at, Reached, Spread}
 use Rattle.resample.specs.declared.walking.Stretch.{Stretch}
 use Rattle.resample.proofs.Targets.{target-mono}
 use Rattle.resample.proofs.Walk.{pick-inside, pick-mono}
 
 pub record Spreading (points : List Float) (count : ℕ) (total : Float) (before now : List Float) (stretch : Stretch) (i : ℕ) : Type 0 where
   pub asked : Spread points count total (length before)
-  pub from : 1 ≤ i
-  pub upto : i ≤ count - 1
   pub rows : now ≡ written (rows_of (spread_at points total count) i) before
   pub here : stretch ≡ stretch_at points stretch.upper
   pub reach : stretch.upper ≤ pick_of points (target_at total (count - 1) i)
@@ -85,8 +81,6 @@ module _ (points : List Float) (count : ℕ) (total : Float) where
         let m = s.more in
         record {
           asked = subst (Spread points count total) (sym same_size) s;
-          from = omega arith;
-          upto = omega arith;
           rows = again;
           here = same (sym (lengths-first points));
           reach = zero-le;
@@ -96,19 +90,11 @@ module _ (points : List Float) (count : ℕ) (total : Float) where
         same p = cc
 
   -- ---- the loop
-  module _ (before now : List Float) (stretch : Stretch) (i : ℕ) (l : Spreading points count total before now stretch i) where
-    pub spreading-size : length now ≡ length before
-    spreading-size =
-        let m = l.asked.more in
-        let u = l.upto in
-        let f = l.asked.fits in
-        rows-size row before i now (omega arith) l.rows
-
-    pub spreading-room : (k : ℕ) → k < count → 2 * k + 2 ≤ length now
-    spreading-room k h = let e = spreading-size in let r = room (length before) l.asked k h in omega arith
-
-    pub spreading-evenly : i < count - 1 → Evenly i (count - 1)
-    spreading-evenly h = let f = l.asked.few in record { inside = omega arith; few = omega arith }
+  module _
+      (before now : List Float) (stretch : Stretch) (i : ℕ) (l : Spreading points count total before now stretch i) (from : 1 ≤ i)
+      (upto : 1 ≤ count - 1 → i ≤ count - 1) where
+    inside : i ≤ count - 1
+    inside = let m = l.asked.more in upto (omega arith)
 
     pub spreading-reached : (t : Float) → t ≡ target_at total (count - 1) i → Reached points stretch t
     spreading-reached t e = record { some = let f = l.asked.two in omega arith; here = l.here; upto = subst (λ (x : Float). stretch.upper ≤ pick_of points x) (sym e) l.reach }
@@ -118,16 +104,13 @@ module _ (points : List Float) (count : ℕ) (total : Float) where
         → after ≡ sets now (2 * i) (two_of p) → Spreading points count total before after next (i + 1)
     unfolding along_of stretch_at
     spreading-more t next p after h e f g k =
-        let a = l.from in
-        let u = l.upto in
+        let u = inside in
         let m = l.asked.few in
         let made : p ≡ row i =
-        g ∙ ap (λ (n : Stretch). between_of points n t) f ∙ ap (λ (x : Float). between_of points (stretch_at points (pick_of points x)) x) e ∙ inner-point i a h in
+        g ∙ ap (λ (n : Stretch). between_of points n t) f ∙ ap (λ (x : Float). between_of points (stretch_at points (pick_of points x)) x) e ∙ inner-point i from h in
         let same : next.upper ≡ pick_of points t = ap (λ (n : Stretch). n.upper) f in
         record {
           asked = l.asked;
-          from = omega arith;
-          upto = omega arith;
           rows = rows_more row before i now after p (room (length before) l.asked i (omega arith)) l.rows made k;
           here = f ∙ ap (stretch_at points) (sym same);
           reach =
@@ -140,17 +123,13 @@ module _ (points : List Float) (count : ℕ) (total : Float) where
         (p : Point) (after : List Float) → count - 1 ≤ i → p ≡ point_at points (count_of points - 1) → after ≡ sets now (2 * (count - 1)) (two_of p)
         → after ≡ written (rows_of row count) before
     spreading-done p after h e k =
-        let u = l.upto in
+        let u = inside in
         let m = l.asked.more in
         let same : i ≡ count - 1 = omega arith in
         let whole : count - 1 + 1 ≡ count = omega arith in
         rows_more row before (count - 1) now after p (room (length before) l.asked (count - 1) (omega arith))
         (l.rows ∙ ap (λ (n : ℕ). written (rows_of row n) before) same) (e ∙ last-point m) k
         ∙ ap (λ (n : ℕ). written (rows_of row n) before) whole
-
--- a point that is put leaves the output as long as it was
-pub put-size : (now after : List Float) (k : ℕ) (p : Point) → after ≡ sets now k (two_of p) → length after ≡ length now
-put-size now after k p e = ap length e ∙ length-sets now k (two_of p)
 
 -- the stretch that is picked ends at a point
 pub pick-point : (points : List Float) (target : Float) (stretch : Stretch) → 0 < count_of points → stretch ≡ stretch_at points (pick_of points target) → stretch.upper < count_of points

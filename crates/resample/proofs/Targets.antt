@@ -2,11 +2,11 @@
 use mathlib.Core.Path.{◌≡◌, sym, ◌∙◌, subst}
 use mathlib.Core.Logic.{◌⊎◌, inl, inr}
 use Prim.Native.Nat.{ℕ, ◌*◌, ◌≤◌, ◌<◌, ◌^◌}
-use native.Mathlib.Nat.{le_trans, le_refl, mul-one, mul-pos}
+use native.Mathlib.Nat.{le_trans, mul-one, mul-pos}
 use native.Mathlib.Omega.{arith}
-use mathlib.Core.Bool.{Bool, true, false}
+use mathlib.Core.Bool.{true, false}
 use lib.Dec.{T, eqb}
-use lib.IntN.{pos, ℤ}
+use lib.IntN.{pos}
 use lib.Ieee.{Float, nan, inf, fin, is_nan, binary32, mul, div, le, lt, eq, of_int, up}
 use lib.Ieee.Positive.{num, den, den_pos}
 use Rattle.floats.specs.Kinds.{real, nonneg}

@@ -1,7 +1,7 @@
 -- The walk: the stretch it has come to is at or before the one that the definition picks, and where it stops it is that one. Assumes nothing.
-use mathlib.Core.Path.{◌≡◌, refl, sym, ap, ◌∙◌, subst}
+use mathlib.Core.Path.{◌≡◌, sym, ap, ◌∙◌, subst}
 use mathlib.Core.Logic.{◌⊎◌, inl, inr}
-use Prim.Native.Nat.{ℕ, suc, ◌+◌, ◌-◌, ◌≤◌, ◌<◌, min}
+use Prim.Native.Nat.{ℕ, suc, ◌+◌, ◌-◌, ◌≤◌, ◌<◌}
 use native.Mathlib.Nat.{le_trans, le-min, min-le_left, min-le_right, eq-or-lt_of_le}
 use native.Mathlib.Numerals.{add-one}
 use native.Mathlib.Omega.{arith}
@@ -9,14 +9,13 @@ use mathlib.Core.Bool.{not, true, false}
 use mathlib.Core.List.{List}
 use lib.Dec.{T}
 use lib.Ieee.{Float, binary32, add, lt, le}
-use Rattle.floats.specs.Floats.{zero_f}
 use Rattle.floats.proofs.Tests.{passed, failed, clashing}
 use Rattle.table.specs.Lookup.{at, first_not_below}
 use Rattle.table.proofs.Search.{first-is, first-upto}
 use Rattle.table_order.proofs.Division.{first-mono}
 use Rattle.polyline.specs.Points.{count_of}
 use Rattle.polyline.specs.Lengths.{leg_of, lengths_of}
-use Rattle.polyline.proofs.Legs.{lengths-first, lengths-next}
+use Rattle.polyline.proofs.Legs.{lengths-next}
 use Rattle.resample.specs.Spacing.{pick_of, stretch_at, Reached}
 use Rattle.resample.specs.declared.walking.Stretch.{Stretch}
 

@@ -1,27 +1,23 @@
 -- What the output of `resample` gets (document 01, "Points and shapes"). Definitions only.
-use Rattle.std.specs.Prelude.{ℕ, ◌*◌, ◌≤◌, ◌≡◌, ◌||◌, cond, List, [], eqb, length, Float}
+use Rattle.std.specs.Prelude.{ℕ, ◌*◌, ◌≤◌, ◌≡◌, ◌||◌, cond, List, [], eqb, Float, Result, Ok, Err}
 use Rattle.std.specs.Float.Ieee.{le}
 use Rattle.floats.specs.Floats.{epsilon_f}
-use Rattle.answers.specs.declared.refusals.Refusal.TheVariants as Refusal
+use Rattle.answers.specs.declared.refusals.Refusal.{Refusal}
 use Rattle.polyline.specs.Points.{count_of, point_at, rows_of}
 use Rattle.polyline.specs.Lengths.{measured_of}
-use Rattle.polyline.specs.declared.outline.Measured.{Measured}
-use Rattle.polyline.specs.declared.outline.Measured.TheVariants.{Total, NotFinite}
 use Rattle.resample.specs.Spacing.{spread_at}
 use Rattle.resample.specs.declared.spreading.Way.{Way}
 use Rattle.resample.specs.declared.spreading.Way.TheVariants.{Nothing, Copies, Spread}
-use Rattle.resample.specs.declared.spreading.Plan.{Plan}
-use Rattle.resample.specs.declared.spreading.Plan.TheVariants.{Go, Refused}
 
--- "a total of at most 2^-23 gives copies too"; 11 carries the "first such .. polyline point"
-unfoldable pub by_length : Measured → Plan
-by_length (NotFinite number) = Refused (Refusal.NotFinite number)
-by_length (Total total) = cond (le total epsilon_f) (Go Copies) (Go (Spread total))
+-- "a total of at most 2^-23 gives copies too"; 11 carries the "first such .. polyline point", as `measured_of` says
+unfoldable pub by_length : Result Float Refusal → Result Way Refusal
+by_length (Ok total) = cond (le total epsilon_f) (Ok Copies) (Ok (Spread total))
+by_length (Err reason) = Err reason
 
 -- "no points or count 0 gives nothing, one point or count 1 copies of the first (no lengths summed, so no 11)"
-unfoldable pub plan_of : List Float → ℕ → Plan
+unfoldable pub plan_of : List Float → ℕ → Result Way Refusal
 plan_of points count =
-    cond (eqb (count_of points) 0 || eqb count 0) (Go Nothing) (cond (eqb (count_of points) 1 || eqb count 1) (Go Copies) (by_length (measured_of points)))
+    cond (eqb (count_of points) 0 || eqb count 0) (Ok Nothing) (cond (eqb (count_of points) 1 || eqb count 1) (Ok Copies) (by_length (measured_of points)))
 
 -- the numbers of the output
 abbrev pub rows_by : List Float → ℕ → Way → List Float
@@ -38,5 +34,5 @@ need_of (Spread total) count = 2 * count
 -- ---- what filling asks: a way that was planned, and room
 pub record Planned (points : List Float) (count : ℕ) (way : Way) (room : ℕ) : Type 0 where
   pub few : count ≤ 4096
-  pub planned : plan_of points count ≡ Go way
+  pub planned : plan_of points count ≡ Ok way
   pub fits : need_of way count ≤ room

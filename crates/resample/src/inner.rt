@@ -1,2 +1,2 @@
 // What asks more of its callers than an entry may: handed on to crates that are proved to meet it.
-pub use crate::spreading::{Plan, Way, fill, needed, plan_for};
+pub use crate::spreading::{Way, fill, needed, plan_for};

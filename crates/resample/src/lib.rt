@@ -7,4 +7,4 @@ mod resampling;
 mod spreading;
 mod walking;
 
-pub use resampling::{Resampled, resample};
+pub use resampling::resample;

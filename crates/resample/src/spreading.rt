@@ -8,7 +8,7 @@ ghost use Rattle.resample.specs.Planning.{plan_of, need_of, rows_by, Planned};
 use crate::walking::{Stretch, advance, between, target_at};
 use answers::Refusal;
 use floats::EPSILON;
-use polyline::inner::{Measured, measure, point_at, put_point};
+use polyline::inner::{measure, point_at, put_point};
 
 // What the output gets: no points, the first point each time, or points evenly spaced along a line
 // of this length.
@@ -19,39 +19,23 @@ pub enum Way {
     Spread(f32),
 }
 
-#[derive(Clone, Copy)]
-pub enum Plan {
-    Go(Way),
-    Refused(Refusal),
-}
-
 // What so many points of a line are, or where its running length stops being finite.
-pub fn plan_for(points: &[f32], count: usize) -> Plan
+#[tactic(auto, unfolding(crate::specs::Planning::plan_of, crate::specs::Planning::by_length, floats::specs::Floats::epsilon_f))]
+pub fn plan_for(points: &[f32], count: usize) -> Result<Way, Refusal>
     ensures { result ≡ plan_of points.now count }
 {
-    if points.len() / 2 == 0 {
-        return Plan::Go(Way::Nothing);
+    let given = points.len() / 2;
+    if given == 0 || count == 0 {
+        return Ok(Way::Nothing);
     }
-    if count == 0 {
-        return Plan::Go(Way::Nothing);
+    if given == 1 || count == 1 {
+        return Ok(Way::Copies);
     }
-    if points.len() / 2 == 1 {
-        return Plan::Go(Way::Copies);
+    let total = measure(points)?;
+    if total <= EPSILON {
+        return Ok(Way::Copies);
     }
-    if count == 1 {
-        return Plan::Go(Way::Copies);
-    }
-    match measure(points) {
-        Measured::NotFinite(number) => {
-            return Plan::Refused(Refusal::NotFinite(number));
-        }
-        Measured::Total(total) => {
-            if total <= EPSILON {
-                return Plan::Go(Way::Copies);
-            }
-            return Plan::Go(Way::Spread(total));
-        }
-    }
+    Ok(Way::Spread(total))
 }
 
 // How many numbers that is.
@@ -61,8 +45,7 @@ pub fn needed(way: Way, count: usize) -> usize
 {
     match way {
         Way::Nothing => 0,
-        Way::Copies => 2 * count,
-        Way::Spread(_) => 2 * count,
+        Way::Copies | Way::Spread(_) => 2 * count,
     }
 }
 
@@ -73,10 +56,8 @@ fn copy(points: &[f32], count: usize, out: &mut [f32])
     ensures { out.new ≡ written (rows_of (λ i. point_at points.now 0) count) out.old }
 {
     let first = point_at(points, 0);
-    let mut i: usize = 0;
-    while i < count {
+    for i in 0..count {
         put_point(out, i, first);
-        i += 1;
     }
 }
 
@@ -92,12 +73,10 @@ fn spread(points: &[f32], count: usize, total: f32, out: &mut [f32])
         low: 0.0,
         high: 0.0,
     };
-    let mut i: usize = 1;
-    while i < last {
+    for i in 1..last {
         let at = target_at(total, i, last);
         stretch = advance(points, stretch, at);
         put_point(out, i, between(points, stretch, at));
-        i += 1;
     }
     put_point(out, last, point_at(points, points.len() / 2 - 1));
 }

@@ -18,6 +18,7 @@ pub struct Stretch {
 }
 
 // How far along a line of this length the output point i lies, where `last` is the last one.
+#[tactic(auto, unfolding(crate::specs::Spacing::target_at))]
 pub fn target_at(total: f32, i: usize, last: usize) -> f32
     requires { Evenly i last }
     ensures { result ≡ target_at total last i }
@@ -34,6 +35,7 @@ pub fn advance(points: &[f32], from: Stretch, target: f32) -> Stretch
     let mut upper = from.upper;
     let mut low = from.low;
     let mut high = from.high;
+    // The project's scope names this form: a search loop that leaves with its index by break.
     let found = loop {
         if last <= upper {
             break upper;
@@ -54,6 +56,7 @@ pub fn advance(points: &[f32], from: Stretch, target: f32) -> Stretch
 }
 
 // The point at a target on a stretch.
+#[tactic(auto, unfolding(crate::specs::Spacing::between_of))]
 pub fn between(points: &[f32], stretch: Stretch, target: f32) -> Point
     requires { stretch.upper < count_of points.now }
     ensures { result ≡ between_of points.now stretch target }

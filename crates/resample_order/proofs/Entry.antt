@@ -2,7 +2,7 @@
 -- than 2^-23, and two or more points are asked for; elsewhere copies of the first point are given, and nothing is claimed. Assumes nothing.
 use Prim.Native.Nat.{ℕ, zero, suc, ◌+◌, ◌-◌, ◌*◌, ◌≤◌, ◌<◌}
 use mathlib.Core.Path.{◌≡◌, refl, sym, ap, ◌∙◌, subst}
-use mathlib.Core.Logic.{◌⊎◌, inl, inr}
+use mathlib.Core.Logic.{inl, inr}
 use native.Mathlib.Nat.{eq-or-lt_of_le, le_of_suc-le-suc, not-suc-le-zero}
 use native.Mathlib.Omega.{arith}
 use mathlib.Core.Bool.{Bool, true, false, not, cond}
@@ -13,7 +13,6 @@ use lib.Seq.{get_or-append-add}
 use lib.Ieee.{Float, nan, lt, le}
 use lib.Ieee.Scale.{finite}
 use Rattle.floats.specs.Floats.{epsilon_f}
-use Rattle.floats.proofs.Tests.{failed}
 use Rattle.floats.proofs.Order.{lt→not-le}
 use Rattle.answers.specs.Answers.{accepted}
 use Rattle.answers.specs.declared.refusals.Values.TheVariants.{One}
@@ -26,23 +25,16 @@ use Rattle.table.specs.Lookup.{at}
 use Rattle.polyline.specs.Points.{count_of, point_at, two_of, rows_of}
 use Rattle.polyline.specs.Lengths.{total_of, measured_of}
 use Rattle.polyline.specs.Judging.{judge_of}
-use Rattle.polyline.specs.declared.judging.Judged.{Judged}
-use Rattle.polyline.specs.declared.judging.Judged.TheVariants as Judged
-use Rattle.polyline.specs.declared.outline.Measured.{Measured}
-use Rattle.polyline.specs.declared.outline.Measured.TheVariants as Measured
 use Rattle.polyline.proofs.Measuring.{measured-whole}
 use Rattle.polyline.proofs.Rows.{rows-length}
 use Rattle.resample.specs.Spacing.{spread_at}
-use Rattle.resample.specs.Planning.{plan_of, rows_by}
-use Rattle.resample.specs.Resample.{Outcome, numbers, refusal, after, by_plan, roomed, resample_of, answered, written_by, Resample}
+use Rattle.resample.specs.Planning.{by_length, plan_of, rows_by}
+use Rattle.resample.specs.Resample.{Outcome, numbers, refusal, after, by_plan, resample_of, answered, written_by, Resample}
 use Rattle.resample.specs.declared.spreading.Way.{Way}
-use Rattle.resample.specs.declared.spreading.Way.TheVariants as Way
-use Rattle.resample.specs.declared.spreading.Plan.{Plan}
-use Rattle.resample.specs.declared.spreading.Plan.TheVariants as Plan
-use Rattle.resample.specs.declared.resampling.Resampled.TheVariants.{Numbers}
-use Rattle.resample.proofs.Plans.{plan-broken, plan-spread}
+use borrow.Author.Tests.{ne_eqb}
+use Rattle.std.specs.Prelude.{Result, Ok, Err}
 use Rattle.resample_order.specs.Ordered.{chosen_of, share_at, OnLeg, InOrder}
-use Rattle.resample_order.proofs.Theorems.{Asked, spread-in-order}
+use Rattle.resample_order.proofs.Theorems.{spread-in-order}
 
 -- ---- a point among the rows
 module _ (point : ℕ → Point) where
@@ -68,7 +60,7 @@ module _ (point : ℕ → Point) where
 record Written (points : List Float) (count : ℕ) (list : List Float) : Type 0 where
   way : Way
   few : count ≤ 4096
-  planned : plan_of points count ≡ Plan.Go way
+  planned : plan_of points count ≡ Ok way
   rows : list ≡ rows_by points count way
 
 same_numbers : {a b : List Float} → numbers a ≡ numbers b → a ≡ b
@@ -86,50 +78,40 @@ module _ (points : List Float) (count room : ℕ) (list : List Float) where
       placed way true e = absurd (not-numbers e)
       placed way false e = sym (same_numbers e)
 
-      go : (j : Judged) (b : Bool) (p : Plan) → plan_of points count ≡ p → (T (not b) → count ≤ 4096)
+      go : (j : Result (Unit {0}) Refusal) (b : Bool) (p : Result Way Refusal) → plan_of points count ≡ p → (T (not b) → count ≤ 4096)
           → after j (cond b (refusal (Range count)) (by_plan points count room p)) ≡ numbers list → Written points count list
-      go (Judged.Refused reason) b p planned few e = absurd (not-numbers e)
-      go Judged.Fine true p planned few e = absurd (not-numbers e)
-      go Judged.Fine false (Plan.Refused reason) planned few e = absurd (not-numbers e)
-      go Judged.Fine false (Plan.Go way) planned few e = record { way = way; few = few tt; planned = planned; rows = placed way (ltb room (length (rows_by points count way))) e }
+      go (Err reason) b p planned few e = absurd (not-numbers e)
+      go (Ok fine) true p planned few e = absurd (not-numbers e)
+      go (Ok fine) false (Err reason) planned few e = absurd (not-numbers e)
+      go (Ok fine) false (Ok way) planned few e = record { way = way; few = few tt; planned = planned; rows = placed way (ltb room (length (rows_by points count way))) e }
 
 unlike : (b : Bool) → T (not b) → b ≡ false
 unlike true h = absurd h
 unlike false h = refl
 
 -- ---- what was planned, from the start of an output
-module _ (points : List Float) (count : ℕ) (way : Way) (few : count ≤ 4096) (planned : plan_of points count ≡ Plan.Go way)
+module _ (points : List Float) (count : ℕ) (way : Way) (few : count ≤ 4096) (planned : plan_of points count ≡ Ok way)
     (two : 2 ≤ count_of points) (more : 2 ≤ count) (long : T (lt epsilon_f (total_of points))) where
   abbrev total : Float
   total = total_of points
 
   spread : (way ≡ Way.Spread total) × T (finite total)
+  unfolding plan_of by_length
   spread = go (measured_of points) refl
     where
-      none : count_of points ≡ 0 → ⊥
-      none e = omega arith
+      by : plan_of points count ≡ by_length (measured_of points)
+      by =
+          rw
+          (ne_eqb (count_of points) 0 (λ z. omega arith), ne_eqb count 0 (λ z. omega arith), ne_eqb (count_of points) 1 (λ z. omega arith), ne_eqb count 1 (λ z. omega arith)) refl
 
-      one : count_of points ≡ 1 → ⊥
-      one e = omega arith
-
-      asked : count ≡ 0 → ⊥
-      asked e = omega arith
-
-      single : count ≡ 1 → ⊥
-      single e = omega arith
-
-      same_way : {a b : Way} → Plan.Go a ≡ Plan.Go b → a ≡ b
-      same_way e = cc
-
-      broken : {reason : Refusal} {way : Way} → Plan.Refused reason ≡ Plan.Go way → ⊥
-      broken e = let z : ◌≡◌ {A = ℕ} 0 1 = cc in omega arith
-
-      go : (m : Measured) → measured_of points ≡ m → (way ≡ Way.Spread total) × T (finite total)
-      go (Measured.NotFinite number) e = absurd (broken (plan-broken points count none asked one single number e ∙ planned))
-      go (Measured.Total sum) e =
+      go : (m : Result Float Refusal) → measured_of points ≡ m → (way ≡ Way.Spread total) × T (finite total)
+      go (Err reason) e = let p = sym planned ∙ by ∙ ap by_length e in absurd (cc)
+      go (Ok sum) e =
           let w = measured-whole points sum e in
           let short : le sum epsilon_f ≡ false = unlike (le sum epsilon_f) (lt→not-le sum epsilon_f (subst (λ (x : Float). T (lt epsilon_f x)) (sym w.sum) long)) in
-          (same_way (sym planned ∙ sym (plan-spread points count none asked one single sum e short)) ∙ ap Way.Spread w.sum, subst (λ (x : Float). T (finite x)) w.sum w.fine)
+          let p = rw short at (sym planned ∙ by ∙ ap by_length e) in
+          let same : way ≡ Way.Spread sum = cc in
+          (same ∙ ap Way.Spread w.sum, subst (λ (x : Float). T (finite x)) w.sum w.fine)
 
   pub rows-in-order : (rest now : List Float) → now ≡ rows_by points count way ++ rest → InOrder points total count (point_at now) (chosen_of points total count) (share_at points total count)
   rows-in-order rest now is =
@@ -150,7 +132,7 @@ module _ (points : List Float) (count : ℕ) (way : Way) (few : count ≤ 4096) 
           }
 
 -- ---- the theorem
-module _ (points : List Float) (count n : ℕ) (before now : List Float) (call : Resample points count before (Numbers n) now)
+module _ (points : List Float) (count n : ℕ) (before now : List Float) (call : Resample points count before (Ok n) now)
     (two : 2 ≤ count_of points) (more : 2 ≤ count) (long : T (lt epsilon_f (total_of points))) where
   is-numbers : (o : Outcome) → resample_of points count (length before) ≡ o → accepted (n ∷ []) ≡ answered o → now ≡ written_by o ++ drop (length (written_by o)) before
       → (list : List Float) × (resample_of points count (length before) ≡ numbers list) × (now ≡ list ++ drop (length list) before)

@@ -1,11 +1,11 @@
 -- The share of a leg that lies before a target, wherever the target stands from the leg's start on: also past its end, where the last leg is chosen for want of another, and at the
 -- infinity. It lies between 0 and 1 and grows with the target. Assumes nothing.
 use mathlib.Core.Path.{◌≡◌, refl, sym, ap, ◌∙◌, subst}
-use mathlib.Core.Logic.{◌⊎◌, inl, inr}
-use Prim.Native.Nat.{ℕ, ◌*◌, ◌<◌}
-use mathlib.Core.Bool.{Bool, true, false}
+use mathlib.Core.Logic.{inl, inr}
+use Prim.Native.Nat.{◌*◌, ◌<◌}
+use mathlib.Core.Bool.{false}
 use lib.Dec.{T}
-use lib.Ieee.{Float, nan, inf, fin, is_nan, binary32, add, neg, sub, div, lt, le, eq}
+use lib.Ieee.{Float, nan, inf, fin, is_nan, binary32, add, neg, sub, div, le}
 use lib.Ieee.Positive.{num, den}
 use Rattle.floats.specs.Floats.{zero_f, one_f}
 use Rattle.floats.specs.Kinds.{real, nonneg}

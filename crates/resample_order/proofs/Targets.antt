@@ -1,16 +1,16 @@
 -- What the target of an output is: a number above 0, or, where total · i is too large for an f32, infinite. Assumes nothing.
-use mathlib.Core.Path.{◌≡◌, refl, sym, ap, ◌∙◌, subst}
+use mathlib.Core.Path.{◌≡◌, refl, ap, ◌∙◌}
 use mathlib.Core.Logic.{◌⊎◌, inl, inr}
 use Prim.Native.Nat.{ℕ, ◌*◌, ◌≤◌, ◌<◌, ◌^◌}
-use native.Mathlib.Nat.{le_trans, mul-one, mul-pos}
+use native.Mathlib.Nat.{le_trans, mul-one}
 use native.Mathlib.Omega.{arith}
-use mathlib.Core.Bool.{Bool, true, false}
+use mathlib.Core.Bool.{true, false}
 use lib.Dec.{T, eqb}
-use lib.Ieee.{Float, nan, inf, fin, binary32, mul, div, lt, le, of_int, of_bits, fits, up, round}
+use lib.Ieee.{Float, nan, inf, fin, binary32, mul, div, lt, le, of_int, of_bits, up, round}
 use lib.Ieee.Fits.{div-fits}
 use lib.Ieee.Positive.{num, den}
 use Rattle.floats.specs.Floats.{zero_f, epsilon_f}
-use Rattle.floats.specs.Kinds.{real, nonneg}
+use Rattle.floats.specs.Kinds.{nonneg}
 use Rattle.floats.proofs.Order.{lt-le-trans, le-le-trans, le-self, lt→le}
 use Rattle.floats.proofs.Fractions.{nonneg-real, zero-size}
 use Rattle.floats.proofs.Whole.{whole-value, whole-mono}

@@ -1,16 +1,15 @@
 -- Demand 3 for a resampled line. `resampled-in-order` speaks of what an accepted call of `resample` leaves in the lent output: over a line of two or more points, longer than 2^-23, and a
 -- count of two or more. Nothing is claimed where copies of the first point are given. Assumes nothing.
-use mathlib.Core.Path.{◌≡◌, refl, sym, ap, ◌∙◌, subst}
-use mathlib.Core.Logic.{◌⊎◌, inl, inr}
+use mathlib.Core.Path.{◌≡◌, refl, sym, subst}
+use mathlib.Core.Logic.{inl, inr}
 use Prim.Native.Nat.{ℕ, zero, suc, ◌-◌, ◌≤◌, ◌<◌}
 use native.Mathlib.Nat.{le_refl, le-min, min-le_left, eq-or-lt_of_le}
 use native.Mathlib.Omega.{arith}
-use mathlib.Core.Bool.{Bool, true, false, not, cond}
+use mathlib.Core.Bool.{not}
 use mathlib.Core.List.{List}
 use borrow.Author.Tests.{eq-eqb, ne_eqb}
 use lib.Dec.{T}
-use lib.ListN.{length}
-use lib.Ieee.{Float, binary32, add, fits, lt, le}
+use lib.Ieee.{Float, binary32, fits, lt, le}
 use lib.Ieee.Fits.{add-fits}
 use lib.Ieee.Scale.{finite}
 use Rattle.floats.specs.Floats.{zero_f, one_f, epsilon_f}
@@ -18,11 +17,9 @@ use Rattle.floats.specs.Kinds.{nonneg}
 use Rattle.floats.proofs.Tests.{clashing}
 use Rattle.floats.proofs.Order.{le_lt_trans, le-self, lt→le}
 use Rattle.floats.proofs.Fractions.{nonneg-real}
-use Rattle.floats.proofs.Held.{Held}
-use Rattle.floats.proofs.Constants.{zero_held, one-held, zero-le-one}
-use Rattle.math.specs.declared.points.Point.{Point}
+use Rattle.floats.proofs.Constants.{zero_held, one-held}
 use Rattle.math.specs.Math.{lerp_point_of}
-use Rattle.table.specs.Lookup.{at, last_of, first_not_below, share_of}
+use Rattle.table.specs.Lookup.{at, last_of, first_not_below}
 use Rattle.table.specs.Sound.{table_is_sound}
 use Rattle.table.proofs.Lengths.{Sound, table-sound, entry-nonneg, total-nonneg, start-at-most, entries-le}
 use Rattle.table.proofs.Search.{first-is}

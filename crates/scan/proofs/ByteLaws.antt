@@ -1,7 +1,7 @@
 -- Classes of bytes: a test of the code agrees with its class by one computed test over the 256 bytes; that two classes share no byte, or that
 -- one holds the other, is computed from their lists. Assumes nothing.
-use Prim.Native.Nat.{ℕ, zero, suc, ◌+◌, ◌≤◌, ◌<◌}
-use mathlib.Core.Path.{◌≡◌, refl, sym, subst, ◌∙◌, ap}
+use Prim.Native.Nat.{ℕ, zero, suc, ◌≤◌, ◌<◌}
+use mathlib.Core.Path.{◌≡◌, refl, sym, subst, ◌∙◌}
 use mathlib.Core.Bool.{Bool, true, false, ◌||◌, ◌&&◌, not, beq}
 use mathlib.Core.Logic.{◌⊎◌, inl, inr, ⊎_elim}
 use mathlib.Core.List.{List, [], ◌∷◌}
@@ -99,6 +99,14 @@ within (x ∷ l) m t b h =
     (either-of (eqb b x) (among b l) h)
 
 -- ---- a class of one byte
+
+pub alone : (b x : ℕ) → eqb b x ≡ among b (x ∷ [])
+unfolding among
+alone b x = go (eqb b x)
+  where
+    go : (t : Bool) → t ≡ (t || false)
+    go true = refl
+    go false = refl
 
 pub alone-is : (b x : ℕ) → b ≡ x → among b (x ∷ []) ≡ true
 unfolding among

@@ -1,19 +1,20 @@
 -- The parts of a number: the code's ways out, the order of the places, and what a scanned number has. Assumes nothing.
-use Prim.Native.Nat.{ℕ, zero, suc, ◌+◌, ◌≤◌, ◌<◌}
+use Prim.Native.Nat.{ℕ, ◌+◌, ◌≤◌, ◌<◌}
 use mathlib.Core.Path.{◌≡◌, refl, sym, subst, ◌∙◌, ap}
 use mathlib.Core.Bool.{Bool, true, false, ◌&&◌, cond}
 use mathlib.Core.Logic.{◌⊎◌, inl, inr, ⊎_elim}
-use mathlib.Core.List.{List, [], ◌∷◌}
+use mathlib.Core.List.{List}
+use Rattle.std.specs.Prelude.{Result, Ok, Err}
 use native.Mathlib.Omega.{arith}
 use lib.Dec.{ltb, eqb}
 use borrow.Author.Tests.{eq-eqb, eqb-true, eqb-false, ltb-true, ltb-false}
 use lib.ListN.{length, get_or}
 use Rattle.scan.specs.Bytes.{among, digits, signs, points, exponent_marks}
-use Rattle.scan.specs.Runs.{stands, past_one, past_all, past_digits_of, past_sign_of, past_point_of, past_mark_of}
+use Rattle.scan.specs.Runs.{stands, past_digits_of, past_sign_of, past_point_of, past_mark_of}
 use Rattle.scan.specs.Numbers.{whole_of, point_of, fraction_of, mark_of, exponent_of, end_of, places_of, no_digit, no_exponent_digit, scan_number_of, NumberAt}
 use Rattle.scan.specs.declared.numbers.Places.{Places}
-use Rattle.scan.specs.declared.numbers.Number.{Number}
-use Rattle.scan.specs.declared.numbers.Number.TheVariants.{Scanned, NoDigit, NoExponentDigit}
+use Rattle.scan.specs.declared.numbers.NumberError.{NumberError}
+use Rattle.scan.specs.declared.numbers.NumberError.TheVariants.{NoDigit, NoExponentDigit}
 use Rattle.scan.proofs.ByteLaws.{clash, either_way, both_true}
 use Rattle.scan.proofs.RunLaws.{stands-inside, stands-past, stands-within, one_end, one-onward, one-within, all_end, all-onward, all-within, all-passed, all-again}
 
@@ -61,7 +62,7 @@ module _ (text : List ℕ) (at w p f m : ℕ)
   digits-is = rw (whole_is, point-is, fraction-is, mark-is) refl
 
   -- no digit at all
-  pub number-none : (eqb w p && eqb f m) ≡ true → NoDigit at ≡ scan_number_of text at
+  pub number-none : (eqb w p && eqb f m) ≡ true → Err (NoDigit at) ≡ scan_number_of text at
   unfolding scan_number_of
   number-none h = rw (sym digits-is ∙ h) refl
 
@@ -79,9 +80,9 @@ module _ (text : List ℕ) (at w p f m : ℕ)
     exponent-digits-is = rw (mark-is, exponent-is, end_is) refl
 
     -- an e without a digit
-    pub number-bare : (ltb m x && eqb x e) ≡ true → NoExponentDigit m ≡ scan_number_of text at
+    pub number-bare : (ltb m x && eqb x e) ≡ true → Err (NoExponentDigit m) ≡ scan_number_of text at
     unfolding scan_number_of
-    number-bare h = rw (sym digits-is ∙ some, sym exponent-digits-is ∙ h) (ap NoExponentDigit mark-is)
+    number-bare h = rw (sym digits-is ∙ some, sym exponent-digits-is ∙ h) (ap (λ n. Err (NoExponentDigit n)) mark-is)
 
     places_is : record { start = at; whole = w; point = p; fraction = f; mark = m; exponent = x; end = e } ≡ places_of text at
     unfolding places_of
@@ -90,36 +91,35 @@ module _ (text : List ℕ) (at w p f m : ℕ)
     -- a number
     pub number-found :
         (ltb m x && eqb x e) ≡ false
-        → Scanned (record { start = at; whole = w; point = p; fraction = f; mark = m; exponent = x; end = e }) ≡ scan_number_of text at
+        → Ok (record { start = at; whole = w; point = p; fraction = f; mark = m; exponent = x; end = e }) ≡ scan_number_of text at
     unfolding scan_number_of
-    number-found h = rw (sym digits-is ∙ some, sym exponent-digits-is ∙ h) (ap Scanned places_is)
+    number-found h = rw (sym digits-is ∙ some, sym exponent-digits-is ∙ h) (ap Ok places_is)
 
 -- ---- what a scanned number has
 
-abbrev variant : Number → ℕ
-variant (Scanned p) = 0
-variant (NoDigit at) = 1
-variant (NoExponentDigit at) = 2
+abbrev variant : Result Places NumberError → ℕ
+variant (Ok p) = 0
+variant (Err (NoDigit at)) = 1
+variant (Err (NoExponentDigit at)) = 2
 
-abbrev places_in : Places → Number → Places
-places_in q (Scanned p) = p
-places_in q (NoDigit at) = q
-places_in q (NoExponentDigit at) = q
+abbrev places_in : Places → Result Places NumberError → Places
+places_in q (Ok p) = p
+places_in q (Err e) = q
 
-abbrev carried : Number → ℕ
-carried (Scanned p) = 0
-carried (NoDigit at) = at
-carried (NoExponentDigit at) = at
+abbrev carried : Result Places NumberError → ℕ
+carried (Ok p) = 0
+carried (Err (NoDigit at)) = at
+carried (Err (NoExponentDigit at)) = at
 
-different : {a b : Number} → a ≡ b → (variant a ≡ variant b → ⊥) → ⊥
+different : {a b : Result Places NumberError} → a ≡ b → (variant a ≡ variant b → ⊥) → ⊥
 different e h = h (ap variant e)
 
 module _ (text : List ℕ) (at : ℕ) where
   -- which of the three ways a scan went
-  pub data Way (r : Number) : Type 0 where
-    scanned : no_digit text at ≡ false → no_exponent_digit text at ≡ false → r ≡ Scanned (places_of text at) → Way r
-    without-digit : no_digit text at ≡ true → r ≡ NoDigit at → Way r
-    without-exponent-digit : no_digit text at ≡ false → no_exponent_digit text at ≡ true → r ≡ NoExponentDigit (mark_of text at) → Way r
+  pub data Way (r : Result Places NumberError) : Type 0 where
+    scanned : no_digit text at ≡ false → no_exponent_digit text at ≡ false → r ≡ Ok (places_of text at) → Way r
+    without-digit : no_digit text at ≡ true → r ≡ Err (NoDigit at) → Way r
+    without-exponent-digit : no_digit text at ≡ false → no_exponent_digit text at ≡ true → r ≡ Err (NoExponentDigit (mark_of text at)) → Way r
 
   pub way : Way (scan_number_of text at)
   unfolding scan_number_of
@@ -127,7 +127,7 @@ module _ (text : List ℕ) (at : ℕ) where
     where
       go :
           (a : Bool) → no_digit text at ≡ a → (b : Bool) → no_exponent_digit text at ≡ b
-          → Way (cond (no_digit text at) (NoDigit at) (cond (no_exponent_digit text at) (NoExponentDigit (mark_of text at)) (Scanned (places_of text at))))
+          → Way (cond (no_digit text at) (Err (NoDigit at)) (cond (no_exponent_digit text at) (Err (NoExponentDigit (mark_of text at))) (Ok (places_of text at))))
       go true e b g = without-digit e (rw e refl)
       go false e true g = without-exponent-digit e g (rw (e, g) refl)
       go false e false g = scanned e g (rw (e, g) refl)
@@ -290,7 +290,7 @@ module _ (text : List ℕ) (at : ℕ) where
       ltb-le e = omega (arith, ltb-true at (length text) e)
 
   -- what each answer says of the text
-  pub scanned-flags : (p : Places) → scan_number_of text at ≡ Scanned p → (no_digit text at ≡ false) × (no_exponent_digit text at ≡ false)
+  pub scanned-flags : (p : Places) → scan_number_of text at ≡ Ok p → (no_digit text at ≡ false) × (no_exponent_digit text at ≡ false)
   scanned-flags p e = go way
     where
       go : Way (scan_number_of text at) → (no_digit text at ≡ false) × (no_exponent_digit text at ≡ false)
@@ -298,7 +298,7 @@ module _ (text : List ℕ) (at : ℕ) where
       go (without-digit _ h) = absurd (different (sym e ∙ h) (λ z. omega arith))
       go (without-exponent-digit _ _ h) = absurd (different (sym e ∙ h) (λ z. omega arith))
 
-  pub bare-flags : (m : ℕ) → scan_number_of text at ≡ NoExponentDigit m → (no_digit text at ≡ false) × (no_exponent_digit text at ≡ true) × (m ≡ mark_of text at)
+  pub bare-flags : (m : ℕ) → scan_number_of text at ≡ Err (NoExponentDigit m) → (no_digit text at ≡ false) × (no_exponent_digit text at ≡ true) × (m ≡ mark_of text at)
   bare-flags m e = go way
     where
       go : Way (scan_number_of text at) → (no_digit text at ≡ false) × (no_exponent_digit text at ≡ true) × (m ≡ mark_of text at)
@@ -306,7 +306,7 @@ module _ (text : List ℕ) (at : ℕ) where
       go (without-digit _ h) = absurd (different (sym e ∙ h) (λ z. omega arith))
       go (without-exponent-digit some bare h) = (some, bare, ap carried (sym e ∙ h))
 
-  pub none-flags : (i : ℕ) → scan_number_of text at ≡ NoDigit i → (no_digit text at ≡ true) × (i ≡ at)
+  pub none-flags : (i : ℕ) → scan_number_of text at ≡ Err (NoDigit i) → (no_digit text at ≡ true) × (i ≡ at)
   none-flags i e = go way
     where
       go : Way (scan_number_of text at) → (no_digit text at ≡ true) × (i ≡ at)
@@ -315,7 +315,7 @@ module _ (text : List ℕ) (at : ℕ) where
       go (without-exponent-digit _ _ h) = absurd (different (sym e ∙ h) (λ z. omega arith))
 
   -- its places are those of the definition
-  pub scanned-places : (p : Places) → scan_number_of text at ≡ Scanned p → p ≡ places_of text at
+  pub scanned-places : (p : Places) → scan_number_of text at ≡ Ok p → p ≡ places_of text at
   scanned-places p e = go way
     where
       go : Way (scan_number_of text at) → p ≡ places_of text at
@@ -323,17 +323,17 @@ module _ (text : List ℕ) (at : ℕ) where
       go (without-digit _ h) = absurd (different (sym e ∙ h) (λ z. omega arith))
       go (without-exponent-digit _ _ h) = absurd (different (sym e ∙ h) (λ z. omega arith))
 
-  pub scanned-number : (p : Places) → scan_number_of text at ≡ Scanned p → NumberAt text p
+  pub scanned-number : (p : Places) → scan_number_of text at ≡ Ok p → NumberAt text p
   scanned-number p e =
       let f = scanned-flags p e in
       subst (NumberAt text) (sym (scanned-places p e)) (places-number f.0 f.1)
 
   -- it starts where it was looked for, and ends further on
-  pub scanned-start : (p : Places) → scan_number_of text at ≡ Scanned p → p.start ≡ at
+  pub scanned-start : (p : Places) → scan_number_of text at ≡ Ok p → p.start ≡ at
   unfolding places_of
   scanned-start p e = ap (λ (q : Places). q.start) (scanned-places p e)
 
-  pub scanned-ahead : (p : Places) → scan_number_of text at ≡ Scanned p → at < p.end
+  pub scanned-ahead : (p : Places) → scan_number_of text at ≡ Ok p → at < p.end
   scanned-ahead p e =
       let n = scanned-number p e in
       let h = scanned-start p e in

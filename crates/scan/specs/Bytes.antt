@@ -1,10 +1,14 @@
 -- The classes of bytes of a path text (document 01, "Permissive reading" and "Strict reading"). A class is the list of its bytes. Definitions only.
-use Rattle.std.specs.Prelude.{ℕ, Bool, false, ◌||◌, List, [], ◌∷◌, eqb}
+use Rattle.std.specs.Prelude.{ℕ, ◌<◌, ◌≡◌, Bool, false, ◌||◌, List, [], ◌∷◌, eqb}
 
 -- whether a byte is of a class
 unfoldable pub among : ℕ → List ℕ → Bool
 among byte [] = false
 among byte (x ∷ xs) = eqb byte x || among byte xs
+
+-- the answers of a test decide a class: of each byte they say whether it is of the class
+abbrev pub Decides : (ℕ → Bool → Type 0) → List ℕ → Type 0
+Decides answers class = (byte : ℕ) (is : Bool) → byte < 256 → answers byte is → is ≡ among byte class
 
 -- the digits 0 to 9
 abbrev pub digits : List ℕ

@@ -1,12 +1,12 @@
 -- The parts of a number and their places (document 01, "Permissive reading"). Definitions only.
 -- "A number: optional sign, digits, optional point and digits, at least one digit in all (else 3 at its start), optional exponent. It takes the
 -- longest text."
-use Rattle.std.specs.Prelude.{ℕ, ◌+◌, ◌≤◌, ◌<◌, ◌≡◌, Bool, true, ◌&&◌, cond, ◌⊎◌, List, ltb, eqb, length, get_or}
+use Rattle.std.specs.Prelude.{ℕ, ◌+◌, ◌≤◌, ◌<◌, ◌≡◌, Bool, true, ◌&&◌, cond, ◌⊎◌, List, ltb, eqb, length, get_or, Result, Ok, Err}
 use Rattle.scan.specs.Bytes.{among, digits}
 use Rattle.scan.specs.Runs.{past_digits_of, past_sign_of, past_point_of, past_mark_of}
 use Rattle.scan.specs.declared.numbers.Places.{Places}
-use Rattle.scan.specs.declared.numbers.Number.{Number}
-use Rattle.scan.specs.declared.numbers.Number.TheVariants.{Scanned, NoDigit, NoExponentDigit}
+use Rattle.scan.specs.declared.numbers.NumberError.{NumberError}
+use Rattle.scan.specs.declared.numbers.NumberError.TheVariants.{NoDigit, NoExponentDigit}
 
 -- of the number that starts at a place: where its digits start, past the sign
 unfoldable pub whole_of : List ℕ → ℕ → ℕ
@@ -54,9 +54,9 @@ unfoldable pub no_exponent_digit : List ℕ → ℕ → Bool
 no_exponent_digit text at = ltb (mark_of text at) (exponent_of text at) && eqb (exponent_of text at) (end_of text at)
 
 -- the number that starts at a place, or why there is none and where
-unfoldable pub scan_number_of : List ℕ → ℕ → Number
+unfoldable pub scan_number_of : List ℕ → ℕ → Result Places NumberError
 scan_number_of text at =
-    cond (no_digit text at) (NoDigit at) (cond (no_exponent_digit text at) (NoExponentDigit (mark_of text at)) (Scanned (places_of text at)))
+    cond (no_digit text at) (Err (NoDigit at)) (cond (no_exponent_digit text at) (Err (NoExponentDigit (mark_of text at))) (Ok (places_of text at)))
 
 -- what a converter may rely on: the places lie in the text in their order, with digits where digits are due, "at least one digit in all", and
 -- an exponent with a digit or none

@@ -10,7 +10,8 @@ pub mod runs;
 pub use bytes::{
     is_digit, is_exponent_mark, is_flag, is_separator, is_sign, is_white, starts_number,
 };
-pub use numbers::{Number, Places, scan_number};
+pub use numbers::{NumberError, Places, scan_number};
 pub use runs::{
-    byte_at, past_comma, past_digits, past_point, past_separators, past_sign, past_white,
+    byte_at, past_comma, past_digits, past_optional, past_point, past_run, past_separators,
+    past_sign, past_white,
 };

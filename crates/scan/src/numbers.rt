@@ -10,7 +10,7 @@ use crate::runs::{past_digits, past_point, past_sign};
 // digits stand from `whole` up to `point` and from `fraction` up to `mark`, and there is at least
 // one; those of its exponent from `exponent` up to `end`, and there is none exactly where it has no
 // exponent.
-#[derive(Clone, Copy)]
+#[derive(Clone, Copy, Debug, PartialEq, Eq)]
 pub struct Places {
     // Where the sign stands, if there is one.
     pub start: usize,
@@ -24,10 +24,9 @@ pub struct Places {
     pub end: usize,
 }
 
-// What stands where a number is due.
-#[derive(Clone, Copy)]
-pub enum Number {
-    Scanned(Places),
+// Why no number stands where one is due.
+#[derive(Clone, Copy, Debug, PartialEq, Eq)]
+pub enum NumberError {
     // No digit before or after the point; carries the place where the number is due.
     NoDigit(usize),
     // An exponent without a digit; carries the place of its e.
@@ -47,7 +46,7 @@ fn past_mark(text: &[u8], at: usize) -> usize
 }
 
 // The number that starts at a place. Separators are not passed here.
-pub fn scan_number(text: &[u8], at: usize) -> Number
+pub fn scan_number(text: &[u8], at: usize) -> Result<Places, NumberError>
     ensures { result ≡ scan_number_of text.now at }
 {
     let whole = past_sign(text, at);
@@ -55,14 +54,14 @@ pub fn scan_number(text: &[u8], at: usize) -> Number
     let fraction = past_point(text, point);
     let mark = past_digits(text, fraction);
     if (whole == point) & (fraction == mark) {
-        return Number::NoDigit(at);
+        return Err(NumberError::NoDigit(at));
     }
     let exponent = past_mark(text, mark);
     let end = past_digits(text, exponent);
     if (mark < exponent) & (exponent == end) {
-        return Number::NoExponentDigit(mark);
+        return Err(NumberError::NoExponentDigit(mark));
     }
-    Number::Scanned(Places {
+    Ok(Places {
         start: at,
         whole,
         point,

@@ -19,8 +19,8 @@ use Rattle.season_sheet.specs.declared.measures.Lengths.{Lengths}
 use Rattle.season_feed.specs.Seasons.{outcomes_of, sheet_for, sheet_of, most_plans}
 use Rattle.season_feed.specs.Telling.{roomed, lines_by, LinesGiven, told_of, Told}
 use Rattle.season_feed.specs.Standing.{Standing, Open, Stands, ends_whole, end_counts, SheetTold}
-use Rattle.season_feed.specs.declared.sheets.Sheeted.{Sheeted}
-use Rattle.season_feed.specs.declared.sheets.Sheeted.TheVariants.{Written, Refused}
+use Rattle.std.specs.Prelude.{Result, Ok, Err}
+use Rattle.answers.specs.declared.refusals.Refusal.{Refusal}
 use Rattle.season_feed.specs.declared.feeding.Season.{Season}
 use Rattle.season_feed.proofs.Tallies.{tally-sheet, ended-sheet}
 use Rattle.season_feed.proofs.Plans.{ends-whole, ends-cut, ends-many}
@@ -32,28 +32,28 @@ module _ (lines before : List ℕ) {most size : ℕ} {little less : List ℕ} (c
   takes : size ≡ length lines
   takes = omega (arith, counted.put.past)
 
-  pub short-output : length before < size → LinesGiven lines before (Refused (NoRoom (One size))) before
+  pub short-output : length before < size → LinesGiven lines before (Err (NoRoom (One size))) before
   unfolding roomed
   short-output h =
       let less : length before < length lines = omega (arith, takes) in
       record {
-        answer = ap (λ (n : ℕ). Refused (NoRoom (One n))) takes ∙ rw (lt-ltb (length before) (length lines) less) refl;
+        answer = ap (λ (n : ℕ). Err (NoRoom (One n))) takes ∙ rw (lt-ltb (length before) (length lines) less) refl;
         bytes = rw (lt-ltb (length before) (length lines) less) refl;
       }
 
-  pub whole-output : {after : List ℕ} {n r : ℕ} → size ≤ length before → PutWithin n lines 0 before after r → LinesGiven lines before (Written r) after
+  pub whole-output : {after : List ℕ} {n r : ℕ} → size ≤ length before → PutWithin n lines 0 before after r → LinesGiven lines before (Ok r) after
   unfolding roomed
   whole-output {r = r} h p =
       let room : length lines ≤ length before = omega (arith, takes) in
       let own : r ≡ length lines = omega (arith, p.put.past) in
       record {
-        answer = rw (le-ltb (length before) (length lines) room) (ap Written own);
+        answer = rw (le-ltb (length before) (length lines) room) (ap Ok own);
         bytes = rw (le-ltb (length before) (length lines) room) (p.put.memory ∙ written-more [] lines before (omega (arith, room)));
       }
 
 -- ---- the answer
 
-module _ (input : List ℕ) {before after : List ℕ} {r : Sheeted} where
+module _ (input : List ℕ) {before after : List ℕ} {r : Result ℕ Refusal} where
   -- not too many plans: the lines of the outcomes are the sheet
   told-lines : {lines : List ℕ} (outcomes : List Outcome) → outcomes_of input ≡ outcomes → length outcomes ≤ most_plans → lines ≡ sheet_for outcomes → LinesGiven lines before r after → Told input before r after
   unfolding told_of sheet_of
@@ -62,13 +62,13 @@ module _ (input : List ℕ) {before after : List ℕ} {r : Sheeted} where
       let own : LinesGiven (sheet_for (outcomes_of input)) before r after = subst (λ (l : List ℕ). LinesGiven l before r after) (f ∙ ap sheet_for (sym e)) p in
       record { answer = rw few-plans own.answer; bytes = rw few-plans own.bytes }
 
-told-many : (input before : List ℕ) → most_plans < length (outcomes_of input) → Told input before (Refused (Range most_plans)) before
+told-many : (input before : List ℕ) → most_plans < length (outcomes_of input) → Told input before (Err (Range most_plans)) before
 unfolding told_of
 told-many input before h = record { answer = rw (lt-ltb most_plans (length (outcomes_of input)) h) refl; bytes = rw (lt-ltb most_plans (length (outcomes_of input)) h) refl }
 
 -- ---- the three ends
 
-module _ {season : Season} {text counts before after : List ℕ} {r : Sheeted} where
+module _ {season : Season} {text counts before after : List ℕ} {r : Result ℕ Refusal} where
   pub sheet-whole : true ≡ ends_whole season.phase → LinesGiven (lines_of counts season.lengths) before r after → SheetTold season text counts before r counts after
   sheet-whole e p =
       record {
@@ -89,7 +89,7 @@ module _ {season : Season} {text counts before after : List ℕ} {r : Sheeted} w
         counted = rw (sym e, ne_eqb season.plans most_plans h) f;
       }
 
-pub sheet-many : {season : Season} {text counts before : List ℕ} → false ≡ ends_whole season.phase → season.plans ≡ most_plans → SheetTold season text counts before (Refused (Range most_plans)) counts before
+pub sheet-many : {season : Season} {text counts before : List ℕ} → false ≡ ends_whole season.phase → season.plans ≡ most_plans → SheetTold season text counts before (Err (Range most_plans)) counts before
 sheet-many {season} {text} {counts} {before} e h =
     record {
       all = λ bytes s o. told-many bytes before (ends-many bytes s.done season.phase text (sym e) o s.standing (omega (arith, s.tally.plans-are, h)));
@@ -97,5 +97,5 @@ sheet-many {season} {text} {counts} {before} e h =
     }
 
 -- ---- any two allowed results are equal: two sheets of the same bytes are the same bytes
-pub told-unique : (input before : List ℕ) (r s : Sheeted) (after other : List ℕ) → Told input before r after → Told input before s other → (r ≡ s) × (after ≡ other)
+pub told-unique : (input before : List ℕ) (r s : Result ℕ Refusal) (after other : List ℕ) → Told input before r after → Told input before s other → (r ≡ s) × (after ≡ other)
 told-unique input before r s after other p q = (p.answer ∙ sym q.answer, p.bytes ∙ sym q.bytes)

@@ -1,8 +1,7 @@
 -- The sample and the direction, by how many points there are. Assumes nothing.
-use Rattle.std.proofs.Common.{◌≡◌, ℕ, zero, suc, ◌-◌, ◌<◌, ◌≤◌, List, refl, ap, le_of_suc-le-suc, not-suc-le-zero, arith}
+use Rattle.std.proofs.Common.{◌≡◌, ℕ, zero, suc, ◌-◌, ◌<◌, ◌≤◌, List, refl, ap, arith}
 use lib.Ieee.{Float}
 use Rattle.floats.specs.Floats.{clamp01_of}
-use Rattle.math.specs.declared.points.Point.{Point}
 use Rattle.math.specs.Math.{origin_f, sub_of, normalize_of, lerp_point_of}
 use Rattle.table.specs.Lookup.{earlier_of, later_of}
 use Rattle.polyline.specs.Points.{count_of, point_at}

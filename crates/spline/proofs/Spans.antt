@@ -1,10 +1,9 @@
 -- Which span a raw parameter lies in: the clamped parameter times the number of spans is from 0 to that number, and its whole part, cut at the last span, is a span. Assumes nothing.
-use Rattle.std.proofs.Common.{◌≡◌, ℕ, zero, suc, ◌-◌, ◌*◌, ◌^◌, ◌<◌, ◌≤◌, min, true, false, T, pos, sym, refl, ap, ◌∙◌, subst, le_trans, le_of_eq, le_of_lt, mul-le-mul_right, mul_assoc, mul_comm, mul_left_comm, arith, lit≤}
-use native.Mathlib.Nat.{min-eq_left, min-eq_right, min-le_right}
-use lib.Ieee.{Float, fin, binary32, mul, of_bits, of_int, to_unsigned, lt, le}
+use Rattle.std.proofs.Common.{◌≡◌, ℕ, ◌-◌, ◌*◌, ◌<◌, ◌≤◌, true, false, T, pos, sym, ap, le_trans, le_of_eq, mul-le-mul_right, mul_assoc, mul_left_comm, arith, lit≤}
+use native.Mathlib.Nat.{min-le_right}
+use lib.Ieee.{Float, fin, binary32, mul, of_bits, of_int, to_unsigned, lt}
 use lib.Ieee.Positive.{num, den}
-use Rattle.floats.specs.Floats.{zero_f, one_f, clamp01_of}
-use Rattle.floats.specs.Kinds.{nonneg}
+use Rattle.floats.specs.Floats.{zero_f, clamp01_of}
 use Rattle.floats.proofs.Order.{lt-le-trans, le_lt_trans, le-le-trans}
 use Rattle.floats.proofs.Rounded.{Rounds, mul-rounds}
 use Rattle.floats.proofs.Held.{Held, held-above}
@@ -62,13 +61,6 @@ module _ (segments : ℕ) (scaled : Float) (i : InSpans segments scaled) where
       (le-le-trans scaled (of_int binary32 (pos segments)) (of_int binary32 (pos 4095)) i.upto (whole-mono binary32 segments 4095 i.few)) most-below
 
 -- ---- the index
-pub index-within : (segments : ℕ) (scaled : Float) (whole : ℕ) → whole ≡ to_unsigned 64 scaled → whole < segments - 1 → whole ≡ index_of segments scaled
-unfolding index_of
-index-within segments scaled whole e h = sym (min-eq_left {n = whole} {m = segments - 1} (le_of_lt h)) ∙ ap (λ (w : ℕ). min w (segments - 1)) e
-
-pub index-last : (segments : ℕ) (scaled : Float) (whole : ℕ) → whole ≡ to_unsigned 64 scaled → segments - 1 ≤ whole → segments - 1 ≡ index_of segments scaled
-unfolding index_of
-index-last segments scaled whole e h = sym (min-eq_right {n = segments - 1} {m = whole} h) ∙ ap (λ (w : ℕ). min w (segments - 1)) e
 
 pub index-lt : (segments : ℕ) (scaled : Float) → 0 < segments → index_of segments scaled < segments
 unfolding index_of

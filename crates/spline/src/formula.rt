@@ -15,6 +15,7 @@ pub fn blend(p0: f32, p1: f32, p2: f32, p3: f32, t: f32, t2: f32, t3: f32) -> f3
 }
 
 // The point between p1 and p2 at t.
+#[tactic(auto, unfolding(crate::specs::Formula::span_of))]
 pub fn span(p0: Point, p1: Point, p2: Point, p3: Point, t: f32) -> Point
     ensures { result ≡ span_of p0 p1 p2 p3 t }
 {

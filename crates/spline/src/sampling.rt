@@ -9,13 +9,13 @@ use polyline::inner::point_at;
 use table::{RawParameter, earlier, later, number_of};
 
 // The number of the span at `scaled`, from 0 to the number of spans: its whole part, but not past the last span.
+#[tactic(auto, unfolding(crate::specs::Formula::index_of))]
 fn span_index(segments: usize, scaled: f32) -> usize
     requires { InSpans segments scaled }
     ensures { result ≡ index_of segments scaled }
 {
     let whole = std::num::truncating_f32_to_u64(scaled) as usize;
-    let last = segments - 1;
-    if whole < last { whole } else { last }
+    whole.min(segments - 1)
 }
 
 // The point before a span; before the first span it is the first point.
@@ -42,6 +42,7 @@ pub fn after_span(points: &[f32], index: usize) -> Point
 }
 
 // The point of the span number `index` at what is left of `scaled`.
+#[tactic(auto, unfolding(crate::specs::Formula::along_of))]
 fn along(points: &[f32], scaled: f32, index: usize) -> Point
     requires { (index + 1 < count_of points.now) × (count_of points.now ≤ 4096) }
     ensures { result ≡ along_of points.now scaled index }
@@ -55,6 +56,7 @@ fn along(points: &[f32], scaled: f32, index: usize) -> Point
 }
 
 // The point at a raw parameter along three points or more.
+#[tactic(auto, unfolding(crate::specs::Formula::curve_of, crate::specs::Formula::scaled_of))]
 fn curve(points: &[f32], raw: RawParameter) -> Point
     requires { (3 ≤ count_of points.now) × (count_of points.now ≤ 4096) }
     ensures { result ≡ curve_of points.now (count_of points.now - 1) (scaled_of (count_of points.now - 1) raw.value) }

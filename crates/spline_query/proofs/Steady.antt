@@ -14,8 +14,7 @@ use Rattle.floats.proofs.Tests.{cond_yes}
 use Rattle.table.specs.Lookup.{at, last_of}
 use Rattle.table_order.specs.Swept.{Steady}
 use Rattle.table_order.proofs.Swept.{steady}
-use Rattle.flight.specs.declared.Flown.{Flown}
-use Rattle.flight.specs.declared.Flown.TheVariants as Flown
+use Rattle.std.specs.Prelude.{Ok}
 use Rattle.polyline.specs.Points.{count_of}
 use Rattle.polyline.specs.Judging.{is_odd}
 use Rattle.spline_table.specs.Tables.{last_entry_of, most_points, entries, spline_table_of}
@@ -30,9 +29,9 @@ module _ (points table : List Float) (sound : T (spline_is_sound points table)) 
   spline-steady = steady (record { table = sound-table (sound-spline points table sound); values = values; total-value = values _ })
 
   -- every call is answered, at the raw parameter of the lookup
-  spline-flown : (p : Float) → spline_flown_of points table p ≡ Flown.At (spline_flight_of points table p)
+  spline-flown : (p : Float) → spline_flown_of points table p ≡ Ok (spline_flight_of points table p)
   unfolding spline_flown_of
-  spline-flown p = cond_yes (spline_is_sound points table) (Flown.At (spline_flight_of points table p)) _ sound
+  spline-flown p = cond_yes (spline_is_sound points table) (Ok (spline_flight_of points table p)) _ sound
 
   pub spline-in-order : InOrder points table
   unfolding spline_flight_of

@@ -7,6 +7,7 @@ use table::entries_are_sound;
 
 // Whether the points are an even list of at most 4,096, and the table has 16 entries for each span and one more, starts at 0, is
 // finite and never falls.
+#[tactic(auto, unfolding(crate::specs::Queries::spline_is_sound))]
 pub fn spline_is_sound(points: &[f32], table: &[f32]) -> bool
     ensures { result ≡ spline_is_sound points.now table.now }
 {
@@ -18,9 +19,5 @@ pub fn spline_is_sound(points: &[f32], table: &[f32]) -> bool
         return false;
     }
     let last = last_entry(count);
-    if table.len() == last + 1 {
-        let total = table[last];
-        return entries_are_sound(table, total);
-    }
-    false
+    table.len() == last + 1 && entries_are_sound(table, table[last])
 }

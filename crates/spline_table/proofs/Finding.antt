@@ -36,7 +36,7 @@ module _ {formula : Float → Point} {n : ℕ} where
     pub finding-ends : finite sum ≡ false → k + 1 ≡ first_not_finite (lengths_of formula n)
     finding-ends e = sym (finite-stop (lengths_of formula n) (k + 1) still (within formula n (k + 1) w.upto) (ap finite (sym w.sum) ∙ e))
 
-  pub finding-none : {previous : Point} {total : Float} {k : ℕ} → Finding formula n previous total k → n ≤ k → k + 1 ≡ first_not_finite (lengths_of formula n)
+  pub finding-none : {previous : Point} {total : Float} {k : ℕ} → Finding formula n previous total k → n ≤ k → n + 1 ≡ first_not_finite (lengths_of formula n)
   finding-none f h =
       let u = f.walking.upto in
       let g = f.fine in

@@ -7,7 +7,6 @@ use lib.Dec.{T}
 use lib.IntN.{pos}
 use lib.Ieee.{Float, binary32, sub, mul, le, lt, of_int}
 use lib.Ieee.Fits.{and_l, and_r}
-use Rattle.floats.specs.Floats.{clamp01_of}
 use Rattle.math.specs.declared.points.Point.{Point}
 use Rattle.math.specs.Math.{lerp_of, lerp_point_of}
 use Rattle.table.specs.Lookup.{mark_of}

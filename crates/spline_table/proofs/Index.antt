@@ -1,8 +1,7 @@
 -- A scaled parameter from a whole number up to below the next is in the span of that number. Assumes nothing.
 use mathlib.Core.Path.{◌≡◌, sym, ap, ◌∙◌, subst}
-use mathlib.Core.List.{List}
 use Prim.Native.Nat.{ℕ, suc, ◌+◌, ◌-◌, ◌*◌, ◌^◌, ◌≤◌, ◌<◌, min}
-use native.Mathlib.Nat.{le_trans, le_of_eq, le_of_lt, mul-one, mul_right_comm, mul-le-mul_right, le_of_mul-le-mul_right, min-eq_left, lt_of_not-le, lt_of_le_of_lt, not-le_of_lt}
+use native.Mathlib.Nat.{le_trans, le_of_eq, mul-one, mul_right_comm, mul-le-mul_right, le_of_mul-le-mul_right, min-eq_left, lt_of_not-le, not-le_of_lt}
 use native.Mathlib.Numerals.{add-one}
 use native.Mathlib.Omega.{arith}
 use lib.Dec.{T, lit≤}

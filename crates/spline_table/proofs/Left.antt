@@ -9,7 +9,7 @@ use native.Mathlib.Nat.{min-le_left, min-le_right, min-eq_left, min-eq_right, di
 use native.Mathlib.Omega.{arith}
 use lib.Dec.{T, lit≤, leb, leb→le, nleb→lt, eqb→eq}
 use lib.IntN.{pos}
-use lib.Ieee.{Float, nan, inf, fin, binary32, sub, le, of_int, to_unsigned, up, down}
+use lib.Ieee.{Float, nan, inf, fin, binary32, sub, of_int, to_unsigned, up, down}
 use lib.Ieee.Fits.{down_pos}
 use lib.Ieee.Positive.{num, den, den_pos}
 use Rattle.floats.specs.Floats.{zero_f}

@@ -3,7 +3,7 @@
 use mathlib.Core.Path.{◌≡◌, refl, sym, ap, ◌∙◌, subst}
 use mathlib.Core.Bool.{Bool, true, false, cond}
 use mathlib.Core.List.{List}
-use Prim.Native.Nat.{ℕ, suc, ◌+◌, ◌-◌, ◌*◌, ◌≤◌, ◌<◌}
+use Prim.Native.Nat.{ℕ, ◌+◌, ◌≤◌}
 use native.Mathlib.Omega.{arith}
 use borrow.Author.Tests.{ltb-false}
 use lib.Dec.{T, ltb}
@@ -15,10 +15,10 @@ use Rattle.answers.specs.declared.refusals.Refusal.{Refusal}
 use Rattle.answers.specs.declared.refusals.Refusal.TheVariants.{BadList, Range, NotFinite, NoRoom}
 use Rattle.floats.proofs.Tests.{passed}
 use Rattle.table.specs.Lookup.{at, last_of}
-use Rattle.table.specs.Sound.{table_is_sound, SoundTable}
+use Rattle.table.specs.Sound.{table_is_sound}
 use Rattle.table.specs.Sums.{sum_of}
 use Rattle.table_order.specs.Stated.{F32Table}
-use Rattle.table_samples.specs.Samples.{steps_of, lengths_of, total_of}
+use Rattle.table_samples.specs.Samples.{lengths_of, total_of}
 use Rattle.table_samples.proofs.Made.{made-sound, made-fits, made-count}
 use Rattle.table_samples.proofs.Steps.{steps-count}
 use Rattle.polyline.specs.Points.{count_of}

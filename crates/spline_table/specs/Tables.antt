@@ -1,6 +1,6 @@
 -- The table of a spline (document 01, "Points and shapes" and "The answers"; source document 001, bezier.rs, `build_table`). Points are a list of numbers, x before y; entries count
 -- from 0 and are running lengths in path units. Definitions only.
-use Rattle.std.specs.Prelude.{ℕ, ◌-◌, ◌*◌, ◌≤◌, ◌<◌, ◌≡◌, cond, List, [], ◌∷◌, ltb, length, Float}
+use Rattle.std.specs.Prelude.{ℕ, ◌-◌, ◌*◌, ◌≤◌, ◌<◌, ◌≡◌, cond, List, [], ◌∷◌, ltb, length, Float, Result, Ok, Err}
 use Rattle.answers.specs.Answers.{Answer, refused, accepted}
 use Rattle.answers.specs.Report.{written}
 use Rattle.answers.specs.declared.refusals.Values.TheVariants.{One}
@@ -11,8 +11,6 @@ use Rattle.polyline.specs.Points.{count_of}
 use Rattle.polyline.specs.Lengths.{first_not_finite}
 use Rattle.polyline.specs.Judging.{is_odd}
 use Rattle.spline.specs.Formula.{spline_sample_of}
-use Rattle.spline_table.specs.declared.tables.Tabled.{Tabled}
-use Rattle.spline_table.specs.declared.tables.Tabled.TheVariants.{Stored, Refused}
 
 -- ---- the entries
 
@@ -63,9 +61,9 @@ pub record Roomy (points : List Float) (last : ℕ) (table : List Float) : Type 
 -- ---- in document 01's terms
 
 -- the number and the values of each case
-abbrev pub answer_of : Tabled → Answer
-answer_of (Stored count) = accepted (count ∷ [])
-answer_of (Refused reason) = refused reason
+abbrev pub answer_of : Result ℕ Refusal → Answer
+answer_of (Ok count) = accepted (count ∷ [])
+answer_of (Err reason) = refused reason
 
 -- an accepted call answers with the count of the entries
 abbrev pub answered : Outcome → Answer
@@ -77,6 +75,6 @@ abbrev pub places_of : Outcome → List Float
 places_of (entries lengths) = lengths
 places_of (refusal reason) = []
 
-pub record SplineTable (points before : List Float) (r : Tabled) (after : List Float) : Type 0 where
+pub record SplineTable (points before : List Float) (r : Result ℕ Refusal) (after : List Float) : Type 0 where
   pub answer : answer_of r ≡ answered (spline_table_of points (length before))
   pub places : after ≡ written (places_of (spline_table_of points (length before))) before

@@ -31,10 +31,8 @@ fn all_near(numbers: &[f32]) -> bool
     ensures { result ≡ all_near numbers.now }
 {
     let mut near = true;
-    let mut i = 0usize;
-    while i < numbers.len() {
-        near = near & is_near(numbers[i]);
-        i += 1;
+    for &number in numbers {
+        near = near & is_near(number);
     }
     near
 }
@@ -58,18 +56,15 @@ fn first_measured(points: &[f32], last: usize) -> usize
 {
     let mut previous = sample(points, mark(0, last));
     let mut total = 0.0f32;
-    let mut k = 0usize;
-    while k < last {
+    for k in 0..last {
         let current = sample(points, mark(k + 1, last));
         total = total + distance(previous, current);
-        if is_finite(total) {
-            previous = current;
-            k += 1;
-        } else {
+        if !is_finite(total) {
             return k + 1;
         }
+        previous = current;
     }
-    k + 1
+    last + 1
 }
 
 // Stores the running lengths of the samples from the start of `table`: a row of 16 for each span, and the last.
@@ -81,10 +76,8 @@ pub fn fill(points: &[f32], last: usize, table: &mut [f32])
         previous: sample(points, mark(0, last)),
         total: 0.0,
     };
-    let mut k = 0usize;
-    while k < last {
-        walk = fill_row(points, last, k, walk, table);
-        k += 16;
+    for span in 0..last / 16 {
+        walk = fill_row(points, last, 16 * span, walk, table);
     }
-    table[k] = walk.total;
+    table[last] = walk.total;
 }

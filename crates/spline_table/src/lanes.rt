@@ -26,10 +26,8 @@ pub(crate) fn clamped_marks(last: usize, k: usize) -> [f32; 16]
     ensures { (i : ℕ) → i < 16 → at result i ≡ clamped_mark_of last (k + i) }
 {
     let mut r = [0.0f32; 16];
-    let mut i = 0usize;
-    while i < 16 {
+    for i in 0..16 {
         r[i] = clamped_mark(k + i, last);
-        i += 1;
     }
     r
 }
@@ -41,10 +39,8 @@ pub(crate) fn scaled(own: &[f32; 16], segments: usize, low: f32) -> [f32; 16]
 {
     let count = (segments as u16) as f32;
     let mut r = [0.0f32; 16];
-    let mut i = 0usize;
-    while i < 16 {
+    for i in 0..16 {
         r[i] = own[i] * count;
-        i += 1;
     }
     r[0] = low;
     r
@@ -55,11 +51,8 @@ pub(crate) fn all_between(numbers: &[f32], low: f32, high: f32) -> bool
     ensures { result ≡ every (is_between low high) numbers.now }
 {
     let mut all = true;
-    let mut i = 0usize;
-    while i < numbers.len() {
-        let own = numbers[i];
+    for &own in numbers {
         all = all & ((low <= own) & (own < high));
-        i += 1;
     }
     all
 }
@@ -69,10 +62,8 @@ pub(crate) fn leg_samples(a: f32, b: f32, first: f32, next: f32, own: &[f32; 16]
     ensures { Laid (lerp_of a b) own.now first next result }
 {
     let mut r = [next; 17];
-    let mut i = 0usize;
-    while i < 16 {
+    for i in 0..16 {
         r[i] = lerp(a, b, own[i]);
-        i += 1;
     }
     r[0] = first;
     r
@@ -92,12 +83,10 @@ pub(crate) fn span_samples(
     ensures { Laid (blend_at p0 p1 p2 p3 low) own.now first next result }
 {
     let mut r = [next; 17];
-    let mut i = 0usize;
-    while i < 16 {
+    for i in 0..16 {
         let t = own[i] - low;
         let t2 = t * t;
         r[i] = blend(p0, p1, p2, p3, t, t2, t2 * t);
-        i += 1;
     }
     r[0] = first;
     r
@@ -108,10 +97,8 @@ pub(crate) fn differences_of(samples: &[f32; 17]) -> [f32; 32]
     ensures { Apart samples.now result }
 {
     let mut r = [1.0f32; 32];
-    let mut k = 0usize;
-    while k < 16 {
+    for k in 0..16 {
         r[k] = samples[k + 1] - samples[k];
-        k += 1;
     }
     r
 }

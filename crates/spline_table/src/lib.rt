@@ -7,4 +7,4 @@ mod lanes;
 mod rows;
 mod tables;
 
-pub use tables::{Tabled, spline_table};
+pub use tables::spline_table;

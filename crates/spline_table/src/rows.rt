@@ -36,13 +36,11 @@ fn one_by_one(points: &[f32], last: usize, k: usize, first: Point) -> Row
     let mut x = [1.0f32; 32];
     let mut y = [1.0f32; 32];
     let mut previous = first;
-    let mut i = 0usize;
-    while i < 16 {
+    for i in 0..16 {
         let next = sample(points, mark(k + i + 1, last));
         x[i] = next.x - previous.x;
         y[i] = next.y - previous.y;
         previous = next;
-        i += 1;
     }
     Row {
         x,
@@ -119,11 +117,9 @@ pub(crate) fn fill_row(points: &[f32], last: usize, k: usize, walk: Walk, table:
     let previous = row.next;
     let steps = half_lengths(&x, &y);
     let mut total = walk.total;
-    let mut i = 0usize;
-    while i < 16 {
+    for i in 0..16 {
         table[k + i] = total;
         total = total + steps[i];
-        i += 1;
     }
     Walk { previous, total }
 }

@@ -4,14 +4,14 @@ use mathlib.Core.Path.{◌≡◌, refl, sym, ap, ◌∙◌}
 use mathlib.Core.List.{List, [], ◌∷◌, ◌++◌, append_assoc, append-nil}
 use native.Mathlib.Omega.{arith}
 use lib.ListN.{length, drop, length-append}
+use Rattle.std.specs.Prelude.{Some, None, Ok, Err}
 use Rattle.answers.specs.declared.refusals.Refusal.{Refusal}
 use Rattle.commands.specs.Stored.{letters_of}
 use Rattle.commands.specs.declared.command.PathCommand.{PathCommand}
-use Rattle.svg_step.specs.Steps.{fresh_of, read_step_of}
+use Rattle.svg_step.specs.Steps.{fresh_of, Step, read_step_of}
 use Rattle.svg.specs.Texts.{Outcome, commands, refusal, read_from, commands_of, offsets_of}
 use Rattle.svg_step.specs.declared.steps.Reader.{Reader}
-use Rattle.svg_step.specs.declared.steps.Step.{Step}
-use Rattle.svg_step.specs.declared.steps.Step.TheVariants.{Command, Done, Refused}
+use Rattle.svg_step.specs.declared.steps.Stepped.{Stepped}
 use Rattle.svg.proofs.PassLaws.{onto, Known, known-none, known-all, known-offsets, known-refused, known_more, known-offset}
 use Rattle.text_reader.specs.Plans.{step_of}
 use Rattle.station_lines.specs.Lines.{command_line}
@@ -67,37 +67,37 @@ module _ (text before out : List ℕ) (from : ℕ) (reader : Reader) (at : ℕ) 
   pub same_out : length out ≡ length before
   same_out = put-length k.put
 
-  pub never-refused : (reason : Refusal) → read_step_of text reader ≡ Refused reason → ⊥
+  pub never-refused : (reason : Refusal) → read_step_of text reader ≡ Err reason → ⊥
   never-refused reason e = rw (known-refused text reader k.done k.known reason e) at k.few
 
-  pub listed : read_step_of text reader ≡ Done → Listed (offsets_of text) (commands_of text) from before out at
+  pub listed : read_step_of text reader ≡ Ok None → Listed (offsets_of text) (commands_of text) from before out at
   listed e =
       let w = few-of k.done (commands_of text) (read_from k.known.steps text reader) k.few k.known.whole in
       let b : at ≤ from + 17920 = omega (arith, w, k.within) in
       rw (known-all text reader k.done k.known e, known-offsets text reader k.done k.known e) (record { put = k.put; within = b })
 
-  module _ (command : PathCommand) (next : Reader) (e : read_step_of text reader ≡ Command command next) where
-    more : Known text next (k.done ++ (command ∷ []))
-    more = known_more text reader k.done k.known command next e
+  module _ (step : Stepped) (e : read_step_of text reader ≡ Ok (Some step)) where
+    more : Known text step.next (k.done ++ (step.command ∷ []))
+    more = known_more text reader k.done k.known step e
 
     -- its line has room, and its offset at most four digits
-    pub line-room : from + 17920 ≤ 69632 → (next.offset < 10000) × (at + 70 ≤ 69632)
+    pub line-room : from + 17920 ≤ 69632 → (step.next.offset < 10000) × (at + 70 ≤ 69632)
     line-room h =
-        let w = few-of (k.done ++ (command ∷ [])) (commands_of text) (read_from more.steps text next) k.few more.whole in
-        let o = known-offset text reader k.done k.known command next e in
-        (omega (arith, k.short), omega (arith, w, length-append k.done (command ∷ []), k.within))
+        let w = few-of (k.done ++ (step.command ∷ [])) (commands_of text) (read_from more.steps text step.next) k.few more.whole in
+        let o = known-offset text reader k.done k.known step e in
+        (omega (arith, k.short), omega (arith, w, length-append k.done (step.command ∷ []), k.within))
 
-    pub listing-more : (out' : List ℕ) (at' : ℕ) → PutWithin 70 (command_line command next.offset) at out out' at' → Listing text before out' from next at'
+    pub listing-more : (out' : List ℕ) (at' : ℕ) → PutWithin 70 (command_line step.command step.next.offset) at out out' at' → Listing text before out' from step.next at'
     unfolding known_more more
     listing-more out' at' p =
         let m : length k.known.marks ≡ length k.done = k.known.many ∙ letters-count k.done in
         record {
-          done = k.done ++ (command ∷ []);
+          done = k.done ++ (step.command ∷ []);
           known = more;
           put =
-              put_same (put_then k.put p.put) (command_lines (k.done ++ (command ∷ [])) (k.known.marks ++ (next.offset ∷ [])))
-              (lines_more k.done k.known.marks command next.offset m);
-          within = omega (arith, p.within, k.within, length-append k.done (command ∷ []));
+              put_same (put_then k.put p.put) (command_lines (k.done ++ (step.command ∷ [])) (k.known.marks ++ (step.next.offset ∷ [])))
+              (lines_more k.done k.known.marks step.command step.next.offset m);
+          within = omega (arith, p.within, k.within, length-append k.done (step.command ∷ []));
           few = k.few;
           short = k.short;
         }

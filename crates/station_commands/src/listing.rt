@@ -4,7 +4,7 @@ ghost use Rattle.svg.specs.Texts.{commands_of, offsets_of};
 ghost use Rattle.station_commands.specs.Passes.{FewCommands, Listed};
 
 use station_lines::inner::put_command;
-use svg_step::{Step, fresh};
+use svg_step::fresh;
 use text_reader::step_at;
 
 // Puts a line for each command of a path that reads and has at most 256, from `from` on, and gives the place past them. The state past a command has
@@ -15,18 +15,9 @@ pub fn list(input: &[u8], start: usize, out: &mut [u8], from: usize) -> usize
 {
     let mut reader = fresh();
     let mut at = from;
-    loop {
-        match step_at(input, start, reader) {
-            Step::Done => {
-                return at;
-            }
-            Step::Refused(_) => {
-                return at;
-            }
-            Step::Command { command, next } => {
-                at = put_command(out, at, command, next.offset);
-                reader = next;
-            }
-        }
+    while let Ok(Some(step)) = step_at(input, start, reader) {
+        at = put_command(out, at, step.command, step.next.offset);
+        reader = step.next;
     }
+    at
 }

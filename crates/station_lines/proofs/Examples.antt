@@ -1,15 +1,12 @@
 -- Document 01's example of the station tool, line by line, and other lines that hold the definitions down. Assumes nothing.
-use Prim.Native.Nat.{ℕ}
 use mathlib.Core.Path.{◌≡◌, refl}
-use mathlib.Core.List.{List, [], ◌∷◌}
+use mathlib.Core.List.{[], ◌∷◌}
 use lib.Ieee.{binary32, of_bits, to_bits, nan}
 use Rattle.answers.specs.declared.refusals.Values.TheVariants.{Three}
 use Rattle.answers.specs.declared.refusals.Refusal.TheVariants.{UnsupportedCommand, NoRoom, BadPath, Range}
-use Rattle.math.specs.declared.points.Point.{Point}
 use Rattle.commands.specs.declared.command.PathCommand.TheVariants.{LineTo, ClosePath}
 use Rattle.station_lines.specs.Numbers.{hex_digit, hex_digits, hex_of, decimal_from, decimal_of, bits_field, number_field}
-use Rattle.station_lines.specs.Lines.{bits_fields, argument_fields, command_line, kind_name, segment_line, header_line, amount_line, point_fields, segment_field, station_line, value_fields, carried_fields, refusal_line}
-use Rattle.flight.specs.declared.Found.TheVariants.{Segment, Nothing}
+use Rattle.station_lines.specs.Lines.{bits_fields, argument_fields, command_line, kind_name, segment_line, amount_line, value_fields, carried_fields, refusal_line}
 
 -- 0 has a digit, and 1000 no leading zero
 pub decimals : (decimal_of 0 ≡ 48 ∷ []) × (decimal_of 1000 ≡ 49 ∷ 48 ∷ 48 ∷ 48 ∷ []) × (decimal_of 4097 ≡ 52 ∷ 48 ∷ 57 ∷ 55 ∷ [])

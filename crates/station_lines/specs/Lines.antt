@@ -1,5 +1,5 @@
 -- The lines of the station tool (document 01, "The station tool"): bytes, each line with its LF. Definitions only.
-use Rattle.std.specs.Prelude.{ℕ, ◌<◌, List, [], ◌∷◌, ◌++◌, get_or, Float}
+use Rattle.std.specs.Prelude.{ℕ, ◌<◌, List, [], ◌∷◌, ◌++◌, get_or, Float, Option, Some, None}
 use Rattle.answers.specs.Answers.{number_of, carried_of, listed}
 use Rattle.answers.specs.declared.refusals.Refusal.{Refusal}
 use Rattle.answers.specs.declared.refusals.Refusal.TheVariants.{TooLong, UnexpectedEnd, ExpectedNumber, InvalidNumber, ExpectedFlag}
@@ -8,8 +8,6 @@ use Rattle.math.specs.declared.points.Point.{Point}
 use Rattle.commands.specs.Stored.{letter_of, arguments_of}
 use Rattle.commands.specs.declared.command.PathCommand.{PathCommand}
 use Rattle.station_lines.specs.Numbers.{bits_field, number_field, decimal_of}
-use Rattle.flight.specs.declared.Found.{Found}
-use Rattle.flight.specs.declared.Found.TheVariants.{Segment, Nothing}
 
 -- numbers as bits, each after a space
 unfoldable pub bits_fields : List Float → List ℕ
@@ -58,13 +56,13 @@ unfolding decimal_of
 amount_line value = decimal_of value ++ feed
 
 -- "segment number (a minus sign if none)"
-unfoldable pub segment_field : Found → List ℕ
+unfoldable pub segment_field : Option ℕ → List ℕ
 unfolding decimal_of
-segment_field (Segment number) = 32 ∷ decimal_of number
-segment_field Nothing = 32 ∷ 45 ∷ []
+segment_field (Some number) = 32 ∷ decimal_of number
+segment_field None = 32 ∷ 45 ∷ []
 
 -- "Station k: k, segment number (a minus sign if none), x, y, tangent"
-unfoldable pub station_line : ℕ → Found → Point → Point → List ℕ
+unfoldable pub station_line : ℕ → Option ℕ → Point → Point → List ℕ
 unfolding decimal_of segment_field point_fields
 station_line k found position tangent = decimal_of k ++ (segment_field found ++ (point_fields position ++ (point_fields tangent ++ feed)))
 
@@ -97,6 +95,6 @@ unfolding number_field carried_fields
 refusal_line refusal = (114 ∷ 101 ∷ 102 ∷ 117 ∷ 115 ∷ 101 ∷ 100 ∷ []) ++ (number_field (number_of refusal) ++ (carried_fields refusal ++ feed))
 
 -- a segment's number has at most three digits
-abbrev pub FewSegments : Found → Type 0
-FewSegments (Segment number) = number < 1000
-FewSegments Nothing = Unit {0}
+abbrev pub FewSegments : Option ℕ → Type 0
+FewSegments (Some number) = number < 1000
+FewSegments None = Unit {0}

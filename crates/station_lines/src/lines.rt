@@ -10,7 +10,6 @@ ghost use Rattle.station_lines.specs.Put.{PutWithin};
 use crate::numbers::{put_bits, put_byte, put_number, put_offset, put_small, put_whole, put_word};
 use answers::{Refusal, Values};
 use commands::PathCommand;
-use flight::Found;
 use math::Point;
 
 fn put_point(out: &mut [u8], at: usize, point: Point) -> usize
@@ -159,18 +158,14 @@ pub fn put_amount(out: &mut [u8], at: usize, value: usize) -> usize
 }
 
 // The segment on which a station lies.
-fn put_found(out: &mut [u8], at: usize, found: Found) -> usize
+fn put_found(out: &mut [u8], at: usize, found: Option<usize>) -> usize
     requires { FewSegments found × (at + 4 ≤ 69632) }
     ensures { PutWithin 4 (segment_field found) at out.old out.new result }
 {
     let past_space = put_byte(out, at, b' ');
     match found {
-        Found::Segment(number) => {
-            return put_small(out, past_space, number);
-        }
-        Found::Nothing => {
-            return put_byte(out, past_space, b'-');
-        }
+        Some(number) => put_small(out, past_space, number),
+        None => put_byte(out, past_space, b'-'),
     }
 }
 
@@ -179,7 +174,7 @@ pub fn put_station(
     out: &mut [u8],
     at: usize,
     number: usize,
-    found: Found,
+    found: Option<usize>,
     position: Point,
     tangent: Point,
 ) -> usize
@@ -239,7 +234,7 @@ fn put_carried(out: &mut [u8], at: usize, refusal: Refusal) -> usize
         let past_letter = put_byte(out, past_space, letter);
         return put_number(out, past_letter, offset);
     }
-    put_values(out, at, answers::carried(refusal))
+    put_values(out, at, refusal.carried())
 }
 
 // A refusal: its number and what it carries.
@@ -248,7 +243,7 @@ pub fn put_refusal(out: &mut [u8], at: usize, refusal: Refusal) -> usize
     ensures { PutWithin 134 (refusal_line refusal) at out.old out.new result }
 {
     let past_word = put_word(out, at, b"refused");
-    let past_number = put_number(out, past_word, answers::number(refusal) as usize);
+    let past_number = put_number(out, past_word, refusal.number() as usize);
     let past_carried = put_carried(out, past_number, refusal);
     put_byte(out, past_carried, b'\n')
 }

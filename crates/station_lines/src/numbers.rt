@@ -20,10 +20,8 @@ pub(crate) fn put_word(out: &mut [u8], at: usize, word: &[u8]) -> usize
     ensures { Put word.now at out.old out.new result }
 {
     let mut past = at;
-    let mut i = 0;
-    while i < word.len() {
-        past = put_byte(out, past, word[i]);
-        i += 1;
+    for &byte in word {
+        past = put_byte(out, past, byte);
     }
     past
 }

@@ -10,14 +10,15 @@ use lib.Dec.{ltb, leb, eqb}
 use lib.ListN.{length, get_or, take, drop}
 use lib.Seq.{take_all, take-take, get_or-take, length-take-le}
 use Rattle.answers.specs.Report.{written}
+use Rattle.std.specs.Prelude.{Result, Ok, Err}
+use Rattle.answers.specs.declared.refusals.Refusal.{Refusal}
 use Rattle.answers.specs.declared.refusals.Refusal.TheVariants.{Range}
 use Rattle.scan.specs.Bytes.{among, digits}
 use Rattle.scan.specs.Runs.{past_all, past_digits_of}
 use Rattle.scan.specs.Scan.{leading, scan}
 use Rattle.decimal_digits.specs.Digits.{digits_among, digits_in, val}
-use Rattle.text_reader.specs.Plans.{judged, first_line_of}
+use Rattle.text_reader.specs.Plans.{stations, judged, first_line_of}
 use Rattle.text_reader.specs.declared.line.FirstLine.{FirstLine}
-use Rattle.text_reader.specs.declared.line.FirstLine.TheVariants.{Stations, Refused}
 use Rattle.station_listing.specs.Stations.{plan_of, judged_of, stations_of, ReadListed}
 use Rattle.station_listing.specs.Stations as Tool
 
@@ -77,17 +78,17 @@ drop-cut (suc p) (suc n) (x ∷ xs) = let z : n - p ≡ suc n - suc p = omega ar
 -- ---- the first line
 
 -- from the place past the digits, the digits and the byte that follows
-abbrev line_by : ℕ → List ℕ → ℕ → FirstLine
-line_by end digits byte = cond (leb 1 (end - 0) && leb (end - 0) 9 && eqb byte 10) (judged (val digits) (end + 1)) (Refused (Range 0))
+abbrev line_by : ℕ → List ℕ → ℕ → Result FirstLine Refusal
+line_by end digits byte = cond (leb 1 (end - 0) && leb (end - 0) 9 && eqb byte 10) (judged (val digits) (end + 1)) (Err (Range 0))
 
 line-is : (text : List ℕ) → first_line_of text 0 ≡ line_by (past_digits_of text 0) (digits_in text 0 (past_digits_of text 0)) (get_or text (past_digits_of text 0) 0)
 unfolding first_line_of
 line-is text = refl
 
-refused-line : (end : ℕ) (digits : List ℕ) (byte : ℕ) → 9 < end → line_by end digits byte ≡ Refused (Range 0)
+refused-line : (end : ℕ) (digits : List ℕ) (byte : ℕ) → 9 < end → line_by end digits byte ≡ Err (Range 0)
 refused-line end digits byte h = rw (le-leb 1 (end - 0) (omega arith), lt-leb (end - 0) 9 (omega arith)) refl
 
-long-line : (text : List ℕ) → 9 < run text → first_line_of text 0 ≡ Refused (Range 0)
+long-line : (text : List ℕ) → 9 < run text → first_line_of text 0 ≡ Err (Range 0)
 long-line text h =
     line-is text ∙ refused-line (past_digits_of text 0) (digits_in text 0 (past_digits_of text 0)) (get_or text (past_digits_of text 0) 0) (omega (arith, end_is text))
 
@@ -98,7 +99,7 @@ module _ (input : List ℕ) (n : ℕ) (enough : 4107 ≤ n) where
     where
       by_count :
           (b : Bool)
-          → judged_of (take n input) (cond b (Stations count next) (Refused (Range count))) ≡ judged_of input (cond b (Stations count next) (Refused (Range count)))
+          → judged_of (take n input) (cond b (Ok (stations count next)) (Err (Range count))) ≡ judged_of input (cond b (Ok (stations count next)) (Err (Range count)))
       by_count true = ap (plan_of count) (drop-cut next n input) ∙ plan-cut count (n - next) (drop next input) (omega arith)
       by_count false = refl
 
@@ -107,7 +108,7 @@ module _ (input : List ℕ) (n : ℕ) (enough : 4107 ≤ n) where
     where
       by_form :
           (b : Bool)
-          → judged_of (take n input) (cond b (judged (val digits) (end + 1)) (Refused (Range 0))) ≡ judged_of input (cond b (judged (val digits) (end + 1)) (Refused (Range 0)))
+          → judged_of (take n input) (cond b (judged (val digits) (end + 1)) (Err (Range 0))) ≡ judged_of input (cond b (judged (val digits) (end + 1)) (Err (Range 0)))
       by_form true = judged-cut (val digits) (end + 1) (omega arith)
       by_form false = refl
 

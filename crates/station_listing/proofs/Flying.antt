@@ -5,6 +5,7 @@ use mathlib.Core.Bool.{Bool, true, false, cond}
 use mathlib.Core.List.{List, [], ◌∷◌}
 use native.Mathlib.Omega.{arith}
 use borrow.Author.Tests.{le-ltb}
+use Rattle.std.specs.Prelude.{Option, Some, None}
 use lib.Ieee.{Float}
 use lib.Ieee.Scale.{finite}
 use lib.ListN.{length, length-append}
@@ -25,11 +26,11 @@ use Rattle.path_drawing.specs.Drawing.{fresh_of, draw_of}
 use Rattle.path_drawing.specs.Building.{Built, path, refusal, prepend, length_after, follow, build_from, build_of}
 use Rattle.path_drawing.specs.declared.pens.Pen.{Pen}
 use Rattle.path_drawing.specs.declared.strokes.Drawn.{Drawn}
-use Rattle.path_drawing.specs.declared.strokes.Drawn.TheVariants.{Moved, Segment, OutOfRange}
+use Rattle.path_drawing.specs.declared.strokes.Drawn.TheVariants.{Moved, Segment}
 use Rattle.path_build.specs.Answers.{is_short, counts_of, values, roomed, answered}
 use Rattle.path_build.specs.Lists.{list_for}
 use Rattle.path_build.specs.Paths.{build_path_of}
-use Rattle.path_build.specs.declared.sizes.Counts.{Counts}
+use Rattle.path_build.specs.declared.room.Counts.{Counts}
 use Rattle.path_build.proofs.Lists.{stored-builds}
 use Rattle.path_storing.proofs.Layouts.{lengths-count}
 use Rattle.station_commands.proofs.PlanLaws.{letters-count}
@@ -60,18 +61,18 @@ segments-from (command ∷ commands) k before pen list e = by-drawn (segments-fr
 
     by-built : Smaller → (segment : PathSegment) (j : ℕ) (after : Float) (next : Pen) (built : Built) → build_from commands j after next ≡ built → prepend segment built ≡ path list → length list ≤ suc (length commands)
     by-built smaller segment j after next (path rest) f g = let h : segment ∷ rest ≡ list = cc in omega (arith, smaller j after next rest f, ap length h)
-    by-built smaller segment j after next (refusal reason) f g = let z : ◌≡◌ {A = ℕ} 0 1 = cc in absurd (omega arith)
+    by-built smaller segment j after next (refusal reason) f g = cc
 
     by_length :
         Smaller → (segment : PathSegment) (next : Pen) (b : Bool)
         → cond b (prepend segment (build_from commands (suc k) (length_after before segment) next)) (refusal (NotFinite k)) ≡ path list → length list ≤ suc (length commands)
     by_length smaller segment next true g = by-built smaller segment (suc k) (length_after before segment) next (build_from commands (suc k) (length_after before segment) next) refl g
-    by_length smaller segment next false g = let z : ◌≡◌ {A = ℕ} 0 1 = cc in absurd (omega arith)
+    by_length smaller segment next false g = cc
 
-    by-drawn : Smaller → (drawn : Drawn) → follow k before drawn (build_from commands) ≡ path list → length list ≤ suc (length commands)
-    by-drawn smaller (Moved next) g = omega (arith, smaller k before next list g)
-    by-drawn smaller (Segment segment next) g = by_length smaller segment next (finite (length_after before segment)) g
-    by-drawn smaller OutOfRange g = let z : ◌≡◌ {A = ℕ} 0 1 = cc in absurd (omega arith)
+    by-drawn : Smaller → (drawn : Option Drawn) → follow k before drawn (build_from commands) ≡ path list → length list ≤ suc (length commands)
+    by-drawn smaller (Some (Moved next)) g = omega (arith, smaller k before next list g)
+    by-drawn smaller (Some (Segment segment next)) g = by_length smaller segment next (finite (length_after before segment)) g
+    by-drawn smaller None g = cc
 
 pub segments-few : (commands : List PathCommand) (list : List PathSegment) → build_of commands ≡ path list → length list ≤ length commands
 unfolding build_of

@@ -18,12 +18,12 @@ use Rattle.path_stored.specs.Stored.{Stored}
 use Rattle.path_stored.proofs.Buffers.{buffers-are}
 use Rattle.path_stored.proofs.Rule.{stored-rule}
 use Rattle.path_drawing.specs.Building.{Built, path, refusal, build_of, drawers_of}
+use Rattle.std.specs.Prelude.{Result, Ok, Err}
 use Rattle.path_storing.specs.Sites.{path_written}
+use Rattle.path_storing.specs.declared.sites.Sizes.{Sizes}
 use Rattle.path_build.specs.Answers.{answer_of, answered, segments_written, numbers_written}
 use Rattle.path_build.specs.Lists.{StoredList}
 use Rattle.path_build.specs.Paths.{lent_of, drawers_list_of, build_path_of, BuildPath}
-use Rattle.path_build.specs.declared.sizes.Building.{Building}
-use Rattle.path_build.specs.declared.sizes.Building.TheVariants.{Built as Done, Refused}
 use Rattle.path_build.proofs.Lists.{stored-drawers}
 use Rattle.path_build.proofs.Numbering.{drawers-count, made_by}
 use Rattle.path_build.proofs.Sound.{built-stored}
@@ -79,7 +79,7 @@ module _ {text : List ℕ} {held : StoredList} (k : Held text held) where
   unfolding plan_of read_of
   told count = rw (le-ltb 4096 (length text) k.short, k.reads, le-ltb 256 (length (letters_of k.list)) (omega (arith, k.few, letters-count k.list))) refl
 
-  module _ {b : Buffers} {r : Building} {b' : Buffers} (a : BuildPath held b r b') (full : Full b) where
+  module _ {b : Buffers} {r : Result Sizes Refusal} {b' : Buffers} (a : BuildPath held b r b') (full : Full b) where
     built_in : build_path_of held (lent_of b) ≡ build_of k.list
     built_in =
         ap (build_path_of held) (lent-as full)
@@ -89,22 +89,31 @@ module _ {text : List ℕ} {held : StoredList} (k : Held text held) where
     drawers-in : drawers_list_of held ≡ drawers_of k.list
     drawers-in = ap drawers_list_of k.own ∙ stored-drawers k.list
 
-    answer-as : (s : Building) → r ≡ s → answer_of s ≡ answered (build_of k.list)
+    answer-as : (s : Result Sizes Refusal) → r ≡ s → answer_of s ≡ answered (build_of k.list)
     answer-as s e = ap answer_of (sym e) ∙ a.answer ∙ ap answered built_in
 
     -- what building refuses, apart from what is made of it
-    pub not-built : {reason : Refusal} → r ≡ Refused reason → build_of k.list ≡ refusal reason
-    not-built {reason} e = told-refused reason (build_of k.list) (answer-as (Refused reason) e)
+    pub not-built : {reason : Refusal} → r ≡ Err reason → build_of k.list ≡ refusal reason
+    not-built {reason} e = told-refused reason (build_of k.list) (answer-as (Err reason) e)
 
     pub unbuilt :
-        {reason : Refusal} → r ≡ Refused reason → (count : ℕ) {before after : List ℕ} {n : ℕ} → PutWithin 134 (refusal_line reason) 0 before after n
+        {reason : Refusal} → r ≡ Err reason → (count : ℕ) {before after : List ℕ} {n : ℕ} → PutWithin 134 (refusal_line reason) 0 before after n
         → PutWithin 69632 (plan_of count text) 0 before after n
     unbuilt e count p =
         within-as 69632 _ p.put (ap (built_of count k.list (offsets_of text)) (sym (not-built e)) ∙ told count) (omega (arith, p.within))
 
-    module _ {s f t : ℕ} (e : r ≡ Done s f t) where
+    module _ {sizes : Sizes} (e : r ≡ Ok sizes) where
+      abbrev s : ℕ
+      s = sizes.segments
+
+      abbrev f : ℕ
+      f = sizes.fields
+
+      abbrev t : ℕ
+      t = sizes.tables
+
       built-here : BuiltAs s f t (build_of k.list)
-      built-here = told-built s f t (build_of k.list) (answer-as (Done s f t) e)
+      built-here = told-built s f t (build_of k.list) (answer-as (Ok sizes) e)
 
       -- the buffers have the path's segments and the numbers of its commands from their start
       wrote : b' ≡ path_written built-here.list (drawers_of k.list) b

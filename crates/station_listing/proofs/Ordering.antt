@@ -21,6 +21,7 @@ use Rattle.path_place.proofs.AnyLookup.{F32Stored}
 use Rattle.path_drawing.specs.Building.{drawers_of}
 use Rattle.path_build.proofs.Sound.{built-stored}
 use Rattle.station_commands.proofs.PlanLaws.{letters-count}
+use Rattle.text_reader.specs.Plans.{stations}
 use Rattle.station_sections.specs.Ordered.{OrderedStations, EnclosedStations}
 use Rattle.station_sections.proofs.Ordering.{stations-ordered, stations-enclosed}
 use Rattle.station_listing.specs.Stations.{sections_of, read_of, plan_of, stations_of}
@@ -51,12 +52,12 @@ module _ (input : List ℕ) (a : Accepted input) where
 
   pub listing-ordered : 0 < length a.segments → T (lt epsilon_f (path_total (lengths_of_all a.segments))) → OrderedStations (built a) a.count
   listing-ordered some long =
-      let ask = asked input a.count a.next 0 a.asks in
+      let ask = asked input (stations a.count a.next) 0 a.asks in
       let kinds = kinds-count a.segments in
       stations-ordered built-values (omega arith) long a.count ask.least ask.most
 
   pub listing-enclosed : 0 < length a.segments → T (lt epsilon_f (path_total (lengths_of_all a.segments))) → EnclosedStations (built a) a.count
   listing-enclosed some long =
-      let ask = asked input a.count a.next 0 a.asks in
+      let ask = asked input (stations a.count a.next) 0 a.asks in
       let kinds = kinds-count a.segments in
       stations-enclosed built-values (omega arith) long a.count ask.least ask.most

@@ -13,14 +13,13 @@ use Rattle.answers.specs.declared.refusals.Refusal.TheVariants.{TooLong}
 use Rattle.answers.specs.Answers.{refused}
 use Rattle.answers.proofs.Writing.{written-more}
 use Rattle.commands.specs.Stored.{letters_of}
+use Rattle.std.specs.Prelude.{Result, Ok, Err}
 use Rattle.svg.specs.Lists.{CommandList}
+use Rattle.svg.specs.declared.passes.Counts.{Counts}
 use Rattle.svg.specs.Texts.{Outcome, commands, refusal, commands_of, offsets_of}
 use Rattle.svg.specs.Readings.{ReadPath, read_path_of, answered}
-use Rattle.svg.specs.declared.reading.Reading.{Reading}
-use Rattle.svg.specs.declared.reading.Reading.TheVariants.{Read, Refused as Unread}
 use Rattle.text_reader.specs.Plans.{first_line_of, past_of}
 use Rattle.text_reader.specs.declared.line.FirstLine.{FirstLine}
-use Rattle.text_reader.specs.declared.line.FirstLine.TheVariants.{Stations as Asked, Refused}
 use Rattle.station_lines.specs.Lines.{refusal_line}
 use Rattle.station_lines.specs.Put.{PutWithin}
 use Rattle.station_lines.proofs.Putting.{within-as}
@@ -55,19 +54,19 @@ told-short input before r n h =
 
 -- ---- the first line
 
-module _ (input before after : List ℕ) (r : ℕ) (line : FirstLine) (e : line ≡ first_line_of input 0) where
-  pub line_refused : (reason : Refusal) → line ≡ Refused reason → PutWithin 134 (refusal_line reason) 0 before after r → PutWithin 69632 (stations_of input) 0 before after r
+module _ (input before after : List ℕ) (r : ℕ) (line : Result FirstLine Refusal) (e : line ≡ first_line_of input 0) where
+  pub line_refused : (reason : Refusal) → line ≡ Err reason → PutWithin 134 (refusal_line reason) 0 before after r → PutWithin 69632 (stations_of input) 0 before after r
   unfolding stations_of
   line_refused reason f p = within-as 69632 _ p.put (ap (judged_of input) (sym f ∙ e)) (omega (arith, p.within))
 
-  pub line-asked : (count next : ℕ) → line ≡ Asked count next → PutWithin 69632 (plan_of count (drop next input)) 0 before after r → PutWithin 69632 (stations_of input) 0 before after r
+  pub line-asked : (asked : FirstLine) → line ≡ Ok asked → PutWithin 69632 (plan_of asked.count (drop asked.next input)) 0 before after r → PutWithin 69632 (stations_of input) 0 before after r
   unfolding stations_of
-  line-asked count next f p = within-as 69632 _ p.put (ap (judged_of input) (sym f ∙ e)) (omega (arith, p.within))
+  line-asked asked f p = within-as 69632 _ p.put (ap (judged_of input) (sym f ∙ e)) (omega (arith, p.within))
 
 -- the path of a line that asks starts past it
-pub asked-past : {start : ℕ} {line : FirstLine} (count next : ℕ) → line ≡ Asked count next → start ≡ past_of line 0 → next ≡ start
+pub asked-past : {start : ℕ} {line : Result FirstLine Refusal} (asked : FirstLine) → line ≡ Ok asked → start ≡ past_of line 0 → asked.next ≡ start
 unfolding past_of
-asked-past count next f p = sym (p ∙ ap (λ (l : FirstLine). past_of l 0) f)
+asked-past asked f p = sym (p ∙ ap (λ (l : Result FirstLine Refusal). past_of l 0) f)
 
 -- ---- what reading refuses
 
@@ -81,7 +80,7 @@ printed text count reason (commands list) e = by (ltb 256 (length (letters_of li
   where
     by : (b : Bool) → ltb 256 (length (letters_of list)) ≡ b → cond b (refusal (crowd text list)) (commands list) ≡ refusal reason → refusal_line reason ≡ read_of count (offsets_of text) (commands list)
     by true g f = let h : reason ≡ crowd text list = cc in rw g (ap refusal_line h)
-    by false g f = let z : ◌≡◌ {A = ℕ} 0 1 = cc in absurd (omega arith)
+    by false g f = cc
 
 -- what reading refuses is what is printed
 pub refused-as :
@@ -105,7 +104,7 @@ module _ (input : List ℕ) (start : ℕ) where
     unfolding plan_of
     too_long h p = within-as 69632 _ p.put (rw (lt-ltb 4096 (length text) (omega (arith, bytes_left))) refl) (omega (arith, p.within))
 
-  module _ (h : length input - start ≤ 4096) {stood left : CommandList} {reading : Reading} (lent : ReadPath (take (length input - start) text) stood reading left) (own : Spare stood) where
+  module _ (h : length input - start ≤ 4096) {stood left : CommandList} {reading : Result Counts Refusal} (lent : ReadPath (take (length input - start) text) stood reading left) (own : Spare stood) where
     short-text : length text ≤ 4096
     short-text = omega (arith, bytes_left)
 
@@ -113,18 +112,18 @@ module _ (input : List ℕ) (start : ℕ) where
     said : ReadPath text stood reading left
     said = subst (λ (t : List ℕ). ReadPath t stood reading left) (take_all (length input - start) text (omega (arith, bytes_left))) lent
 
-    pub not-read : (count : ℕ) {before after : List ℕ} {r : ℕ} {reason : Refusal} → reading ≡ Unread reason → PutWithin 134 (refusal_line reason) 0 before after r
+    pub not-read : (count : ℕ) {before after : List ℕ} {r : ℕ} {reason : Refusal} → reading ≡ Err reason → PutWithin 134 (refusal_line reason) 0 before after r
         → PutWithin 69632 (plan_of count text) 0 before after r
     unfolding plan_of
     not-read count {reason = reason} e p =
         within-as 69632 _ p.put (rw (le-ltb 4096 (length text) short-text) (printed text count reason (commands_of text) (texts.not-read text short-text said own e))) (omega (arith, p.within))
 
-    module _ {letters numbers : ℕ} (e : reading ≡ Read letters numbers) where
-      pub letters-most : letters ≤ 256
+    module _ {counts : Counts} (e : reading ≡ Ok counts) where
+      pub letters-most : counts.letters ≤ 256
       letters-most = texts.letters-most text short-text said own e
 
-      pub numbers-most : numbers ≤ 1792
+      pub numbers-most : counts.numbers ≤ 1792
       numbers-most = texts.numbers-most text short-text said own e
 
-      pub held : Held text (stored_list (take letters left.letters) (take numbers left.numbers))
+      pub held : Held text (stored_list (take counts.letters left.letters) (take counts.numbers left.numbers))
       held = texts.held text short-text said own e

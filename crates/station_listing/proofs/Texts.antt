@@ -16,9 +16,9 @@ use Rattle.commands.specs.Stored.{letters_of, numbers_of}
 use Rattle.commands.specs.declared.command.PathCommand.{PathCommand}
 use Rattle.svg.specs.Lists.{CommandList, written_over}
 use Rattle.svg.specs.Texts.{Outcome, commands, refusal, commands_of, offsets_of, list_of}
+use Rattle.std.specs.Prelude.{Result, Ok, Err}
+use Rattle.svg.specs.declared.passes.Counts.{Counts}
 use Rattle.svg.specs.Readings.{answer_of, read_path_of, read_into, answered, stored_of, ReadPath}
-use Rattle.svg.specs.declared.reading.Reading.{Reading}
-use Rattle.svg.specs.declared.reading.Reading.TheVariants.{Read, Refused as Unread}
 use Rattle.svg.proofs.Offsets.{offsets-many}
 use Rattle.station_commands.proofs.PlanLaws.{letters-count}
 use Rattle.path_build.specs.Lists.{stored_list}
@@ -115,28 +115,28 @@ module _ (text : List ℕ) (short : length text ≤ 4096) where
       by (refusal other) f = absurd (refused-not-accepted other (letters ∷ numbers ∷ letters ∷ []) (sym (e ∙ ap (answered text) (unread other f))))
       by (commands list) f = by_count list f (ltb 256 (length (letters_of list))) refl
 
-  module _ {stood left : CommandList} {reading : Reading} (said : ReadPath text stood reading left) (own : Spare stood) where
+  module _ {stood left : CommandList} {reading : Result Counts Refusal} (said : ReadPath text stood reading left) (own : Spare stood) where
     into : read_into text stood ≡ read_path_of text 256 1792 256
     into = rw (sym own.letters, sym own.numbers, sym own.offsets) refl
 
-    answer-as : (other : Reading) → reading ≡ other → answer_of other ≡ answered text (read_path_of text 256 1792 256)
+    answer-as : (other : Result Counts Refusal) → reading ≡ other → answer_of other ≡ answered text (read_path_of text 256 1792 256)
     answer-as other e = ap answer_of (sym e) ∙ said.answer ∙ ap (answered text) into
 
-    pub not-read : {reason : Refusal} → reading ≡ Unread reason → limited text (commands_of text) ≡ refusal reason
-    not-read {reason} e = sym read-limited ∙ refused_as reason (read_path_of text 256 1792 256) (answer-as (Unread reason) e)
+    pub not-read : {reason : Refusal} → reading ≡ Err reason → limited text (commands_of text) ≡ refusal reason
+    not-read {reason} e = sym read-limited ∙ refused_as reason (read_path_of text 256 1792 256) (answer-as (Err reason) e)
 
-    module _ {letters numbers : ℕ} (e : reading ≡ Read letters numbers) where
-      known : Reads text letters numbers
-      known = accepted-as letters numbers (answer-as (Read letters numbers) e)
+    module _ {counts : Counts} (e : reading ≡ Ok counts) where
+      known : Reads text counts.letters counts.numbers
+      known = accepted-as counts.letters counts.numbers (answer-as (Ok counts) e)
 
-      pub letters-most : letters ≤ 256
+      pub letters-most : counts.letters ≤ 256
       letters-most = omega (arith, known.own, known.few)
 
-      pub numbers-most : numbers ≤ 1792
+      pub numbers-most : counts.numbers ≤ 1792
       numbers-most = omega (arith, known.more, numbers-few known.list, known.few)
 
       -- the list stands in the first places of the buffers
-      pub held : Held text (stored_list (take letters left.letters) (take numbers left.numbers))
+      pub held : Held text (stored_list (take counts.letters left.letters) (take counts.numbers left.numbers))
       held =
           let wrote : left ≡ written_over (list_of text known.list) stood = said.memory ∙ ap (λ (o : Outcome). written_over (stored_of text o) stood) (into ∙ known.read) in
           record {
@@ -144,8 +144,8 @@ module _ (text : List ℕ) (short : length text ≤ 4096) where
             list = known.list;
             reads = known.reads;
             own = rw (
-              take-written (letters_of known.list) stood.letters left.letters letters (ap (λ (l : CommandList). l.letters) wrote) known.own,
-              take-written (numbers_of known.list) stood.numbers left.numbers numbers (ap (λ (l : CommandList). l.numbers) wrote) known.more,
+              take-written (letters_of known.list) stood.letters left.letters counts.letters (ap (λ (l : CommandList). l.letters) wrote) known.own,
+              take-written (numbers_of known.list) stood.numbers left.numbers counts.numbers (ap (λ (l : CommandList). l.numbers) wrote) known.more,
             );
             few = omega (arith, letters-count known.list, known.few);
           }

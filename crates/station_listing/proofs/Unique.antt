@@ -13,7 +13,7 @@ use Rattle.svg.specs.Texts.{Outcome, commands, refusal, commands_of, offsets_of}
 use Rattle.path_drawing.specs.Building.{Built, path, refusal as unbuilt, build_of}
 use Rattle.text_reader.specs.Plans.{first_line_of}
 use Rattle.text_reader.specs.declared.line.FirstLine.{FirstLine}
-use Rattle.text_reader.specs.declared.line.FirstLine.TheVariants.{Stations as Asked, Refused}
+use Rattle.std.specs.Prelude.{Result, Ok, Err}
 use Rattle.station_lines.specs.Lines.{header_line, refusal_line}
 use Rattle.station_listing.specs.Stations.{sections_of, built_of, read_of, plan_of, judged_of, stations_of, Stations}
 
@@ -45,9 +45,9 @@ some-plan : (count : ℕ) (text : List ℕ) → 0 < length (plan_of count text)
 unfolding plan_of
 some-plan count text = either (ltb 4096 (length text)) _ _ (some-refusal _) (some_read count (offsets_of text) (commands_of text))
 
-some-judged : (input : List ℕ) (line : FirstLine) → 0 < length (judged_of input line)
-some-judged input (Asked count next) = some-plan count (drop next input)
-some-judged input (Refused reason) = some-refusal reason
+some-judged : (input : List ℕ) (line : Result FirstLine Refusal) → 0 < length (judged_of input line)
+some-judged input (Ok line) = some-plan line.count (drop line.next input)
+some-judged input (Err reason) = some-refusal reason
 
 pub some-listing : (input : List ℕ) → 0 < length (stations_of input)
 unfolding stations_of

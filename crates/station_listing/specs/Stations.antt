@@ -1,7 +1,8 @@
 -- The station tool's output (document 01, "The station tool"; document 02, L5): from the bytes of standard input to those of standard output. Definitions only.
-use Rattle.std.specs.Prelude.{ℕ, ◌≤◌, ◌≡◌, Bool, cond, List, [], ◌∷◌, ◌++◌, ltb, length, take, drop}
+use Rattle.std.specs.Prelude.{ℕ, ◌≤◌, ◌≡◌, Bool, cond, List, [], ◌∷◌, ◌++◌, Result, Ok, Err, ltb, length, take, drop}
 use Rattle.answers.specs.Report.{written}
 use Rattle.answers.specs.declared.refusals.Values.TheVariants.{Three}
+use Rattle.answers.specs.declared.refusals.Refusal.{Refusal}
 use Rattle.answers.specs.declared.refusals.Refusal.TheVariants.{TooLong, NoRoom}
 use Rattle.commands.specs.Stored.{letters_of, numbers_of}
 use Rattle.commands.specs.declared.command.PathCommand.{PathCommand}
@@ -12,7 +13,6 @@ use Rattle.path_drawing.specs.Building.{Built, path, refusal as unbuilt, build_o
 use Rattle.path_build.specs.Lists.{StoredList, list_for}
 use Rattle.text_reader.specs.Plans.{first_line_of, past_of}
 use Rattle.text_reader.specs.declared.line.FirstLine.{FirstLine}
-use Rattle.text_reader.specs.declared.line.FirstLine.TheVariants.{Stations as Asked, Refused}
 use Rattle.station_lines.specs.Lines.{header_line, refusal_line}
 use Rattle.station_lines.specs.Put.{PutWithin}
 use Rattle.station_commands.specs.Passes.{command_lines}
@@ -55,15 +55,15 @@ unfoldable pub plan_of : ℕ → List ℕ → List ℕ
 plan_of count text = cond (ltb 4096 (length text)) (refusal_line (TooLong 4097)) (read_of count (offsets_of text) (commands_of text))
 
 -- "The first line is judged first"
-abbrev pub judged_of : List ℕ → FirstLine → List ℕ
-judged_of input (Asked count next) = plan_of count (drop next input)
-judged_of input (Refused reason) = refusal_line reason
+abbrev pub judged_of : List ℕ → Result FirstLine Refusal → List ℕ
+judged_of input (Ok line) = plan_of line.count (drop line.next input)
+judged_of input (Err reason) = refusal_line reason
 
 unfoldable pub stations_of : List ℕ → List ℕ
 stations_of input = judged_of input (first_line_of input 0)
 
 -- the first line of a plan, and the place past it
-pub record LineRead (input : List ℕ) (start : ℕ) (line : FirstLine) : Type 0 where
+pub record LineRead (input : List ℕ) (start : ℕ) (line : Result FirstLine Refusal) : Type 0 where
   pub is : line ≡ first_line_of input 0
   pub past : start ≡ past_of line 0
 

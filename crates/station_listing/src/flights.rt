@@ -6,7 +6,8 @@ ghost use Rattle.path_build.specs.Lists.{lent_list};
 ghost use Rattle.station_sections.specs.Sections.{Ready};
 ghost use Rattle.station_listing.specs.Stations.{plan_of, Held, Sized, Printed};
 
-use path_build::{Building, build_path};
+use path_build::build_path;
+use path_stored::{PathBuffers, StoredPath};
 use station_commands::inner::list;
 use station_lines::inner::{put_header, put_refusal};
 use station_sections::inner::{put_segments, put_stations};
@@ -27,21 +28,20 @@ fn print(
     requires { Sized (drop start input.now) places × Ready (lent kinds fields tables lengths commands) count }
     ensures { Printed (drop start input.now) (before kinds fields tables lengths commands) count out.old out.new result }
 {
-    let past_commands = put_header(out, 0, b"commands", places);
-    let past_lines = list(input, start, out, past_commands);
-    let past_segments = put_header(out, past_lines, b"segments", kinds.len());
-    let past_kinds = put_segments(out, past_segments, kinds, lengths, commands);
-    let past_stations = put_header(out, past_kinds, b"stations", count);
-    put_stations(
-        out,
-        past_stations,
-        count,
+    let buffers = PathBuffers {
         kinds,
         fields,
         tables,
         lengths,
         commands,
-    )
+    };
+    let path = StoredPath { buffers };
+    let past_commands = put_header(out, 0, b"commands", places);
+    let past_lines = list(input, start, out, past_commands);
+    let past_segments = put_header(out, past_lines, b"segments", kinds.len());
+    let past_kinds = put_segments(out, past_segments, path);
+    let past_stations = put_header(out, past_kinds, b"stations", count);
+    put_stations(out, past_stations, count, path)
 }
 
 // The path whose commands these letters and numbers are: its listing, or why it is not built.
@@ -70,26 +70,20 @@ pub fn fly(
         &mut lengths,
         &mut commands,
     ) {
-        Building::Refused(refusal) => {
-            return put_refusal(out, 0, refusal);
-        }
-        Building::Built {
-            segments,
-            fields: own,
-            tables: more,
-        } => {
-            return print(
+        Ok(sizes) => {
+            print(
                 out,
                 input,
                 start,
                 letters.len(),
                 count,
-                &kinds[..segments],
-                &fields[..own],
-                &tables[..more],
-                &lengths[..segments],
-                &commands[..segments],
-            );
+                &kinds[..sizes.segments],
+                &fields[..sizes.fields],
+                &tables[..sizes.tables],
+                &lengths[..sizes.segments],
+                &commands[..sizes.segments],
+            )
         }
+        Err(refusal) => put_refusal(out, 0, refusal),
     }
 }

@@ -6,7 +6,7 @@ ghost use Rattle.station_listing.specs.Stations.{LineRead, plan_of, stations_of}
 use crate::flights::fly;
 use answers::Refusal;
 use station_lines::inner::put_refusal;
-use svg::{Reading, read_lean};
+use svg::read_lean;
 use text_reader::{FirstLine, TextReader, past, reader_at};
 
 // The path that starts at `start`, with so many stations. 256 commands have at most 1,792 numbers, so that reading refuses more commands and
@@ -22,42 +22,31 @@ fn answer(out: &mut [u8], input: &[u8], start: usize, count: usize) -> usize
     let mut numbers = [0.0f32; 1792];
     let mut offsets = [0u32; 256];
     match read_lean(&input[start..], &mut letters, &mut numbers, &mut offsets) {
-        Reading::Refused(refusal) => {
-            return put_refusal(out, 0, refusal);
-        }
-        Reading::Read {
-            letters: places,
-            numbers: held,
-        } => {
-            return fly(
-                out,
-                input,
-                start,
-                count,
-                &letters[..places],
-                &numbers[..held],
-            );
-        }
+        Ok(counts) => fly(
+            out,
+            input,
+            start,
+            count,
+            &letters[..counts.letters],
+            &numbers[..counts.numbers],
+        ),
+        Err(refusal) => put_refusal(out, 0, refusal),
     }
 }
 
 // A plan whose first line is read, and whose path starts at `start`: a refused line is told, and nothing else of the plan.
-fn judged(input: &[u8], start: usize, line: FirstLine, out: &mut [u8]) -> usize
+fn judged(input: &[u8], start: usize, line: Result<FirstLine, Refusal>, out: &mut [u8]) -> usize
     requires { LineRead input.now start line }
     ensures { PutWithin 69632 (stations_of input.now) 0 out.old out.new result }
 {
     match line {
-        FirstLine::Refused(reason) => {
-            return put_refusal(out, 0, reason);
-        }
-        FirstLine::Stations { count, next: _ } => {
-            return answer(out, input, start, count);
-        }
+        Ok(asked) => answer(out, input, start, asked.count),
+        Err(reason) => put_refusal(out, 0, reason),
     }
 }
 
 // The same by a reader that has moved past the line.
-fn judged_by<'a>(reader: TextReader<'a>, line: FirstLine, out: &mut [u8]) -> usize
+fn judged_by<'a>(reader: TextReader<'a>, line: Result<FirstLine, Refusal>, out: &mut [u8]) -> usize
     requires { LineRead reader.text.now reader.at line }
     ensures { PutWithin 69632 (stations_of reader.entry.text.now) 0 out.old out.new result }
 {

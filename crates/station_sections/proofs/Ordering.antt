@@ -1,16 +1,16 @@
 -- The stations of a stored path of f32 values meet demand 3: progress k/(n-1), rounded, rises with k, is at or below 0 for the first and at or above 1 for the last.
-use mathlib.Core.Path.{◌≡◌, refl, sym, ap, ◌∙◌, subst}
+use mathlib.Core.Path.{◌≡◌, sym, ap, ◌∙◌, subst}
 use Prim.Native.Nat.{ℕ, ◌*◌, ◌-◌, ◌≤◌, ◌<◌}
-use native.Mathlib.Nat.{le_refl, le_of_eq, zero-mul, mul-one, mul_comm, mul-pos}
+use native.Mathlib.Nat.{le_of_eq, zero-mul, mul-one, mul_comm, mul-pos}
 use native.Mathlib.Omega.{arith}
-use mathlib.Core.List.{List, [], ◌∷◌}
+use mathlib.Core.List.{List}
 use lib.Dec.{T}
 use lib.IntN.{pos}
 use lib.Ieee.{Float, binary32, lt, le, div, of_int}
 use lib.Ieee.Bits.{cond_no}
 use lib.Ieee.Positive.{num, den, den_pos}
 use lib.ListN.{length}
-use Rattle.floats.specs.Floats.{zero_f, one_f, epsilon_f, clamp01_of}
+use Rattle.floats.specs.Floats.{zero_f, one_f, epsilon_f}
 use Rattle.floats.specs.Kinds.{nonneg}
 use Rattle.floats.proofs.Tests.{cond_yes}
 use Rattle.floats.proofs.Order.{le-self, le-le-trans, le_lt_trans, lt-le-trans, lt→le, lt→not-le}
@@ -21,7 +21,6 @@ use Rattle.floats.proofs.Held.{held-above, held_below}
 use Rattle.floats.proofs.Monotone.{div_mono}
 use Rattle.floats.proofs.Constants.{zero_held, one-held, one-num, zero-lt-epsilon}
 use Rattle.floats.proofs.Clamping.{clamp01-mono}
-use Rattle.table.specs.declared.tables.Spot.{Spot}
 use Rattle.table.specs.Lookup.{last_of, target_of}
 use Rattle.table.specs.Spots.{path_total, spotted, spot_at, spot_of}
 use Rattle.table_order.specs.Stated.{F32Path}
@@ -29,7 +28,7 @@ use Rattle.table_order.proofs.Targets.{target-mono}
 use Rattle.table_order.proofs.Ends.{target-of-zero, target-of-one}
 use Rattle.table_order.proofs.Spots.{path-total-held}
 use Rattle.table_order.proofs.Theorems.{path-starts, path-ends}
-use Rattle.flight.specs.declared.Found.TheVariants.{Segment}
+use Rattle.std.specs.Prelude.{Some}
 use Rattle.path_stored.specs.Buffers.{Buffers}
 use Rattle.path_place.specs.Places.{place_at, place_in, place_of}
 use Rattle.path_place.proofs.AnyLookup.{F32Stored, path-held}
@@ -124,7 +123,7 @@ module _ {lengths : List Float} (path : F32Path lengths) (long : T (lt epsilon_f
 -- the line of a station, by its pair
 station-line : (b : Buffers) (n k : ℕ) → 0 < length b.kinds → let pair = place_of b (progress_of n k) in
     let there = flown_by b n k pair in
-    station_of b n k ≡ station_line k (Segment pair.segment) there.position there.tangent
+    station_of b n k ≡ station_line k (Some pair.segment) there.position there.tangent
 unfolding station_of flight_of flown_of place_in
 station-line b n k some = rw (some-kinds some)
 

@@ -4,7 +4,7 @@ use Rattle.floats.specs.Floats.{zero_f, one_f}
 use Rattle.table.specs.Spots.{path_total, spot_of}
 use Rattle.table_order.specs.Stated.{NoStepBack}
 use Rattle.table_order.specs.Swept.{Inside}
-use Rattle.flight.specs.declared.Found.TheVariants.{Segment}
+use Rattle.std.specs.Prelude.{Some}
 use Rattle.flight.specs.declared.Flight.{Flight}
 use Rattle.path_stored.specs.Buffers.{Buffers}
 use Rattle.path_place.specs.declared.places.Place.{Place}
@@ -23,7 +23,7 @@ pub record OrderedStations (b : Buffers) (n : ℕ) : Type 0 where
   pub pair : ℕ → Place
   -- "Station k: k, segment number .., x, y, tangent": its line has that segment's number, and the sample and the tangent of the pair
   pub printed : (k : ℕ) → let there = flown_by b n k (pair k) in
-      station_of b n k ≡ station_line k (Segment (pair k).segment) there.position there.tangent
+      station_of b n k ≡ station_line k (Some (pair k).segment) there.position there.tangent
   -- of two stations the later is no earlier on the path
   pub order : (j k : ℕ) → j ≤ k → k < n → NoStepBack (pair j).segment (pair j).raw.value (pair k).segment (pair k).raw.value
   -- the first is at the first segment's 0, the last at the last one's 1

@@ -1,29 +1,29 @@
-// The functions ask that the path is a stored one of at most 256 segments, and that their lines end within the places of a listing.
+// The functions ask that a path has at most 256 segments, and that their lines end within the places of a listing.
 ghost use Rattle.std.specs.Prelude.{◌≡◌, ◌+◌, ◌≤◌, ◌<◌, length};
-ghost use Rattle.path_stored.specs.Buffers.{before, lent};
+ghost use Rattle.path_stored.specs.Paths.{held};
 ghost use Rattle.station_lines.specs.Put.{PutWithin};
 ghost use Rattle.station_sections.specs.Sections.{Ready, Tellable, progress_of, segment_lines, station_of, station_lines};
 
 use path_query::inner::flight;
+use path_stored::{PathBuffers, StoredPath};
 use station_lines::inner::{put_segment, put_station};
 use table::Progress;
 
 // A line for each segment.
-pub fn put_segments(
-    out: &mut [u8],
-    from: usize,
-    kinds: &[u8],
-    lengths: &[f32],
-    commands: &[u32],
-) -> usize
-    requires { Tellable kinds.now lengths.now commands.now × (from + 5632 ≤ 69632) }
-    ensures { PutWithin 5632 (segment_lines kinds.now lengths.now commands.now) from out.old out.new result }
+pub fn put_segments(out: &mut [u8], from: usize, path: StoredPath) -> usize
+    requires { Tellable path.buffers.kinds.now path.buffers.lengths.now path.buffers.commands.now × (from + 5632 ≤ 69632) }
+    ensures { PutWithin 5632 (segment_lines path.entry.buffers.kinds.now path.entry.buffers.lengths.now path.entry.buffers.commands.now) from
+        out.old out.new result }
 {
+    let PathBuffers {
+        kinds,
+        lengths,
+        commands,
+        ..
+    } = path.buffers;
     let mut at = from;
-    let mut k = 0;
-    while k < kinds.len() {
-        at = put_segment(out, at, kinds[k], lengths[k], commands[k] as usize);
-        k += 1;
+    for (k, &kind) in kinds.iter().enumerate() {
+        at = put_segment(out, at, kind, lengths[k], commands[k] as usize);
     }
     at
 }
@@ -40,49 +40,29 @@ fn progress(number: usize, count: usize) -> Progress
 }
 
 // One station: what is flown at its progress.
-fn put_one(
-    out: &mut [u8],
-    at: usize,
-    number: usize,
-    count: usize,
-    kinds: &[u8],
-    fields: &[f32],
-    tables: &[f32],
-    lengths: &[f32],
-    commands: &[u32],
-) -> usize
-    requires { Ready (lent kinds fields tables lengths commands) count × (number < count) × (at + 44 ≤ 69632) }
-    ensures { PutWithin 44 (station_of (before kinds fields tables lengths commands) count number) at out.old out.new result }
+fn put_one(out: &mut [u8], at: usize, number: usize, count: usize, path: StoredPath) -> usize
+    requires { Ready (held path.buffers) count × (number < count) × (at + 44 ≤ 69632) }
+    ensures { PutWithin 44 (station_of (held path.entry.buffers) count number) at out.old out.new result }
 {
-    let along = progress(number, count);
-    let there = flight(kinds, fields, tables, lengths, commands, along);
-    let segment = there.segment;
-    let position = there.position;
-    let tangent = there.tangent;
-    put_station(out, at, number, segment, position, tangent)
+    let there = flight(path, progress(number, count));
+    put_station(
+        out,
+        at,
+        number,
+        there.segment,
+        there.position,
+        there.tangent,
+    )
 }
 
 // A line for each station.
-pub fn put_stations(
-    out: &mut [u8],
-    from: usize,
-    count: usize,
-    kinds: &[u8],
-    fields: &[f32],
-    tables: &[f32],
-    lengths: &[f32],
-    commands: &[u32],
-) -> usize
-    requires { Ready (lent kinds fields tables lengths commands) count × (from + 44000 ≤ 69632) }
-    ensures { PutWithin 44000 (station_lines (before kinds fields tables lengths commands) count) from out.old out.new result }
+pub fn put_stations(out: &mut [u8], from: usize, count: usize, path: StoredPath) -> usize
+    requires { Ready (held path.buffers) count × (from + 44000 ≤ 69632) }
+    ensures { PutWithin 44000 (station_lines (held path.entry.buffers) count) from out.old out.new result }
 {
     let mut at = from;
-    let mut number = 0;
-    while number < count {
-        at = put_one(
-            out, at, number, count, kinds, fields, tables, lengths, commands,
-        );
-        number += 1;
+    for number in 0..count {
+        at = put_one(out, at, number, count, path);
     }
     at
 }

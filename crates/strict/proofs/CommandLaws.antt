@@ -1,30 +1,28 @@
 -- Commands by their letters: a letter, white space and a sequence of arguments; that each command has its letter and a byte; and what the
 -- reader's answer says of the production. Assumes nothing.
 use Prim.Native.Nat.{ℕ, ◌+◌, ◌<◌}
-use mathlib.Core.Path.{◌≡◌, refl, sym, subst}
+use mathlib.Core.Path.{◌≡◌, sym, subst}
 use mathlib.Core.Bool.{Bool, true, false}
 use mathlib.Core.List.{List}
 use mathlib.Core.Logic.{◌⊎◌, inl, inr, ⊎_elim}
 use native.Mathlib.Omega.{arith}
 use lib.Dec.{T}
-use lib.ListN.{length}
 use Rattle.scan.specs.Bytes.{among, number_starts}
 use Rattle.scan.specs.Runs.{stands}
 use Rattle.scan.proofs.ByteLaws.{withinb, clash, either_way}
-use Rattle.scan.proofs.RunLaws.{stands-within}
 use Rattle.strict_grammar.specs.Spans.{Span, Byte, ◌·◌, star, longest, last, then}
 use Rattle.strict_grammar.specs.Grammar.{white_of, wsp, moveto, moveto-argument-sequence, lineto, horizontal-lineto, vertical-lineto, curveto, smooth-curveto}
 use Rattle.strict_grammar.specs.Grammar.{quadratic-bezier-curveto, smooth-quadratic-bezier-curveto, closepath, elliptical-arc, drawto-command}
-use Rattle.strict_grammar.specs.Words.{Past, Lacks, Goes, past_white_in}
+use Rattle.strict_grammar.specs.Words.{Only, Past, Lacks, Goes, past_white_in}
 use Rattle.strict_grammar.specs.declared.Edition.{Edition}
 use Rattle.strict_grammar.proofs.SpanLaws.{standing, not_byte, not-both, other, wider, star-le, run-same, run-found}
 use Rattle.strict_grammar.proofs.Separators.{number-apart}
-use Rattle.strict_argument.specs.Reading
-use Rattle.strict_argument.specs.Reading.{Reads, nowhere, argument_of}
+use Rattle.std.specs.Prelude.{Option, Some, None}
+use Rattle.strict_argument.specs.Reading.{argument_of}
 use Rattle.strict_argument.specs.declared.groups.Kind.{Kind}
 use Rattle.strict_argument.specs.declared.groups.Kind.TheVariants.{Coordinate, Pair, TwoPairs, ThreePairs, Arc}
 use Rattle.strict_argument.proofs.Starts.{argument-starts, argument-grows}
-use Rattle.strict.specs.Commands.{move_letters, close_letters, letters_of, command_letters, Reaches, ends, missing, Arguments, Item, Further, Command}
+use Rattle.strict.specs.Commands.{move_letters, close_letters, letters_of, command_letters, Reaches, Arguments, Item, Further, Command}
 use Rattle.strict.proofs.Sequences.{to-star, of-star, items-le}
 use Rattle.strict.proofs.Letters.{kinds-apart, close-apart, move-apart, kind-within, halves}
 
@@ -41,26 +39,19 @@ module _ (edition : Edition) (text : List ℕ) where
     at-white : (x n : ℕ) → star (wsp edition text) i x → argument_of edition text kind x n → x ≡ m
     at-white x n w p = run-same the-white w (not_white x (argument-starts edition text kind x n p))
 
-    pub arguments-missing : (w : ℕ) → Reads (argument_of edition text kind) m w → w ≡ nowhere → Reaches (Arguments edition text kind) (Goes edition text) i nowhere
-    arguments-missing w (Reading.ends lt h) e = absurd (omega arith)
-    arguments-missing w (Reading.missing _ h) e = missing refl lacks
-      where
-        lacks : Lacks (Arguments edition text kind) i
-        lacks q (x, white, u) =
-            let v = to-star u in
-            h v.0 (subst (λ (a : ℕ). argument_of edition text kind a v.0) (at-white x v.0 white v.1) v.1)
+    pub arguments-missing : Lacks (argument_of edition text kind) m → Lacks (Arguments edition text kind) i
+    arguments-missing h q (x, white, u) =
+        let v = to-star u in
+        h v.0 (subst (λ (a : ℕ). argument_of edition text kind a v.0) (at-white x v.0 white v.1) v.1)
 
-    pub arguments-past :
-        (j n : ℕ) → Reads (argument_of edition text kind) m j → (j ≡ nowhere → ⊥) → Further edition text kind j n → Reaches (Arguments edition text kind) (Goes edition text) i n
-    arguments-past j n (Reading.missing e h) there t = absurd (there e)
-    arguments-past j n (Reading.ends lt p) there t =
-        ends (⊎_elim (λ e. omega arith) (λ l. l) t.bounded) ((m, the-white.0, of-star p.0 t.past.0), word)
+    pub arguments-past : (j n : ℕ) → Only (argument_of edition text kind) m j → Further edition text kind j n → Past (Arguments edition text kind) (Goes edition text) i n
+    arguments-past j n p t = ((m, the-white.0, of-star p.0 t.0), word)
       where
         word : (q : ℕ) → Arguments edition text kind i q → (q ≡ n) ⊎ Goes edition text q
         word q (x, w, u) =
             let v = to-star u in
             let y = p.1 v.0 (subst (λ (a : ℕ). argument_of edition text kind a v.0) (at-white x v.0 w v.1) v.1) in
-            t.past.1 q (subst (λ (a : ℕ). star (Item edition text kind) a q) y v.2)
+            t.1 q (subst (λ (a : ℕ). star (Item edition text kind) a q) y v.2)
 
   arguments-grow : (kind : Kind) (i j : ℕ) → Arguments edition text kind i j → i < j
   arguments-grow kind i j (x, w, u) =
@@ -76,9 +67,9 @@ module _ (edition : Edition) (text : List ℕ) where
     past-letter : (q : ℕ) → (Byte text class · R) i q → R (i + 1) q
     past-letter q (x, b, u) = subst (λ (y : ℕ). R y q) b.next u
 
-    letter-taken : stands text i class ≡ true → (r : ℕ) → Reaches R (Goes edition text) (i + 1) r → Reaches (Byte text class · R) (Goes edition text) i r
-    letter-taken h r (ends lt w) = ends lt ((i + 1, standing class i h, w.0), λ q v. w.1 q (past-letter q v))
-    letter-taken h r (missing e w) = missing e (λ q v. w q (past-letter q v))
+    letter-taken : stands text i class ≡ true → (r : Option ℕ) → Reaches R (Goes edition text) (i + 1) r → Reaches (Byte text class · R) (Goes edition text) i r
+    letter-taken h (Some end) w = ((i + 1, standing class i h, w.0), λ q v. w.1 q (past-letter q v))
+    letter-taken h None w = λ q v. w q (past-letter q v)
 
     has-letter : T (withinb class command_letters) → (q : ℕ) → (Byte text class · R) i q → stands text i command_letters ≡ true
     has-letter t q v = (wider {m = command_letters} t v.1).there
@@ -182,12 +173,12 @@ module _ (edition : Edition) (text : List ℕ) where
       of-moved true q w = inl (to-moveto i q w)
       of-moved false q w = to-moveto i q w
 
-      pub moves : (begun : Bool) (r : ℕ) → Reaches (Arguments edition text Pair) (Goes edition text) (i + 1) r → Reaches (Command edition text begun) (Goes edition text) i r
-      moves begun r w = go (letter-taken move_letters (Arguments edition text Pair) i h r w)
+      pub moves : (begun : Bool) (r : Option ℕ) → Reaches (Arguments edition text Pair) (Goes edition text) (i + 1) r → Reaches (Command edition text begun) (Goes edition text) i r
+      moves begun r w = go r (letter-taken move_letters (Arguments edition text Pair) i h r w)
         where
-          go : Reaches Moved (Goes edition text) i r → Reaches (Command edition text begun) (Goes edition text) i r
-          go (ends lt v) = ends lt (of-moved begun r v.0, λ q c. v.1 q (moved begun q c))
-          go (missing e v) = missing e (λ q c. v q (moved begun q c))
+          go : (r : Option ℕ) → Reaches Moved (Goes edition text) i r → Reaches (Command edition text begun) (Goes edition text) i r
+          go (Some end) v = (of-moved begun end v.0, λ q c. v.1 q (moved begun q c))
+          go None v = λ q c. v q (moved begun q c)
 
     -- another letter: no moveto
     no_move : stands text i move_letters ≡ false → Lacks (moveto edition text) i
@@ -202,17 +193,15 @@ module _ (edition : Edition) (text : List ℕ) where
     close-no-move h = other {l = close_letters} move_letters tt (standing close_letters i h)
 
     -- Z: one byte
-    pub closes : length text < nowhere → stands text i close_letters ≡ true → Reaches (Command edition text true) (Goes edition text) i (i + 1)
-    closes room h =
-        let w = stands-within close_letters text i h in
-        ends (omega arith) (inr (of-close i (i + 1) (standing close_letters i h)), λ q c. word q (by-letter i q (drawn (close-no-move h) q c)))
+    pub closes : stands text i close_letters ≡ true → Past (Command edition text true) (Goes edition text) i (i + 1)
+    closes h = (inr (of-close i (i + 1) (standing close_letters i h)), λ q c. word q (by-letter i q (drawn (close-no-move h) q c)))
       where
         word : (q : ℕ) → Byte text close_letters i q ⊎ ((kind : Kind) × Drawn kind i q) → (q ≡ i + 1) ⊎ Goes edition text q
         word q (inl b) = inl b.next
         word q (inr p) = absurd (not-both (close-apart p.0) (standing close_letters i h) p.1.1)
 
-    pub closes-not-begun : stands text i close_letters ≡ true → Reaches (Command edition text false) (Goes edition text) i nowhere
-    closes-not-begun h = missing refl (no_move (close-no-move h))
+    pub closes-not-begun : stands text i close_letters ≡ true → Lacks (Command edition text false) i
+    closes-not-begun h = no_move (close-no-move h)
 
     -- a letter that takes arguments
     module _ (kind : Kind) (h : stands text i (letters_of kind) ≡ true) where
@@ -224,29 +213,19 @@ module _ (edition : Edition) (text : List ℕ) where
       same_kind q (inr (m, v)) =
           ⊎_elim (λ z. subst (λ (y : Kind). Drawn y i q) (sym z) v) (λ t. absurd (not-both t (standing (letters_of kind) i h) v.1)) (kinds-apart kind m)
 
-      pub takes : (r : ℕ) → Reaches (Arguments edition text kind) (Goes edition text) (i + 1) r → Reaches (Command edition text true) (Goes edition text) i r
-      takes r w = go (letter-taken (letters_of kind) (Arguments edition text kind) i h r w)
+      pub takes : (r : Option ℕ) → Reaches (Arguments edition text kind) (Goes edition text) (i + 1) r → Reaches (Command edition text true) (Goes edition text) i r
+      takes r w = go r (letter-taken (letters_of kind) (Arguments edition text kind) i h r w)
         where
           word : (q : ℕ) → Command edition text true i q → Drawn kind i q
           word q c = same_kind q (by-letter i q (drawn kind-no-move q c))
 
-          go : Reaches (Drawn kind) (Goes edition text) i r → Reaches (Command edition text true) (Goes edition text) i r
-          go (ends lt v) = ends lt (inr (of-kind kind i r v.0), λ q c. v.1 q (word q c))
-          go (missing e v) = missing e (λ q c. v q (word q c))
+          go : (r : Option ℕ) → Reaches (Drawn kind) (Goes edition text) i r → Reaches (Command edition text true) (Goes edition text) i r
+          go (Some end) v = (inr (of-kind kind i end v.0), λ q c. v.1 q (word q c))
+          go None v = λ q c. v q (word q c)
 
-      pub takes-not-begun : Reaches (Command edition text false) (Goes edition text) i nowhere
-      takes-not-begun = missing refl (no_move kind-no-move)
+      pub takes-not-begun : Lacks (Command edition text false) i
+      takes-not-begun = no_move kind-no-move
 
     -- no letter of a command
-    pub no-letter : (begun : Bool) → stands text i command_letters ≡ false → Reaches (Command edition text begun) (Goes edition text) i nowhere
-    no-letter begun h = missing refl (λ q c. clash (command-letter begun i q c) h)
-
--- ---- the reader's answer, by the test for `nowhere`
-
-pub ends-past : (P : Span) (C : ℕ → Type 0) (i r : ℕ) → Reaches P C i r → (r ≡ nowhere → ⊥) → Past P C i r
-ends-past P C i r (ends lt h) there = h
-ends-past P C i r (missing e h) there = absurd (there e)
-
-pub missing-lacks : (P : Span) (C : ℕ → Type 0) (i r : ℕ) → Reaches P C i r → r ≡ nowhere → Lacks P i
-missing-lacks P C i r (ends lt h) e = absurd (omega arith)
-missing-lacks P C i r (missing _ h) e = h
+    pub no-letter : (begun : Bool) → stands text i command_letters ≡ false → Lacks (Command edition text begun) i
+    no-letter begun h = λ q c. clash (command-letter begun i q c) h

@@ -13,7 +13,8 @@ use Rattle.strict_grammar.specs.Words.{Only, Lacks, Goes, past_separator_of}
 use Rattle.strict_grammar.specs.declared.Edition.{Edition}
 use Rattle.strict_grammar.proofs.SpanLaws.{snoc}
 use Rattle.strict_grammar.proofs.Separators.{separator-past, separator-forced, separator-le}
-use Rattle.strict_argument.specs.Reading.{Reads, ends, missing, nowhere, argument_of}
+use Rattle.std.specs.Prelude.{Option, Some, None}
+use Rattle.strict_argument.specs.Reading.{Reads, argument_of}
 use Rattle.strict_argument.specs.declared.groups.Kind.{Kind}
 use Rattle.strict_argument.proofs.Starts.{argument-starts, argument-grows}
 use Rattle.strict.specs.Commands.{Item, Further}
@@ -33,16 +34,16 @@ module _ {P S : Span} where
 
 module _ (edition : Edition) (text : List ℕ) (kind : Kind) where
   -- the argument after the separator that was found
-  pub item : (i k r : ℕ) → k ≡ past_separator_of edition text i → Reads (argument_of edition text kind) k r → Reads (Item edition text kind) i r
-  item i k r s reads = go reads
+  pub item : (i k : ℕ) (r : Option ℕ) → k ≡ past_separator_of edition text i → Reads (argument_of edition text kind) k r → Reads (Item edition text kind) i r
+  item i k r s reads = go r reads
     where
       to-k : (n : ℕ) → Item edition text kind i n → argument_of edition text kind k n
       to-k n (y, c, d) = subst (λ (z : ℕ). argument_of edition text kind z n) (separator-forced edition text i y c (argument-starts edition text kind y n d) ∙ sym s) d
 
-      go : Reads (argument_of edition text kind) k r → Reads (Item edition text kind) i r
-      go (ends lt h) =
-          ends lt ((k, subst (λ (z : ℕ). opt (comma-wsp edition text) i z) (sym s) (separator-past edition text i).0, h.0), λ n w. h.1 n (to-k n w))
-      go (missing e h) = missing e (λ n w. h n (to-k n w))
+      go : (r : Option ℕ) → Reads (argument_of edition text kind) k r → Reads (Item edition text kind) i r
+      go (Some end) h =
+          ((k, subst (λ (z : ℕ). opt (comma-wsp edition text) i z) (sym s) (separator-past edition text i).0, h.0), λ n w. h.1 n (to-k n w))
+      go None h = λ n w. h n (to-k n w)
 
   pub item-goes : (i n : ℕ) → Item edition text kind i n → Goes edition text i
   item-goes i n (k, o, q) = (k, o, argument-starts edition text kind k n q)
@@ -65,24 +66,14 @@ module _ (edition : Edition) (text : List ℕ) (kind : Kind) (at : ℕ) where
   pub record Going (end : ℕ) : Type 0 where
     pub passed : star (Item edition text kind) at end
     pub others : (q : ℕ) → star (Item edition text kind) at q → Goes edition text q ⊎ star (Item edition text kind) end q
-    pub bounded : (end ≡ at) ⊎ (end < nowhere)
 
   pub set_out : Going at
-  set_out = record { passed = none refl; others = λ q w. inr w; bounded = inl refl }
-
-  -- an answer that is not `nowhere` is the only end of an item
-  pub one-item : (i r : ℕ) → Reads (Item edition text kind) i r → (r ≡ nowhere → ⊥) → Only (Item edition text kind) i r × (r < nowhere)
-  one-item i r (ends lt h) there = (h, lt)
-  one-item i r (missing e h) there = absurd (there e)
-
-  pub no_item : (i r : ℕ) → Reads (Item edition text kind) i r → r ≡ nowhere → Lacks (Item edition text kind) i
-  no_item i r (ends lt h) e = absurd (omega arith)
-  no_item i r (missing _ h) e = h
+  set_out = record { passed = none refl; others = λ q w. inr w }
 
   module _ (end : ℕ) (g : Going end) where
     -- one argument more
-    pub go_on : (next : ℕ) → Only (Item edition text kind) end next × (next < nowhere) → Going next
-    go_on next (one, lt) = record { passed = snoc g.passed one.0; others = λ q w. turn (g.others q w); bounded = inr lt }
+    pub go_on : (next : ℕ) → Only (Item edition text kind) end next → Going next
+    go_on next one = record { passed = snoc g.passed one.0; others = λ q w. turn (g.others q w) }
       where
         turn : {q : ℕ} → Goes edition text q ⊎ star (Item edition text kind) end q → Goes edition text q ⊎ star (Item edition text kind) next q
         turn (inl c) = inl c
@@ -91,7 +82,7 @@ module _ (edition : Edition) (text : List ℕ) (kind : Kind) (at : ℕ) where
 
     -- no argument more
     pub come-to-end : Lacks (Item edition text kind) end → Further edition text kind at end
-    come-to-end none_left = record { past = (g.passed, λ q w. stop (g.others q w)); bounded = g.bounded }
+    come-to-end none_left = (g.passed, λ q w. stop (g.others q w))
       where
         stop : {q : ℕ} → Goes edition text q ⊎ star (Item edition text kind) end q → (q ≡ end) ⊎ Goes edition text q
         stop (inl c) = inr c

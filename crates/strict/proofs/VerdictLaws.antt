@@ -3,19 +3,20 @@ use Prim.Native.Nat.{ℕ, ◌≤◌, ◌<◌}
 use mathlib.Core.Path.{◌≡◌, refl, sym, ap, subst, ◌∙◌}
 use mathlib.Core.List.{List, [], ◌∷◌}
 use native.Mathlib.Omega.{arith}
+use mathlib.Core.Bool.{Bool, true, false}
 use lib.Dec.{lit<}
+use Rattle.std.specs.Prelude.{Result, Ok, Err}
 use lib.ListN.{length, get_or}
 use Rattle.answers.specs.Answers.{Answer, refused, accepted}
 use Rattle.answers.specs.Answers
 use Rattle.answers.specs.declared.refusals.Refusal.{Refusal}
 use Rattle.answers.specs.declared.refusals.Refusal.TheVariants.{TooLong, UnexpectedEnd, ExpectedNumber, InvalidNumber, ExpectedFlag, UnsupportedCommand, MissingMoveTo, NoRoom, BadList, RotationRange, NotFinite, BadPath, Range}
 use Rattle.answers.proofs.Settled.{refusal-settled}
+use Rattle.scan.proofs.ByteLaws.{clash}
 use Rattle.strict_grammar.specs.Grammar.{Matches}
 use Rattle.strict_grammar.specs.declared.Edition.{Edition}
 use Rattle.strict_grammar.specs.declared.Edition.TheVariants.{Svg11, Svg2}
 use Rattle.strict.specs.Verdicts.{Judged, yes, no, too_long, JudgedBy, known, unknown, number_of, answer_of, most_bytes}
-use Rattle.strict.specs.declared.texts.Verdict.{Verdict}
-use Rattle.strict.specs.declared.texts.Verdict.TheVariants.{Yes, No, Refused}
 
 judged-settled : (edition : Edition) (text : List ℕ) (a b : Answer) → Judged edition text a → Judged edition text b → a ≡ b
 judged-settled edition text a b (yes _ _ e) (yes _ _ f) = e ∙ sym f
@@ -74,26 +75,32 @@ yes-apart : accepted (1 ∷ []) ≡ accepted (0 ∷ []) → ⊥
 unfolding first
 yes-apart e = let n : ◌≡◌ {A = ℕ} 1 0 = ap first e in omega arith
 
+-- an answer by a test of the grammar is a judgement
+pub judged-by-test : (edition : Edition) (text : List ℕ) (b : Bool) → length text ≤ most_bytes → (b ≡ true → Matches edition text) × (Matches edition text → b ≡ true)
+    → Judged edition text (answer_of (Ok b))
+judged-by-test edition text true short m = yes short (m.0 refl) refl
+judged-by-test edition text false short m = no short (λ d. clash (m.1 d) refl) refl
+
 -- a verdict is settled by its answer
-pub answer-tells : (r s : Verdict) → answer_of r ≡ answer_of s → r ≡ s
-answer-tells Yes Yes e = refl
-answer-tells Yes No e = absurd (yes-apart e)
-answer-tells Yes (Refused s) e = absurd (refused-apart s _ (sym e))
-answer-tells No Yes e = absurd (yes-apart (sym e))
-answer-tells No No e = refl
-answer-tells No (Refused s) e = absurd (refused-apart s _ (sym e))
-answer-tells (Refused r) Yes e = absurd (refused-apart r _ e)
-answer-tells (Refused r) No e = absurd (refused-apart r _ e)
-answer-tells (Refused r) (Refused s) e =
-    ap Refused (refusal-settled r s (ap (λ (a : Answer). a.number) e) (ap (λ (a : Answer). a.values) e))
+pub answer-tells : (r s : Result Bool Refusal) → answer_of r ≡ answer_of s → r ≡ s
+answer-tells (Ok true) (Ok true) e = refl
+answer-tells (Ok true) (Ok false) e = absurd (yes-apart e)
+answer-tells (Ok true) (Err s) e = absurd (refused-apart s _ (sym e))
+answer-tells (Ok false) (Ok true) e = absurd (yes-apart (sym e))
+answer-tells (Ok false) (Ok false) e = refl
+answer-tells (Ok false) (Err s) e = absurd (refused-apart s _ (sym e))
+answer-tells (Err r) (Ok true) e = absurd (refused-apart r _ e)
+answer-tells (Err r) (Ok false) e = absurd (refused-apart r _ e)
+answer-tells (Err r) (Err s) e =
+    ap Err (refusal-settled r s (ap (λ (a : Answer). a.number) e) (ap (λ (a : Answer). a.values) e))
 
 -- any two verdicts that the contract allows are equal
-pub verdict-settled : (number : ℕ) (text : List ℕ) (r s : Verdict) → JudgedBy number text (answer_of r) → JudgedBy number text (answer_of s) → r ≡ s
+pub verdict-settled : (number : ℕ) (text : List ℕ) (r s : Result Bool Refusal) → JudgedBy number text (answer_of r) → JudgedBy number text (answer_of s) → r ≡ s
 verdict-settled number text r s p q = answer-tells r s (answer-settled number text (answer_of r) (answer_of s) p q)
 
 -- under a known edition the verdict on a text that is not too long is yes exactly where a derivation of the whole text exists
-module _ (edition : Edition) (text : List ℕ) (r : Verdict) (short : length text ≤ most_bytes) (judged : JudgedBy (number_of edition) text (answer_of r)) where
-  pub yes-derives : r ≡ Yes → Matches edition text
+module _ (edition : Edition) (text : List ℕ) (r : Result Bool Refusal) (short : length text ≤ most_bytes) (judged : JudgedBy (number_of edition) text (answer_of r)) where
+  pub yes-derives : r ≡ Ok true → Matches edition text
   yes-derives e = go judged
     where
       go : JudgedBy (number_of edition) text (answer_of r) → Matches edition text
@@ -105,5 +112,5 @@ module _ (edition : Edition) (text : List ℕ) (r : Verdict) (short : length tex
           matched (no _ _ f) = absurd (yes-apart (sym (ap answer_of e) ∙ f))
           matched (too_long h _) = absurd (omega arith)
 
-  pub derives-yes : Matches edition text → r ≡ Yes
-  derives-yes m = verdict-settled (number_of edition) text r Yes judged (known edition refl (yes short m refl))
+  pub derives-yes : Matches edition text → r ≡ Ok true
+  derives-yes m = verdict-settled (number_of edition) text r (Ok true) judged (known edition refl (yes short m refl))

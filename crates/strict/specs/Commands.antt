@@ -1,5 +1,5 @@
 -- The letters of the commands, and what a reader of one command promises. Definitions only.
-use Rattle.std.specs.Prelude.{ℕ, ◌<◌, ◌≡◌, Bool, true, false, ◌⊎◌, List, [], ◌∷◌, ◌++◌, ltb}
+use Rattle.std.specs.Prelude.{ℕ, ◌≡◌, Bool, true, false, List, [], ◌∷◌, ◌++◌, ltb, Option, Some, None}
 use Rattle.scan.specs.Bytes.{among}
 use Rattle.scan.specs.Runs.{stands}
 use Rattle.strict_grammar.specs.Spans.{Span, ◌·◌, ◌∥◌, opt, star, sequence}
@@ -7,7 +7,7 @@ use Rattle.strict_grammar.specs.Grammar.{wsp, comma-wsp, moveto, drawto-command}
 use Rattle.strict_grammar.specs.Words.{Past, Lacks, Goes}
 use Rattle.strict_grammar.specs.declared.Edition.{Edition}
 use Rattle.strict_grammar.specs.declared.Edition.TheVariants.{Svg11, Svg2}
-use Rattle.strict_argument.specs.Reading.{nowhere, argument_of}
+use Rattle.strict_argument.specs.Reading.{argument_of}
 use Rattle.strict_argument.specs.declared.groups.Kind.{Kind}
 use Rattle.strict_argument.specs.declared.groups.Kind.TheVariants.{Coordinate, Pair, TwoPairs, ThreePairs, Arc}
 use Rattle.strict.specs.declared.commands.Letter.{Letter}
@@ -46,10 +46,10 @@ LetterAt text at Closes = stands text at close_letters ≡ true
 LetterAt text at (Takes kind) = stands text at (letters_of kind) ≡ true
 LetterAt text at Other = stands text at command_letters ≡ false
 
--- an answer is right for a production at a place: a word of it ends there, and where another one ends C holds; or `nowhere`, where it has none
-pub data Reaches (P : Span) (C : ℕ → Type 0) (i r : ℕ) : Type 0 where
-  ends : r < nowhere → Past P C i r → Reaches P C i r
-  missing : r ≡ nowhere → Lacks P i → Reaches P C i r
+-- an answer is right for a production at a place: a word of it ends there, and where another one ends C holds; or none, where it has none
+abbrev pub Reaches : Span → (ℕ → Type 0) → ℕ → Option ℕ → Type 0
+Reaches P C i (Some end) = Past P C i end
+Reaches P C i None = Lacks P i
 
 -- white space, and a sequence of arguments of a kind
 abbrev pub Arguments : Edition → List ℕ → Kind → Span
@@ -60,9 +60,8 @@ abbrev pub Item : Edition → List ℕ → Kind → Span
 Item edition text kind = opt (comma-wsp edition text) · argument_of edition text kind
 
 -- past all further arguments: other items from the same place end where a sequence could go on
-pub record Further (edition : Edition) (text : List ℕ) (kind : Kind) (i r : ℕ) : Type 0 where
-  pub past : Past (star (Item edition text kind)) (Goes edition text) i r
-  pub bounded : (r ≡ i) ⊎ (r < nowhere)
+abbrev pub Further : Edition → List ℕ → Kind → ℕ → ℕ → Type 0
+Further edition text kind i r = Past (star (Item edition text kind)) (Goes edition text) i r
 
 -- what may stand where a command is due: a moveto, and after one also a drawto-command
 abbrev pub Command : Edition → List ℕ → Bool → Span

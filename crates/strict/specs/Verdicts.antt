@@ -1,22 +1,21 @@
 -- The answer of strict reading (document 01, "Strict reading" and "The answers"; document 02, L10). Definitions only.
-use Rattle.std.specs.Prelude.{ℕ, ◌≤◌, ◌<◌, ◌≡◌, List, [], ◌∷◌, length}
+use Rattle.std.specs.Prelude.{ℕ, ◌≤◌, ◌<◌, ◌≡◌, Bool, true, false, List, [], ◌∷◌, length, Result, Ok, Err}
 use Rattle.answers.specs.Answers.{Answer, refused, accepted}
+use Rattle.answers.specs.declared.refusals.Refusal.{Refusal}
 use Rattle.answers.specs.declared.refusals.Refusal.TheVariants.{TooLong, Range}
 use Rattle.strict_grammar.specs.Grammar.{Matches}
 use Rattle.strict_grammar.specs.declared.Edition.{Edition}
 use Rattle.strict_grammar.specs.declared.Edition.TheVariants.{Svg11, Svg2}
-use Rattle.strict.specs.declared.texts.Verdict.{Verdict}
-use Rattle.strict.specs.declared.texts.Verdict.TheVariants.{Yes, No, Refused}
 
 -- "text above 65,536 bytes"
 abbrev pub most_bytes : ℕ
 most_bytes = 65536
 
 -- "A yes or no": 1 and 0
-abbrev pub answer_of : Verdict → Answer
-answer_of Yes = accepted (1 ∷ [])
-answer_of No = accepted (0 ∷ [])
-answer_of (Refused refusal) = refused refusal
+abbrev pub answer_of : Result Bool Refusal → Answer
+answer_of (Ok true) = accepted (1 ∷ [])
+answer_of (Ok false) = accepted (0 ∷ [])
+answer_of (Err refusal) = refused refusal
 
 -- "A yes or no: the text matches the 1.1 grammar", or SVG 2's; "Strict reading: 1 only.", which carries "its length". A yes holds a derivation and a no its refutation,
 -- so that two allowed verdicts are equal without deciding the grammar.

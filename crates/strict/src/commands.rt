@@ -2,8 +2,7 @@
 ghost use Rattle.strict_grammar.specs.Words.{Goes};
 ghost use Rattle.strict.specs.Commands.{LetterOf, LetterAt, Reaches, Further, Arguments, Command};
 
-use strict_argument::{Kind, NOWHERE, past_separator, past_space, read_argument};
-use strict_grammar::Edition;
+use strict_argument::{Kind, Text, past_separator, past_space, read_argument};
 
 // What a byte begins where a command is due.
 #[derive(Clone, Copy)]
@@ -17,30 +16,19 @@ enum Letter {
 fn letter_of(byte: u8) -> Letter
     ensures { LetterOf byte result }
 {
-    if (byte == b'M') | (byte == b'm') {
-        return Letter::Moves;
+    match byte {
+        b'M' | b'm' => Letter::Moves,
+        b'Z' | b'z' => Letter::Closes,
+        b'L' | b'l' | b'T' | b't' => Letter::Takes(Kind::Pair),
+        b'H' | b'h' | b'V' | b'v' => Letter::Takes(Kind::Coordinate),
+        b'C' | b'c' => Letter::Takes(Kind::ThreePairs),
+        b'S' | b's' | b'Q' | b'q' => Letter::Takes(Kind::TwoPairs),
+        b'A' | b'a' => Letter::Takes(Kind::Arc),
+        _ => Letter::Other,
     }
-    if (byte == b'Z') | (byte == b'z') {
-        return Letter::Closes;
-    }
-    if (byte == b'L') | (byte == b'l') | (byte == b'T') | (byte == b't') {
-        return Letter::Takes(Kind::Pair);
-    }
-    if (byte == b'H') | (byte == b'h') | (byte == b'V') | (byte == b'v') {
-        return Letter::Takes(Kind::Coordinate);
-    }
-    if (byte == b'C') | (byte == b'c') {
-        return Letter::Takes(Kind::ThreePairs);
-    }
-    if (byte == b'S') | (byte == b's') | (byte == b'Q') | (byte == b'q') {
-        return Letter::Takes(Kind::TwoPairs);
-    }
-    if (byte == b'A') | (byte == b'a') {
-        return Letter::Takes(Kind::Arc);
-    }
-    Letter::Other
 }
 
+// No `get`: an Option of a reference is in a form that modules for 32-bit processors must not have (DECISIONS 222).
 fn letter_at(text: &[u8], at: usize) -> Letter
     ensures { LetterAt text.now at result }
 {
@@ -53,49 +41,35 @@ fn letter_at(text: &[u8], at: usize) -> Letter
 
 // Past all further arguments, each after a separator or none. A separator that no argument follows
 // is not passed.
-fn past_arguments(text: &[u8], at: usize, kind: Kind, edition: Edition) -> usize
-    ensures { Further edition text.now kind at result }
+fn past_arguments(text: Text, at: usize, kind: Kind) -> usize
+    ensures { Further text.entry.edition text.entry.bytes.now kind at result }
 {
     let mut end = at;
     loop {
-        let start = past_separator(text, end, edition);
-        let next = read_argument(text, start, kind, edition);
-        if next == NOWHERE {
+        let start = past_separator(text, end);
+        let Some(next) = read_argument(text, start, kind) else {
             return end;
-        }
+        };
         end = next;
     }
 }
 
 // White space, and a sequence of at least one argument.
-fn read_arguments(text: &[u8], at: usize, kind: Kind, edition: Edition) -> usize
-    ensures { Reaches (Arguments edition text.now kind) (Goes edition text.now) at result }
+fn read_arguments(text: Text, at: usize, kind: Kind) -> Option<usize>
+    ensures { Reaches (Arguments text.entry.edition text.entry.bytes.now kind) (Goes text.entry.edition text.entry.bytes.now) at result }
 {
-    let end = read_argument(text, past_space(text, at, edition), kind, edition);
-    if end == NOWHERE {
-        return NOWHERE;
-    }
-    past_arguments(text, end, kind, edition)
+    let end = read_argument(text, past_space(text, at), kind)?;
+    Some(past_arguments(text, end, kind))
 }
 
 // One command. Before the first moveto no other command has begun, and none is read.
-pub fn read_command(text: &[u8], at: usize, begun: bool, edition: Edition) -> usize
-    ensures { Reaches (Command edition text.now begun) (Goes edition text.now) at result }
+pub fn read_command(text: Text, at: usize, begun: bool) -> Option<usize>
+    ensures { Reaches (Command text.entry.edition text.entry.bytes.now begun) (Goes text.entry.edition text.entry.bytes.now) at result }
 {
-    match letter_at(text, at) {
-        Letter::Moves => read_arguments(text, at + 1, Kind::Pair, edition),
-        Letter::Closes => {
-            if begun {
-                return at + 1;
-            }
-            NOWHERE
-        }
-        Letter::Takes(kind) => {
-            if begun {
-                return read_arguments(text, at + 1, kind, edition);
-            }
-            NOWHERE
-        }
-        Letter::Other => NOWHERE,
+    match letter_at(text.bytes, at) {
+        Letter::Moves => read_arguments(text, at + 1, Kind::Pair),
+        Letter::Closes if begun => Some(at + 1),
+        Letter::Takes(kind) if begun => read_arguments(text, at + 1, kind),
+        _ => None,
     }
 }

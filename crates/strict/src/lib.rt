@@ -5,4 +5,4 @@
 mod commands;
 mod texts;
 
-pub use texts::{Verdict, strict};
+pub use texts::strict;

@@ -6,16 +6,8 @@ ghost use Rattle.strict.specs.Verdicts.{Judged, JudgedBy, answer_of};
 
 use crate::commands::read_command;
 use answers::Refusal;
-use strict_argument::{NOWHERE, past_gap, past_space};
+use strict_argument::{Text, past_gap, past_space};
 use strict_grammar::Edition;
-
-// The answer of strict reading.
-#[derive(Clone, Copy)]
-pub enum Verdict {
-    Yes,
-    No,
-    Refused(Refusal),
-}
 
 // Whether nothing may follow the first moveto: in SVG 2, where white space stands before it.
 fn stands_alone(white: usize, edition: Edition) -> bool
@@ -28,46 +20,47 @@ fn stands_alone(white: usize, edition: Edition) -> bool
 }
 
 // Whether the whole text is a path of the grammar.
-fn matches(text: &[u8], edition: Edition) -> bool
-    ensures { (result ≡ true → Matches edition text.now) × (Matches edition text.now → result ≡ true) }
+fn matches(text: Text) -> bool
+    ensures { (result ≡ true → Matches text.entry.edition text.entry.bytes.now) × (Matches text.entry.edition text.entry.bytes.now → result ≡ true) }
 {
-    let mut at = past_space(text, 0, edition);
-    let alone = stands_alone(at, edition);
+    let mut at = past_space(text, 0);
+    let alone = stands_alone(at, text.edition);
     let mut begun = false;
-    while at < text.len() {
+    while at < text.bytes.len() {
         if alone & begun {
             return false;
         }
-        let end = read_command(text, at, begun, edition);
-        if end == NOWHERE {
+        let Some(end) = read_command(text, at, begun) else {
             return false;
-        }
-        at = past_gap(text, end, edition);
+        };
+        at = past_gap(text, end);
         begun = true;
     }
-    at == text.len()
+    at == text.bytes.len()
 }
 
-fn judge(text: &[u8], edition: Edition) -> Verdict
-    ensures { Judged edition text.now (answer_of result) }
+fn judge(text: Text) -> Result<bool, Refusal>
+    ensures { Judged text.entry.edition text.entry.bytes.now (answer_of result) }
 {
-    if 65536 < text.len() {
-        return Verdict::Refused(Refusal::TooLong(text.len()));
+    let length = text.bytes.len();
+    if 65536 < length {
+        return Err(Refusal::TooLong(length));
     }
-    if matches(text, edition) {
-        return Verdict::Yes;
-    }
-    Verdict::No
+    Ok(matches(text))
 }
 
-// Strict reading of a text of any bytes under an edition, 1 for SVG 1.1 and 2 for SVG 2. Another
-// number is refused with itself; then a text of more than 65,536 bytes with its length.
-pub fn strict(text: &[u8], edition: u32) -> Verdict
+// Strict reading of a text of any bytes under an edition, 1 for SVG 1.1 and 2 for SVG 2: whether the
+// text is a path of its grammar. Another number is refused with itself; then a text of more than 65,536 bytes with its length.
+pub fn strict(text: &[u8], edition: u32) -> Result<bool, Refusal>
     ensures { JudgedBy edition text.now (answer_of result) }
 {
-    match edition {
-        1 => judge(text, Edition::Svg11),
-        2 => judge(text, Edition::Svg2),
-        _ => Verdict::Refused(Refusal::Range(edition as usize)),
-    }
+    let edition = match edition {
+        1 => Edition::Svg11,
+        2 => Edition::Svg2,
+        _ => return Err(Refusal::Range(edition as usize)),
+    };
+    judge(Text {
+        bytes: text,
+        edition,
+    })
 }

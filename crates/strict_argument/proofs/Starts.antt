@@ -1,13 +1,10 @@
 -- Every argument starts as a number does, and has a byte. Assumes nothing.
-use Prim.Native.Nat.{ℕ, ◌+◌, ◌≤◌, ◌<◌}
-use mathlib.Core.Path.{◌≡◌, refl, sym, subst}
-use mathlib.Core.Bool.{true}
+use Prim.Native.Nat.{ℕ, ◌<◌}
 use mathlib.Core.List.{List}
 use native.Mathlib.Omega.{arith}
 use Rattle.scan.specs.Bytes.{among, flags, number_starts}
-use Rattle.scan.specs.Runs.{stands}
-use Rattle.strict_grammar.specs.Spans.{Span, Byte, ◌·◌, opt}
-use Rattle.strict_grammar.specs.Grammar.{nonnegative-number, number, flag, comma-wsp, coordinate-pair, smooth-curveto-argument, curveto-argument, elliptical-arc-argument}
+use Rattle.strict_grammar.specs.Spans.{Span, ◌·◌, opt}
+use Rattle.strict_grammar.specs.Grammar.{nonnegative-number, number, flag, comma-wsp, coordinate-pair, smooth-curveto-argument, elliptical-arc-argument}
 use Rattle.strict_grammar.specs.declared.Edition.{Edition}
 use Rattle.strict_grammar.proofs.SpanLaws.{wider}
 use Rattle.strict_grammar.proofs.Numbers.{number-starts, number-grows, nonnegative-is}

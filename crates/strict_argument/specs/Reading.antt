@@ -1,5 +1,5 @@
 -- The answer of a reader of one production, and the productions of the arguments by kind. Definitions only.
-use Rattle.std.specs.Prelude.{ℕ, ◌<◌, ◌≡◌, List}
+use Rattle.std.specs.Prelude.{ℕ, List, Option, Some, None}
 use Rattle.strict_grammar.specs.Spans.{Span, ◌·◌, opt}
 use Rattle.strict_grammar.specs.Grammar.{nonnegative-number, rotation, flag, comma-wsp, coordinate, coordinate-pair, smooth-curveto-argument, curveto-argument, elliptical-arc-argument}
 use Rattle.strict_grammar.specs.Words.{Only, Lacks}
@@ -7,14 +7,10 @@ use Rattle.strict_grammar.specs.declared.Edition.{Edition}
 use Rattle.strict_argument.specs.declared.groups.Kind.{Kind}
 use Rattle.strict_argument.specs.declared.groups.Kind.TheVariants.{Coordinate, Pair, TwoPairs, ThreePairs, Arc}
 
--- the place that stands for a missing word: no text is as long
-abbrev pub nowhere : ℕ
-nowhere = 0xffff_ffff_ffff_ffff
-
--- an answer is right for a production at a place: the only place where a word of it ends, or `nowhere` where it has none
-pub data Reads (P : Span) (i r : ℕ) : Type 0 where
-  ends : r < nowhere → Only P i r → Reads P i r
-  missing : r ≡ nowhere → Lacks P i → Reads P i r
+-- an answer is right for a production at a place: the only place where a word of it ends, or none where it has none
+abbrev pub Reads : Span → ℕ → Option ℕ → Type 0
+Reads P i (Some end) = Only P i end
+Reads P i None = Lacks P i
 
 module _ (edition : Edition) (text : List ℕ) where
   -- the ends of an arc's argument, from its second flag, its first flag, its rotation and its second radius

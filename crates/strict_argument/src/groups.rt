@@ -2,11 +2,10 @@
 ghost use Rattle.strict_grammar.specs.Grammar.{coordinate-pair, smooth-curveto-argument, curveto-argument, elliptical-arc-argument};
 ghost use Rattle.strict_argument.specs.Reading.{Reads, arc-from-radius, arc-from-rotation, arc-from-large-flag, arc-from-sweep-flag, argument_of};
 
-use crate::words::{past_separator, read_flag, read_number, read_radius, read_rotation};
-use strict_grammar::Edition;
+use crate::words::{Text, past_separator, read_flag, read_number, read_radius, read_rotation};
 
 // What a command's sequence of arguments is made of.
-#[derive(Clone, Copy)]
+#[derive(Clone, Copy, Debug, PartialEq, Eq)]
 pub enum Kind {
     Coordinate,
     Pair,
@@ -15,75 +14,75 @@ pub enum Kind {
     Arc,
 }
 
-fn pair(text: &[u8], at: usize, edition: Edition) -> usize
-    ensures { Reads (coordinate-pair edition text.now) at result }
+fn pair(text: Text, at: usize) -> Option<usize>
+    ensures { Reads (coordinate-pair text.entry.edition text.entry.bytes.now) at result }
 {
-    let middle = read_number(text, at, edition);
-    read_number(text, past_separator(text, middle, edition), edition)
+    let middle = read_number(text, at)?;
+    read_number(text, past_separator(text, middle))
 }
 
 // The argument of a smooth curve and of a quadratic one.
-fn two_pairs(text: &[u8], at: usize, edition: Edition) -> usize
-    ensures { Reads (smooth-curveto-argument edition text.now) at result }
+fn two_pairs(text: Text, at: usize) -> Option<usize>
+    ensures { Reads (smooth-curveto-argument text.entry.edition text.entry.bytes.now) at result }
 {
-    let end = pair(text, at, edition);
-    pair(text, past_separator(text, end, edition), edition)
+    let end = pair(text, at)?;
+    pair(text, past_separator(text, end))
 }
 
-fn three_pairs(text: &[u8], at: usize, edition: Edition) -> usize
-    ensures { Reads (curveto-argument edition text.now) at result }
+fn three_pairs(text: Text, at: usize) -> Option<usize>
+    ensures { Reads (curveto-argument text.entry.edition text.entry.bytes.now) at result }
 {
-    let end = pair(text, at, edition);
-    two_pairs(text, past_separator(text, end, edition), edition)
+    let end = pair(text, at)?;
+    two_pairs(text, past_separator(text, end))
 }
 
-fn arc_from_sweep_flag(text: &[u8], at: usize, edition: Edition) -> usize
-    ensures { Reads (arc-from-sweep-flag edition text.now) at result }
+fn arc_from_sweep_flag(text: Text, at: usize) -> Option<usize>
+    ensures { Reads (arc-from-sweep-flag text.entry.edition text.entry.bytes.now) at result }
 {
-    let end = read_flag(text, at);
-    pair(text, past_separator(text, end, edition), edition)
+    let end = read_flag(text.bytes, at)?;
+    pair(text, past_separator(text, end))
 }
 
-fn arc_from_large_flag(text: &[u8], at: usize, edition: Edition) -> usize
-    ensures { Reads (arc-from-large-flag edition text.now) at result }
+fn arc_from_large_flag(text: Text, at: usize) -> Option<usize>
+    ensures { Reads (arc-from-large-flag text.entry.edition text.entry.bytes.now) at result }
 {
-    let end = read_flag(text, at);
-    arc_from_sweep_flag(text, past_separator(text, end, edition), edition)
+    let end = read_flag(text.bytes, at)?;
+    arc_from_sweep_flag(text, past_separator(text, end))
 }
 
 // The separator before the first flag must stand there, and no test says so: the longest number
 // leaves no digit behind it, so no flag can stand there at once.
-fn arc_from_rotation(text: &[u8], at: usize, edition: Edition) -> usize
-    ensures { Reads (arc-from-rotation edition text.now) at result }
+fn arc_from_rotation(text: Text, at: usize) -> Option<usize>
+    ensures { Reads (arc-from-rotation text.entry.edition text.entry.bytes.now) at result }
 {
-    let end = read_rotation(text, at, edition);
-    arc_from_large_flag(text, past_separator(text, end, edition), edition)
+    let end = read_rotation(text, at)?;
+    arc_from_large_flag(text, past_separator(text, end))
 }
 
 // From the second radius.
-fn arc_from_radius(text: &[u8], at: usize, edition: Edition) -> usize
-    ensures { Reads (arc-from-radius edition text.now) at result }
+fn arc_from_radius(text: Text, at: usize) -> Option<usize>
+    ensures { Reads (arc-from-radius text.entry.edition text.entry.bytes.now) at result }
 {
-    let end = read_radius(text, at, edition);
-    arc_from_rotation(text, past_separator(text, end, edition), edition)
+    let end = read_radius(text, at)?;
+    arc_from_rotation(text, past_separator(text, end))
 }
 
-fn arc(text: &[u8], at: usize, edition: Edition) -> usize
-    ensures { Reads (elliptical-arc-argument edition text.now) at result }
+fn arc(text: Text, at: usize) -> Option<usize>
+    ensures { Reads (elliptical-arc-argument text.entry.edition text.entry.bytes.now) at result }
 {
-    let end = read_radius(text, at, edition);
-    arc_from_radius(text, past_separator(text, end, edition), edition)
+    let end = read_radius(text, at)?;
+    arc_from_radius(text, past_separator(text, end))
 }
 
 // One argument of a kind.
-pub fn read_argument(text: &[u8], at: usize, kind: Kind, edition: Edition) -> usize
-    ensures { Reads (argument_of edition text.now kind) at result }
+pub fn read_argument(text: Text, at: usize, kind: Kind) -> Option<usize>
+    ensures { Reads (argument_of text.entry.edition text.entry.bytes.now kind) at result }
 {
     match kind {
-        Kind::Coordinate => read_number(text, at, edition),
-        Kind::Pair => pair(text, at, edition),
-        Kind::TwoPairs => two_pairs(text, at, edition),
-        Kind::ThreePairs => three_pairs(text, at, edition),
-        Kind::Arc => arc(text, at, edition),
+        Kind::Coordinate => read_number(text, at),
+        Kind::Pair => pair(text, at),
+        Kind::TwoPairs => two_pairs(text, at),
+        Kind::ThreePairs => three_pairs(text, at),
+        Kind::Arc => arc(text, at),
     }
 }

@@ -6,4 +6,4 @@ mod groups;
 mod words;
 
 pub use groups::{Kind, read_argument};
-pub use words::{NOWHERE, past_gap, past_separator, past_space};
+pub use words::{Text, past_gap, past_separator, past_space};

@@ -5,7 +5,7 @@
 
 // The edition whose grammar decides: SVG 1.1 Second Edition of 16 August 2011, or the Candidate
 // Recommendation of SVG 2 of 4 October 2018.
-#[derive(Clone, Copy)]
+#[derive(Clone, Copy, Debug, PartialEq, Eq)]
 pub enum Edition {
     Svg11,
     Svg2,

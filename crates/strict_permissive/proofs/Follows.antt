@@ -1,27 +1,27 @@
 -- What may stand where a number ends in a derivation, from right to left: no e, since nothing there begins with one, and no point without a digit
 -- behind it. So the permissive reader's number ends there too. And its separators end where a separator of the grammar does. Assumes nothing.
-use Prim.Native.Nat.{ℕ, ◌+◌, ◌≤◌, ◌<◌}
+use Prim.Native.Nat.{ℕ, ◌+◌, ◌≤◌}
 use mathlib.Core.Path.{◌≡◌, refl, sym, subst, ◌∙◌, ap}
 use mathlib.Core.Bool.{Bool, true, false}
-use mathlib.Core.List.{List, [], ◌∷◌}
-use mathlib.Core.Logic.{◌⊎◌, inl, inr, ⊎_elim}
+use mathlib.Core.List.{List}
+use mathlib.Core.Logic.{inl, inr, ⊎_elim}
 use native.Mathlib.Omega.{arith}
 use lib.Dec.{T, ltb}
-use borrow.Author.Tests.{ltb-true, ltb-false}
+use borrow.Author.Tests.{ltb-false}
 use lib.ListN.{length}
 use Rattle.scan.specs.Bytes.{among, digits, signs, points, exponent_marks, commas, separators, flags, number_starts}
 use Rattle.scan.specs.Runs.{stands, past_digits_of, past_separators_of}
 use Rattle.scan.specs.Numbers.{whole_of, point_of, fraction_of, mark_of, exponent_of, end_of, places_of, no_digit, no_exponent_digit, scan_number_of}
-use Rattle.scan.specs.declared.numbers.Number.TheVariants.{Scanned}
+use Rattle.std.specs.Prelude.{Ok}
 use Rattle.scan.proofs.ByteLaws.{apartb, withinb, clash, either_way}
 use Rattle.scan.proofs.RunLaws.{stands-past, stands-within, one-step, all-stands, all-stopped, all-again}
 use Rattle.scan.proofs.NumberLaws.{mark-none, mark-onward, digit-in-all, exponent-in-none}
-use Rattle.strict_grammar.specs.Spans.{Byte, opt, star, none, more, plus}
-use Rattle.strict_grammar.specs.Grammar.{white_of, wsp, number, nonnegative-number, comma-wsp, coordinate-pair, elliptical-arc-argument, gap}
+use Rattle.strict_grammar.specs.Spans.{Byte, opt, star, none, more}
+use Rattle.strict_grammar.specs.Grammar.{white_of, wsp, number, comma-wsp, coordinate-pair, elliptical-arc-argument, gap}
 use Rattle.strict_grammar.specs.Words.{number_end}
 use Rattle.strict_grammar.specs.declared.Edition.{Edition}
 use Rattle.strict_grammar.specs.declared.Edition.TheVariants.{Svg11, Svg2}
-use Rattle.strict_grammar.proofs.SpanLaws.{standing, not-both, other, wider, snoc, joined, star-stops, run-same, run-found}
+use Rattle.strict_grammar.proofs.SpanLaws.{standing, not-both, other, wider, snoc, joined, run-same, run-found}
 use Rattle.strict_grammar.proofs.Numbers.{number-starts, number-only, number-lacks, ends-bare, ends-whole, ends-fraction, ends-point, nonnegative-is}
 use Rattle.strict_argument.specs.Reading.{argument_of}
 use Rattle.strict_argument.specs.declared.groups.Kind.{Kind}
@@ -211,7 +211,7 @@ module _ (edition : Edition) (text : List ℕ) where
       go Svg11 n = whole-11 i j n some f
       go Svg2 n = whole-2 i j n some f
 
-  pub scanned : (i j : ℕ) → number edition text i j → Follows text j → (scan_number_of text i ≡ Scanned (places_of text i)) × (end_of text i ≡ j)
+  pub scanned : (i j : ℕ) → number edition text i j → Follows text j → (scan_number_of text i ≡ Ok (places_of text i)) × (end_of text i ≡ j)
   unfolding scan_number_of
   scanned i j n f =
       let some = some-digit i j n in

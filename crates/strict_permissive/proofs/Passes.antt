@@ -32,19 +32,19 @@ use Rattle.svg_group.specs.Passing.{pass_group_of}
 use Rattle.svg_group.specs.declared.letters.Kind.{Kind as Drawing}
 use Rattle.svg_group.specs.declared.letters.Kind.TheVariants.{Move, Line, Horizontal, Vertical, Cubic, SmoothCubic, Quad, SmoothQuad, Arc as Ellipse}
 use Rattle.svg_group.specs.declared.letters.Letter.TheVariants.{Draws, Closes}
-use Rattle.svg_group.specs.declared.passing.Passed.TheVariants.{To}
-use Rattle.svg_step.specs.Steps.{needs_point_of, repeated_of, due_group_of, due_letter_of, due_at_of, next_due_of, read_step_of, passed, passed_to, pass_step_of}
+use Rattle.std.specs.Prelude.{Option, Some, None, Result, Ok, Err}
+use Rattle.answers.specs.declared.refusals.Refusal.{Refusal}
+use Rattle.svg_group.specs.Numbers.{and_then}
+use Rattle.svg_step.specs.Steps.{needs_point_of, repeated_of, due_group_of, due_letter_of, due_at_of, next_due_of, Step, read_step_of, pass_to, passed, pass_step_of}
 use Rattle.svg_step.specs.declared.steps.Reader.{Reader}
 use Rattle.svg_step.specs.declared.steps.Due.{Due}
 use Rattle.svg_step.specs.declared.steps.Due.TheVariants.{Close, Group}
-use Rattle.svg_step.specs.declared.steps.Step.{Step}
-use Rattle.svg_step.specs.declared.steps.Step.TheVariants.{Command as Commanded, Done, Refused}
+use Rattle.svg_step.specs.declared.steps.Stepped.{Stepped}
 use Rattle.svg_step.specs.declared.steps.Pass.{Pass}
-use Rattle.svg_step.specs.declared.steps.Pass.TheVariants.{Command as PassCommand, Done as PassDone, Refused as PassRefused}
 use Rattle.svg_step.proofs.Ahead.{step-ahead}
 use Rattle.svg_step.proofs.Passed.{pass_of, step-passed}
 use Rattle.svg_step.proofs.StepCases.{group-due, letter-closes, letter-placed, letter-moves, again-draws, due-done, due-letter, due-other}
-use Rattle.svg.specs.Texts.{Outcome, commands, prepend, follow, read_from}
+use Rattle.svg.specs.Texts.{commands, prepend, follow, read_from}
 use Rattle.strict_permissive.proofs.Follows.{Follows, follows-items, follows-command, past-separator, past-white}
 use Rattle.strict_permissive.proofs.Groups.{pass_kind, number-no-separator, kind-passed}
 
@@ -135,30 +135,32 @@ number-isnt b h = not-true (is_letter_of b) (each (λ x. not (is_letter_of x)) n
 -- ---- passing on from a place
 
 pub data Passes (text : List ℕ) : ℕ → ℕ → Bool → Type 0 where
-  ends : {from letter : ℕ} {placed : Bool} → pass_step_of text from letter placed ≡ PassDone → Passes text from letter placed
-  steps : {from letter : ℕ} {placed : Bool} (width next kept : ℕ) → pass_step_of text from letter placed ≡ PassCommand width next kept → Passes text next kept true → Passes text from letter placed
+  ends : {from letter : ℕ} {placed : Bool} → pass_step_of text from letter placed ≡ Ok None → Passes text from letter placed
+  steps : {from letter : ℕ} {placed : Bool} (width next kept : ℕ) → pass_step_of text from letter placed ≡ Ok (Some (pass_to width next kept)) → Passes text next kept true → Passes text from letter placed
 
 module _ (text : List ℕ) where
   -- what is due past the separators
   due-next :
-      (from letter : ℕ) (placed : Bool) {at : ℕ} {due : Due} → at ≡ past_separators_of text from → due ≡ due_at_of text at letter placed
+      (from letter : ℕ) (placed : Bool) {at : ℕ} {due : Result Due Refusal} → at ≡ past_separators_of text from → due ≡ due_at_of text at letter placed
       → due ≡ next_due_of text from letter placed
   unfolding next_due_of
   due-next from letter placed e d = d ∙ ap (λ a. due_at_of text a letter placed) e
 
   passed-group :
-      (from letter : ℕ) (placed : Bool) (draws : Drawing) (kept first next : ℕ) → Group draws kept first ≡ next_due_of text from letter placed
-      → pass_group_of text first draws ≡ To next → pass_step_of text from letter placed ≡ PassCommand (width_of draws) next kept
+      (from letter : ℕ) (placed : Bool) (draws : Drawing) (kept first next : ℕ) → Ok (Group draws kept first) ≡ next_due_of text from letter placed
+      → pass_group_of text first draws ≡ Ok next → pass_step_of text from letter placed ≡ Ok (Some (pass_to (width_of draws) next kept))
   unfolding pass_step_of
-  passed-group from letter placed draws kept first next d g = ap (passed text) (sym d) ∙ ap (passed_to kept draws) g
+  passed-group from letter placed draws kept first next d g =
+      ap (λ (due : Result Due Refusal). and_then due (passed text)) (sym d)
+      ∙ ap (λ (r : Result ℕ Refusal). and_then r (λ (n : ℕ). Ok (Some (pass_to (width_of draws) n kept)))) g
 
-  passed-close : (from letter : ℕ) (placed : Bool) (next : ℕ) → Close next ≡ next_due_of text from letter placed → pass_step_of text from letter placed ≡ PassCommand 0 next 0
+  passed-close : (from letter : ℕ) (placed : Bool) (next : ℕ) → Ok (Close next) ≡ next_due_of text from letter placed → pass_step_of text from letter placed ≡ Ok (Some (pass_to 0 next 0))
   unfolding pass_step_of
-  passed-close from letter placed next d = ap (passed text) (sym d)
+  passed-close from letter placed next d = ap (λ (due : Result Due Refusal). and_then due (passed text)) (sym d)
 
-  passed-end : (from letter : ℕ) (placed : Bool) (at : ℕ) → at ≡ past_separators_of text from → length text ≤ at → pass_step_of text from letter placed ≡ PassDone
+  passed-end : (from letter : ℕ) (placed : Bool) (at : ℕ) → at ≡ past_separators_of text from → length text ≤ at → pass_step_of text from letter placed ≡ Ok None
   unfolding pass_step_of
-  passed-end from letter placed at e h = ap (passed text) (sym (due-next from letter placed e (due-done text at letter placed h)))
+  passed-end from letter placed at e h = ap (λ (due : Result Due Refusal). and_then due (passed text)) (sym (due-next from letter placed e (due-done text at letter placed h)))
 
 module _ (edition : Edition) (text : List ℕ) where
   starts-past : (kind : Kind) (i j : ℕ) → argument_of edition text kind i j → (past_separators_of text i ≡ i) × (among (get_or text i 0) number_starts ≡ true)
@@ -167,14 +169,14 @@ module _ (edition : Edition) (text : List ℕ) where
       (past-white edition text i i (none refl) (number-no-separator text i h), stands-among number_starts text i h)
 
   -- the group of a kind from where its argument starts
-  group-passed : (draws : Drawing) (kind : Kind) → kind_of draws ≡ kind → (i j : ℕ) → argument_of edition text kind i j → Follows text j → pass_group_of text i draws ≡ To j
+  group-passed : (draws : Drawing) (kind : Kind) → kind_of draws ≡ kind → (i j : ℕ) → argument_of edition text kind i j → Follows text j → pass_group_of text i draws ≡ Ok j
   group-passed draws kind e i j a f =
       group-is text i draws ∙ ap (λ (k : Kind). pass_kind text k i) e ∙ kind-passed edition text kind i i j (starts-past kind i j a).0 a f
 
   -- ---- further arguments: "any other byte repeats it"
 
   module _ (kind : Kind) (letter : ℕ) (m : Means kind letter) where
-    again-due : (from i j : ℕ) → opt (comma-wsp edition text) from i → argument_of edition text kind i j → Group (repeated_of m.draws) letter i ≡ next_due_of text from letter true
+    again-due : (from i j : ℕ) → opt (comma-wsp edition text) from i → argument_of edition text kind i j → Ok (Group (repeated_of m.draws) letter i) ≡ next_due_of text from letter true
     again-due from i j o a =
         let h = argument-starts edition text kind i j a in
         let (p, n) = starts-past kind i j a in
@@ -194,14 +196,14 @@ module _ (edition : Edition) (text : List ℕ) where
     module _ (kind : Kind) (there : i < length text) (is : is_letter_of (get_or text i 0) ≡ true) (m : Means kind (get_or text i 0)) where
       -- the letter's first group
       letter-due : (needs_point_of m.draws ≡ false) ⊎ (placed ≡ true) → (x y : ℕ) → star (wsp edition text) (i + 1) x → argument_of edition text kind x y
-          → Group m.draws (get_or text i 0) x ≡ next_due_of text from letter placed
+          → Ok (Group m.draws (get_or text i 0) x) ≡ next_due_of text from letter placed
       letter-due free x y w a =
           let h = argument-starts edition text kind x y a in
           let d = group-due text (i + 1) m.draws (get_or text i 0) x (get_or text x 0) (sym (past-white edition text (i + 1) x w (number-no-separator text x h))) refl (stands-among number_starts text x h) in
           due-next text from letter placed at (due-letter text i letter placed there _ is (drawn free (either_way (needs_point_of m.draws)) d))
         where
           drawn : (needs_point_of m.draws ≡ false) ⊎ (placed ≡ true) → (needs_point_of m.draws ≡ true) ⊎ (needs_point_of m.draws ≡ false)
-              → {due : Due} → due ≡ due_group_of text (i + 1) m.draws (get_or text i 0) → due ≡ due_letter_of text i (get_or text i 0) placed
+              → {due : Result Due Refusal} → due ≡ due_group_of text (i + 1) m.draws (get_or text i 0) → due ≡ due_letter_of text i (get_or text i 0) placed
           drawn f (inr n) d = letter-moves text i (get_or text i 0) placed m.draws m.means _ n d
           drawn (inr p) (inl n) d = letter-placed text i (get_or text i 0) placed m.draws m.means _ n p d
           drawn (inl n) (inl z) d = absurd (clash z n)
@@ -264,24 +266,34 @@ module _ (edition : Edition) (text : List ℕ) where
 -- ---- what passes is read
 
 module _ (text : List ℕ) where
-  pass-done : (step : Step) → pass_of step ≡ PassDone → step ≡ Done
-  pass-done (Commanded command next) e = let z : ◌≡◌ {A = ℕ} 0 1 = cc in absurd (omega arith)
-  pass-done Done e = refl
-  pass-done (Refused reason) e = let z : ◌≡◌ {A = ℕ} 0 1 = cc in absurd (omega arith)
+  pass-done : (step : Step) → pass_of step ≡ Ok None → step ≡ Ok None
+  pass-done (Ok (Some step)) e = cc
+  pass-done (Ok None) e = refl
+  pass-done (Err reason) e = cc
+
+  abbrev place_in : ℕ → Result (Option Pass) Refusal → ℕ
+  place_in n (Ok (Some pass)) = pass.next
+  place_in n (Ok None) = n
+  place_in n (Err reason) = n
+
+  abbrev kept_in : ℕ → Result (Option Pass) Refusal → ℕ
+  kept_in n (Ok (Some pass)) = pass.letter
+  kept_in n (Ok None) = n
+  kept_in n (Err reason) = n
 
   pass-command :
-      (width next kept : ℕ) (step : Step) → pass_of step ≡ PassCommand width next kept
-      → (command : PathCommand) × (state : Reader) × (step ≡ Commanded command state) × (state.at ≡ next) × (state.letter ≡ kept)
-  pass-command width next kept (Commanded command state) e = (command, state, refl, cc, cc)
-  pass-command width next kept Done e = let z : ◌≡◌ {A = ℕ} 0 1 = cc in absurd (omega arith)
-  pass-command width next kept (Refused reason) e = let z : ◌≡◌ {A = ℕ} 0 1 = cc in absurd (omega arith)
+      (width next kept : ℕ) (step : Step) → pass_of step ≡ Ok (Some (pass_to width next kept))
+      → (taken : Stepped) × (step ≡ Ok (Some taken)) × (taken.next.at ≡ next) × (taken.next.letter ≡ kept)
+  pass-command width next kept (Ok (Some taken)) e = (taken, refl, ap (place_in next) e, ap (kept_in kept) e)
+  pass-command width next kept (Ok None) e = cc
+  pass-command width next kept (Err reason) e = cc
 
   abbrev Read : ℕ → Reader → Type 0
   Read count reader = (list : List PathCommand) × (read_from count text reader ≡ commands list)
 
-  read-on : (count : ℕ) (reader : Reader) (command : PathCommand) (state : Reader) → read_step_of text reader ≡ Commanded command state → Read count state → Read (suc count) reader
+  read-on : (count : ℕ) (reader : Reader) (taken : Stepped) → read_step_of text reader ≡ Ok (Some taken) → Read count taken.next → Read (suc count) reader
   unfolding read_from
-  read-on count reader command state d (list, q) = (command ∷ list, ap (follow (read_from count text)) d ∙ ap (prepend command) q)
+  read-on count reader taken d (list, q) = (taken.command ∷ list, ap (follow (read_from count text)) d ∙ ap (prepend taken.command) q)
 
   pub passes-read :
       {from letter : ℕ} {placed : Bool} → Passes text from letter placed → (reader : Reader) → reader.at ≡ from → reader.letter ≡ letter
@@ -294,4 +306,4 @@ module _ (text : List ℕ) where
   passes-read (steps width next kept e t) reader a l p zero = ([], refl)
   passes-read (steps width next kept e t) reader a l p (suc count) =
       let s = pass-command width next kept (read_step_of text reader) (step-passed text reader ∙ rw (a, l, p) e) in
-      read-on count reader s.0 s.1 s.2 (passes-read t s.1 s.3 s.4 (step-ahead text reader s.1 s.0 s.2).2 count)
+      read-on count reader s.0 s.1 (passes-read t s.0.next s.2 s.3 (step-ahead text reader s.0 s.1).2 count)

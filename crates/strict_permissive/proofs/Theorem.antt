@@ -1,9 +1,9 @@
 -- A text of at most 65,536 bytes that matches the grammar of an edition is read by the permissive reader, for want of room aside. Assumes nothing.
 use Prim.Native.Nat.{ℕ, suc, ◌≤◌}
-use mathlib.Core.Path.{◌≡◌, refl, sym, ◌∙◌, ap}
-use mathlib.Core.Bool.{Bool, true, false, ◌||◌, cond}
+use mathlib.Core.Path.{◌≡◌, refl}
+use mathlib.Core.Bool.{Bool, true, false, ◌||◌}
 use mathlib.Core.List.{List}
-use mathlib.Core.Logic.{◌⊎◌, inl, inr, ⊎_elim}
+use mathlib.Core.Logic.{◌⊎◌, inl, inr}
 use lib.Dec.{ltb}
 use borrow.Author.Tests.{le-ltb}
 use lib.ListN.{length}
@@ -17,8 +17,8 @@ use Rattle.commands.specs.declared.command.PathCommand.{PathCommand}
 use Rattle.svg_step.specs.Steps.{fresh_of}
 use Rattle.answers.specs.declared.refusals.Values.TheVariants.{Three}
 use Rattle.answers.specs.declared.refusals.Refusal.TheVariants.{NoRoom}
-use Rattle.svg.specs.Texts.{Outcome, commands, refusal, commands_of, offsets_of}
-use Rattle.svg.specs.Readings.{roomed, read_path_of}
+use Rattle.svg.specs.Texts.{commands, refusal, commands_of, offsets_of}
+use Rattle.svg.specs.Readings.{read_path_of}
 use Rattle.strict_permissive.specs.Read.{ReadOrNoRoom}
 use Rattle.strict_permissive.proofs.Follows.{past-white}
 use Rattle.strict_permissive.proofs.Passes.{Passes, due-separator, rest-passes, passes-read}

@@ -6,6 +6,7 @@ use native.Mathlib.Omega.{arith}
 use lib.Ieee.{Float}
 use lib.ListN.{length, set, take, drop, length-append}
 use lib.Seq.{sets, take-append_seam, drop-append-add, drop-drop}
+use Rattle.std.specs.Prelude.{Some, None, Result, Ok, Err}
 use Rattle.answers.specs.Report.{written}
 use Rattle.answers.specs.declared.refusals.Refusal.{Refusal}
 use Rattle.answers.proofs.Writing.{written-more, length-written}
@@ -13,15 +14,14 @@ use Rattle.commands.specs.Stored.{letter_of, arguments_of, letters_of, numbers_o
 use Rattle.commands.specs.declared.command.PathCommand.{PathCommand}
 use Rattle.svg_step.specs.Steps.{fresh_of, read_step_of}
 use Rattle.svg.specs.Lists.{CommandList, command_list, no_list}
-use Rattle.svg.specs.Texts.{Outcome, commands, refusal, read_from, commands_of, offsets_from, offsets_of, measure_of, Room, Roomed, Filled, FilledAll, onto, Known, Counting, Holding, Begun, Held, SaysStored, Stores}
+use Rattle.svg.specs.Texts.{Outcome, commands, refusal, read_from, commands_of, offsets_of, counts_at, measure_of, Room, Roomed, Filled, FilledAll, onto, Known, Counting, Holding, Begun, Held, Stores}
 use Rattle.svg_step.specs.declared.steps.Reader.{Reader}
-use Rattle.svg_step.specs.declared.steps.Step.TheVariants.{Command, Done, Refused}
-use Rattle.svg.specs.declared.passes.Size.{Size}
-use Rattle.svg.specs.declared.passes.Size.TheVariants.{Counted, Refused as Unmeasured}
+use Rattle.svg_step.specs.declared.steps.Stepped.{Stepped}
+use Rattle.svg.specs.declared.passes.Counts.{Counts}
 use Rattle.svg.specs.declared.passes.Stored.{Stored}
-use Rattle.svg.specs.declared.passes.Stored.TheVariants.{Whole, Refused as Unstored, Full}
+use Rattle.svg.specs.declared.passes.Stored.TheVariants.{Whole, Full}
 use Rattle.svg_step.proofs.Ahead.{step-ahead}
-use Rattle.svg.proofs.PassLaws.{letters-more, numbers_more, few-arguments, known-none, known-all, known-offsets, known_many, known-refused, known_more, known-offset, counted, uncounted, counting-within, room_of}
+use Rattle.svg.proofs.PassLaws.{letters-more, numbers_more, few-arguments, known-none, known-all, known-offsets, known_many, known_more, known-offset, counted, uncounted, counting-within, room_of}
 use Rattle.svg.proofs.Offsets.{offsets-many}
 
 -- ---- what is written twice
@@ -84,7 +84,7 @@ module _ {text : List ℕ} {before after : CommandList} {reader : Reader} {lette
   pub held-within : (letter_at ≤ length after.letters) × (at ≤ length after.numbers) × (letter_at ≤ length after.offsets)
   held-within = (omega (arith, held-letters, k.letters_in), omega (arith, held-numbers, k.numbers_in), omega (arith, held-offsets, k.offsets_in))
 
-  pub held_whole : read_step_of text reader ≡ Done → Stores text before after (Whole letter_at at)
+  pub held_whole : read_step_of text reader ≡ Ok None → Stores text before after (Ok (Whole (counts_at letter_at at)))
   held_whole e =
       let all : commands_of text ≡ commands k.done = known-all text reader k.done k.known e in
       let offsets : offsets_of text ≡ k.known.marks = known-offsets text reader k.done k.known e in
@@ -96,81 +96,81 @@ module _ {text : List ℕ} {before after : CommandList} {reader : Reader} {lette
         );
       }
 
-  pub held-refused : (reason : Refusal) → read_step_of text reader ≡ Refused reason → Stores text before after (Unstored reason)
+  pub held-refused : (reason : Refusal) → read_step_of text reader ≡ Err reason → Stores text before after (Err reason)
   held-refused reason e = record { said = uncounted text reader letter_at at counting reason e }
 
-  module _ (command : PathCommand) (next : Reader) (e : read_step_of text reader ≡ Command command next) where
-    more : Known text next (k.done ++ (command ∷ []))
-    more = known_more text reader k.done k.known command next e
+  module _ (step : Stepped) (e : read_step_of text reader ≡ Ok (Some step)) where
+    more : Known text step.next (k.done ++ (step.command ∷ []))
+    more = known_more text reader k.done k.known step e
 
-    one-letter : length (letters_of (k.done ++ (command ∷ []))) ≡ length (letters_of k.done) + 1
-    one-letter = ap length (letters-more k.done command) ∙ length-append (letters_of k.done) (letter_of command ∷ [])
+    one-letter : length (letters_of (k.done ++ (step.command ∷ []))) ≡ length (letters_of k.done) + 1
+    one-letter = ap length (letters-more k.done step.command) ∙ length-append (letters_of k.done) (letter_of step.command ∷ [])
 
-    its-numbers : length (numbers_of (k.done ++ (command ∷ []))) ≡ length (numbers_of k.done) + length (arguments_of command)
-    its-numbers = ap length (numbers_more k.done command) ∙ length-append (numbers_of k.done) (arguments_of command)
+    its-numbers : length (numbers_of (k.done ++ (step.command ∷ []))) ≡ length (numbers_of k.done) + length (arguments_of step.command)
+    its-numbers = ap length (numbers_more k.done step.command) ∙ length-append (numbers_of k.done) (arguments_of step.command)
 
     -- the offset of its letter
-    pub held-offset : next.offset < length text
-    held-offset = known-offset text reader k.done k.known command next e
+    pub held-offset : step.next.offset < length text
+    held-offset = known-offset text reader k.done k.known step e
 
     -- the counts are small
-    pub held_small : (letter_at < length text) × (at ≤ 7 * letter_at) × (length (arguments_of command) ≤ 7)
-    held_small = counting-within text reader letter_at at counting command next e
+    pub held_small : (letter_at < length text) × (at ≤ 7 * letter_at) × (length (arguments_of step.command) ≤ 7)
+    held_small = counting-within text reader letter_at at counting step e
 
-    -- room for the text is room for the command
+    -- room for the text is room for the step.command
     roomed :
         Roomed (offsets_of text) (commands_of text) before
-        → (letter_at + 1 ≤ length after.letters) × (at + length (arguments_of command) ≤ length after.numbers) × (letter_at + 1 ≤ length after.offsets)
+        → (letter_at + 1 ≤ length after.letters) × (at + length (arguments_of step.command) ≤ length after.numbers) × (letter_at + 1 ≤ length after.offsets)
     roomed room =
-        let r = room_of (length before.letters) (length before.numbers) (k.done ++ (command ∷ [])) (commands_of text) (read_from more.steps text next) room.0 more.whole in (
+        let r = room_of (length before.letters) (length before.numbers) (k.done ++ (step.command ∷ [])) (commands_of text) (read_from more.steps text step.next) room.0 more.whole in (
           omega (arith, r.0, one-letter, k.places, held-letters),
           omega (arith, r.1, its-numbers, k.count, held-numbers),
-          omega (arith, room.1, known_many text next (k.done ++ (command ∷ [])) more, more.many, one-letter, k.places, held-offsets),
+          omega (arith, room.1, known_many text step.next (k.done ++ (step.command ∷ [])) more, more.many, one-letter, k.places, held-offsets),
         )
 
-    pub full-of-letters : length after.letters ≤ letter_at → Stores text before after (Full reader letter_at at)
+    pub full-of-letters : length after.letters ≤ letter_at → Stores text before after (Ok (Full reader letter_at at))
     full-of-letters h = record { said = (k, λ room. omega (arith, (roomed room).0)) }
 
-    pub full-of-numbers : (width : ℕ) → width ≡ length (arguments_of command) → length after.numbers < at + width → Stores text before after (Full reader letter_at at)
+    pub full-of-numbers : (width : ℕ) → width ≡ length (arguments_of step.command) → length after.numbers < at + width → Stores text before after (Ok (Full reader letter_at at))
     full-of-numbers width w h = record { said = (k, λ room. omega (arith, (roomed room).1, w)) }
 
-    pub full-of-offsets : length after.offsets ≤ letter_at → Stores text before after (Full reader letter_at at)
+    pub full-of-offsets : length after.offsets ≤ letter_at → Stores text before after (Ok (Full reader letter_at at))
     full-of-offsets h = record { said = (k, λ room. omega (arith, (roomed room).2)) }
 
     pub holding-more :
-        {letters' : List ℕ} {numbers' : List Float} (width : ℕ) → width ≡ length (arguments_of command)
+        {letters' : List ℕ} {numbers' : List Float} (width : ℕ) → width ≡ length (arguments_of step.command)
         → letter_at < length after.letters
         → at + width ≤ length after.numbers
         → letter_at < length after.offsets
-        → Store letter_at at command after.letters after.numbers letters' numbers'
-        → Holding text before (command_list letters' numbers' (set after.offsets letter_at next.offset)) next (letter_at + 1) (at + width)
+        → Store letter_at at step.command after.letters after.numbers letters' numbers'
+        → Holding text before (command_list letters' numbers' (set after.offsets letter_at step.next.offset)) step.next (letter_at + 1) (at + width)
     unfolding more known_more
     holding-more width w inside enough free s =
-        let l : letters_of (k.done ++ (command ∷ [])) ≡ letters_of k.done ++ (letter_of command ∷ []) = letters-more k.done command in
-        let n : numbers_of (k.done ++ (command ∷ [])) ≡ numbers_of k.done ++ arguments_of command = numbers_more k.done command in
+        let l : letters_of (k.done ++ (step.command ∷ [])) ≡ letters_of k.done ++ (letter_of step.command ∷ []) = letters-more k.done step.command in
+        let n : numbers_of (k.done ++ (step.command ∷ [])) ≡ numbers_of k.done ++ arguments_of step.command = numbers_more k.done step.command in
         record {
-          done = k.done ++ (command ∷ []);
+          done = k.done ++ (step.command ∷ []);
           known = more;
           places = omega (arith, one-letter, k.places);
           count = omega (arith, its-numbers, k.count, w);
-          letter-le = omega (arith, step-ahead text reader next command e, k.letter-le);
-          at-le = omega (arith, few-arguments command, w, k.at-le);
+          letter-le = omega (arith, step-ahead text reader step e, k.letter-le);
+          at-le = omega (arith, few-arguments step.command, w, k.at-le);
           letters_now =
               rw l
               (s.letter
-              ∙ ap (λ x. set x letter_at (letter_of command)) k.letters_now
-              ∙ ap (λ i. set (written (letters_of k.done) before.letters) i (letter_of command)) k.places
-              ∙ written-more (letters_of k.done) (letter_of command ∷ []) before.letters (omega (arith, inside, held-letters, k.places)));
+              ∙ ap (λ x. set x letter_at (letter_of step.command)) k.letters_now
+              ∙ ap (λ i. set (written (letters_of k.done) before.letters) i (letter_of step.command)) k.places
+              ∙ written-more (letters_of k.done) (letter_of step.command ∷ []) before.letters (omega (arith, inside, held-letters, k.places)));
           numbers_now =
               rw n
               (s.arguments
-              ∙ ap (λ x. sets x at (arguments_of command)) k.numbers_now
-              ∙ ap (λ i. sets (written (numbers_of k.done) before.numbers) i (arguments_of command)) k.count
-              ∙ written-more (numbers_of k.done) (arguments_of command) before.numbers (omega (arith, enough, held-numbers, k.count, w)));
+              ∙ ap (λ x. sets x at (arguments_of step.command)) k.numbers_now
+              ∙ ap (λ i. sets (written (numbers_of k.done) before.numbers) i (arguments_of step.command)) k.count
+              ∙ written-more (numbers_of k.done) (arguments_of step.command) before.numbers (omega (arith, enough, held-numbers, k.count, w)));
           offsets_now =
-              ap (λ x. set x letter_at next.offset) k.offsets_now
-              ∙ ap (λ i. set (written k.known.marks before.offsets) i next.offset) (k.places ∙ sym k.known.many)
-              ∙ written-more k.known.marks (next.offset ∷ []) before.offsets (omega (arith, free, held-offsets, k.places, k.known.many));
+              ap (λ x. set x letter_at step.next.offset) k.offsets_now
+              ∙ ap (λ i. set (written k.known.marks before.offsets) i step.next.offset) (k.places ∙ sym k.known.many)
+              ∙ written-more k.known.marks (step.next.offset ∷ []) before.offsets (omega (arith, free, held-offsets, k.places, k.known.many));
           letters_in = omega (arith, inside, held-letters);
           numbers_in = omega (arith, enough, held-numbers);
           offsets_in = omega (arith, free, held-offsets);
@@ -195,50 +195,52 @@ module _ {text : List ℕ} {before after : CommandList} {reader : Reader} {lette
 
 -- ---- what an answer tells
 
-module _ (text : List ℕ) (before after : CommandList) (places count : ℕ) where
+module _ (text : List ℕ) (before after : CommandList) (counts : Counts) where
   -- all that is stored, as three lists
   held_of :
-      (outcome : Outcome) → commands_of text ≡ outcome → Counted places count ≡ measure_of outcome → FilledAll (offsets_of text) outcome before after
-      → Held (offsets_of text) outcome (command_list (take places after.letters) (take count after.numbers) (take places after.offsets))
+      (outcome : Outcome) → commands_of text ≡ outcome → Ok counts ≡ measure_of outcome → FilledAll (offsets_of text) outcome before after
+      → Held (offsets_of text) outcome (command_list (take counts.letters after.letters) (take counts.numbers after.numbers) (take counts.letters after.offsets))
   unfolding measure_of
   held_of (commands list) e m f =
-      let l : places ≡ length (letters_of list) = cc in
-      let n : count ≡ length (numbers_of list) = cc in (
-        ap (take places) f.0.0 ∙ take-written (letters_of list) before.letters places l,
-        ap (take count) f.0.1 ∙ take-written (numbers_of list) before.numbers count n,
-        ap (take places) f.1 ∙ take-written (offsets_of text) before.offsets places (l ∙ sym (offsets-many text list e)),
+      let same : counts ≡ counts_at (length (letters_of list)) (length (numbers_of list)) = cc in
+      let l = ap (λ (c : Counts). c.letters) same in
+      let n = ap (λ (c : Counts). c.numbers) same in (
+        ap (take counts.letters) f.0.0 ∙ take-written (letters_of list) before.letters counts.letters l,
+        ap (take counts.numbers) f.0.1 ∙ take-written (numbers_of list) before.numbers counts.numbers n,
+        ap (take counts.letters) f.1 ∙ take-written (offsets_of text) before.offsets counts.letters (l ∙ sym (offsets-many text list e)),
       )
   held_of (refusal reason) e m f = absurd f.0
 
   within_of :
-      (outcome : Outcome) → commands_of text ≡ outcome → Counted places count ≡ measure_of outcome → Roomed (offsets_of text) outcome before
+      (outcome : Outcome) → commands_of text ≡ outcome → Ok counts ≡ measure_of outcome → Roomed (offsets_of text) outcome before
       → FilledAll (offsets_of text) outcome before after
-      → (places ≤ length after.letters) × (count ≤ length after.numbers) × (places ≤ length after.offsets)
+      → (counts.letters ≤ length after.letters) × (counts.numbers ≤ length after.numbers) × (counts.letters ≤ length after.offsets)
   unfolding measure_of
   within_of (commands list) e m room f =
-      let p : places ≡ length (letters_of list) = cc in
-      let q : count ≡ length (numbers_of list) = cc in (
+      let same : counts ≡ counts_at (length (letters_of list)) (length (numbers_of list)) = cc in
+      let p = ap (λ (c : Counts). c.letters) same in
+      let q = ap (λ (c : Counts). c.numbers) same in (
         omega (arith, p, room.0.0, ap length f.0.0 ∙ length-written (letters_of list) before.letters room.0.0),
         omega (arith, q, room.0.1, ap length f.0.1 ∙ length-written (numbers_of list) before.numbers room.0.1),
         omega (arith, p, offsets-many text list e, room.1, ap length f.1 ∙ length-written (offsets_of text) before.offsets room.1),
       )
   within_of (refusal reason) e m room f = absurd room.0
 
-module _ {text : List ℕ} {before after : CommandList} {r : Stored} (s : Stores text before after r) where
-  as-told : {q : Stored} → r ≡ q → Stores text before after q
-  as-told e = subst (λ (x : Stored). Stores text before after x) e s
+module _ {text : List ℕ} {before after : CommandList} {r : Result Stored Refusal} (s : Stores text before after r) where
+  as-told : {q : Result Stored Refusal} → r ≡ q → Stores text before after q
+  as-told e = subst (λ (x : Result Stored Refusal). Stores text before after x) e s
 
-  pub told-refused : {reason : Refusal} → r ≡ Unstored reason → measure_of (commands_of text) ≡ Unmeasured reason
+  pub told-refused : {reason : Refusal} → r ≡ Err reason → measure_of (commands_of text) ≡ Err reason
   told-refused e = sym (as-told e).said
 
-  module _ {places count : ℕ} (e : r ≡ Whole places count) where
-    pub whole-within : (places ≤ length after.letters) × (count ≤ length after.numbers) × (places ≤ length after.offsets)
-    whole-within = let told = (as-told e).said in within_of text before after places count (commands_of text) refl told.0 told.1 told.2
+  module _ {counts : Counts} (e : r ≡ Ok (Whole counts)) where
+    pub whole-within : (counts.letters ≤ length after.letters) × (counts.numbers ≤ length after.numbers) × (counts.letters ≤ length after.offsets)
+    whole-within = let told = (as-told e).said in within_of text before after counts (commands_of text) refl told.0 told.1 told.2
 
-    pub whole-held : Held (offsets_of text) (commands_of text) (command_list (take places after.letters) (take count after.numbers) (take places after.offsets))
-    whole-held = let told = (as-told e).said in held_of text before after places count (commands_of text) refl told.0 told.2
+    pub whole-held : Held (offsets_of text) (commands_of text) (command_list (take counts.letters after.letters) (take counts.numbers after.numbers) (take counts.letters after.offsets))
+    whole-held = let told = (as-told e).said in held_of text before after counts (commands_of text) refl told.0 told.2
 
-  module _ {reader : Reader} {places count : ℕ} (e : r ≡ Full reader places count) where
+  module _ {reader : Reader} {places count : ℕ} (e : r ≡ Ok (Full reader places count)) where
     full-holding : Holding text before after reader places count
     full-holding = (as-told e).said.0
 
@@ -250,18 +252,18 @@ module _ {text : List ℕ} {before after : CommandList} {r : Stored} (s : Stores
 
 -- ---- from buffers to others
 
-unmeasured : (outcome : Outcome) (l n : ℕ) (reason : Refusal) → Room outcome l n → Unmeasured reason ≡ measure_of outcome → ⊥
+unmeasured : (outcome : Outcome) (l n : ℕ) (reason : Refusal) → Room outcome l n → Err reason ≡ measure_of outcome → ⊥
 unfolding measure_of
 unmeasured (commands list) l n reason room m = let z : ◌≡◌ {A = ℕ} 0 1 = cc in omega arith
 unmeasured (refusal other) l n reason room m = room
 
 stored-filled :
-    (text : List ℕ) (before after : CommandList) (r : Stored) → Stores text before after r → Roomed (offsets_of text) (commands_of text) before
+    (text : List ℕ) (before after : CommandList) (r : Result Stored Refusal) → Stores text before after r → Roomed (offsets_of text) (commands_of text) before
     → FilledAll (offsets_of text) (commands_of text) before after
-stored-filled text before after (Whole places count) s room = s.said.2
-stored-filled text before after (Unstored reason) s room =
+stored-filled text before after (Ok (Whole counts)) s room = s.said.2
+stored-filled text before after (Err reason) s room =
     absurd (unmeasured (commands_of text) (length before.letters) (length before.numbers) reason room.0 s.said)
-stored-filled text before after (Full reader places count) s room = absurd (s.said.1 room)
+stored-filled text before after (Ok (Full reader places count)) s room = absurd (s.said.1 room)
 
 -- a list that is written over its own beginning
 filled-over :
@@ -333,7 +335,7 @@ module _ {text : List ℕ} {held : CommandList} {reader : Reader} (k : Begun tex
             }
 
         -- what is stored past the beginning makes the whole
-        pub begun-filled : (after : CommandList) (r : Stored) → Stores text copied after r → FilledAll (offsets_of text) (commands_of text) before after
+        pub begun-filled : (after : CommandList) (r : Result Stored Refusal) → Stores text copied after r → FilledAll (offsets_of text) (commands_of text) before after
         begun-filled after r s =
             let f = stored-filled text copied after r s (rw (same-letters, same_numbers, same-offsets) room) in (
               filled-over before.letters copied.letters after.letters before.numbers copied.numbers after.numbers k.done (commands_of text)

@@ -2,7 +2,6 @@
 pub mod Texts
 pub mod Offsets
 pub mod PassLaws
-pub mod Copying
 pub mod Holding
 pub mod Passing
 pub mod Answering
@@ -11,3 +10,4 @@ pub mod ReadBack
 pub mod Readings
 pub mod Smooth
 pub mod Told
+pub mod Copying

@@ -4,17 +4,16 @@ use mathlib.Core.Path.{◌≡◌, refl, sym, ap, ◌∙◌}
 use mathlib.Core.List.{List, [], ◌∷◌, ◌++◌, append_assoc, append-nil}
 use native.Mathlib.Omega.{arith}
 use lib.ListN.{length, length-append}
+use Rattle.std.specs.Prelude.{Some, None, Ok, Err}
 use Rattle.answers.specs.declared.refusals.Refusal.{Refusal}
 use Rattle.commands.specs.Stored.{letter_of, arguments_of, letters_of, numbers_of}
 use Rattle.commands.specs.declared.command.PathCommand.{PathCommand}
 use Rattle.commands.specs.declared.command.PathCommand.TheVariants.{MoveTo, LineTo, QuadTo, CubicTo, ArcTo, ClosePath}
 use Rattle.svg_step.specs.Steps.{fresh_of, read_step_of}
-use Rattle.svg.specs.Texts.{Outcome, commands, refusal, prepend, read_from, commands_of, offsets_from, offsets_of, measure_of, Room}
+use Rattle.svg.specs.Texts.{Outcome, commands, refusal, prepend, read_from, commands_of, offsets_from, offsets_of, counts_at, measure_of, Room}
 pub use Rattle.svg.specs.Texts.{onto, Known, Counting}
 use Rattle.svg_step.specs.declared.steps.Reader.{Reader}
-use Rattle.svg_step.specs.declared.steps.Step.TheVariants.{Command, Done, Refused}
-use Rattle.svg.specs.declared.passes.Size.{Size}
-use Rattle.svg.specs.declared.passes.Size.TheVariants.{Counted, Refused as Unmeasured}
+use Rattle.svg_step.specs.declared.steps.Stepped.{Stepped}
 use Rattle.svg_step.proofs.Ahead.{step-ahead}
 use Rattle.svg_step.proofs.Offsets.{offset-lies}
 use Rattle.svg.proofs.Texts.{from-done, offsets-done, from-refused, from-command}
@@ -72,40 +71,40 @@ known-none text =
     }
 
 module _ (text : List ℕ) (reader : Reader) (done : List PathCommand) (k : Known text reader done) where
-  pub known-all : read_step_of text reader ≡ Done → commands_of text ≡ commands done
+  pub known-all : read_step_of text reader ≡ Ok None → commands_of text ≡ commands done
   known-all e = k.whole ∙ ap (onto done) (from-done text reader k.steps e) ∙ ap commands (append-nil done)
 
-  pub known-offsets : read_step_of text reader ≡ Done → offsets_of text ≡ k.marks
+  pub known-offsets : read_step_of text reader ≡ Ok None → offsets_of text ≡ k.marks
   known-offsets e = k.offsets ∙ ap (λ l. k.marks ++ l) (offsets-done text reader k.steps e) ∙ append-nil k.marks
 
   -- those known are among the text's
   pub known_many : length k.marks ≤ length (offsets_of text)
   known_many = omega (arith, ap length k.offsets ∙ length-append k.marks (offsets_from k.steps text reader))
 
-  pub known-refused : (reason : Refusal) → read_step_of text reader ≡ Refused reason → commands_of text ≡ refusal reason
+  pub known-refused : (reason : Refusal) → read_step_of text reader ≡ Err reason → commands_of text ≡ refusal reason
   known-refused reason e = k.whole ∙ ap (onto done) (from-refused text reader k.steps reason k.enough e)
 
-  module _ (command : PathCommand) (next : Reader) (e : read_step_of text reader ≡ Command command next) where
-    unfoldable pub known_more : Known text next (done ++ (command ∷ []))
+  module _ (step : Stepped) (e : read_step_of text reader ≡ Ok (Some step)) where
+    unfoldable pub known_more : Known text step.next (done ++ (step.command ∷ []))
     known_more =
-        let m = from-command text reader k.steps command next k.enough e in
-        let o = offset-lies text reader next command e k.kept in
+        let m = from-command text reader k.steps step k.enough e in
+        let o = offset-lies text reader step e k.kept in
         record {
           steps = m.0;
           enough = m.1;
-          whole = k.whole ∙ ap (onto done) m.2 ∙ onto-prepend done command (read_from m.0 text next);
-          marks = k.marks ++ (next.offset ∷ []);
-          offsets = k.offsets ∙ ap (λ l. k.marks ++ l) m.3 ∙ sym (append_assoc k.marks (next.offset ∷ []) (offsets_from m.0 text next));
+          whole = k.whole ∙ ap (onto done) m.2 ∙ onto-prepend done step.command (read_from m.0 text step.next);
+          marks = k.marks ++ (step.next.offset ∷ []);
+          offsets = k.offsets ∙ ap (λ l. k.marks ++ l) m.3 ∙ sym (append_assoc k.marks (step.next.offset ∷ []) (offsets_from m.0 text step.next));
           many =
-              length-append k.marks (next.offset ∷ [])
+              length-append k.marks (step.next.offset ∷ [])
               ∙ ap (λ n. n + 1) k.many
-              ∙ sym (ap length (letters-more done command) ∙ length-append (letters_of done) (letter_of command ∷ []));
+              ∙ sym (ap length (letters-more done step.command) ∙ length-append (letters_of done) (letter_of step.command ∷ []));
           kept = omega (arith, o.2);
         }
 
     -- the offset of its letter
-    pub known-offset : next.offset < length text
-    known-offset = (offset-lies text reader next command e k.kept).1
+    pub known-offset : step.next.offset < length text
+    known-offset = (offset-lies text reader step e k.kept).1
 
 -- ---- the first pass
 
@@ -114,31 +113,32 @@ unfolding letters_of numbers_of
 counting-none text = record { done = []; known = known-none text; letters = refl; numbers = refl; letter-le = omega arith; at-le = omega arith }
 
 module _ (text : List ℕ) (reader : Reader) (letter_at at : ℕ) (k : Counting text reader letter_at at) where
-  pub counted : read_step_of text reader ≡ Done → Counted letter_at at ≡ measure_of (commands_of text)
+  pub counted : read_step_of text reader ≡ Ok None → Ok (counts_at letter_at at) ≡ measure_of (commands_of text)
   unfolding measure_of
   counted e =
       rw (known-all text reader k.done k.known e)
-      (ap (λ n. Counted n at) k.letters ∙ ap (Counted (length (letters_of k.done))) k.numbers)
+      (ap (λ n. Ok (counts_at n at)) k.letters ∙ ap (λ n. Ok (counts_at (length (letters_of k.done)) n)) k.numbers)
 
-  pub uncounted : (reason : Refusal) → read_step_of text reader ≡ Refused reason → Unmeasured reason ≡ measure_of (commands_of text)
+  pub uncounted : (reason : Refusal) → read_step_of text reader ≡ Err reason → Err reason ≡ measure_of (commands_of text)
   unfolding measure_of
   uncounted reason e = rw (known-refused text reader k.done k.known reason e)
 
-  module _ (command : PathCommand) (next : Reader) (e : read_step_of text reader ≡ Command command next) where
-    pub counting-within : (letter_at < length text) × (at ≤ 7 * letter_at) × (length (arguments_of command) ≤ 7)
-    counting-within = (omega (arith, step-ahead text reader next command e, k.letter-le), k.at-le, few-arguments command)
+  module _ (step : Stepped) (e : read_step_of text reader ≡ Ok (Some step)) where
+    pub counting-within : (letter_at < length text) × (at ≤ 7 * letter_at) × (length (arguments_of step.command) ≤ 7)
+    counting-within = (omega (arith, step-ahead text reader step e, k.letter-le), k.at-le, few-arguments step.command)
 
-    pub counting_more : (width : ℕ) → width ≡ length (arguments_of command) → Counting text next (letter_at + 1) (at + width)
+    pub counting_more : (width : ℕ) → width ≡ length (arguments_of step.command) → Counting text step.next (letter_at + 1) (at + width)
     counting_more width w =
-        let l : length (letters_of (k.done ++ (command ∷ []))) ≡ length (letters_of k.done) + 1 = ap length (letters-more k.done command) ∙ length-append (letters_of k.done) (letter_of command ∷ []) in
-        let n : length (numbers_of (k.done ++ (command ∷ []))) ≡ length (numbers_of k.done) + length (arguments_of command) = ap length (numbers_more k.done command) ∙ length-append (numbers_of k.done) (arguments_of command) in
+        let l : length (letters_of (k.done ++ (step.command ∷ []))) ≡ length (letters_of k.done) + 1 = ap length (letters-more k.done step.command) ∙ length-append (letters_of k.done) (letter_of step.command ∷ []) in
+        let n : length (numbers_of (k.done ++ (step.command ∷ []))) ≡ length (numbers_of k.done) + length (arguments_of step.command) =
+        ap length (numbers_more k.done step.command) ∙ length-append (numbers_of k.done) (arguments_of step.command) in
         record {
-          done = k.done ++ (command ∷ []);
-          known = known_more text reader k.done k.known command next e;
+          done = k.done ++ (step.command ∷ []);
+          known = known_more text reader k.done k.known step e;
           letters = omega (arith, l, k.letters);
           numbers = omega (arith, n, k.numbers, w);
-          letter-le = omega (arith, step-ahead text reader next command e, k.letter-le);
-          at-le = omega (arith, few-arguments command, w, k.at-le);
+          letter-le = omega (arith, step-ahead text reader step e, k.letter-le);
+          at-le = omega (arith, few-arguments step.command, w, k.at-le);
         }
 
 -- ---- room

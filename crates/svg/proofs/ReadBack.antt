@@ -1,6 +1,6 @@
 -- What the reader stores passes the check of a stored list, and reads back to the same commands. Assumes nothing.
 use Prim.Native.Nat.{ℕ, ◌≤◌}
-use mathlib.Core.Path.{◌≡◌, refl, sym, ap, ◌∙◌}
+use mathlib.Core.Path.{◌≡◌, refl, ap}
 use mathlib.Core.Bool.{Bool, true, false, cond, ◌||◌}
 use mathlib.Core.List.{List, []}
 use native.Mathlib.Omega.{arith}
@@ -9,7 +9,6 @@ use lib.Dec.{ltb}
 use lib.ListN.{length}
 use Rattle.answers.specs.Answers.{accepted}
 use Rattle.answers.specs.declared.refusals.Values.TheVariants.{Three}
-use Rattle.answers.specs.declared.refusals.Refusal.{Refusal}
 use Rattle.answers.specs.declared.refusals.Refusal.TheVariants.{TooLong, NoRoom}
 use Rattle.commands.specs.Stored.{letters_of, numbers_of}
 use Rattle.commands.specs.Listed.{well_formed, listed}

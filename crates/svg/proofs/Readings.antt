@@ -3,7 +3,7 @@
 use Prim.Native.Nat.{ℕ}
 use mathlib.Core.Path.{◌≡◌, refl}
 use mathlib.Core.List.{List, [], ◌∷◌}
-use lib.Ieee.{binary32, of_bits, to_bits, of_fields, odd, neg, add, sub, mul, sum, of_int, round, units, size, climb, span}
+use lib.Ieee.{binary32, of_bits, to_bits, neg, add, sub, mul, sum, of_int, round, units}
 use Rattle.answers.specs.declared.refusals.Refusal.TheVariants.{UnexpectedEnd, ExpectedNumber, InvalidNumber, ExpectedFlag, MissingMoveTo}
 use Rattle.scan.specs.Scan.{leading, scan}
 use Rattle.scan.specs.Bytes.{among}

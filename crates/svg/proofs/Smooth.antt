@@ -8,6 +8,7 @@ use native.Mathlib.Omega.{arith}
 use borrow.Author.Tests.{eqb-true}
 use lib.Dec.{eqb, ltb}
 use lib.ListN.{length, get_or}
+use Rattle.std.specs.Prelude.{Some, None, Result, Ok, Err}
 use Rattle.answers.specs.declared.refusals.Refusal.{Refusal}
 use Rattle.scan.specs.Bytes.{among, number_starts}
 use Rattle.scan.specs.Runs.{past_separators_of}
@@ -16,24 +17,21 @@ use Rattle.math.specs.declared.points.Point.{Point}
 use Rattle.commands.specs.declared.command.PathCommand.{PathCommand}
 use Rattle.commands.specs.declared.command.PathCommand.TheVariants.{MoveTo, LineTo, QuadTo, CubicTo, ArcTo, ClosePath}
 use Rattle.svg_group.specs.Letters.{is_letter_of, meaning_of}
-use Rattle.svg_group.specs.Numbers.{read_number_of, read_flags_of, read_pair_of}
+use Rattle.svg_group.specs.Numbers.{and_then, read_number_of, read_flags_of, point_of, read_pair_of}
 use Rattle.svg_group.specs.Groups.{read_move_of, read_line_of, read_horizontal_of, read_vertical_of, read_cubic_of, read_smooth_cubic_of, read_quad_of, read_smooth_quad_of, read_arc_of, read_group_of}
 use Rattle.svg_group.specs.declared.letters.Kind.{Kind}
 use Rattle.svg_group.specs.declared.letters.Kind.TheVariants.{Move, Line, Horizontal, Vertical, Cubic, SmoothCubic, Quad, SmoothQuad, Arc}
 use Rattle.svg_group.specs.declared.letters.Letter.{Letter}
 use Rattle.svg_group.specs.declared.letters.Letter.TheVariants.{Draws, Closes, Unknown}
 use Rattle.svg_group.specs.declared.groups.Group.{Group}
-use Rattle.svg_group.specs.declared.groups.Group.TheVariants.{Taken, Refused as GroupRefused}
-use Rattle.svg_group.proofs.Ahead.{number-elim, flags-elim, pair-elim}
+use Rattle.svg_group.proofs.Thens.{then-elim}
 use Rattle.svg_step.specs.Steps.{origin, fresh_of, is_relative_of, needs_point_of, repeated_of, mirrored_of, draws_cubic, draws_quad, of_kind, takes_up_of, first_control_of}
-use Rattle.svg_step.specs.Steps.{after_of, due_group_of, begun, due_letter_of, again, due_again_of, due_at_of, next_due_of, offset_of, taken, stepped, read_step_of}
+use Rattle.svg_step.specs.Steps.{after_of, due_group_of, begun, due_letter_of, again, due_again_of, due_at_of, next_due_of, offset_of, taken, Step, stepped_to, stepped, read_step_of}
 use Rattle.svg_step.specs.declared.steps.Reader.{Reader}
 use Rattle.svg_step.specs.declared.steps.Due.{Due}
-use Rattle.svg_step.specs.declared.steps.Due.TheVariants.{Done as NothingDue, Refused as NotDue, Close, Group as GroupDue}
-use Rattle.svg_step.specs.declared.steps.Step.{Step}
-use Rattle.svg_step.specs.declared.steps.Step.TheVariants.{Command, Done, Refused}
+use Rattle.svg_step.specs.declared.steps.Due.TheVariants.{Done, Close, Group as GroupDue}
 use Rattle.svg.specs.Texts.{Outcome, commands, refusal, prepend, follow, read_from, commands_of}
-use Rattle.svg.specs.Smooth.{Entry, made_by, entered, entries_beginning, entries_of, commands_in, end_of, start_of, reflected, cubic_first, quad_first, CubicFrom, QuadFrom, is_cubic, is_quad, Follows, Smooth}
+use Rattle.svg.specs.Smooth.{Entry, made_by, entered, entries_beginning, entries_of, commands_in, end_of, start_of, cubic_first, quad_first, CubicFrom, QuadFrom, is_cubic, is_quad, Follows, Smooth}
 
 -- ---- letters
 
@@ -84,17 +82,17 @@ same-further Arc meaning e = same-own Arc meaning e
 
 -- ---- what is due is due to a letter
 
-cond-elim : (P : Due → Type 0) (b : Bool) (x y : Due) → (b ≡ true → P x) → (b ≡ false → P y) → P (cond b x y)
+cond-elim : (P : Result Due Refusal → Type 0) (b : Bool) (x y : Result Due Refusal) → (b ≡ true → P x) → (b ≡ false → P y) → P (cond b x y)
 cond-elim P true x y f g = f refl
 cond-elim P false x y f g = g refl
 
-Born : ℕ → Due → Type 0
-Born letter NothingDue = Unit
-Born letter (NotDue reason) = Unit
-Born letter (Close next) = meaning_of letter ≡ Closes
-Born letter (GroupDue kind own first) = (own ≡ letter) × Same kind (meaning_of letter)
+Born : ℕ → Result Due Refusal → Type 0
+Born letter (Ok Done) = Unit
+Born letter (Err reason) = Unit
+Born letter (Ok (Close next)) = meaning_of letter ≡ Closes
+Born letter (Ok (GroupDue kind own first)) = (own ≡ letter) × Same kind (meaning_of letter)
 
-either-born : (b : Bool) (byte last : ℕ) (x y : Due) → (b ≡ true → Born byte x) → (b ≡ false → Born last y) → Born (cond b byte last) (cond b x y)
+either-born : (b : Bool) (byte last : ℕ) (x y : Result Due Refusal) → (b ≡ true → Born byte x) → (b ≡ false → Born last y) → Born (cond b byte last) (cond b x y)
 either-born true byte last x y f g = f refl
 either-born false byte last x y f g = g refl
 
@@ -129,7 +127,7 @@ module _ (text : List ℕ) where
   due-born from letter last placed h =
       let at = past_separators_of text from in
       let byte = get_or text at 0 in
-      cond-elim (Born (made_by text from last)) (ltb at (length text)) _ NothingDue
+      cond-elim (Born (made_by text from last)) (ltb at (length text)) _ (Ok Done)
       (λ e.
       either-born (is_letter_of byte) byte last (due_letter_of text at byte placed) (due_again_of text at letter)
       (λ f. begun-born at byte placed (meaning_of byte) refl) (λ f. last-born at letter last h))
@@ -148,33 +146,33 @@ SmoothFrom Quad first command = Unit
 SmoothFrom SmoothQuad first command = QuadFrom first command
 SmoothFrom Arc first command = Unit
 
-Made : Kind → Point → Group → Type 0
-Made kind first (Taken command next) = (draws_cubic kind ≡ is_cubic command) × (draws_quad kind ≡ is_quad command) × SmoothFrom kind first command
-Made kind first (GroupRefused reason) = Unit
+Made : Kind → Point → Result Group Refusal → Type 0
+Made kind first (Ok group) = (draws_cubic kind ≡ is_cubic group.command) × (draws_quad kind ≡ is_quad group.command) × SmoothFrom kind first group.command
+Made kind first (Err reason) = Unit
 
 module _ (text : List ℕ) (at : ℕ) (relative : Bool) (current first : Point) where
   group-made : (kind : Kind) → Made kind first (read_group_of text at kind relative current first)
   unfolding read_group_of read_move_of read_line_of read_horizontal_of read_vertical_of read_cubic_of read_smooth_cubic_of read_quad_of read_smooth_quad_of read_arc_of Made SmoothFrom
-  group-made Move = pair-elim (Made Move first) GroupRefused (read_pair_of text at relative current) _ (λ x. tt) (λ v n q. (refl, refl, tt))
-  group-made Line = pair-elim (Made Line first) GroupRefused (read_pair_of text at relative current) _ (λ x. tt) (λ v n q. (refl, refl, tt))
-  group-made Horizontal = number-elim (Made Horizontal first) GroupRefused (read_number_of text at) _ (λ x. tt) (λ v n q. (refl, refl, tt))
-  group-made Vertical = number-elim (Made Vertical first) GroupRefused (read_number_of text at) _ (λ x. tt) (λ v n q. (refl, refl, tt))
+  group-made Move = then-elim (Made Move first) (read_pair_of text at relative current) _ (λ x. tt) (λ v q. (refl, refl, tt))
+  group-made Line = then-elim (Made Line first) (read_pair_of text at relative current) _ (λ x. tt) (λ v q. (refl, refl, tt))
+  group-made Horizontal = then-elim (Made Horizontal first) (read_number_of text at) _ (λ x. tt) (λ v q. (refl, refl, tt))
+  group-made Vertical = then-elim (Made Vertical first) (read_number_of text at) _ (λ x. tt) (λ v q. (refl, refl, tt))
   group-made Cubic =
-      pair-elim (Made Cubic first) GroupRefused (read_pair_of text at relative current) _ (λ x. tt) (λ v n q.
-      pair-elim (Made Cubic first) GroupRefused (read_pair_of text n relative current) _ (λ x. tt) (λ w m r.
-      pair-elim (Made Cubic first) GroupRefused (read_pair_of text m relative current) _ (λ x. tt) (λ u k s. (refl, refl, tt))))
+      then-elim (Made Cubic first) (read_pair_of text at relative current) _ (λ x. tt) (λ v q.
+      then-elim (Made Cubic first) (read_pair_of text v.next relative current) _ (λ x. tt) (λ w r.
+      then-elim (Made Cubic first) (read_pair_of text w.next relative current) _ (λ x. tt) (λ u s. (refl, refl, tt))))
   group-made SmoothCubic =
-      pair-elim (Made SmoothCubic first) GroupRefused (read_pair_of text at relative current) _ (λ x. tt) (λ v n q.
-      pair-elim (Made SmoothCubic first) GroupRefused (read_pair_of text n relative current) _ (λ x. tt) (λ w m r. (refl, refl, (v, w, refl))))
+      then-elim (Made SmoothCubic first) (read_pair_of text at relative current) _ (λ x. tt) (λ v q.
+      then-elim (Made SmoothCubic first) (read_pair_of text v.next relative current) _ (λ x. tt) (λ w r. (refl, refl, (point_of v, point_of w, refl))))
   group-made Quad =
-      pair-elim (Made Quad first) GroupRefused (read_pair_of text at relative current) _ (λ x. tt) (λ v n q.
-      pair-elim (Made Quad first) GroupRefused (read_pair_of text n relative current) _ (λ x. tt) (λ w m r. (refl, refl, tt)))
-  group-made SmoothQuad = pair-elim (Made SmoothQuad first) GroupRefused (read_pair_of text at relative current) _ (λ x. tt) (λ v n q. (refl, refl, (v, refl)))
+      then-elim (Made Quad first) (read_pair_of text at relative current) _ (λ x. tt) (λ v q.
+      then-elim (Made Quad first) (read_pair_of text v.next relative current) _ (λ x. tt) (λ w r. (refl, refl, tt)))
+  group-made SmoothQuad = then-elim (Made SmoothQuad first) (read_pair_of text at relative current) _ (λ x. tt) (λ v q. (refl, refl, (point_of v, refl)))
   group-made Arc =
-      pair-elim (Made Arc first) GroupRefused (read_pair_of text at false current) _ (λ x. tt) (λ radii a q.
-      number-elim (Made Arc first) GroupRefused (read_number_of text a) _ (λ x. tt) (λ rotation b r.
-      flags-elim (Made Arc first) GroupRefused (read_flags_of text b) _ (λ x. tt) (λ large sweep d s.
-      pair-elim (Made Arc first) GroupRefused (read_pair_of text d relative current) _ (λ x. tt) (λ end e t. (refl, refl, tt)))))
+      then-elim (Made Arc first) (read_pair_of text at false current) _ (λ x. tt) (λ radii q.
+      then-elim (Made Arc first) (read_number_of text radii.next) _ (λ x. tt) (λ rotation r.
+      then-elim (Made Arc first) (read_flags_of text rotation.end) _ (λ x. tt) (λ flags s.
+      then-elim (Made Arc first) (read_pair_of text flags.next relative current) _ (λ x. tt) (λ end t. (refl, refl, tt)))))
 
 -- ---- the state past a command
 
@@ -252,44 +250,44 @@ module _ (reader : Reader) (last : ℕ) (previous : PathCommand) (k : Past reade
 -- ---- the step
 
 Good : Reader → PathCommand → ℕ → Step → Type 0
-Good reader previous letter (Command command next) =
-    Follows reader.start previous letter command × Past next letter command × (next.start ≡ start_of reader.start command)
-Good reader previous letter Done = Unit
-Good reader previous letter (Refused reason) = Unit
+Good reader previous letter (Ok (Some step)) =
+    Follows reader.start previous letter step.command × Past step.next letter step.command × (step.next.start ≡ start_of reader.start step.command)
+Good reader previous letter (Ok None) = Unit
+Good reader previous letter (Err reason) = Unit
 
 module _ (text : List ℕ) (reader : Reader) (offset last : ℕ) (previous : PathCommand) (k : Past reader last previous) where
   taken-good :
-      (kind : Kind) (letter own : ℕ) → own ≡ letter → Same kind (meaning_of letter) → (group : Group)
+      (kind : Kind) (letter own : ℕ) → own ≡ letter → Same kind (meaning_of letter) → (group : Result Group Refusal)
       → Made kind (first_control_of kind reader.letter reader.current reader.control) group
-      → Good reader previous letter (taken own offset reader.start group)
+      → Good reader previous letter (and_then group (λ group. Ok (Some (taken own offset reader.start group))))
   unfolding Good Made SmoothFrom
-  taken-good kind letter own o s (Taken command next) m =
-      let cubic : of_kind draws_cubic (meaning_of letter) ≡ is_cubic command = s.cubic ∙ m.0 in
-      let quad : of_kind draws_quad (meaning_of letter) ≡ is_quad command = s.quad ∙ m.1 in (
+  taken-good kind letter own o s (Ok group) m =
+      let cubic : of_kind draws_cubic (meaning_of letter) ≡ is_cubic group.command = s.cubic ∙ m.0 in
+      let quad : of_kind draws_quad (meaning_of letter) ≡ is_quad group.command = s.quad ∙ m.1 in (
         record {
           smooth_cubic = λ h. from-cubic kind (s.smooth_cubic (s-means letter h)) m.2;
           smooth_quad = λ h. from-quad kind (s.smooth_quad (t-means letter h)) m.2;
           cubic = cubic;
           quad = quad;
         },
-        subst (λ (l : ℕ). Past (after_of command next l offset reader.start) letter command) (sym o) (past_after next letter offset reader.start command cubic quad),
-        after-start next own offset reader.start command,
+        subst (λ (l : ℕ). Past (after_of group.command group.next l offset reader.start) letter group.command) (sym o) (past_after group.next letter offset reader.start group.command cubic quad),
+        after-start group.next own offset reader.start group.command,
       )
     where
-      from-cubic : (kind : Kind) → kind ≡ SmoothCubic → SmoothFrom kind (first_control_of kind reader.letter reader.current reader.control) command → CubicFrom (cubic_first reader.start previous) command
+      from-cubic : (kind : Kind) → kind ≡ SmoothCubic → SmoothFrom kind (first_control_of kind reader.letter reader.current reader.control) group.command → CubicFrom (cubic_first reader.start previous) group.command
       from-cubic kind e m =
-          let f : CubicFrom (first_control_of SmoothCubic reader.letter reader.current reader.control) command =
-          subst (λ (x : Kind). SmoothFrom x (first_control_of x reader.letter reader.current reader.control) command) e m in
-          subst (λ (p : Point). CubicFrom p command) (first-cubic reader last previous k) f
+          let f : CubicFrom (first_control_of SmoothCubic reader.letter reader.current reader.control) group.command =
+          subst (λ (x : Kind). SmoothFrom x (first_control_of x reader.letter reader.current reader.control) group.command) e m in
+          subst (λ (p : Point). CubicFrom p group.command) (first-cubic reader last previous k) f
 
-      from-quad : (kind : Kind) → kind ≡ SmoothQuad → SmoothFrom kind (first_control_of kind reader.letter reader.current reader.control) command → QuadFrom (quad_first reader.start previous) command
+      from-quad : (kind : Kind) → kind ≡ SmoothQuad → SmoothFrom kind (first_control_of kind reader.letter reader.current reader.control) group.command → QuadFrom (quad_first reader.start previous) group.command
       from-quad kind e m =
-          let f : QuadFrom (first_control_of SmoothQuad reader.letter reader.current reader.control) command =
-          subst (λ (x : Kind). SmoothFrom x (first_control_of x reader.letter reader.current reader.control) command) e m in
-          subst (λ (p : Point). QuadFrom p command) (first-quad reader last previous k) f
-  taken-good kind letter own o s (GroupRefused reason) m = tt
+          let f : QuadFrom (first_control_of SmoothQuad reader.letter reader.current reader.control) group.command =
+          subst (λ (x : Kind). SmoothFrom x (first_control_of x reader.letter reader.current reader.control) group.command) e m in
+          subst (λ (p : Point). QuadFrom p group.command) (first-quad reader last previous k) f
+  taken-good kind letter own o s (Err reason) m = tt
 
-  closed-good : (next letter : ℕ) → meaning_of letter ≡ Closes → Good reader previous letter (Command ClosePath (after_of ClosePath next reader.letter offset reader.start))
+  closed-good : (next letter : ℕ) → meaning_of letter ≡ Closes → Good reader previous letter (Ok (Some (stepped_to ClosePath (after_of ClosePath next reader.letter offset reader.start))))
   unfolding Good after_of control_of meaning_of among
   closed-good next letter e = (
     record {
@@ -305,12 +303,12 @@ module _ (text : List ℕ) (reader : Reader) (offset last : ℕ) (previous : Pat
       past-closed : Past (after_of ClosePath next reader.letter offset reader.start) letter ClosePath
       past-closed = record { current-is = refl; control-is = refl; cubic-is = refl; quad_is = refl; letter-is = inr refl }
 
-  stepped-good : (letter : ℕ) (due : Due) → Born letter due → Good reader previous letter (stepped text reader offset due)
+  stepped-good : (letter : ℕ) (due : Result Due Refusal) → Born letter due → Good reader previous letter (and_then due (stepped text reader offset))
   unfolding Born Good
-  stepped-good letter NothingDue b = tt
-  stepped-good letter (NotDue reason) b = tt
-  stepped-good letter (Close next) b = closed-good next letter b
-  stepped-good letter (GroupDue kind own first) b =
+  stepped-good letter (Ok Done) b = tt
+  stepped-good letter (Err reason) b = tt
+  stepped-good letter (Ok (Close next)) b = closed-good next letter b
+  stepped-good letter (Ok (GroupDue kind own first)) b =
       let relative = is_relative_of own reader.placed in
       let control = first_control_of kind reader.letter reader.current reader.control in
       taken-good kind letter own b.0 b.1 (read_group_of text first kind relative reader.current control) (group-made text first relative reader.current control kind)
@@ -333,10 +331,10 @@ module _ (text : List ℕ) where
       by-step :
           ((next : Reader) (letter : ℕ) (command : PathCommand) → Past next letter command → Smooth next.start command (entries_beginning steps text letter next))
           → (letter : ℕ) (step : Step) → Good reader previous letter step → Smooth reader.start previous (entered (entries_beginning steps text) letter step)
-      by-step rest letter (Command command next) g =
-          (g.0, subst (λ (p : Point). Smooth p command (entries_beginning steps text letter next)) g.2 (rest next letter command g.1))
-      by-step rest letter Done g = tt
-      by-step rest letter (Refused reason) g = tt
+      by-step rest letter (Ok (Some step)) g =
+          (g.0, subst (λ (p : Point). Smooth p step.command (entries_beginning steps text letter step.next)) g.2 (rest step.next letter step.command g.1))
+      by-step rest letter (Ok None) g = tt
+      by-step rest letter (Err reason) g = tt
 
   -- the entries are the text's commands
   entered-after :
@@ -355,9 +353,9 @@ module _ (text : List ℕ) where
       by-step :
           ((letter : ℕ) (next : Reader) (more : List PathCommand) → read_from steps text next ≡ commands more → commands_in (entries_beginning steps text letter next) ≡ more)
           → (letter : ℕ) (step : Step) → follow (read_from steps text) step ≡ commands list → commands_in (entered (entries_beginning steps text) letter step) ≡ list
-      by-step rest letter (Command command next) e = entered-after (read_from steps text next) (entries_beginning steps text letter next) letter command list (rest letter next) e
-      by-step rest letter Done e = let f : [] ≡ list = cc in f
-      by-step rest letter (Refused reason) e = let z : ◌≡◌ {A = ℕ} 0 1 = cc in absurd (omega arith)
+      by-step rest letter (Ok (Some step)) e = entered-after (read_from steps text step.next) (entries_beginning steps text letter step.next) letter step.command list (rest letter step.next) e
+      by-step rest letter (Ok None) e = let f : [] ≡ list = cc in f
+      by-step rest letter (Err reason) e = let z : ◌≡◌ {A = ℕ} 0 1 = cc in absurd (omega arith)
 
   -- of any text that reads: its commands, each with its letter, follow one another as SVG 1.1 has it. Before the first there is the origin, as past
   -- a Z; an S or T that comes first is refused

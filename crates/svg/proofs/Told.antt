@@ -2,26 +2,26 @@
 use Prim.Native.Nat.{ℕ, zero, suc, ◌≤◌}
 use mathlib.Core.Path.{◌≡◌, refl, ap, ◌∙◌}
 use mathlib.Core.Bool.{Bool, true, false, cond}
-use mathlib.Core.List.{List, [], ◌∷◌}
+use mathlib.Core.List.{List}
 use mathlib.Core.Logic.{◌⊎◌, inl, inr}
 use native.Mathlib.Omega.{arith}
 use lib.Dec.{ltb}
 use lib.ListN.{length, get_or}
+use Rattle.std.specs.Prelude.{Some, None, Ok, Err}
 use Rattle.answers.specs.declared.refusals.Refusal.{Refusal}
 use Rattle.answers.specs.declared.refusals.Refusal.TheVariants.{MissingMoveTo}
 use Rattle.scan.specs.Bytes.{among}
 use Rattle.scan.specs.Runs.{past_separators_of}
-use Rattle.commands.specs.declared.command.PathCommand.{PathCommand}
+use Rattle.svg_group.specs.Numbers.{and_then}
 use Rattle.svg_group.specs.Letters.{is_letter_of, meaning_of}
 use Rattle.svg_group.specs.declared.letters.Letter.TheVariants.{Unknown}
-use Rattle.svg_step.specs.Steps.{fresh_of, due_again_of, due_at_of, next_due_of, offset_at, offset_of, stepped, read_step_of}
+use Rattle.svg_step.specs.Steps.{fresh_of, due_again_of, due_at_of, next_due_of, offset_at, offset_of, Step, stepped, read_step_of}
 use Rattle.svg_step.specs.declared.steps.Reader.{Reader}
-use Rattle.svg_step.specs.declared.steps.Due.TheVariants.{Done as NothingDue, Refused as NotDue}
-use Rattle.svg_step.specs.declared.steps.Step.{Step}
-use Rattle.svg_step.specs.declared.steps.Step.TheVariants.{Command, Done, Refused}
+use Rattle.svg_step.specs.declared.steps.Due.TheVariants.{Done}
+use Rattle.svg_step.specs.declared.steps.Stepped.{Stepped}
 use Rattle.svg_step.proofs.Offsets.{step-offset, offset-lies}
 use Rattle.svg.specs.Texts.{marked, offsets_from, offsets_of}
-use Rattle.svg.specs.Smooth.{Entry, made_by, entered, entries_beginning, entries_of}
+use Rattle.svg.specs.Smooth.{made_by, entered, entries_beginning, entries_of}
 use Rattle.svg.specs.Told.{Told, started, starts_from, starts_of, OwnLetters}
 
 module _ (text : List ℕ) where
@@ -35,8 +35,8 @@ module _ (text : List ℕ) where
 
   -- ---- the step
 
-  module _ (reader : Reader) (next : Reader) (command : PathCommand) (e : read_step_of text reader ≡ Command command next) where
-    idle : (b : Bool) (offset : ℕ) (reason : Refusal) → stepped text reader offset (cond b (NotDue reason) NothingDue) ≡ Command command next → ⊥
+  module _ (reader : Reader) (step : Stepped) (e : read_step_of text reader ≡ Ok (Some step)) where
+    idle : (b : Bool) (offset : ℕ) (reason : Refusal) → and_then (cond b (Err reason) (Ok Done)) (stepped text reader offset) ≡ Ok (Some step) → ⊥
     idle true offset reason f = let z : ◌≡◌ {A = ℕ} 0 1 = cc in omega arith
     idle false offset reason f = let z : ◌≡◌ {A = ℕ} 0 1 = cc in omega arith
 
@@ -51,11 +51,11 @@ module _ (text : List ℕ) where
     either true at last offset f g = (refl, f)
     either false at last offset f g = g refl
 
-    step-told : (last : ℕ) → Stands reader last → Is next.offset (made_by text reader.at last)
+    step-told : (last : ℕ) → Stands reader last → Is step.next.offset (made_by text reader.at last)
     unfolding Stands offset_at
     step-told last s =
         let at = past_separators_of text reader.at in
-        rw (step-offset text reader next command e) (either (is_letter_of (get_or text at 0)) at last reader.offset refl (repeats s))
+        rw (step-offset text reader step e) (either (is_letter_of (get_or text at 0)) at last reader.offset refl (repeats s))
       where
         repeats : Stands reader last → is_letter_of (get_or text (past_separators_of text reader.at) 0) ≡ false → Is reader.offset last
         repeats (inl h) f = h
@@ -72,12 +72,12 @@ module _ (text : List ℕ) where
           ((next : Reader) (letter : ℕ) → next.offset ≤ next.at → Stands next letter → Told text next.offset (offsets_from steps text next) (entries_beginning steps text letter next))
           → (step : Step) → read_step_of text reader ≡ step
           → Told text reader.offset (marked (offsets_from steps text) step) (entered (entries_beginning steps text) (made_by text reader.at last) step)
-      by-step rest (Command command next) e =
-          let o = offset-lies text reader next command e kept in
-          let t = step-told reader next command e last s in
-          (o.0, o.1, t.0, t.1, rest next (made_by text reader.at last) (omega (arith, o.2)) (inl t))
-      by-step rest Done e = tt
-      by-step rest (Refused reason) e = tt
+      by-step rest (Ok (Some step)) e =
+          let o = offset-lies text reader step e kept in
+          let t = step-told reader step e last s in
+          (o.0, o.1, t.0, t.1, rest step.next (made_by text reader.at last) (omega (arith, o.2)) (inl t))
+      by-step rest (Ok None) e = tt
+      by-step rest (Err reason) e = tt
 
   pub offsets-told : Told text 0 (offsets_of text) (entries_of text)
   unfolding offsets_of entries_of Stands meaning_of among
@@ -96,11 +96,11 @@ module _ (text : List ℕ) where
       by-step : ((next : Reader) → OwnLetters text next.offset (offsets_from steps text next) (starts_from steps text next))
           → (step : Step) → read_step_of text reader ≡ step
           → OwnLetters text reader.offset (marked (offsets_from steps text) step) (started (past_separators_of text reader.at) (starts_from steps text) step)
-      by-step rest (Command command next) e =
-          let o = step-offset text reader next command e in
-          (λ h. o ∙ ap (λ b. cond b (past_separators_of text reader.at) reader.offset) h, λ h. o ∙ ap (λ b. cond b (past_separators_of text reader.at) reader.offset) h, rest next)
-      by-step rest Done e = tt
-      by-step rest (Refused reason) e = tt
+      by-step rest (Ok (Some step)) e =
+          let o = step-offset text reader step e in
+          (λ h. o ∙ ap (λ b. cond b (past_separators_of text reader.at) reader.offset) h, λ h. o ∙ ap (λ b. cond b (past_separators_of text reader.at) reader.offset) h, rest step.next)
+      by-step rest (Ok None) e = tt
+      by-step rest (Err reason) e = tt
 
   pub offsets-own : OwnLetters text 0 (offsets_of text) (starts_of text)
   unfolding offsets_of starts_of

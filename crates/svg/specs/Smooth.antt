@@ -1,19 +1,16 @@
 -- Smooth curves as SVG 1.1 has them (8.3.6 and 8.3.7), said of the commands of a text and of the letters that made them. Of the reader's state they
 -- use the places alone where commands end. Definitions only.
-use Rattle.std.specs.Prelude.{ℕ, zero, suc, ◌≡◌, Bool, true, false, cond, List, [], ◌∷◌, length, get_or}
+use Rattle.std.specs.Prelude.{ℕ, zero, suc, ◌≡◌, Bool, true, false, cond, List, [], ◌∷◌, Some, None, Ok, Err, length, get_or}
 use Rattle.std.specs.Float.{binary32}
 use Rattle.std.specs.Float.Ieee.{add, sub}
-use Rattle.answers.specs.declared.refusals.Refusal.{Refusal}
 use Rattle.scan.specs.Bytes.{among}
 use Rattle.scan.specs.Runs.{past_separators_of}
 use Rattle.math.specs.declared.points.Point.{Point}
 use Rattle.commands.specs.declared.command.PathCommand.{PathCommand}
 use Rattle.commands.specs.declared.command.PathCommand.TheVariants.{MoveTo, LineTo, QuadTo, CubicTo, ArcTo, ClosePath}
 use Rattle.svg_group.specs.Letters.{is_letter_of, meaning_of}
-use Rattle.svg_step.specs.Steps.{draws_cubic, draws_quad, of_kind, fresh_of, read_step_of}
+use Rattle.svg_step.specs.Steps.{draws_cubic, draws_quad, of_kind, fresh_of, Step, read_step_of}
 use Rattle.svg_step.specs.declared.steps.Reader.{Reader}
-use Rattle.svg_step.specs.declared.steps.Step.{Step}
-use Rattle.svg_step.specs.declared.steps.Step.TheVariants.{Command, Done, Refused}
 
 -- ---- the commands of a text, each with the letter that made it
 
@@ -29,9 +26,9 @@ made_by text from last =
     cond (is_letter_of (get_or text at 0)) (get_or text at 0) last
 
 abbrev pub entered : (ℕ → Reader → List Entry) → ℕ → Step → List Entry
-entered rest letter (Command command next) = record { letter = letter; command = command } ∷ rest letter next
-entered rest letter Done = []
-entered rest letter (Refused reason) = []
+entered rest letter (Ok (Some step)) = record { letter = letter; command = step.command } ∷ rest letter step.next
+entered rest letter (Ok None) = []
+entered rest letter (Err reason) = []
 
 unfoldable pub entries_beginning : ℕ → List ℕ → ℕ → Reader → List Entry
 entries_beginning zero text last reader = []

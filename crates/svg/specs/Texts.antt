@@ -1,18 +1,15 @@
 -- A whole text (document 01, "Permissive reading"): its commands or its first refusal, and how they are stored. Definitions only.
-use Rattle.std.specs.Prelude.{ℕ, zero, suc, ◌+◌, ◌*◌, ◌≤◌, ◌<◌, ◌≡◌, List, [], ◌∷◌, ◌++◌, Float, length}
+use Rattle.std.specs.Prelude.{ℕ, zero, suc, ◌+◌, ◌*◌, ◌≤◌, ◌<◌, ◌≡◌, List, [], ◌∷◌, ◌++◌, Float, Some, None, Result, Ok, Err, length}
 use Rattle.answers.specs.Report.{written}
 use Rattle.answers.specs.declared.refusals.Refusal.{Refusal}
 use Rattle.commands.specs.Stored.{letters_of, numbers_of}
 use Rattle.commands.specs.declared.command.PathCommand.{PathCommand}
 use Rattle.svg.specs.Lists.{CommandList, command_list}
-use Rattle.svg_step.specs.Steps.{fresh_of, read_step_of}
+use Rattle.svg_step.specs.Steps.{fresh_of, Step, read_step_of}
 use Rattle.svg_step.specs.declared.steps.Reader.{Reader}
-use Rattle.svg_step.specs.declared.steps.Step.{Step}
-use Rattle.svg_step.specs.declared.steps.Step.TheVariants.{Command, Done, Refused}
 use Rattle.svg.specs.declared.passes.Stored.{Stored}
-use Rattle.svg.specs.declared.passes.Stored.TheVariants.{Whole, Refused as Unstored, Full}
-use Rattle.svg.specs.declared.passes.Size.{Size}
-use Rattle.svg.specs.declared.passes.Size.TheVariants.{Counted, Refused as Unmeasured}
+use Rattle.svg.specs.declared.passes.Stored.TheVariants.{Whole, Full}
+use Rattle.svg.specs.declared.passes.Counts.{Counts}
 
 -- what reading a text gives
 pub data Outcome : Type 0 where
@@ -25,9 +22,9 @@ prepend command (refusal reason) = refusal reason
 
 -- what follows a step, where `rest` reads on
 abbrev pub follow : (Reader → Outcome) → Step → Outcome
-follow rest (Command command next) = prepend command (rest next)
-follow rest Done = commands []
-follow rest (Refused reason) = refusal reason
+follow rest (Ok (Some step)) = prepend step.command (rest step.next)
+follow rest (Ok None) = commands []
+follow rest (Err reason) = refusal reason
 
 -- at most so many steps from a state on
 unfoldable pub read_from : ℕ → List ℕ → Reader → Outcome
@@ -42,9 +39,9 @@ commands_of text = read_from (suc (length text)) text fresh_of
 
 -- "Each stored command gains the offset of its command letter": the state past a command has it
 abbrev pub marked : (Reader → List ℕ) → Step → List ℕ
-marked rest (Command command next) = next.offset ∷ rest next
-marked rest Done = []
-marked rest (Refused reason) = []
+marked rest (Ok (Some step)) = step.next.offset ∷ rest step.next
+marked rest (Ok None) = []
+marked rest (Err reason) = []
 
 -- those of at most so many steps from a state on, as the commands are read
 unfoldable pub offsets_from : ℕ → List ℕ → Reader → List ℕ
@@ -60,10 +57,13 @@ offsets_of text = offsets_from (suc (length text)) text fresh_of
 abbrev pub list_of : List ℕ → List PathCommand → CommandList
 list_of text list = command_list (letters_of list) (numbers_of list) (offsets_of text)
 
+abbrev pub counts_at : ℕ → ℕ → Counts
+counts_at letters numbers = record { letters = letters; numbers = numbers }
+
 -- the counts of the list; there are as many offsets as letters
-unfoldable pub measure_of : Outcome → Size
-measure_of (commands list) = Counted (length (letters_of list)) (length (numbers_of list))
-measure_of (refusal reason) = Unmeasured reason
+unfoldable pub measure_of : Outcome → Result Counts Refusal
+measure_of (commands list) = Ok (counts_at (length (letters_of list)) (length (numbers_of list)))
+measure_of (refusal reason) = Err reason
 
 -- the text reads, and its list has room in two buffers
 abbrev pub Room : Outcome → ℕ → ℕ → Type 0
@@ -139,11 +139,11 @@ Held offsets (commands list) held = (held.letters ≡ letters_of list) × (held.
 Held offsets (refusal reason) held = ⊥
 
 -- how far a text is stored: as a whole, or up to a command that has no room
-abbrev pub SaysStored : Stored → List ℕ → CommandList → CommandList → Type 0
-SaysStored (Whole places count) text before after =
-    (Counted places count ≡ measure_of (commands_of text)) × Roomed (offsets_of text) (commands_of text) before × FilledAll (offsets_of text) (commands_of text) before after
-SaysStored (Unstored reason) text before after = Unmeasured reason ≡ measure_of (commands_of text)
-SaysStored (Full reader places count) text before after = Holding text before after reader places count × (Roomed (offsets_of text) (commands_of text) before → ⊥)
+abbrev pub SaysStored : Result Stored Refusal → List ℕ → CommandList → CommandList → Type 0
+SaysStored (Ok (Whole counts)) text before after =
+    (Ok counts ≡ measure_of (commands_of text)) × Roomed (offsets_of text) (commands_of text) before × FilledAll (offsets_of text) (commands_of text) before after
+SaysStored (Err reason) text before after = Err reason ≡ measure_of (commands_of text)
+SaysStored (Ok (Full reader places count)) text before after = Holding text before after reader places count × (Roomed (offsets_of text) (commands_of text) before → ⊥)
 
-pub record Stores (text : List ℕ) (before after : CommandList) (r : Stored) : Type 0 where
+pub record Stores (text : List ℕ) (before after : CommandList) (r : Result Stored Refusal) : Type 0 where
   pub said : SaysStored r text before after

@@ -1,11 +1,9 @@
 -- The offsets of a text beside its commands and the letters that made them (document 02, L5). Definitions only.
-use Rattle.std.specs.Prelude.{ℕ, zero, suc, ◌≤◌, ◌<◌, ◌≡◌, true, false, List, [], ◌∷◌, length, get_or}
+use Rattle.std.specs.Prelude.{ℕ, zero, suc, ◌≤◌, ◌<◌, ◌≡◌, true, false, List, [], ◌∷◌, Some, None, Ok, Err, length, get_or}
 use Rattle.scan.specs.Runs.{past_separators_of}
 use Rattle.svg_group.specs.Letters.{is_letter_of}
-use Rattle.svg_step.specs.Steps.{fresh_of, read_step_of}
+use Rattle.svg_step.specs.Steps.{fresh_of, Step, read_step_of}
 use Rattle.svg_step.specs.declared.steps.Reader.{Reader}
-use Rattle.svg_step.specs.declared.steps.Step.{Step}
-use Rattle.svg_step.specs.declared.steps.Step.TheVariants.{Command, Done, Refused}
 use Rattle.svg.specs.Smooth.{Entry}
 
 -- one offset for each command, none below the one before it: it is within the text, and the byte there is the letter that made the command
@@ -20,9 +18,9 @@ Told text low (offset ∷ offsets) (entry ∷ entries) =
 
 -- where each command of a text starts, past separators
 abbrev pub started : ℕ → (Reader → List ℕ) → Step → List ℕ
-started at rest (Command command next) = at ∷ rest next
-started at rest Done = []
-started at rest (Refused reason) = []
+started at rest (Ok (Some step)) = at ∷ rest step.next
+started at rest (Ok None) = []
+started at rest (Err reason) = []
 
 unfoldable pub starts_from : ℕ → List ℕ → Reader → List ℕ
 starts_from zero text reader = []

@@ -3,7 +3,8 @@
 ghost use Rattle.svg.specs.Lists.{before, after};
 ghost use Rattle.svg.specs.Readings.{ReadPath};
 
-use crate::reading::{Reading, read_on};
+use crate::passes::Counts;
+use crate::reading::read_on;
 use answers::Refusal;
 use svg_step::fresh;
 
@@ -13,12 +14,12 @@ pub fn read_lean(
     letters: &mut [u8],
     numbers: &mut [f32],
     offsets: &mut [u32],
-) -> Reading
+) -> Result<Counts, Refusal>
     ensures { ReadPath text.now (before letters numbers offsets) result (after letters numbers offsets) }
 {
     let size = text.len();
     if 65536 < size {
-        return Reading::Refused(Refusal::TooLong(size));
+        return Err(Refusal::TooLong(size));
     }
     let no_numbers = [0.0f32; 0];
     let no_offsets = [0u32; 0];

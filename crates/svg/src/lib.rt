@@ -6,4 +6,5 @@ mod passes;
 mod reading;
 
 pub use lean::read_lean;
-pub use reading::{Reading, read_path};
+pub use passes::Counts;
+pub use reading::read_path;

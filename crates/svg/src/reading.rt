@@ -1,21 +1,22 @@
 // The entry of the reader. A refusal writes nothing, so that a text is read into buffers of the
 // reader's own, and copied where all of it is right. What does not fit there is passed twice: it is
 // counted before it is stored.
-ghost use Rattle.std.specs.Prelude.{◌≤◌, length};
+ghost use Rattle.std.specs.Prelude.{◌≡◌, ◌≤◌, length};
+ghost use Rattle.answers.specs.declared.refusals.Values.TheVariants.{Three};
+ghost use Rattle.answers.specs.declared.refusals.Refusal.TheVariants.{NoRoom};
 ghost use Rattle.svg.specs.Lists.{lent, before, after};
 ghost use Rattle.svg.specs.Readings.{ReadPath, Gives};
 ghost use Rattle.svg.specs.Texts.{Begun};
 
-use crate::passes::{Size, Stored, copy_letters, copy_numbers, copy_offsets, fill, measure_on};
+use crate::passes::{Counts, Stored, fill, measure_on, put_first};
 use answers::{Refusal, Values};
 use svg_step::{Reader, fresh};
 
-#[derive(Clone, Copy)]
-pub enum Reading {
-    // The text is read, and stored in this many places of each buffer; of offsets there are as many
-    // as of letters.
-    Read { letters: usize, numbers: usize },
-    Refused(Refusal),
+// What is due where a list has no room.
+fn no_room(counts: Counts) -> Refusal
+    ensures { result ≡ NoRoom (Three counts.letters counts.numbers counts.letters) }
+{
+    Refusal::NoRoom(Values::Three(counts.letters, counts.numbers, counts.letters))
 }
 
 // The rest of a text of which the commands up to a state are held.
@@ -28,39 +29,24 @@ pub(crate) fn read_on(
     letters: &mut [u8],
     numbers: &mut [f32],
     offsets: &mut [u32],
-) -> Reading
+) -> Result<Counts, Refusal>
     requires { (length text.now ≤ 65536) × Begun text.now (lent held kept marks) reader }
     ensures { ReadPath text.now (before letters numbers offsets) result (after letters numbers offsets) }
 {
     let first = held.len();
     let start = kept.len();
-    match measure_on(text, reader, first, start) {
-        Size::Refused(refusal) => {
-            return Reading::Refused(refusal);
-        }
-        Size::Counted {
-            letters: places,
-            numbers: count,
-        } => {
-            if letters.len() < places {
-                return Reading::Refused(Refusal::NoRoom(Values::Three(places, count, places)));
-            }
-            if numbers.len() < count {
-                return Reading::Refused(Refusal::NoRoom(Values::Three(places, count, places)));
-            }
-            if offsets.len() < places {
-                return Reading::Refused(Refusal::NoRoom(Values::Three(places, count, places)));
-            }
-            copy_letters(held, letters);
-            copy_numbers(kept, numbers);
-            copy_offsets(marks, offsets);
-            fill(text, reader, first, start, letters, numbers, offsets);
-            return Reading::Read {
-                letters: places,
-                numbers: count,
-            };
-        }
+    let counts = measure_on(text, reader, first, start)?;
+    if letters.len() < counts.letters
+        || numbers.len() < counts.numbers
+        || offsets.len() < counts.letters
+    {
+        return Err(no_room(counts));
     }
+    put_first(held, letters);
+    put_first(kept, numbers);
+    put_first(marks, offsets);
+    let _whole = fill(text, reader, first, start, letters, numbers, offsets);
+    Ok(counts)
 }
 
 // Gives the commands of a text, all of which are held: a letter and an offset for each.
@@ -71,27 +57,23 @@ fn give(
     letters: &mut [u8],
     numbers: &mut [f32],
     offsets: &mut [u32],
-) -> Reading
+) -> Result<Counts, Refusal>
     ensures { Gives (lent held.entry kept.entry marks.entry) (before letters numbers offsets) result (after letters numbers offsets) }
 {
-    let places = held.len();
-    let count = kept.len();
-    if letters.len() < places {
-        return Reading::Refused(Refusal::NoRoom(Values::Three(places, count, places)));
+    let counts = Counts {
+        letters: held.len(),
+        numbers: kept.len(),
+    };
+    if letters.len() < counts.letters
+        || numbers.len() < counts.numbers
+        || offsets.len() < marks.len()
+    {
+        return Err(no_room(counts));
     }
-    if numbers.len() < count {
-        return Reading::Refused(Refusal::NoRoom(Values::Three(places, count, places)));
-    }
-    if offsets.len() < marks.len() {
-        return Reading::Refused(Refusal::NoRoom(Values::Three(places, count, places)));
-    }
-    copy_letters(held, letters);
-    copy_numbers(kept, numbers);
-    copy_offsets(marks, offsets);
-    Reading::Read {
-        letters: places,
-        numbers: count,
-    }
+    put_first(held, letters);
+    put_first(kept, numbers);
+    put_first(marks, offsets);
+    Ok(counts)
 }
 
 // Reads a text by way of three buffers, in which something else may stand before and after.
@@ -103,67 +85,49 @@ fn read_by(
     letters: &mut [u8],
     numbers: &mut [f32],
     offsets: &mut [u32],
-) -> Reading
+) -> Result<Counts, Refusal>
     requires { length text.now ≤ 65536 }
     ensures { ReadPath text.now (before letters numbers offsets) result (after letters numbers offsets) }
 {
-    match fill(text, fresh(), 0, 0, held, kept, marks) {
-        Stored::Refused(refusal) => {
-            return Reading::Refused(refusal);
-        }
-        Stored::Whole {
-            letters: places,
-            numbers: count,
-        } => {
-            return give(
-                &held[..places],
-                &kept[..count],
-                &marks[..places],
-                letters,
-                numbers,
-                offsets,
-            );
-        }
+    match fill(text, fresh(), 0, 0, held, kept, marks)? {
+        Stored::Whole(counts) => give(
+            &held[..counts.letters],
+            &kept[..counts.numbers],
+            &marks[..counts.letters],
+            letters,
+            numbers,
+            offsets,
+        ),
         Stored::Full {
             reader,
             letters: first,
             numbers: start,
-        } => {
-            return read_on(
-                text,
-                reader,
-                &held[..first],
-                &kept[..start],
-                &marks[..first],
-                letters,
-                numbers,
-                offsets,
-            );
-        }
+        } => read_on(
+            text,
+            reader,
+            &held[..first],
+            &kept[..start],
+            &marks[..first],
+            letters,
+            numbers,
+            offsets,
+        ),
     }
 }
 
-// Reads a text that most likely needs few places.
-fn read_short(text: &[u8], letters: &mut [u8], numbers: &mut [f32], offsets: &mut [u32]) -> Reading
-    requires { length text.now ≤ 65536 }
+// Reads a text by way of buffers of its own, of so many letters and numbers.
+fn read_held<const LETTERS: usize, const NUMBERS: usize>(
+    text: &[u8],
+    letters: &mut [u8],
+    numbers: &mut [f32],
+    offsets: &mut [u32],
+) -> Result<Counts, Refusal>
+    requires { (length text.now ≤ 65536) × (LETTERS ≤ 4096) × (NUMBERS ≤ 4096) }
     ensures { ReadPath text.now (before letters numbers offsets) result (after letters numbers offsets) }
 {
-    let mut held = [0u8; 256];
-    let mut kept = [0.0f32; 512];
-    let mut marks = [0u32; 256];
-    read_by(
-        text, &mut held, &mut kept, &mut marks, letters, numbers, offsets,
-    )
-}
-
-// The same with more room, which takes longer to clear.
-fn read_long(text: &[u8], letters: &mut [u8], numbers: &mut [f32], offsets: &mut [u32]) -> Reading
-    requires { length text.now ≤ 65536 }
-    ensures { ReadPath text.now (before letters numbers offsets) result (after letters numbers offsets) }
-{
-    let mut held = [0u8; 1024];
-    let mut kept = [0.0f32; 4096];
-    let mut marks = [0u32; 1024];
+    let mut held = [0u8; LETTERS];
+    let mut kept = [0.0f32; NUMBERS];
+    let mut marks = [0u32; LETTERS];
     read_by(
         text, &mut held, &mut kept, &mut marks, letters, numbers, offsets,
     )
@@ -177,15 +141,16 @@ pub fn read_path(
     letters: &mut [u8],
     numbers: &mut [f32],
     offsets: &mut [u32],
-) -> Reading
+) -> Result<Counts, Refusal>
     ensures { ReadPath text.now (before letters numbers offsets) result (after letters numbers offsets) }
 {
     let size = text.len();
     if 65536 < size {
-        return Reading::Refused(Refusal::TooLong(size));
+        return Err(Refusal::TooLong(size));
     }
+    // A short text most likely needs few places; more room takes longer to clear.
     if size <= 2048 {
-        return read_short(text, letters, numbers, offsets);
+        return read_held::<256, 512>(text, letters, numbers, offsets);
     }
-    read_long(text, letters, numbers, offsets)
+    read_held::<1024, 4096>(text, letters, numbers, offsets)
 }

@@ -3,256 +3,176 @@ ghost use Rattle.std.specs.Prelude.{◌≡◌};
 ghost use Rattle.svg_group.specs.Groups.{read_move_of, read_line_of, read_horizontal_of, read_vertical_of, read_cubic_of, read_smooth_cubic_of, read_quad_of, read_smooth_quad_of, read_arc_of, read_group_of};
 
 use crate::letters::Kind;
-use crate::numbers::{Coordinates, Flags, read_flags, read_number, read_pair};
+use crate::numbers::{read_flags, read_number, read_pair};
 use answers::Refusal;
 use commands::PathCommand;
-use decimal::Read;
 use math::Point;
 
 // The command and the place past its group.
 #[derive(Clone, Copy)]
-pub enum Group {
-    Taken { command: PathCommand, next: usize },
-    Refused(Refusal),
+pub struct Group {
+    pub command: PathCommand,
+    pub next: usize,
 }
 
-fn read_move(text: &[u8], at: usize, relative: bool, current: Point) -> Group
+// The readers of one pair or one number are two lines each that differ in what they make of it: a function over
+// a closure that makes it would need more lines at each kind, and is no plainer.
+#[tactic(auto, unfolding(crate::specs::Groups::read_move_of))]
+fn read_move(text: &[u8], at: usize, relative: bool, current: Point) -> Result<Group, Refusal>
     ensures { result ≡ read_move_of text.now at relative current }
 {
-    match read_pair(text, at, relative, current) {
-        Coordinates::Refused(refusal) => Group::Refused(refusal),
-        Coordinates::Taken { x, y, next } => {
-            let end = Point { x, y };
-            Group::Taken {
-                command: PathCommand::MoveTo(end),
-                next,
-            }
-        }
-    }
+    let end = read_pair(text, at, relative, current)?;
+    Ok(Group {
+        command: PathCommand::MoveTo(end.point()),
+        next: end.next,
+    })
 }
 
-fn read_line(text: &[u8], at: usize, relative: bool, current: Point) -> Group
+#[tactic(auto, unfolding(crate::specs::Groups::read_line_of))]
+fn read_line(text: &[u8], at: usize, relative: bool, current: Point) -> Result<Group, Refusal>
     ensures { result ≡ read_line_of text.now at relative current }
 {
-    match read_pair(text, at, relative, current) {
-        Coordinates::Refused(refusal) => Group::Refused(refusal),
-        Coordinates::Taken { x, y, next } => {
-            let end = Point { x, y };
-            Group::Taken {
-                command: PathCommand::LineTo(end),
-                next,
-            }
-        }
-    }
+    let end = read_pair(text, at, relative, current)?;
+    Ok(Group {
+        command: PathCommand::LineTo(end.point()),
+        next: end.next,
+    })
 }
 
-fn read_horizontal(text: &[u8], at: usize, relative: bool, current: Point) -> Group
+#[tactic(auto, unfolding(crate::specs::Groups::read_horizontal_of))]
+fn read_horizontal(text: &[u8], at: usize, relative: bool, current: Point) -> Result<Group, Refusal>
     ensures { result ≡ read_horizontal_of text.now at relative current }
 {
-    match read_number(text, at) {
-        Read::Refused(refusal) => Group::Refused(refusal),
-        Read::Value(value, next) => {
-            let y = current.y;
-            if relative {
-                let end = Point {
-                    x: current.x + value,
-                    y,
-                };
-                return Group::Taken {
-                    command: PathCommand::LineTo(end),
-                    next,
-                };
-            }
-            let end = Point { x: value, y };
-            Group::Taken {
-                command: PathCommand::LineTo(end),
-                next,
-            }
-        }
-    }
+    let read = read_number(text, at)?;
+    let x = if relative {
+        current.x + read.value
+    } else {
+        read.value
+    };
+    let end = Point { x, y: current.y };
+    Ok(Group {
+        command: PathCommand::LineTo(end),
+        next: read.end,
+    })
 }
 
-fn read_vertical(text: &[u8], at: usize, relative: bool, current: Point) -> Group
+#[tactic(auto, unfolding(crate::specs::Groups::read_vertical_of))]
+fn read_vertical(text: &[u8], at: usize, relative: bool, current: Point) -> Result<Group, Refusal>
     ensures { result ≡ read_vertical_of text.now at relative current }
 {
-    match read_number(text, at) {
-        Read::Refused(refusal) => Group::Refused(refusal),
-        Read::Value(value, next) => {
-            let x = current.x;
-            if relative {
-                let end = Point {
-                    x,
-                    y: current.y + value,
-                };
-                return Group::Taken {
-                    command: PathCommand::LineTo(end),
-                    next,
-                };
-            }
-            let end = Point { x, y: value };
-            Group::Taken {
-                command: PathCommand::LineTo(end),
-                next,
-            }
-        }
-    }
+    let read = read_number(text, at)?;
+    let y = if relative {
+        current.y + read.value
+    } else {
+        read.value
+    };
+    let end = Point { x: current.x, y };
+    Ok(Group {
+        command: PathCommand::LineTo(end),
+        next: read.end,
+    })
 }
 
-fn read_cubic(text: &[u8], at: usize, relative: bool, current: Point) -> Group
+#[tactic(auto, unfolding(crate::specs::Groups::read_cubic_of))]
+fn read_cubic(text: &[u8], at: usize, relative: bool, current: Point) -> Result<Group, Refusal>
     ensures { result ≡ read_cubic_of text.now at relative current }
 {
-    match read_pair(text, at, relative, current) {
-        Coordinates::Refused(refusal) => Group::Refused(refusal),
-        Coordinates::Taken { x, y, next } => match read_pair(text, next, relative, current) {
-            Coordinates::Refused(refusal) => Group::Refused(refusal),
-            Coordinates::Taken {
-                x: second_x,
-                y: second_y,
-                next: third,
-            } => match read_pair(text, third, relative, current) {
-                Coordinates::Refused(refusal) => Group::Refused(refusal),
-                Coordinates::Taken {
-                    x: end_x,
-                    y: end_y,
-                    next: past,
-                } => {
-                    let control1 = Point { x, y };
-                    let control2 = Point {
-                        x: second_x,
-                        y: second_y,
-                    };
-                    let end = Point { x: end_x, y: end_y };
-                    Group::Taken {
-                        command: PathCommand::CubicTo {
-                            control1,
-                            control2,
-                            end,
-                        },
-                        next: past,
-                    }
-                }
-            },
+    let control1 = read_pair(text, at, relative, current)?;
+    let control2 = read_pair(text, control1.next, relative, current)?;
+    let end = read_pair(text, control2.next, relative, current)?;
+    Ok(Group {
+        command: PathCommand::CubicTo {
+            control1: control1.point(),
+            control2: control2.point(),
+            end: end.point(),
         },
-    }
+        next: end.next,
+    })
 }
 
-fn read_quad(text: &[u8], at: usize, relative: bool, current: Point) -> Group
+#[tactic(auto, unfolding(crate::specs::Groups::read_quad_of))]
+fn read_quad(text: &[u8], at: usize, relative: bool, current: Point) -> Result<Group, Refusal>
     ensures { result ≡ read_quad_of text.now at relative current }
 {
-    match read_pair(text, at, relative, current) {
-        Coordinates::Refused(refusal) => Group::Refused(refusal),
-        Coordinates::Taken { x, y, next } => match read_pair(text, next, relative, current) {
-            Coordinates::Refused(refusal) => Group::Refused(refusal),
-            Coordinates::Taken {
-                x: end_x,
-                y: end_y,
-                next: past,
-            } => {
-                let control = Point { x, y };
-                let end = Point { x: end_x, y: end_y };
-                Group::Taken {
-                    command: PathCommand::QuadTo { control, end },
-                    next: past,
-                }
-            }
+    let control = read_pair(text, at, relative, current)?;
+    let end = read_pair(text, control.next, relative, current)?;
+    Ok(Group {
+        command: PathCommand::QuadTo {
+            control: control.point(),
+            end: end.point(),
         },
-    }
+        next: end.next,
+    })
 }
 
 // The second control and the end; the first control is given.
-fn read_smooth_cubic(text: &[u8], at: usize, relative: bool, current: Point, first: Point) -> Group
+#[tactic(auto, unfolding(crate::specs::Groups::read_smooth_cubic_of))]
+fn read_smooth_cubic(
+    text: &[u8],
+    at: usize,
+    relative: bool,
+    current: Point,
+    first: Point,
+) -> Result<Group, Refusal>
     ensures { result ≡ read_smooth_cubic_of text.now at relative current first }
 {
-    match read_pair(text, at, relative, current) {
-        Coordinates::Refused(refusal) => Group::Refused(refusal),
-        Coordinates::Taken { x, y, next } => match read_pair(text, next, relative, current) {
-            Coordinates::Refused(refusal) => Group::Refused(refusal),
-            Coordinates::Taken {
-                x: end_x,
-                y: end_y,
-                next: past,
-            } => {
-                let control2 = Point { x, y };
-                let end = Point { x: end_x, y: end_y };
-                Group::Taken {
-                    command: PathCommand::CubicTo {
-                        control1: first,
-                        control2,
-                        end,
-                    },
-                    next: past,
-                }
-            }
+    let control2 = read_pair(text, at, relative, current)?;
+    let end = read_pair(text, control2.next, relative, current)?;
+    Ok(Group {
+        command: PathCommand::CubicTo {
+            control1: first,
+            control2: control2.point(),
+            end: end.point(),
         },
-    }
+        next: end.next,
+    })
 }
 
 // The end alone.
-fn read_smooth_quad(text: &[u8], at: usize, relative: bool, current: Point, first: Point) -> Group
+#[tactic(auto, unfolding(crate::specs::Groups::read_smooth_quad_of))]
+fn read_smooth_quad(
+    text: &[u8],
+    at: usize,
+    relative: bool,
+    current: Point,
+    first: Point,
+) -> Result<Group, Refusal>
     ensures { result ≡ read_smooth_quad_of text.now at relative current first }
 {
-    match read_pair(text, at, relative, current) {
-        Coordinates::Refused(refusal) => Group::Refused(refusal),
-        Coordinates::Taken { x, y, next } => {
-            let end = Point { x, y };
-            Group::Taken {
-                command: PathCommand::QuadTo {
-                    control: first,
-                    end,
-                },
-                next,
-            }
-        }
-    }
+    let end = read_pair(text, at, relative, current)?;
+    Ok(Group {
+        command: PathCommand::QuadTo {
+            control: first,
+            end: end.point(),
+        },
+        next: end.next,
+    })
 }
 
 // The radii are no point of the plane, and are never added to one.
-fn read_arc(text: &[u8], at: usize, relative: bool, current: Point) -> Group
+#[tactic(auto, unfolding(crate::specs::Groups::read_arc_of))]
+fn read_arc(text: &[u8], at: usize, relative: bool, current: Point) -> Result<Group, Refusal>
     ensures { result ≡ read_arc_of text.now at relative current }
 {
-    match read_pair(text, at, false, current) {
-        Coordinates::Refused(refusal) => Group::Refused(refusal),
-        Coordinates::Taken {
-            x: radii_x,
-            y: radii_y,
-            next: second,
-        } => match read_number(text, second) {
-            Read::Refused(refusal) => Group::Refused(refusal),
-            Read::Value(rotation, third) => match read_flags(text, third) {
-                Flags::Refused(refusal) => Group::Refused(refusal),
-                Flags::Taken { large, sweep, next } => {
-                    match read_pair(text, next, relative, current) {
-                        Coordinates::Refused(refusal) => Group::Refused(refusal),
-                        Coordinates::Taken {
-                            x: end_x,
-                            y: end_y,
-                            next: past,
-                        } => {
-                            let radii = Point {
-                                x: radii_x,
-                                y: radii_y,
-                            };
-                            let end = Point { x: end_x, y: end_y };
-                            Group::Taken {
-                                command: PathCommand::ArcTo {
-                                    radii,
-                                    rotation,
-                                    large_arc: large,
-                                    sweep,
-                                    end,
-                                },
-                                next: past,
-                            }
-                        }
-                    }
-                }
-            },
+    let radii = read_pair(text, at, false, current)?;
+    let rotation = read_number(text, radii.next)?;
+    let flags = read_flags(text, rotation.end)?;
+    let end = read_pair(text, flags.next, relative, current)?;
+    Ok(Group {
+        command: PathCommand::ArcTo {
+            radii: radii.point(),
+            rotation: rotation.value,
+            large_arc: flags.large,
+            sweep: flags.sweep,
+            end: end.point(),
         },
-    }
+        next: end.next,
+    })
 }
 
 // One group of a kind; `relative` says that its points are added to the current one, and `first` is
 // the first control of a smooth curve.
+#[tactic(auto, unfolding(crate::specs::Groups::read_group_of))]
 pub fn read_group(
     text: &[u8],
     at: usize,
@@ -260,7 +180,7 @@ pub fn read_group(
     relative: bool,
     current: Point,
     first: Point,
-) -> Group
+) -> Result<Group, Refusal>
     ensures { result ≡ read_group_of text.now at kind relative current first }
 {
     match kind {

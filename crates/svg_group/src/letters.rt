@@ -3,7 +3,7 @@ ghost use Rattle.std.specs.Prelude.{◌≡◌};
 ghost use Rattle.svg_group.specs.Letters.{is_letter_of, meaning_of, width_of};
 
 // What the groups of a letter are.
-#[derive(Clone, Copy)]
+#[derive(Clone, Copy, Debug, PartialEq, Eq)]
 pub enum Kind {
     Move,
     Line,
@@ -16,19 +16,21 @@ pub enum Kind {
     Arc,
 }
 
-#[derive(Clone, Copy)]
+#[derive(Clone, Copy, Debug, PartialEq, Eq)]
 pub enum Letter {
     Draws(Kind),
     Closes,
     Unknown,
 }
 
+#[tactic(auto, unfolding(crate::specs::Letters::is_letter_of))]
 pub fn is_letter(byte: u8) -> bool
     ensures { result ≡ is_letter_of byte }
 {
     ((65 <= byte) & (byte <= 90)) | ((97 <= byte) & (byte <= 122))
 }
 
+#[tactic(auto, unfolding(crate::specs::Letters::meaning_of, scan::specs::Bytes::among))]
 pub fn meaning(letter: u8) -> Letter
     ensures { result ≡ meaning_of letter }
 {
@@ -52,14 +54,9 @@ pub fn width(kind: Kind) -> usize
     ensures { result ≡ width_of kind }
 {
     match kind {
-        Kind::Move => 2,
-        Kind::Line => 2,
-        Kind::Horizontal => 2,
-        Kind::Vertical => 2,
-        Kind::Cubic => 6,
-        Kind::SmoothCubic => 6,
-        Kind::Quad => 4,
-        Kind::SmoothQuad => 4,
+        Kind::Move | Kind::Line | Kind::Horizontal | Kind::Vertical => 2,
+        Kind::Quad | Kind::SmoothQuad => 4,
+        Kind::Cubic | Kind::SmoothCubic => 6,
         Kind::Arc => 7,
     }
 }

@@ -9,4 +9,4 @@ mod passing;
 
 pub use groups::{Group, read_group};
 pub use letters::{Kind, Letter, is_letter, meaning, width};
-pub use passing::{Passed, pass_group};
+pub use passing::pass_group;

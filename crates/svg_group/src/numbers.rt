@@ -1,120 +1,125 @@
 // Numbers, flags and pairs where one is due. Each passes the separators before it.
-ghost use Rattle.std.specs.Prelude.{◌≡◌, ◌<◌, length};
-ghost use Rattle.decimal.specs.Bits.{Quick};
-ghost use Rattle.svg_group.specs.Numbers.{read_number_of, read_flag_of, read_flags_of, moved_of, read_pair_of, pair_of};
+ghost use Rattle.std.specs.Prelude.{◌≡◌, IfSome};
+ghost use Rattle.svg_group.specs.Numbers.{read_number_of, read_flag_of, read_flags_of, moved_of, read_pair_of, point_of};
 
 use answers::Refusal;
 use decimal::Read;
 use decimal::inner::quick;
 use math::Point;
 
-// The value and the place past it, here and below.
-#[derive(Clone, Copy)]
-pub enum Flag {
-    Taken { set: bool, next: usize },
-    Refused(Refusal),
+// A flag and the place past it.
+#[derive(Clone, Copy, Debug, PartialEq, Eq)]
+pub struct Flag {
+    pub set: bool,
+    pub next: usize,
 }
 
-// The two flags of an arc.
-#[derive(Clone, Copy)]
-pub enum Flags {
-    Taken {
-        large: bool,
-        sweep: bool,
-        next: usize,
-    },
-    Refused(Refusal),
+// The two flags of an arc and the place past them.
+#[derive(Clone, Copy, Debug, PartialEq, Eq)]
+pub struct Flags {
+    pub large: bool,
+    pub sweep: bool,
+    pub next: usize,
 }
 
-// A point by its coordinates: kept as one value it is written in two parts and read back as one, which
-// waits for both.
+// A point by its coordinates, and the place past it: kept as one value the point is written in two
+// parts and read back as one, which waits for both.
 #[derive(Clone, Copy)]
-pub enum Coordinates {
-    Taken { x: f32, y: f32, next: usize },
-    Refused(Refusal),
+pub struct Coordinates {
+    pub x: f32,
+    pub y: f32,
+    pub next: usize,
 }
 
-// A number past separators by the quick way: the place past it, with its value in out, or 0 where that does not tell.
-fn quick_number(text: &[u8], at: usize, out: &mut [f32; 1]) -> usize
-    requires { length out.old ≡ 1 }
-    ensures { 0 < result → Quick (read_number_of text.now at) result out.new }
+impl Coordinates {
+    pub fn point(self) -> Point
+        ensures { result ≡ point_of self }
+    {
+        Point {
+            x: self.x,
+            y: self.y,
+        }
+    }
+}
+
+// A number past separators by the quick way, where that tells.
+#[tactic(auto, unfolding(crate::specs::Numbers::read_number_of))]
+fn quick_number(text: &[u8], at: usize) -> Option<Read>
+    ensures { IfSome result (λ read. read_number_of text.now at ≡ Ok read) }
 {
     let start = scan::past_separators(text, at);
     if text.len() <= start {
-        return 0;
+        return None;
     }
-    quick(text, start, true, out)
+    let mut value = [0.0f32; 1];
+    let end = quick(text, start, true, &mut value);
+    if end == 0 {
+        return None;
+    }
+    Some(Read {
+        value: value[0],
+        end,
+    })
 }
 
 // Any number past separators.
-fn any_number(text: &[u8], at: usize) -> Read
+#[tactic(auto, unfolding(crate::specs::Numbers::read_number_of))]
+fn any_number(text: &[u8], at: usize) -> Result<Read, Refusal>
     ensures { result ≡ read_number_of text.now at }
 {
     let start = scan::past_separators(text, at);
     if text.len() <= start {
-        return Read::Refused(Refusal::UnexpectedEnd(text.len()));
+        return Err(Refusal::UnexpectedEnd(text.len()));
     }
-    // taken apart and put together again: else it is copied as a whole, which is slower
-    match decimal::number(text, start) {
-        Read::Value(value, next) => Read::Value(value, next),
-        Read::Refused(refusal) => Read::Refused(refusal),
-    }
+    decimal::number(text, start)
 }
 
-pub fn read_number(text: &[u8], at: usize) -> Read
+pub fn read_number(text: &[u8], at: usize) -> Result<Read, Refusal>
     ensures { result ≡ read_number_of text.now at }
 {
-    let mut value = [0.0f32; 1];
-    let next = quick_number(text, at, &mut value);
-    if 0 < next {
-        return Read::Value(value[0], next);
+    if let Some(read) = quick_number(text, at) {
+        return Ok(read);
     }
     any_number(text, at)
 }
 
-fn read_flag(text: &[u8], at: usize) -> Flag
+// No `get`: an Option of a reference is in a form that modules for 32-bit processors must not have (DECISIONS 222).
+#[tactic(auto, unfolding(crate::specs::Numbers::read_flag_of, crate::specs::Numbers::flag_standing))]
+fn read_flag(text: &[u8], at: usize) -> Result<Flag, Refusal>
     ensures { result ≡ read_flag_of text.now at }
 {
     let start = scan::past_separators(text, at);
     if text.len() <= start {
-        return Flag::Refused(Refusal::UnexpectedEnd(text.len()));
+        return Err(Refusal::UnexpectedEnd(text.len()));
     }
-    let byte = text[start];
-    if byte == b'0' {
-        return Flag::Taken {
+    match text[start] {
+        b'0' => Ok(Flag {
             set: false,
             next: start + 1,
-        };
-    }
-    if byte == b'1' {
-        return Flag::Taken {
+        }),
+        b'1' => Ok(Flag {
             set: true,
             next: start + 1,
-        };
+        }),
+        _ => Err(Refusal::ExpectedFlag(start)),
     }
-    Flag::Refused(Refusal::ExpectedFlag(start))
 }
 
-pub fn read_flags(text: &[u8], at: usize) -> Flags
+#[tactic(auto, unfolding(crate::specs::Numbers::read_flags_of))]
+pub fn read_flags(text: &[u8], at: usize) -> Result<Flags, Refusal>
     ensures { result ≡ read_flags_of text.now at }
 {
-    match read_flag(text, at) {
-        Flag::Refused(refusal) => Flags::Refused(refusal),
-        Flag::Taken { set, next } => match read_flag(text, next) {
-            Flag::Refused(refusal) => Flags::Refused(refusal),
-            Flag::Taken {
-                set: sweep,
-                next: end,
-            } => Flags::Taken {
-                large: set,
-                sweep,
-                next: end,
-            },
-        },
-    }
+    let large = read_flag(text, at)?;
+    let sweep = read_flag(text, large.next)?;
+    Ok(Flags {
+        large: large.set,
+        sweep: sweep.set,
+        next: sweep.next,
+    })
 }
 
 // A point as it is written, or added to the current one.
+#[tactic(auto, unfolding(crate::specs::Numbers::moved_of))]
 fn moved(relative: bool, current: Point, point: Point) -> Point
     ensures { result ≡ moved_of relative current point }
 {
@@ -124,21 +129,25 @@ fn moved(relative: bool, current: Point, point: Point) -> Point
     point
 }
 
-pub fn read_pair(text: &[u8], at: usize, relative: bool, current: Point) -> Coordinates
-    ensures { pair_of result ≡ read_pair_of text.now at relative current }
+#[tactic(auto, unfolding(crate::specs::Numbers::read_pair_of))]
+pub fn read_pair(
+    text: &[u8],
+    at: usize,
+    relative: bool,
+    current: Point,
+) -> Result<Coordinates, Refusal>
+    ensures { result ≡ read_pair_of text.now at relative current }
 {
-    match read_number(text, at) {
-        Read::Refused(refusal) => Coordinates::Refused(refusal),
-        Read::Value(x, next) => match read_number(text, next) {
-            Read::Refused(refusal) => Coordinates::Refused(refusal),
-            Read::Value(y, end) => {
-                let point = moved(relative, current, Point { x, y });
-                Coordinates::Taken {
-                    x: point.x,
-                    y: point.y,
-                    next: end,
-                }
-            }
-        },
-    }
+    let first = read_number(text, at)?;
+    let second = read_number(text, first.end)?;
+    let written = Point {
+        x: first.value,
+        y: second.value,
+    };
+    let point = moved(relative, current, written);
+    Ok(Coordinates {
+        x: point.x,
+        y: point.y,
+        next: second.end,
+    })
 }

@@ -3,7 +3,7 @@ use mathlib.Core.Path.{◌≡◌, refl}
 use Rattle.scan.specs.Bytes.{among}
 use Rattle.svg_group.specs.Letters.{meaning_of}
 use Rattle.svg_group.specs.declared.letters.Kind.TheVariants.{Move, Line, Horizontal, Vertical, Cubic, SmoothCubic, Quad, SmoothQuad, Arc}
-use Rattle.svg_group.specs.declared.letters.Letter.TheVariants.{Draws, Closes, Unknown}
+use Rattle.svg_group.specs.declared.letters.Letter.TheVariants.{Draws, Closes}
 
 pub upper-case :
     (meaning_of 77 ≡ Draws Move) × (meaning_of 76 ≡ Draws Line) × (meaning_of 72 ≡ Draws Horizontal) × (meaning_of 86 ≡ Draws Vertical) × (meaning_of 67 ≡ Draws Cubic)

@@ -2,13 +2,14 @@
 use Prim.Native.Nat.{ℕ, zero, suc, ◌+◌, ◌≤◌, ◌<◌}
 use mathlib.Core.Path.{◌≡◌, refl, sym, ap, subst, ◌∙◌}
 use mathlib.Core.Bool.{Bool, true, false, ◌&&◌, cond}
-use mathlib.Core.List.{List, [], ◌∷◌}
+use mathlib.Core.List.{List}
 use mathlib.Core.Logic.{◌⊎◌, inl, inr}
 use native.Mathlib.Omega.{arith}
 use borrow.Author.Tests.{eqb-true, ltb-false}
 use lib.Dec.{eqb, ltb, leb}
 use lib.Ieee.{Float}
 use lib.ListN.{length, get_or}
+use Rattle.std.specs.Prelude.{Some, None, Result, Ok, Err}
 use Rattle.answers.specs.declared.refusals.Refusal.{Refusal}
 use Rattle.answers.specs.declared.refusals.Refusal.TheVariants.{UnexpectedEnd, ExpectedFlag}
 use Rattle.scan.specs.Bytes.{among, number_starts, separators}
@@ -16,37 +17,32 @@ use Rattle.scan.specs.Runs.{past_separators_of}
 use Rattle.scan.proofs.RunLaws.{all-onward}
 use Rattle.decimal.specs.Decimal.{number_of}
 use Rattle.decimal.specs.declared.numbers.Read.{Read}
-use Rattle.decimal.specs.declared.numbers.Read.TheVariants.{Value, Refused as NotRead}
 use Rattle.decimal_nearest.proofs.Texts.{number-nearest}
 use Rattle.math.specs.Math.{add_of}
 use Rattle.math.specs.declared.points.Point.{Point}
 use Rattle.commands.specs.declared.command.PathCommand.{PathCommand}
 use Rattle.commands.specs.declared.command.PathCommand.TheVariants.{MoveTo, LineTo, QuadTo, CubicTo, ArcTo, ClosePath}
 use Rattle.svg_group.specs.Letters.{is_letter_of, meaning_of}
-use Rattle.svg_group.specs.Numbers.{read_number_of, number_then, flag_standing, read_flag_of, flag_then, read_flags_of, moved_of, Pair, PairTaken, PairRefused, read_pair_of}
+use Rattle.svg_group.specs.Numbers.{and_then, read_number_of, flag_at, flag_standing, read_flag_of, flags_at, read_flags_of, moved_of, pair_at, point_of, read_pair_of}
 use Rattle.svg_group.specs.Groups.{along, read_move_of, read_line_of, read_horizontal_of, read_vertical_of, read_cubic_of, read_smooth_cubic_of, read_quad_of, read_smooth_quad_of, read_arc_of, read_group_of}
 use Rattle.svg_group.specs.declared.letters.Kind.{Kind}
 use Rattle.svg_group.specs.declared.letters.Kind.TheVariants.{Move, Line, Horizontal, Vertical, Cubic, SmoothCubic, Quad, SmoothQuad, Arc}
 use Rattle.svg_group.specs.declared.letters.Letter.{Letter}
 use Rattle.svg_group.specs.declared.letters.Letter.TheVariants.{Draws, Closes, Unknown}
 use Rattle.svg_group.specs.declared.groups.Group.{Group}
-use Rattle.svg_group.specs.declared.groups.Group.TheVariants.{Taken, Refused as GroupRefused}
 use Rattle.svg_group.specs.declared.numbers.Flag.{Flag}
-use Rattle.svg_group.specs.declared.numbers.Flag.TheVariants.{Taken as FlagTaken, Refused as FlagRefused}
 use Rattle.svg_group.specs.declared.numbers.Flags.{Flags}
-use Rattle.svg_group.specs.declared.numbers.Flags.TheVariants.{Taken as FlagsTaken, Refused as FlagsRefused}
-use Rattle.svg_group.proofs.Ahead.{number-elim, flags-elim, pair-elim}
+use Rattle.svg_group.specs.declared.numbers.Coordinates.{Coordinates}
+use Rattle.svg_group.proofs.Thens.{then-elim}
 use Rattle.svg_step.specs.Steps.{origin, fresh_of, is_relative_of, needs_point_of, repeated_of, first_control_of}
-use Rattle.svg_step.specs.Steps.{after_of, due_group_of, begun, due_letter_of, again, due_again_of, due_at_of, next_due_of, offset_of, taken, stepped, read_step_of}
+use Rattle.svg_step.specs.Steps.{after_of, due_group_of, begun, due_letter_of, again, due_again_of, due_at_of, next_due_of, offset_of, taken, Step, stepped, read_step_of}
 use Rattle.svg_step.specs.declared.steps.Reader.{Reader}
 use Rattle.svg_step.specs.declared.steps.Due.{Due}
-use Rattle.svg_step.specs.declared.steps.Due.TheVariants.{Done as NothingDue, Refused as NotDue, Close, Group as GroupDue}
-use Rattle.svg_step.specs.declared.steps.Step.{Step}
-use Rattle.svg_step.specs.declared.steps.Step.TheVariants.{Command, Done, Refused}
+use Rattle.svg_step.specs.declared.steps.Due.TheVariants.{Done, Close, Group as GroupDue}
 use Rattle.svg_step.proofs.Ahead.{step-ahead}
 use Rattle.svg.specs.Texts.{Outcome, commands, refusal, prepend, follow, read_from, commands_of}
 use Rattle.svg.specs.Smooth.{Entry, made_by, entered, entries_beginning, entries_of, end_of, start_of}
-use Rattle.svg_made.specs.Made.{NumberFrom, shifted, PairFrom, FlagFrom, ArcFrom, TwoFrom, Drawn, ByMeaning, Makes, Reads}
+use Rattle.svg_made.specs.Made.{NumberFrom, shifted, PairFrom, FlagFrom, Drawn, ByMeaning, Makes, Reads}
 
 clash : {A : Type 0} → ◌≡◌ {A = ℕ} 0 1 → A
 clash e = absurd (omega (arith, e))
@@ -54,12 +50,12 @@ clash e = absurd (omega (arith, e))
 -- ---- numbers, pairs and flags
 
 module _ (text : List ℕ) where
-  number-made : (at : ℕ) (x : Float) (next : ℕ) → read_number_of text at ≡ Value x next → NumberFrom text at x next
+  number-made : (at : ℕ) (v : Read) → read_number_of text at ≡ Ok v → NumberFrom text at v.value v.end
   unfolding read_number_of
-  number-made at x next = go (ltb (past_separators_of text at) (length text))
+  number-made at v = go (ltb (past_separators_of text at) (length text))
     where
-      go : (b : Bool) → cond b (number_of text (past_separators_of text at)) (NotRead (UnexpectedEnd (length text))) ≡ Value x next → NumberFrom text at x next
-      go true e = number-nearest text (past_separators_of text at) x next e
+      go : (b : Bool) → cond b (number_of text (past_separators_of text at)) (Err (UnexpectedEnd (length text))) ≡ Ok v → NumberFrom text at v.value v.end
+      go true e = number-nearest text (past_separators_of text at) v.value v.end e
       go false e = let z : ◌≡◌ {A = ℕ} 0 1 = cc in clash z
 
   moved : (relative : Bool) (current point : Point) → moved_of relative current point ≡ record { x = shifted relative current.x point.x; y = shifted relative current.y point.y }
@@ -67,32 +63,33 @@ module _ (text : List ℕ) where
   moved true current point = refl
   moved false current point = refl
 
-  pair_made : (at : ℕ) (relative : Bool) (current point : Point) (next : ℕ) → read_pair_of text at relative current ≡ PairTaken point next → PairFrom text at relative current point next
+  pair_made : (at : ℕ) (relative : Bool) (current : Point) (v : Coordinates) → read_pair_of text at relative current ≡ Ok v → PairFrom text at relative current (point_of v) v.next
   unfolding read_pair_of
-  pair_made at relative current point next =
-      number-elim P PairRefused (read_number_of text at) _ (λ r e. let z : ◌≡◌ {A = ℕ} 0 1 = cc in clash z) (λ x between p.
-      number-elim P PairRefused (read_number_of text between) _ (λ r e. let z : ◌≡◌ {A = ℕ} 0 1 = cc in clash z) (λ y end q e. made x y between end p q e))
+  pair_made at relative current v =
+      then-elim P (read_number_of text at) _ (λ r e. let z : ◌≡◌ {A = ℕ} 0 1 = cc in clash z) (λ x p.
+      then-elim P (read_number_of text x.end) _ (λ r e. let z : ◌≡◌ {A = ℕ} 0 1 = cc in clash z) (λ y q e. made x y p q e))
     where
-      P : Pair → Type 0
-      P pair = pair ≡ PairTaken point next → PairFrom text at relative current point next
+      P : Result Coordinates Refusal → Type 0
+      P pair = pair ≡ Ok v → PairFrom text at relative current (point_of v) v.next
 
-      made : (x y : Float) (between end : ℕ) → read_number_of text at ≡ Value x between → read_number_of text between ≡ Value y end
-          → PairTaken (moved_of relative current (record { x = x; y = y })) end ≡ PairTaken point next → PairFrom text at relative current point next
-      made x y between end p q e =
-          let there : moved_of relative current (record { x = x; y = y }) ≡ point = cc in
-          let ends : end ≡ next = cc in
+      made : (x y : Read) → read_number_of text at ≡ Ok x → read_number_of text x.end ≡ Ok y
+          → ◌≡◌ {A = Result Coordinates Refusal} (Ok (pair_at (moved_of relative current (record { x = x.value; y = y.value })) y.end)) (Ok v) → PairFrom text at relative current (point_of v) v.next
+      made x y p q e =
+          let same : pair_at (moved_of relative current (record { x = x.value; y = y.value })) y.end ≡ v = cc in
           record {
-            x = x;
-            y = y;
-            between = between;
-            first = number-made at x between p;
-            second = number-made between y next (q ∙ ap (Value y) ends);
-            is = sym there ∙ moved relative current (record { x = x; y = y });
+            x = x.value;
+            y = y.value;
+            between = x.end;
+            first = number-made at x p;
+            second = subst (NumberFrom text x.end y.value) (ap (λ (c : Coordinates). c.next) same) (number-made x.end y q);
+            is =
+                sym (ap point_of same)
+                ∙ ap (λ (m : Point). point_of (pair_at m y.end)) (moved relative current (record { x = x.value; y = y.value }));
           }
 
-  flag-made : (at : ℕ) (set : Bool) (next : ℕ) → read_flag_of text at ≡ FlagTaken set next → FlagFrom text at set next
+  flag-made : (at : ℕ) (v : Flag) → read_flag_of text at ≡ Ok v → FlagFrom text at v.set v.next
   unfolding read_flag_of flag_standing
-  flag-made at set next = inside (ltb start (length text))
+  flag-made at v = inside (ltb start (length text))
     where
       start : ℕ
       start = past_separators_of text at
@@ -100,38 +97,43 @@ module _ (text : List ℕ) where
       byte : ℕ
       byte = get_or text start 0
 
-      one : (b : Bool) → eqb byte 49 ≡ b → cond b (FlagTaken true (start + 1)) (FlagRefused (ExpectedFlag start)) ≡ FlagTaken set next → FlagFrom text at set next
-      one true f e = let s : true ≡ set = cc in let n : start + 1 ≡ next = cc in record { stands = eqb-true byte 49 f ∙ ap (λ (b : Bool). cond b 49 48) s; ends = sym n }
+      stood : (set : Bool) → byte ≡ cond set 49 48 → ◌≡◌ {A = Result Flag Refusal} (Ok (flag_at set (start + 1))) (Ok v) → FlagFrom text at v.set v.next
+      stood set f e =
+          let same : flag_at set (start + 1) ≡ v = cc in
+          record { stands = f ∙ ap (λ (w : Flag). cond w.set 49 48) same; ends = sym (ap (λ (w : Flag). w.next) same) }
+
+      one : (b : Bool) → eqb byte 49 ≡ b → cond b (Ok (flag_at true (start + 1))) (Err (ExpectedFlag start)) ≡ Ok v → FlagFrom text at v.set v.next
+      one true f e = stood true (eqb-true byte 49 f) e
       one false f e = let z : ◌≡◌ {A = ℕ} 0 1 = cc in clash z
 
-      zero_or : (b : Bool) → eqb byte 48 ≡ b → cond b (FlagTaken false (start + 1)) (cond (eqb byte 49) (FlagTaken true (start + 1)) (FlagRefused (ExpectedFlag start))) ≡ FlagTaken set next
-          → FlagFrom text at set next
-      zero_or true f e = let s : false ≡ set = cc in let n : start + 1 ≡ next = cc in record { stands = eqb-true byte 48 f ∙ ap (λ (b : Bool). cond b 49 48) s; ends = sym n }
+      zero_or : (b : Bool) → eqb byte 48 ≡ b → cond b (Ok (flag_at false (start + 1))) (cond (eqb byte 49) (Ok (flag_at true (start + 1))) (Err (ExpectedFlag start))) ≡ Ok v
+          → FlagFrom text at v.set v.next
+      zero_or true f e = stood false (eqb-true byte 48 f) e
       zero_or false f e = one (eqb byte 49) refl e
 
       inside : (b : Bool)
-          → cond b (cond (eqb byte 48) (FlagTaken false (start + 1)) (cond (eqb byte 49) (FlagTaken true (start + 1)) (FlagRefused (ExpectedFlag start)))) (FlagRefused (UnexpectedEnd (length text)))
-          ≡ FlagTaken set next → FlagFrom text at set next
+          → cond b (cond (eqb byte 48) (Ok (flag_at false (start + 1))) (cond (eqb byte 49) (Ok (flag_at true (start + 1))) (Err (ExpectedFlag start)))) (Err (UnexpectedEnd (length text))) ≡ Ok v
+          → FlagFrom text at v.set v.next
       inside true e = zero_or (eqb byte 48) refl e
       inside false e = let z : ◌≡◌ {A = ℕ} 0 1 = cc in clash z
 
-  flags-made : (at : ℕ) (large sweep : Bool) (next : ℕ) → read_flags_of text at ≡ FlagsTaken large sweep next → (between : ℕ) × FlagFrom text at large between × FlagFrom text between sweep next
+  flags-made : (at : ℕ) (v : Flags) → read_flags_of text at ≡ Ok v → (between : ℕ) × FlagFrom text at v.large between × FlagFrom text between v.sweep v.next
   unfolding read_flags_of
-  flags-made at large sweep next = first (read_flag_of text at) refl
+  flags-made at v =
+      then-elim P (read_flag_of text at) _ (λ r e. let z : ◌≡◌ {A = ℕ} 0 1 = cc in clash z) (λ large p.
+      then-elim P (read_flag_of text large.next) _ (λ r e. let z : ◌≡◌ {A = ℕ} 0 1 = cc in clash z) (λ sweep q e. made large sweep p q e))
     where
-      second : (set : Bool) (between : ℕ) → read_flag_of text at ≡ FlagTaken set between → (f : Flag) → read_flag_of text between ≡ f
-          → flag_then f FlagsRefused (λ other end. FlagsTaken set other end) ≡ FlagsTaken large sweep next → (between : ℕ) × FlagFrom text at large between × FlagFrom text between sweep next
-      second set between p (FlagTaken other end) q e =
-          let l : set ≡ large = cc in
-          let s : other ≡ sweep = cc in
-          let n : end ≡ next = cc in
-          (between, flag-made at large between (p ∙ ap (λ (b : Bool). FlagTaken b between) l), flag-made between sweep next (q ∙ ap (λ (b : Bool). FlagTaken b end) s ∙ ap (FlagTaken sweep) n))
-      second set between p (FlagRefused reason) q e = let z : ◌≡◌ {A = ℕ} 0 1 = cc in clash z
+      P : Result Flags Refusal → Type 0
+      P flags = flags ≡ Ok v → (between : ℕ) × FlagFrom text at v.large between × FlagFrom text between v.sweep v.next
 
-      first : (f : Flag) → read_flag_of text at ≡ f → flag_then f FlagsRefused (λ set between. flag_then (read_flag_of text between) FlagsRefused (λ other end. FlagsTaken set other end)) ≡ FlagsTaken large sweep next
-          → (between : ℕ) × FlagFrom text at large between × FlagFrom text between sweep next
-      first (FlagTaken set between) p e = second set between p (read_flag_of text between) refl e
-      first (FlagRefused reason) p e = let z : ◌≡◌ {A = ℕ} 0 1 = cc in clash z
+      made : (large sweep : Flag) → read_flag_of text at ≡ Ok large → read_flag_of text large.next ≡ Ok sweep → ◌≡◌ {A = Result Flags Refusal} (Ok (flags_at large.set sweep.set sweep.next)) (Ok v)
+          → (between : ℕ) × FlagFrom text at v.large between × FlagFrom text between v.sweep v.next
+      made large sweep p q e =
+          let same : flags_at large.set sweep.set sweep.next ≡ v = cc in (
+            large.next,
+            subst (λ (w : Flags). FlagFrom text at w.large large.next) same (flag-made at large p),
+            subst (λ (w : Flags). FlagFrom text large.next w.sweep w.next) same (flag-made large.next sweep q),
+          )
 
 -- ---- a group
 
@@ -148,9 +150,9 @@ is_move SmoothQuad = false
 is_move Arc = false
 
 module _ (text : List ℕ) (at : ℕ) (relative : Bool) (current : Point) where
-  Draw : Bool → Kind → Group → Type 0
-  Draw own kind (Taken command next) = Drawn text at own relative current kind command next
-  Draw own kind (GroupRefused reason) = Unit
+  Draw : Bool → Kind → Result Group Refusal → Type 0
+  Draw own kind (Ok group) = Drawn text at own relative current kind group.command group.next
+  Draw own kind (Err reason) = Unit
 
   -- the coordinate that H and V give
   along-is : (from value : Float) → along relative from value ≡ shifted relative from value
@@ -160,61 +162,61 @@ module _ (text : List ℕ) (at : ℕ) (relative : Bool) (current : Point) where
       by true = refl
       by false = refl
 
-  pair-at : (from : ℕ) (point : Point) (next : ℕ) → read_pair_of text from relative current ≡ PairTaken point next → PairFrom text from relative current point next
-  pair-at from = pair_made text from relative current
+  pair-from : (from : ℕ) (v : Coordinates) → read_pair_of text from relative current ≡ Ok v → PairFrom text from relative current (point_of v) v.next
+  pair-from from = pair_made text from relative current
 
   module _ (first : Point) where
     plain-drawn : (own : Bool) (kind : Kind) → is_move kind ≡ false → Draw own kind (read_group_of text at kind relative current first)
     unfolding is_move read_group_of read_line_of read_horizontal_of read_vertical_of read_cubic_of read_smooth_cubic_of read_quad_of read_smooth_quad_of read_arc_of Draw
     plain-drawn own Move never = let z : ◌≡◌ {A = ℕ} 0 1 = cc in clash z
-    plain-drawn own Line never = pair-elim (Draw own Line) GroupRefused (read_pair_of text at relative current) _ (λ r. tt) (λ end next p. (end, pair-at at end next p, refl))
+    plain-drawn own Line never = then-elim (Draw own Line) (read_pair_of text at relative current) _ (λ r. tt) (λ end p. (point_of end, pair-from at end p, refl))
     plain-drawn own Horizontal never =
-        number-elim (Draw own Horizontal) GroupRefused (read_number_of text at) _ (λ r. tt) (λ x next p.
-        (x, number-made text at x next p, ap (λ (z : Float). LineTo (record { x = z; y = current.y })) (along-is current.x x)))
+        then-elim (Draw own Horizontal) (read_number_of text at) _ (λ r. tt) (λ x p.
+        (x.value, number-made text at x p, ap (λ (z : Float). LineTo (record { x = z; y = current.y })) (along-is current.x x.value)))
     plain-drawn own Vertical never =
-        number-elim (Draw own Vertical) GroupRefused (read_number_of text at) _ (λ r. tt) (λ y next p.
-        (y, number-made text at y next p, ap (λ (z : Float). LineTo (record { x = current.x; y = z })) (along-is current.y y)))
+        then-elim (Draw own Vertical) (read_number_of text at) _ (λ r. tt) (λ y p.
+        (y.value, number-made text at y p, ap (λ (z : Float). LineTo (record { x = current.x; y = z })) (along-is current.y y.value)))
     plain-drawn own Cubic never =
-        pair-elim (Draw own Cubic) GroupRefused (read_pair_of text at relative current) _ (λ r. tt) (λ a m p.
-        pair-elim (Draw own Cubic) GroupRefused (read_pair_of text m relative current) _ (λ r. tt) (λ b n q.
-        pair-elim (Draw own Cubic) GroupRefused (read_pair_of text n relative current) _ (λ r. tt) (λ end next s.
-        (a, b, end, m, pair-at at a m p, record { between = n; first = pair-at m b n q; second = pair-at n end next s }, refl))))
+        then-elim (Draw own Cubic) (read_pair_of text at relative current) _ (λ r. tt) (λ a p.
+        then-elim (Draw own Cubic) (read_pair_of text a.next relative current) _ (λ r. tt) (λ b q.
+        then-elim (Draw own Cubic) (read_pair_of text b.next relative current) _ (λ r. tt) (λ end s.
+        (point_of a, point_of b, point_of end, a.next, pair-from at a p, record { between = b.next; first = pair-from a.next b q; second = pair-from b.next end s }, refl))))
     plain-drawn own SmoothCubic never =
-        pair-elim (Draw own SmoothCubic) GroupRefused (read_pair_of text at relative current) _ (λ r. tt) (λ b n q.
-        pair-elim (Draw own SmoothCubic) GroupRefused (read_pair_of text n relative current) _ (λ r. tt) (λ end next s.
-        (first, b, end, record { between = n; first = pair-at at b n q; second = pair-at n end next s }, refl)))
+        then-elim (Draw own SmoothCubic) (read_pair_of text at relative current) _ (λ r. tt) (λ b q.
+        then-elim (Draw own SmoothCubic) (read_pair_of text b.next relative current) _ (λ r. tt) (λ end s.
+        (first, point_of b, point_of end, record { between = b.next; first = pair-from at b q; second = pair-from b.next end s }, refl)))
     plain-drawn own Quad never =
-        pair-elim (Draw own Quad) GroupRefused (read_pair_of text at relative current) _ (λ r. tt) (λ b n q.
-        pair-elim (Draw own Quad) GroupRefused (read_pair_of text n relative current) _ (λ r. tt) (λ end next s.
-        (b, end, record { between = n; first = pair-at at b n q; second = pair-at n end next s }, refl)))
-    plain-drawn own SmoothQuad never = pair-elim (Draw own SmoothQuad) GroupRefused (read_pair_of text at relative current) _ (λ r. tt) (λ end next p. (first, end, pair-at at end next p, refl))
+        then-elim (Draw own Quad) (read_pair_of text at relative current) _ (λ r. tt) (λ b q.
+        then-elim (Draw own Quad) (read_pair_of text b.next relative current) _ (λ r. tt) (λ end s.
+        (point_of b, point_of end, record { between = b.next; first = pair-from at b q; second = pair-from b.next end s }, refl)))
+    plain-drawn own SmoothQuad never = then-elim (Draw own SmoothQuad) (read_pair_of text at relative current) _ (λ r. tt) (λ end p. (first, point_of end, pair-from at end p, refl))
     plain-drawn own Arc never =
-        pair-elim (Draw own Arc) GroupRefused (read_pair_of text at false current) _ (λ r. tt) (λ radii a p.
-        number-elim (Draw own Arc) GroupRefused (read_number_of text a) _ (λ r. tt) (λ rotation b q.
-        flags-elim (Draw own Arc) GroupRefused (read_flags_of text b) _ (λ r. tt) (λ large sweep d s.
-        pair-elim (Draw own Arc) GroupRefused (read_pair_of text d relative current) _ (λ r. tt) (λ end next t.
-        let f = flags-made text b large sweep d s in
+        then-elim (Draw own Arc) (read_pair_of text at false current) _ (λ r. tt) (λ radii p.
+        then-elim (Draw own Arc) (read_number_of text radii.next) _ (λ r. tt) (λ rotation q.
+        then-elim (Draw own Arc) (read_flags_of text rotation.end) _ (λ r. tt) (λ flags s.
+        then-elim (Draw own Arc) (read_pair_of text flags.next relative current) _ (λ r. tt) (λ end t.
+        let f = flags-made text rotation.end flags s in
         record {
-          radii = radii;
-          rotation = rotation;
-          large = large;
-          sweep = sweep;
-          end = end;
-          second = a;
-          third = b;
+          radii = point_of radii;
+          rotation = rotation.value;
+          large = flags.large;
+          sweep = flags.sweep;
+          end = point_of end;
+          second = radii.next;
+          third = rotation.end;
           fourth = f.0;
-          fifth = d;
-          radii-from = pair_made text at false current radii a p;
-          rotation-from = number-made text a rotation b q;
+          fifth = flags.next;
+          radii-from = pair_made text at false current radii p;
+          rotation-from = number-made text radii.next rotation q;
           large-from = f.1;
           sweep-from = f.2;
-          end-from = pair-at d end next t;
+          end-from = pair-from flags.next end t;
           is = refl;
         }))))
 
     own-drawn : (kind : Kind) → Draw true kind (read_group_of text at kind relative current first)
     unfolding is_move read_group_of read_move_of Draw
-    own-drawn Move = pair-elim (Draw true Move) GroupRefused (read_pair_of text at relative current) _ (λ r. tt) (λ end next p. (end, pair-at at end next p, refl))
+    own-drawn Move = then-elim (Draw true Move) (read_pair_of text at relative current) _ (λ r. tt) (λ end p. (point_of end, pair-from at end p, refl))
     own-drawn Line = plain-drawn true Line refl
     own-drawn Horizontal = plain-drawn true Horizontal refl
     own-drawn Vertical = plain-drawn true Vertical refl
@@ -227,7 +229,7 @@ module _ (text : List ℕ) (at : ℕ) (relative : Bool) (current : Point) where
     -- a further group of an M is a line; every other kind repeats as it is
     further-drawn : (kind : Kind) → Draw false kind (read_group_of text at (repeated_of kind) relative current first)
     unfolding is_move read_group_of read_line_of repeated_of Draw
-    further-drawn Move = pair-elim (Draw false Move) GroupRefused (read_pair_of text at relative current) _ (λ r. tt) (λ end next p. (end, pair-at at end next p, refl))
+    further-drawn Move = then-elim (Draw false Move) (read_pair_of text at relative current) _ (λ r. tt) (λ end p. (point_of end, pair-from at end p, refl))
     further-drawn Line = plain-drawn false Line refl
     further-drawn Horizontal = plain-drawn false Horizontal refl
     further-drawn Vertical = plain-drawn false Vertical refl
@@ -243,7 +245,7 @@ module _ (text : List ℕ) (at : ℕ) (relative : Bool) (current : Point) where
 
 -- ---- what is due is due to a letter
 
-cond-elim : (P : Due → Type 0) (b : Bool) (x y : Due) → (b ≡ true → P x) → (b ≡ false → P y) → P (cond b x y)
+cond-elim : (P : Result Due Refusal → Type 0) (b : Bool) (x y : Result Due Refusal) → (b ≡ true → P x) → (b ≡ false → P y) → P (cond b x y)
 cond-elim P true x y f g = f refl
 cond-elim P false x y f g = g refl
 
@@ -255,11 +257,11 @@ module _ (text : List ℕ) (at : ℕ) where
     kind-is : kind ≡ cond own group (repeated_of group)
     from_is : from ≡ past_separators_of text (cond own (at + 1) at)
 
-  Born : Bool → ℕ → Due → Type 0
-  Born own letter NothingDue = length text ≤ at
-  Born own letter (NotDue reason) = Unit
-  Born own letter (Close next) = (own ≡ true) × (meaning_of letter ≡ Closes) × (next ≡ at + 1)
-  Born own letter (GroupDue kind remembered from) = (remembered ≡ letter) × GroupBorn own letter kind from
+  Born : Bool → ℕ → Result Due Refusal → Type 0
+  Born own letter (Ok Done) = length text ≤ at
+  Born own letter (Err reason) = Unit
+  Born own letter (Ok (Close next)) = (own ≡ true) × (meaning_of letter ≡ Closes) × (next ≡ at + 1)
+  Born own letter (Ok (GroupDue kind remembered from)) = (remembered ≡ letter) × GroupBorn own letter kind from
 
   group-born : (own : Bool) (letter : ℕ) (group : Kind) (from : ℕ) → meaning_of letter ≡ Draws group → from ≡ cond own (at + 1) at
       → Born own letter (due_group_of text from (cond own group (repeated_of group)) letter)
@@ -288,7 +290,7 @@ module _ (text : List ℕ) (at : ℕ) where
   last-born letter last (inl e) = subst (λ (l : ℕ). Born false l (due_again_of text at letter)) e (again-born letter (meaning_of letter) refl)
   last-born letter last (inr e) = rw e tt
 
-  either-born : (b : Bool) (byte last : ℕ) (x y : Due) → (b ≡ true → Born true byte x) → (b ≡ false → Born false last y) → Born b (cond b byte last) (cond b x y)
+  either-born : (b : Bool) (byte last : ℕ) (x y : Result Due Refusal) → (b ≡ true → Born true byte x) → (b ≡ false → Born false last y) → Born b (cond b byte last) (cond b x y)
   either-born true byte last x y f g = f refl
   either-born false byte last x y f g = g refl
 
@@ -297,7 +299,7 @@ module _ (text : List ℕ) (at : ℕ) where
   unfolding due_at_of Born due_letter_of
   due-born letter last placed h =
       let byte = get_or text at 0 in
-      cond-elim (Born (is_letter_of byte) (cond (is_letter_of byte) byte last)) (ltb at (length text)) _ NothingDue
+      cond-elim (Born (is_letter_of byte) (cond (is_letter_of byte) byte last)) (ltb at (length text)) _ (Ok Done)
       (λ e.
       either-born (is_letter_of byte) byte last (due_letter_of text at byte placed) (due_again_of text at letter)
       (λ f. begun-born byte placed (meaning_of byte) refl) (λ f. last-born letter last h))
@@ -347,46 +349,46 @@ module _ (text : List ℕ) (reader : Reader) (last : ℕ) where
   letter = made_by text reader.at last
 
   Good : Step → Type 0
-  Good (Command command next) = Makes text reader.at last reader.placed reader.current letter command next.at × Left command letter reader.start next
-  Good Done = length text ≤ at
-  Good (Refused reason) = Unit
+  Good (Ok (Some step)) = Makes text reader.at last reader.placed reader.current letter step.command step.next.at × Left step.command letter reader.start step.next
+  Good (Ok None) = length text ≤ at
+  Good (Err reason) = Unit
 
   made_at : (command : PathCommand) (next to : ℕ) → to ≡ next → ByMeaning text at own letter reader.placed reader.current command next (meaning_of letter)
       → Makes text reader.at last reader.placed reader.current letter command to
   made_at command next to e m =
       record { letter-is = refl; made = subst (λ (n : ℕ). ByMeaning text at own letter reader.placed reader.current command n (meaning_of letter)) (sym e) m }
 
-  taken-good : (offset remembered : ℕ) (kind : Kind) (from : ℕ) → remembered ≡ letter → GroupBorn text at own letter kind from → (group : Group)
+  taken-good : (offset remembered : ℕ) (kind : Kind) (from : ℕ) → remembered ≡ letter → GroupBorn text at own letter kind from → (group : Result Group Refusal)
       → group ≡ read_group_of text from kind (is_relative_of remembered reader.placed) reader.current (first_control_of kind reader.letter reader.current reader.control)
-      → Good (taken remembered offset reader.start group)
+      → Good (and_then group (λ group. Ok (Some (taken remembered offset reader.start group))))
   unfolding Good is_relative_of Draw
-  taken-good offset remembered kind from same born (Taken command next) e =
+  taken-good offset remembered kind from same born (Ok group) e =
       let place = past_separators_of text (cond own (at + 1) at) in
       let relative = leb 97 letter && reader.placed in
       let control = first_control_of kind reader.letter reader.current reader.control in
       let d : Draw text place relative reader.current own born.group (read_group_of text place (cond own born.group (repeated_of born.group)) relative reader.current control) =
       any-drawn text place relative reader.current control own born.group in
-      let f : Draw text place relative reader.current own born.group (Taken command next) =
+      let f : Draw text place relative reader.current own born.group (Ok group) =
       subst (Draw text place relative reader.current own born.group)
       (sym (e ∙ ap (λ (n : ℕ). read_group_of text n kind (leb 97 remembered && reader.placed) reader.current control) born.from_is
       ∙ ap (λ (n : ℕ). read_group_of text place kind (leb 97 n && reader.placed) reader.current control) same
       ∙ ap (λ (k : Kind). read_group_of text place k relative reader.current control) born.kind-is)) d in (
-        made_at command next _ (after-at next remembered offset reader.start command)
-            (subst (ByMeaning text at own letter reader.placed reader.current command next) (sym born.means) f),
-        subst (λ (l : ℕ). Left command letter reader.start (after_of command next l offset reader.start)) (sym same) (after-left next letter offset reader.start command),
+        made_at group.command group.next _ (after-at group.next remembered offset reader.start group.command)
+            (subst (ByMeaning text at own letter reader.placed reader.current group.command group.next) (sym born.means) f),
+        subst (λ (l : ℕ). Left group.command letter reader.start (after_of group.command group.next l offset reader.start)) (sym same) (after-left group.next letter offset reader.start group.command),
       )
-  taken-good offset remembered kind from same born (GroupRefused reason) e = tt
+  taken-good offset remembered kind from same born (Err reason) e = tt
 
-  due-good : (offset : ℕ) (due : Due) → Born text at own letter due → Good (stepped text reader offset due)
+  due-good : (offset : ℕ) (due : Result Due Refusal) → Born text at own letter due → Good (and_then due (stepped text reader offset))
   unfolding Good Born
-  due-good offset NothingDue born = born
-  due-good offset (NotDue reason) born = tt
-  due-good offset (Close next) born = (
+  due-good offset (Ok Done) born = born
+  due-good offset (Err reason) born = tt
+  due-good offset (Ok (Close next)) born = (
     made_at ClosePath next _ (after-at next reader.letter offset reader.start ClosePath)
         (subst (ByMeaning text at own letter reader.placed reader.current ClosePath next) (sym born.1) (born.0, refl, born.2)),
     closed-left next reader.letter offset reader.start letter,
   )
-  due-good offset (GroupDue kind remembered from) born = taken-good offset remembered kind from born.0 born.1 _ refl
+  due-good offset (Ok (GroupDue kind remembered from)) born = taken-good offset remembered kind from born.0 born.1 _ refl
 
   step-good : (reader.letter ≡ last) ⊎ (meaning_of reader.letter ≡ Unknown) → Good (read_step_of text reader)
   unfolding read_step_of next_due_of
@@ -418,13 +420,13 @@ module _ (text : List ℕ) where
           → Reads text next.at letter next.placed next.current next.start (entries_beginning steps text letter next))
           → (step : Step) → read_step_of text reader ≡ step → Good text reader last step → follow (read_from steps text) step ≡ commands list
           → Reads text reader.at last reader.placed reader.current reader.start (entered (entries_beginning steps text) (made_by text reader.at last) step)
-      by-step rest (Command command next) s g f =
+      by-step rest (Ok (Some step)) s g f =
           let left = g.1 in
-          let more = read-on command (read_from steps text next) list f in
-          let on = rest next (made_by text reader.at last) more.0 (omega (arith, (step-ahead text reader next command s).0)) left.letter-is more.1 in
-          (next.at, g.0, same-state next.at (made_by text reader.at last) (entries_beginning steps text (made_by text reader.at last) next) left.placed-is left.current-is left.start_is on)
-      by-step rest Done s g f = g
-      by-step rest (Refused reason) s g f = let z : ◌≡◌ {A = ℕ} 0 1 = cc in clash z
+          let more = read-on step.command (read_from steps text step.next) list f in
+          let on = rest step.next (made_by text reader.at last) more.0 (omega (arith, (step-ahead text reader step s).0)) left.letter-is more.1 in
+          (step.next.at, g.0, same-state step.next.at (made_by text reader.at last) (entries_beginning steps text (made_by text reader.at last) step.next) left.placed-is left.current-is left.start_is on)
+      by-step rest (Ok None) s g f = g
+      by-step rest (Err reason) s g f = let z : ◌≡◌ {A = ℕ} 0 1 = cc in clash z
 
   -- of any text that reads
   pub reads : (list : List PathCommand) → commands_of text ≡ commands list → Reads text 0 0 false origin origin (entries_of text)

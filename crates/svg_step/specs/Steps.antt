@@ -1,8 +1,9 @@
 -- One step of permissive reading: the next command, the end of the text or a refusal (document 01, "Permissive reading"). Places count bytes
 -- from 0. Definitions only.
-use Rattle.std.specs.Prelude.{ℕ, ◌+◌, Bool, true, false, ◌&&◌, cond, List, ltb, leb, length, get_or}
+use Rattle.std.specs.Prelude.{ℕ, ◌+◌, Bool, true, false, ◌&&◌, cond, List, Option, Some, None, Result, Ok, Err, ltb, leb, length, get_or}
 use Rattle.std.specs.Float.{binary32}
 use Rattle.std.specs.Float.Ieee.{of_bits}
+use Rattle.answers.specs.declared.refusals.Refusal.{Refusal}
 use Rattle.answers.specs.declared.refusals.Refusal.TheVariants.{ExpectedNumber, UnsupportedCommand, MissingMoveTo}
 use Rattle.scan.specs.Bytes.{among, number_starts}
 use Rattle.scan.specs.Runs.{past_separators_of}
@@ -10,6 +11,7 @@ use Rattle.math.specs.Math.{add_of, sub_of}
 use Rattle.math.specs.declared.points.Point.{Point}
 use Rattle.commands.specs.declared.command.PathCommand.{PathCommand}
 use Rattle.commands.specs.declared.command.PathCommand.TheVariants.{MoveTo, LineTo, QuadTo, CubicTo, ArcTo, ClosePath}
+use Rattle.svg_group.specs.Numbers.{and_then}
 use Rattle.svg_group.specs.Letters.{is_letter_of, meaning_of, width_of}
 use Rattle.svg_group.specs.Groups.{read_group_of}
 use Rattle.svg_group.specs.declared.letters.Kind.{Kind}
@@ -18,16 +20,11 @@ use Rattle.svg_group.specs.declared.letters.Letter.{Letter}
 use Rattle.svg_group.specs.declared.letters.Letter.TheVariants.{Draws, Closes, Unknown}
 use Rattle.svg_group.specs.Passing.{pass_group_of}
 use Rattle.svg_group.specs.declared.groups.Group.{Group}
-use Rattle.svg_group.specs.declared.groups.Group.TheVariants.{Taken, Refused as GroupRefused}
-use Rattle.svg_group.specs.declared.passing.Passed.{Passed}
-use Rattle.svg_group.specs.declared.passing.Passed.TheVariants.{To, Refused as NotPassed}
 use Rattle.svg_step.specs.declared.steps.Due.{Due}
-use Rattle.svg_step.specs.declared.steps.Due.TheVariants.{Done as NothingDue, Refused as NotDue, Close, Group as GroupDue}
+use Rattle.svg_step.specs.declared.steps.Due.TheVariants.{Done, Close, Group as GroupDue}
 use Rattle.svg_step.specs.declared.steps.Pass.{Pass}
-use Rattle.svg_step.specs.declared.steps.Pass.TheVariants.{Command as PassCommand, Done as PassDone, Refused as PassRefused}
 use Rattle.svg_step.specs.declared.steps.Reader.{Reader}
-use Rattle.svg_step.specs.declared.steps.Step.{Step}
-use Rattle.svg_step.specs.declared.steps.Step.TheVariants.{Command, Done, Refused}
+use Rattle.svg_step.specs.declared.steps.Stepped.{Stepped}
 
 -- no current point and no remembered command; the points are those to which a Z at the start returns
 abbrev pub origin : Point
@@ -134,42 +131,42 @@ after_of ClosePath next letter offset start = drawn start start start next 0 off
 -- ---- what is due at a place
 
 -- "a number must start (digit, + - .) after separators, else 3 at the place before those separators"
-unfoldable pub due_group_of : List ℕ → ℕ → Kind → ℕ → Due
+unfoldable pub due_group_of : List ℕ → ℕ → Kind → ℕ → Result Due Refusal
 due_group_of text at kind letter =
     let first = past_separators_of text at in
-    cond (among (get_or text first 0) number_starts) (GroupDue kind letter first) (NotDue (ExpectedNumber at))
+    cond (among (get_or text first 0) number_starts) (Ok (GroupDue kind letter first)) (Err (ExpectedNumber at))
 
 -- LHVCSQTA "need a current point, else 7 just after the letter. Then, and for M at once, a number must start"; 6 is a letter other than MLHVCSQTAZ
 -- in either case
-abbrev pub begun : List ℕ → ℕ → ℕ → Bool → Letter → Due
+abbrev pub begun : List ℕ → ℕ → ℕ → Bool → Letter → Result Due Refusal
 begun text at letter placed (Draws kind) =
     cond (needs_point_of kind)
-    (cond placed (due_group_of text (at + 1) kind letter) (NotDue (MissingMoveTo (at + 1))))
+    (cond placed (due_group_of text (at + 1) kind letter) (Err (MissingMoveTo (at + 1))))
     (due_group_of text (at + 1) kind letter)
-begun text at letter placed Closes = Close (at + 1)
-begun text at letter placed Unknown = NotDue (UnsupportedCommand letter at)
+begun text at letter placed Closes = Ok (Close (at + 1))
+begun text at letter placed Unknown = Err (UnsupportedCommand letter at)
 
-unfoldable pub due_letter_of : List ℕ → ℕ → ℕ → Bool → Due
+unfoldable pub due_letter_of : List ℕ → ℕ → ℕ → Bool → Result Due Refusal
 due_letter_of text at letter placed = begun text at letter placed (meaning_of letter)
 
 -- "any other byte repeats it; with none, 7 at that byte"; "A command takes groups while a number starts": so a number repeats it too
-abbrev pub again : List ℕ → ℕ → ℕ → Letter → Due
+abbrev pub again : List ℕ → ℕ → ℕ → Letter → Result Due Refusal
 again text at letter (Draws kind) = due_group_of text at (repeated_of kind) letter
-again text at letter Closes = NotDue (MissingMoveTo at)
-again text at letter Unknown = NotDue (MissingMoveTo at)
+again text at letter Closes = Err (MissingMoveTo at)
+again text at letter Unknown = Err (MissingMoveTo at)
 
-unfoldable pub due_again_of : List ℕ → ℕ → ℕ → Due
+unfoldable pub due_again_of : List ℕ → ℕ → ℕ → Result Due Refusal
 due_again_of text at letter = again text at letter (meaning_of letter)
 
 -- "a letter becomes the remembered command; any other byte repeats it": at the place past separators
-unfoldable pub due_at_of : List ℕ → ℕ → ℕ → Bool → Due
+unfoldable pub due_at_of : List ℕ → ℕ → ℕ → Bool → Result Due Refusal
 due_at_of text at letter placed =
     cond (ltb at (length text))
     (cond (is_letter_of (get_or text at 0)) (due_letter_of text at (get_or text at 0) placed) (due_again_of text at letter))
-    NothingDue
+    (Ok Done)
 
 -- "After separators"
-unfoldable pub next_due_of : List ℕ → ℕ → ℕ → Bool → Due
+unfoldable pub next_due_of : List ℕ → ℕ → ℕ → Bool → Result Due Refusal
 next_due_of text from letter placed = due_at_of text (past_separators_of text from) letter placed
 
 -- ---- the letter that makes a command (document 02, L5)
@@ -184,33 +181,36 @@ offset_of text reader = offset_at text (past_separators_of text reader.at) reade
 
 -- ---- the step
 
-abbrev pub taken : ℕ → ℕ → Point → Group → Step
-taken letter offset start (Taken command next) = Command command (after_of command next letter offset start)
-taken letter offset start (GroupRefused refusal) = Refused refusal
+-- a command and the state past it, or none at the end of the text, or a refusal
+abbrev pub Step : Type 0
+Step = Result (Option Stepped) Refusal
+
+abbrev pub stepped_to : PathCommand → Reader → Stepped
+stepped_to command next = record { command = command; next = next }
+
+abbrev pub taken : ℕ → ℕ → Point → Group → Stepped
+taken letter offset start group = stepped_to group.command (after_of group.command group.next letter offset start)
 
 -- "Z stores ClosePath"
 abbrev pub stepped : List ℕ → Reader → ℕ → Due → Step
-stepped text reader offset NothingDue = Done
-stepped text reader offset (NotDue refusal) = Refused refusal
-stepped text reader offset (Close next) = Command ClosePath (after_of ClosePath next reader.letter offset reader.start)
+stepped text reader offset Done = Ok None
+stepped text reader offset (Close next) = Ok (Some (stepped_to ClosePath (after_of ClosePath next reader.letter offset reader.start)))
 stepped text reader offset (GroupDue kind letter first) =
-    taken letter offset reader.start
-    (read_group_of text first kind (is_relative_of letter reader.placed) reader.current (first_control_of kind reader.letter reader.current reader.control))
+    and_then (read_group_of text first kind (is_relative_of letter reader.placed) reader.current (first_control_of kind reader.letter reader.current reader.control))
+    (λ group. Ok (Some (taken letter offset reader.start group)))
 
 unfoldable pub read_step_of : List ℕ → Reader → Step
-read_step_of text reader = stepped text reader (offset_of text reader) (next_due_of text reader.at reader.letter reader.placed)
+read_step_of text reader = and_then (next_due_of text reader.at reader.letter reader.placed) (stepped text reader (offset_of text reader))
 
 -- ---- the step without values. That it agrees with the step is a law, and no promise of an entry rests on it.
 
-abbrev pub passed_to : ℕ → Kind → Passed → Pass
-passed_to letter kind (To next) = PassCommand (width_of kind) next letter
-passed_to letter kind (NotPassed refusal) = PassRefused refusal
+abbrev pub pass_to : ℕ → ℕ → ℕ → Pass
+pass_to width next letter = record { width = width; next = next; letter = letter }
 
-abbrev pub passed : List ℕ → Due → Pass
-passed text NothingDue = PassDone
-passed text (NotDue refusal) = PassRefused refusal
-passed text (Close next) = PassCommand 0 next 0
-passed text (GroupDue kind letter first) = passed_to letter kind (pass_group_of text first kind)
+abbrev pub passed : List ℕ → Due → Result (Option Pass) Refusal
+passed text Done = Ok None
+passed text (Close next) = Ok (Some (pass_to 0 next 0))
+passed text (GroupDue kind letter first) = and_then (pass_group_of text first kind) (λ next. Ok (Some (pass_to (width_of kind) next letter)))
 
-unfoldable pub pass_step_of : List ℕ → ℕ → ℕ → Bool → Pass
-pass_step_of text from letter placed = passed text (next_due_of text from letter placed)
+unfoldable pub pass_step_of : List ℕ → ℕ → ℕ → Bool → Result (Option Pass) Refusal
+pass_step_of text from letter placed = and_then (next_due_of text from letter placed) (passed text)

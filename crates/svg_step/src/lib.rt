@@ -3,4 +3,4 @@
 
 mod steps;
 
-pub use steps::{Pass, Reader, Step, fresh, pass_step, read_step};
+pub use steps::{Pass, Reader, Stepped, fresh, pass_step, read_step};

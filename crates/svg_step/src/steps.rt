@@ -7,7 +7,7 @@ ghost use Rattle.svg_step.specs.Steps.{due_group_of, due_letter_of, due_again_of
 use answers::Refusal;
 use commands::PathCommand;
 use math::Point;
-use svg_group::{Group, Kind, Letter, Passed};
+use svg_group::{Kind, Letter};
 
 // The reader's state between two commands.
 #[derive(Clone, Copy)]
@@ -26,11 +26,11 @@ pub struct Reader {
     pub offset: usize,
 }
 
+// A command, and the state past it.
 #[derive(Clone, Copy)]
-pub enum Step {
-    Command { command: PathCommand, next: Reader },
-    Done,
-    Refused(Refusal),
+pub struct Stepped {
+    pub command: PathCommand,
+    pub next: Reader,
 }
 
 // The state before the first command.
@@ -49,46 +49,33 @@ pub fn fresh() -> Reader
 }
 
 // Whether a letter adds to the current point: in lower case, where there is one.
+#[tactic(auto, unfolding(crate::specs::Steps::is_relative_of))]
 fn is_relative(letter: u8, placed: bool) -> bool
     ensures { result ≡ is_relative_of letter placed }
 {
     (97 <= letter) & placed
 }
 
+#[tactic(auto, unfolding(crate::specs::Steps::needs_point_of))]
 fn needs_point(kind: Kind) -> bool
     ensures { result ≡ needs_point_of kind }
 {
-    match kind {
-        Kind::Move => false,
-        Kind::Line => true,
-        Kind::Horizontal => true,
-        Kind::Vertical => true,
-        Kind::Cubic => true,
-        Kind::SmoothCubic => true,
-        Kind::Quad => true,
-        Kind::SmoothQuad => true,
-        Kind::Arc => true,
-    }
+    !matches!(kind, Kind::Move)
 }
 
 // What a further group of a kind is.
+#[tactic(auto, unfolding(crate::specs::Steps::repeated_of))]
 fn repeated(kind: Kind) -> Kind
     ensures { result ≡ repeated_of kind }
 {
     match kind {
         Kind::Move => Kind::Line,
-        Kind::Line => Kind::Line,
-        Kind::Horizontal => Kind::Horizontal,
-        Kind::Vertical => Kind::Vertical,
-        Kind::Cubic => Kind::Cubic,
-        Kind::SmoothCubic => Kind::SmoothCubic,
-        Kind::Quad => Kind::Quad,
-        Kind::SmoothQuad => Kind::SmoothQuad,
-        Kind::Arc => Kind::Arc,
+        other => other,
     }
 }
 
 // A control on the other side of the current point. The difference is rounded, then the sum.
+#[tactic(auto, unfolding(crate::specs::Steps::mirrored_of))]
 fn mirrored(current: Point, control: Point) -> Point
     ensures { result ≡ mirrored_of current control }
 {
@@ -96,24 +83,20 @@ fn mirrored(current: Point, control: Point) -> Point
 }
 
 // Whether a curve of a kind takes up the control of the last command, by that command's letter.
+#[tactic(auto, unfolding(crate::specs::Steps::takes_up_of, svg_group::specs::Letters::meaning_of, scan::specs::Bytes::among))]
 fn takes_up(kind: Kind, last: u8) -> bool
     ensures { result ≡ takes_up_of kind (meaning_of last) }
 {
     match kind {
-        Kind::Move => false,
-        Kind::Line => false,
-        Kind::Horizontal => false,
-        Kind::Vertical => false,
-        Kind::Cubic => false,
         Kind::SmoothCubic => { (last == b'C') | (last == b'c') | (last == b'S') | (last == b's') }
-        Kind::Quad => false,
         Kind::SmoothQuad => { (last == b'Q') | (last == b'q') | (last == b'T') | (last == b't') }
-        Kind::Arc => false,
+        _ => false,
     }
 }
 
 // The first control of a smooth curve, by the last command's letter and control. What is not
 // mirrored is the current point's own bits.
+#[tactic(auto, unfolding(crate::specs::Steps::first_control_of))]
 fn first_control(kind: Kind, last: u8, current: Point, control: Point) -> Point
     ensures { result ≡ first_control_of kind last current control }
 {
@@ -147,6 +130,7 @@ fn standing(
 
 // The state after a command, which is read up to `next`, with the letter that was remembered for it and
 // the offset of the letter that made it.
+#[tactic(auto, unfolding(crate::specs::Steps::after_of))]
 fn after(command: PathCommand, next: usize, letter: u8, offset: usize, start: Point) -> Reader
     ensures { result ≡ after_of command next letter offset start }
 {
@@ -171,11 +155,10 @@ fn after(command: PathCommand, next: usize, letter: u8, offset: usize, start: Po
 }
 
 // What is due at a place of the text.
-#[derive(Clone, Copy)]
+#[derive(Clone, Copy, Debug, PartialEq, Eq)]
 pub enum Due {
     // The text is at its end.
     Done,
-    Refused(Refusal),
     // A Z, and the place past it.
     Close(usize),
     // A group of a letter's kind, whose first number starts at a place.
@@ -187,34 +170,33 @@ pub enum Due {
 }
 
 // A group of a kind from `at` on, where a number must start.
-fn due_group(text: &[u8], at: usize, kind: Kind, letter: u8) -> Due
+#[tactic(auto, unfolding(crate::specs::Steps::due_group_of))]
+fn due_group(text: &[u8], at: usize, kind: Kind, letter: u8) -> Result<Due, Refusal>
     ensures { result ≡ due_group_of text.now at kind letter }
 {
     let first = scan::past_separators(text, at);
     if scan::starts_number(scan::byte_at(text, first)) {
-        return Due::Group {
+        return Ok(Due::Group {
             kind,
             letter,
             first,
-        };
+        });
     }
-    Due::Refused(Refusal::ExpectedNumber(at))
+    Err(Refusal::ExpectedNumber(at))
 }
 
 // The command whose letter stands at `at`; `placed` says that there is a current point.
-fn due_letter(text: &[u8], at: usize, letter: u8, placed: bool) -> Due
+#[tactic(auto, unfolding(crate::specs::Steps::due_letter_of))]
+fn due_letter(text: &[u8], at: usize, letter: u8, placed: bool) -> Result<Due, Refusal>
     requires { at < length text.now }
     ensures { result ≡ due_letter_of text.now at letter placed }
 {
     match svg_group::meaning(letter) {
-        Letter::Unknown => Due::Refused(Refusal::UnsupportedCommand(letter, at)),
-        Letter::Closes => Due::Close(at + 1),
+        Letter::Unknown => Err(Refusal::UnsupportedCommand(letter, at)),
+        Letter::Closes => Ok(Due::Close(at + 1)),
         Letter::Draws(kind) => {
-            if needs_point(kind) {
-                if placed {
-                    return due_group(text, at + 1, kind, letter);
-                }
-                return Due::Refused(Refusal::MissingMoveTo(at + 1));
+            if needs_point(kind) && !placed {
+                return Err(Refusal::MissingMoveTo(at + 1));
             }
             due_group(text, at + 1, kind, letter)
         }
@@ -222,22 +204,23 @@ fn due_letter(text: &[u8], at: usize, letter: u8, placed: bool) -> Due
 }
 
 // The remembered command once more, at a byte that is no letter.
-fn due_again(text: &[u8], at: usize, letter: u8) -> Due
+#[tactic(auto, unfolding(crate::specs::Steps::due_again_of))]
+fn due_again(text: &[u8], at: usize, letter: u8) -> Result<Due, Refusal>
     ensures { result ≡ due_again_of text.now at letter }
 {
     match svg_group::meaning(letter) {
-        Letter::Unknown => Due::Refused(Refusal::MissingMoveTo(at)),
-        Letter::Closes => Due::Refused(Refusal::MissingMoveTo(at)),
+        Letter::Unknown | Letter::Closes => Err(Refusal::MissingMoveTo(at)),
         Letter::Draws(kind) => due_group(text, at, repeated(kind), letter),
     }
 }
 
 // What is due at a place past separators, with the remembered letter.
-fn due_at(text: &[u8], at: usize, letter: u8, placed: bool) -> Due
+#[tactic(auto, unfolding(crate::specs::Steps::due_at_of))]
+fn due_at(text: &[u8], at: usize, letter: u8, placed: bool) -> Result<Due, Refusal>
     ensures { result ≡ due_at_of text.now at letter placed }
 {
     if text.len() <= at {
-        return Due::Done;
+        return Ok(Due::Done);
     }
     let byte = text[at];
     if svg_group::is_letter(byte) {
@@ -247,7 +230,8 @@ fn due_at(text: &[u8], at: usize, letter: u8, placed: bool) -> Due
 }
 
 // What is due from a place on, with the remembered letter.
-pub fn next_due(text: &[u8], from: usize, letter: u8, placed: bool) -> Due
+#[tactic(auto, unfolding(crate::specs::Steps::next_due_of))]
+pub fn next_due(text: &[u8], from: usize, letter: u8, placed: bool) -> Result<Due, Refusal>
     ensures { result ≡ next_due_of text.now from letter placed }
 {
     due_at(text, scan::past_separators(text, from), letter, placed)
@@ -255,6 +239,7 @@ pub fn next_due(text: &[u8], from: usize, letter: u8, placed: bool) -> Due
 
 // The offset of the letter that makes what is due at a place past separators: the place itself, or
 // that of the last letter where no letter stands there.
+#[tactic(auto, unfolding(crate::specs::Steps::offset_at))]
 fn letter_offset(text: &[u8], at: usize, last: usize) -> usize
     ensures { result ≡ offset_at text.now at last }
 {
@@ -264,20 +249,20 @@ fn letter_offset(text: &[u8], at: usize, last: usize) -> usize
     last
 }
 
-// The next command of a text.
-pub fn read_step(text: &[u8], reader: Reader) -> Step
+// The next command of a text, if it has a further one.
+#[tactic(auto, unfolding(crate::specs::Steps::read_step_of, crate::specs::Steps::next_due_of))]
+pub fn read_step(text: &[u8], reader: Reader) -> Result<Option<Stepped>, Refusal>
     ensures { result ≡ read_step_of text.now reader }
 {
     let start = reader.start;
     let at = scan::past_separators(text, reader.at);
     let offset = letter_offset(text, at, reader.offset);
-    match due_at(text, at, reader.letter, reader.placed) {
-        Due::Done => Step::Done,
-        Due::Refused(refusal) => Step::Refused(refusal),
-        Due::Close(next) => Step::Command {
+    match due_at(text, at, reader.letter, reader.placed)? {
+        Due::Done => Ok(None),
+        Due::Close(next) => Ok(Some(Stepped {
             command: PathCommand::ClosePath,
             next: after(PathCommand::ClosePath, next, reader.letter, offset, start),
-        },
+        })),
         Due::Group {
             kind,
             letter,
@@ -286,53 +271,49 @@ pub fn read_step(text: &[u8], reader: Reader) -> Step
             let current = reader.current;
             let relative = is_relative(letter, reader.placed);
             let control = first_control(kind, reader.letter, current, reader.control);
-            match svg_group::read_group(text, first, kind, relative, current, control) {
-                Group::Refused(refusal) => Step::Refused(refusal),
-                Group::Taken { command, next } => Step::Command {
-                    command,
-                    next: after(command, next, letter, offset, start),
-                },
-            }
+            let group = svg_group::read_group(text, first, kind, relative, current, control)?;
+            Ok(Some(Stepped {
+                command: group.command,
+                next: after(group.command, group.next, letter, offset, start),
+            }))
         }
     }
 }
 
-// A command that is passed without its values.
-#[derive(Clone, Copy)]
-pub enum Pass {
-    // How many numbers it stores, the place past it and the letter that is remembered.
-    Command {
-        width: usize,
-        next: usize,
-        letter: u8,
-    },
-    Done,
-    Refused(Refusal),
+// A command that is passed without its values: how many numbers it stores, the place past it and the
+// letter that is remembered.
+#[derive(Clone, Copy, Debug, PartialEq, Eq)]
+pub struct Pass {
+    pub width: usize,
+    pub next: usize,
+    pub letter: u8,
 }
 
-// The next command of a text, passed without its values.
-pub fn pass_step(text: &[u8], from: usize, letter: u8, placed: bool) -> Pass
+// The next command of a text, if it has a further one, passed without its values.
+#[tactic(auto, unfolding(crate::specs::Steps::pass_step_of))]
+pub fn pass_step(
+    text: &[u8],
+    from: usize,
+    letter: u8,
+    placed: bool,
+) -> Result<Option<Pass>, Refusal>
     ensures { result ≡ pass_step_of text.now from letter placed }
 {
-    match next_due(text, from, letter, placed) {
-        Due::Done => Pass::Done,
-        Due::Refused(refusal) => Pass::Refused(refusal),
-        Due::Close(next) => Pass::Command {
+    match next_due(text, from, letter, placed)? {
+        Due::Done => Ok(None),
+        Due::Close(next) => Ok(Some(Pass {
             width: 0,
             next,
             letter: 0,
-        },
+        })),
         Due::Group {
             kind,
-            letter: own,
+            letter,
             first,
-        } => match svg_group::pass_group(text, first, kind) {
-            Passed::Refused(refusal) => Pass::Refused(refusal),
-            Passed::To(next) => Pass::Command {
-                width: svg_group::width(kind),
-                next,
-                letter: own,
-            },
-        },
+        } => Ok(Some(Pass {
+            width: svg_group::width(kind),
+            next: svg_group::pass_group(text, first, kind)?,
+            letter,
+        })),
     }
 }

@@ -5,7 +5,7 @@ use mathlib.Core.Logic.{inl, inr}
 use Prim.Native.Nat.{ℕ, zero, suc, ◌+◌, ◌*◌, ◌-◌, ◌≤◌, ◌<◌}
 use native.Mathlib.Nat.{le_refl}
 use native.Mathlib.Omega.{arith}
-use mathlib.Core.Bool.{Bool, true, false, cond, not, ◌&&◌}
+use mathlib.Core.Bool.{Bool, true, false, cond, not}
 use mathlib.Core.List.{List, [], ◌∷◌}
 use lib.ListN.{length, take, drop, length-take, length-drop, get_or-eq_default}
 use lib.Seq.{get_or-take, get_or-drop}
@@ -19,7 +19,7 @@ use Rattle.floats.proofs.Order.{le_lt_trans, le-le-trans}
 use Rattle.table.specs.Lookup.{at, first_not_below, quarters_below}
 use Rattle.table.specs.Sound.{all_finite, climbs, lengths_are_sound}
 use Rattle.table.proofs.Lengths.{entries-le, path-sound}
-use Rattle.table.proofs.Search.{IsFirst, first-is, first-unique, first-upto, nan-not-below, Bracket}
+use Rattle.table.proofs.Search.{first-is, first-unique, first-upto, nan-not-below, Bracket}
 
 -- ---- lengths before one that is below the target, and after one that is not
 module _ (xs : List Float) (t : Float) (sound : T (lengths_are_sound xs)) (mid : ℕ) where

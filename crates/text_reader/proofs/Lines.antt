@@ -1,7 +1,6 @@
 -- The first line of a plan, way by way. Assumes nothing.
 use Prim.Native.Nat.{ℕ, ◌+◌, ◌-◌, ◌^◌, ◌≤◌, ◌<◌}
-use mathlib.Core.Path.{◌≡◌, refl, sym, ap, ◌∙◌}
-use mathlib.Core.Bool.{Bool, true, false}
+use mathlib.Core.Path.{◌≡◌, sym, ap, ◌∙◌}
 use mathlib.Core.List.{List}
 use mathlib.Core.Logic.{⊎_elim}
 use native.Mathlib.Nat.{pow-le-pow_right}
@@ -9,11 +8,13 @@ use native.Mathlib.Omega.{arith}
 use borrow.Author.Tests.{le-leb, lt-leb, eq-eqb, ne_eqb, ltb-true, ltb-false}
 use lib.Dec.{ltb}
 use lib.ListN.{length, get_or, take, drop, get_or-eq_default}
+use Rattle.std.specs.Prelude.{Result, Err}
+use Rattle.answers.specs.declared.refusals.Refusal.{Refusal}
 use Rattle.answers.specs.declared.refusals.Refusal.TheVariants.{Range}
-use Rattle.scan.specs.Bytes.{among, digits}
-use Rattle.scan.specs.Runs.{past_all, past_digits_of}
+use Rattle.scan.specs.Bytes.{digits}
+use Rattle.scan.specs.Runs.{past_digits_of}
 use Rattle.scan.proofs.ByteLaws.{either_way}
-use Rattle.scan.proofs.RunLaws.{all-onward, all-within, all_end, all-passed}
+use Rattle.scan.proofs.RunLaws.{all-within, all_end, all-passed}
 use Rattle.decimal_digits.specs.Digits.{digits_in, val}
 use Rattle.decimal_digits.specs.Exponent.{capped, exponent_of}
 use Rattle.decimal_digits.specs.declared.gathering.Power.{Power}
@@ -22,22 +23,6 @@ use Rattle.decimal_digits.proofs.Places.{run_in}
 use Rattle.decimal_digits.proofs.Values.{val-lt}
 use Rattle.text_reader.specs.Plans.{judged, first_line_of}
 use Rattle.text_reader.specs.declared.line.FirstLine.{FirstLine}
-use Rattle.text_reader.specs.declared.line.FirstLine.TheVariants.{Stations, Refused}
-
--- ---- the judgement
-
-module _ (count next : ℕ) where
-  pub judged-few : count < 2 → Refused (Range count) ≡ judged count next
-  unfolding judged
-  judged-few h = rw (lt-leb 2 count h)
-
-  pub judged-many : 2 ≤ count → 1000 < count → Refused (Range count) ≡ judged count next
-  unfolding judged
-  judged-many g h = rw (le-leb 2 count g, lt-leb count 1000 h)
-
-  pub judged-right : 2 ≤ count → count ≤ 1000 → Stations count next ≡ judged count next
-  unfolding judged
-  judged-right g h = rw (le-leb 2 count g, le-leb count 1000 h)
 
 -- ---- the form
 
@@ -79,28 +64,28 @@ module _ (text : List ℕ) (at : ℕ) where
     unfolding exponent_of
     sizes = ap (λ (p : Power). p.size) e
 
-    pub line-none : run.at ≤ at → Refused (Range 0) ≡ first_line_of text at
+    pub line-none : run.at ≤ at → Err (Range 0) ≡ first_line_of text at
     unfolding first_line_of
     line-none h =
         let z : past_digits_of text at - at ≡ 0 = omega (arith, ends) in
         rw z
 
     module _ (some : at < run.at) where
-      pub line-long : 9 < run.at - at → Refused (Range 0) ≡ first_line_of text at
+      pub line-long : 9 < run.at - at → Err (Range 0) ≡ first_line_of text at
       unfolding first_line_of
       line-long h =
           let n = ends in
           rw (lt-leb (past_digits_of text at - at) 9 (omega arith), le-leb 1 (past_digits_of text at - at) (omega arith))
 
       module _ (few : run.at - at ≤ 9) where
-        pub line_other : (get_or text run.at 0 ≡ 10 → ⊥) → Refused (Range 0) ≡ first_line_of text at
+        pub line_other : (get_or text run.at 0 ≡ 10 → ⊥) → Err (Range 0) ≡ first_line_of text at
         unfolding first_line_of
         line_other h =
             let n = ends in
             let g : get_or text (past_digits_of text at) 0 ≡ 10 → ⊥ = λ t. h (ap (λ i. get_or text i 0) n ∙ t) in
             rw (le-leb (past_digits_of text at - at) 9 (omega arith), le-leb 1 (past_digits_of text at - at) (omega arith), ne_eqb (get_or text (past_digits_of text at) 0) 10 g)
 
-        pub line-judged : (r : FirstLine) → get_or text run.at 0 ≡ 10 → r ≡ judged run.size (run.at + 1) → r ≡ first_line_of text at
+        pub line-judged : (r : Result FirstLine Refusal) → get_or text run.at 0 ≡ 10 → r ≡ judged run.size (run.at + 1) → r ≡ first_line_of text at
         unfolding first_line_of
         line-judged r h j =
             let n = ends in

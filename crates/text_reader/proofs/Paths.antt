@@ -1,13 +1,12 @@
 -- The path's text is what stands from its place on; past the plan's end it is empty. Assumes nothing.
 use Prim.Native.Nat.{ℕ, ◌-◌, ◌≤◌, ◌<◌}
-use mathlib.Core.Path.{◌≡◌, refl, sym, ap, ◌∙◌}
+use mathlib.Core.Path.{◌≡◌, sym, ap, ◌∙◌}
 use mathlib.Core.List.{List, []}
 use native.Mathlib.Omega.{arith}
 use lib.ListN.{length, take, drop, length-drop}
-use lib.Seq.{take_all, drop-length}
-use Rattle.svg_step.specs.Steps.{read_step_of}
+use lib.Seq.{take_all}
+use Rattle.svg_step.specs.Steps.{Step, read_step_of}
 use Rattle.svg_step.specs.declared.steps.Reader.{Reader}
-use Rattle.svg_step.specs.declared.steps.Step.{Step}
 use Rattle.text_reader.specs.Plans.{step_of}
 
 -- nothing stands past the end

@@ -4,7 +4,8 @@ ghost use Rattle.text_reader.specs.Plans.{first_line_of, step_of};
 
 use crate::line::{FirstLine, line_at};
 use crate::steps::step_at;
-use svg_step::{Reader, Step};
+use answers::Refusal;
+use svg_step::{Reader, Stepped};
 
 #[derive(Clone, Copy)]
 pub struct TextReader<'a> {
@@ -13,13 +14,6 @@ pub struct TextReader<'a> {
 }
 
 // A reader at a place of a text.
-pub fn reader<'a>(text: &'a [u8], at: usize) -> TextReader<'a>
-    ensures { (result.text ≡ text.entry) × (result.at ≡ at) }
-{
-    TextReader { text, at }
-}
-
-// The same, by the name that no module has.
 pub fn reader_at<'a>(text: &'a [u8], at: usize) -> TextReader<'a>
     ensures { (result.text ≡ text.entry) × (result.at ≡ at) }
 {
@@ -28,14 +22,14 @@ pub fn reader_at<'a>(text: &'a [u8], at: usize) -> TextReader<'a>
 
 impl<'a> TextReader<'a> {
     // The first line, which starts at the reader's place.
-    pub fn line(self) -> FirstLine
+    pub fn line(self) -> Result<FirstLine, Refusal>
         ensures { result ≡ first_line_of self.entry.text.now self.entry.at }
     {
         line_at(self.text, self.at)
     }
 
     // One step of the path whose text starts at the reader's place.
-    pub fn step(self, state: Reader) -> Step
+    pub fn step(self, state: Reader) -> Result<Option<Stepped>, Refusal>
         ensures { result ≡ step_of self.entry.text.now self.entry.at state }
     {
         step_at(self.text, self.at, state)
@@ -54,15 +48,15 @@ impl<'a> TextReader<'a> {
 
 // The first line of a plan. This and the next make the reader themselves, so that no caller has to
 // keep one.
-pub fn first_line(text: &[u8]) -> FirstLine
+pub fn first_line(text: &[u8]) -> Result<FirstLine, Refusal>
     ensures { result ≡ first_line_of text.now 0 }
 {
-    reader(text, 0).line()
+    reader_at(text, 0).line()
 }
 
 // One step of the path of a plan, whose text starts at `at`.
-pub fn path_step(text: &[u8], at: usize, state: Reader) -> Step
+pub fn path_step(text: &[u8], at: usize, state: Reader) -> Result<Option<Stepped>, Refusal>
     ensures { result ≡ step_of text.now at state }
 {
-    reader(text, at).step(state)
+    reader_at(text, at).step(state)
 }

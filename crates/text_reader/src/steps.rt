@@ -2,10 +2,11 @@
 ghost use Rattle.std.specs.Prelude.{◌≡◌};
 ghost use Rattle.text_reader.specs.Plans.{step_of};
 
-use svg_step::{Reader, Step, read_step};
+use answers::Refusal;
+use svg_step::{Reader, Stepped, read_step};
 
 // The next command of the path whose text starts at `at`, from a state on whose places count from there.
-pub fn step_at(text: &[u8], at: usize, state: Reader) -> Step
+pub fn step_at(text: &[u8], at: usize, state: Reader) -> Result<Option<Stepped>, Refusal>
     ensures { result ≡ step_of text.now at state }
 {
     if at <= text.len() {

@@ -27,8 +27,9 @@ module _ {numbers : ℕ → ℕ} {row : List ℕ} {i : ℕ} where
   row-whole r past = record { size = r.size; each = λ k l. r.each k (omega arith) }
 
 -- what is put for each number of a row, by the numbers of that row
-pub row-through : (f : ℕ → ℕ) {numbers : ℕ → ℕ} {n : ℕ} {row new : List ℕ} → Row numbers n row → Row (λ (k : ℕ). f (get_or row k 0)) n new → Row (λ (k : ℕ). f (numbers k)) n new
-row-through f r s = record { size = s.size; each = λ k l. s.each k l ∙ ap f (r.each k l) }
+pub row-through : {f g : ℕ → ℕ} → ((r : ℕ) → f r ≡ g r) → {numbers : ℕ → ℕ} {n : ℕ} {row new : List ℕ}
+    → Row numbers n row → Row (λ (k : ℕ). f (get_or row k 0)) n new → Row (λ (k : ℕ). g (numbers k)) n new
+row-through {f} same {numbers} r s = record { size = s.size; each = λ k l. s.each k l ∙ ap f (r.each k l) ∙ same (numbers k) }
 
 -- ---- in place: each place before i has its number, and each from i on what it had
 pub record Replacing (numbers : ℕ → ℕ) (old row : List ℕ) (i : ℕ) : Type 0 where

@@ -1,34 +1,19 @@
--- How large the rungs and the powers are. Assumes nothing.
+-- How large the rungs are. Assumes nothing.
 use mathlib.Core.Path.{◌≡◌, refl, sym, subst}
-use Prim.Native.Nat.{ℕ, ◌+◌, ◌*◌, ◌/◌, ◌^◌, ◌≤◌, ◌<◌}
-use native.Mathlib.Nat.{mul-le-mul, mul-le-mul_right, le_of_lt}
+use Prim.Native.Nat.{ℕ, ◌+◌, ◌^◌, ◌≤◌, ◌<◌}
 use native.Mathlib.Omega.{arith}
 use mathlib.Core.List.{List}
 use lib.ListN.{get_or}
 use lib.Ieee.{Float}
-use Rattle.trig_rule.specs.Steps.{fixed_of, square_of, fourth_of, risen}
+use Rattle.trig_rule.specs.Steps.{fixed_of, fourth_of, risen}
 use Rattle.trig_rule.proofs.Turns.{rest_le}
-use Rattle.trig_all.specs.Rows.{Row, Below, rest_for, rungs_of, stepped_bits}
-
-pub risen-le : (a v h : ℕ) → v < 2 ^ 32 → risen a v h ≤ a + h
-risen-le a v h k =
-    let m : v * h ≤ 2 ^ 32 * h = mul-le-mul_right h (le_of_lt k) in
-    omega arith
+use Rattle.trig.proofs.Sizes.{risen-le, fourth-lt}
+use Rattle.trig.specs.Ladders.{rungs_of}
+use Rattle.trig_all.specs.Rows.{Row, Below, rest_for, stepped_bits}
 
 -- two rungs
 pub two-le : (a b v h p : ℕ) → v < 2 ^ 32 → p ≡ risen a v (risen b v h) → p ≤ a + b + h
 two-le a b v h p k e = omega (arith, e, risen-le a v (risen b v h) k, risen-le b v h k)
-
--- ---- the powers of what turns leave, which has 58 digits
-pub square_le : (q : ℕ) → q < 2 ^ 32 → q * q ≤ 4294967295 * 4294967295
-square_le q h =
-    let a : q ≤ 4294967295 = omega arith in
-    mul-le-mul a a
-
-pub fourth-lt : (r : ℕ) → r < 2 ^ 58 → fourth_of r < 2 ^ 32
-fourth-lt r h =
-    let s : square_of r < 2 ^ 32 = omega (arith, square_le (r / 2 ^ 26) (omega arith)) in
-    omega (arith, square_le (square_of r) s)
 
 -- ---- rows of them
 pub rests-below : (angles : ℕ → Float) {n : ℕ} {row : List ℕ} → Row (λ (k : ℕ). rest_for (angles k)) n row → Below (2 ^ 58) n row

@@ -1,7 +1,7 @@
 -- The bits that steps are taken for, by the cases of the definitions of sine and cosine. Assumes nothing.
 use mathlib.Core.Path.{◌≡◌}
 use mathlib.Core.Bool.{true, false}
-use Prim.Native.Nat.{ℕ, ◌≤◌, ◌<◌}
+use Prim.Native.Nat.{◌≤◌, ◌<◌}
 use borrow.Author.Tests.{le-ltb, lt-ltb}
 use lib.Ieee.{Float}
 use Rattle.trig_rule.specs.Rule.{in_the_reach}

@@ -2,7 +2,7 @@
 use Rattle.std.specs.Prelude.{ℕ, ◌+◌, ◌≤◌, ◌<◌, ◌⊎◌, ◌≡◌, cond, List, get_or, length, Float}
 use Rattle.std.specs.Float.{nan}
 use Rattle.trig_rule.specs.Rule.{in_the_reach}
-use Rattle.trig_rule.specs.Steps.{fixed_of, rest_of, flip_of, risen, plain, tiny}
+use Rattle.trig_rule.specs.Steps.{fixed_of, rest_of, flip_of, plain, tiny}
 
 -- ---- one angle
 -- the bits without the sign of an angle that the definition takes steps for, and those of 1 for any other, so that the passes need no branch
@@ -15,10 +15,6 @@ rest_for x = rest_of (fixed_of (stepped_bits x))
 
 abbrev pub flip_for : Float → ℕ
 flip_for x = flip_of (fixed_of (stepped_bits x))
-
--- a + v * (b + v * (c + v * (d + v * e))), where v is a fraction in units of 2 ^ -32
-abbrev pub rungs_of : ℕ → ℕ → ℕ → ℕ → ℕ → ℕ → ℕ
-rungs_of a b c d e v = risen a v (risen b v (risen c v (risen d v e)))
 
 -- ---- a row of whole numbers
 -- of 8 places each of the first n has its number

@@ -1,7 +1,6 @@
-// What the passes do for one angle: few branches, and products that say that their factors have 32 digits, so that a loop over them is laid
-// over lanes.
-ghost use Rattle.std.specs.Prelude.{◌≡◌, ◌+◌, ◌*◌, ◌^◌, ◌≤◌, ◌<◌};
-ghost use Rattle.trig_rule.specs.Steps.{square_of, fourth_of, risen, sine_plus, sine_minus, cosine_plus, cosine_minus, tiny_bits, sine_of, cosine_of};
+// What the passes do for one angle, with few branches.
+ghost use Rattle.std.specs.Prelude.{◌≡◌, ◌≤◌};
+ghost use Rattle.trig_rule.specs.Steps.{sine_plus, sine_minus, cosine_plus, cosine_minus, tiny_bits, sine_of, cosine_of};
 ghost use Rattle.trig_all.specs.Rows.{stepped_bits, rest_for, flip_for};
 
 use trig::in_reach;
@@ -19,32 +18,6 @@ pub(crate) fn stepped_bits(x: f32) -> u32
         return 0x3F80_0000;
     }
     a
-}
-
-// a + v·h / 2^32. The remainders change nothing: they show a compiler that both factors have 32 digits.
-pub(crate) fn rise(a: u64, v: u64, h: u64) -> u64
-    requires { (a < 2 ^ 32) × (v < 2 ^ 32) × (h < 2 ^ 32) }
-    ensures { (result ≡ risen a v h) × (result ≤ a + h) }
-{
-    a + (v % 0x1_0000_0000) * (h % 0x1_0000_0000) / 0x1_0000_0000
-}
-
-// r^2 / 16 in units of 2^-32.
-pub(crate) fn square(r: u64) -> u64
-    requires { r < 2 ^ 58 }
-    ensures { (result ≡ square_of r) × (result < 2 ^ 32) }
-{
-    let p = r / 0x400_0000 % 0x1_0000_0000;
-    p * p / 0x1_0000_0000
-}
-
-// r^4 / 256 in units of 2^-32.
-pub(crate) fn fourth(r: u64) -> u64
-    requires { r < 2 ^ 58 }
-    ensures { (result ≡ fourth_of r) × (result < 2 ^ 32) }
-{
-    let z = square(r) % 0x1_0000_0000;
-    z * z / 0x1_0000_0000
 }
 
 // The cosine of x from the sums at its rest.

@@ -1,5 +1,4 @@
 -- Each test picks a case of the definition. Assumes nothing.
-use borrow.Author.Rules.{rules}
 use borrow.Author.Tests.{not-true, not-false, eq-eqb, ne_eqb}
 use Prim.Native.Nat.{ℕ, ◌/◌, ◌%◌}
 use mathlib.Core.Path.{◌≡◌, refl, sym, ap, ◌∙◌}
@@ -57,12 +56,6 @@ returns-then-not-is_finite c = none ∙ nan-first _ _ (sym c.is_finite.ensures �
 
 pub returns-then-not-is_finite-2 : goal.returns-then-not-is_finite-2
 returns-then-not-is_finite-2 c = none ∙ nan-second _ _ (sym c.is_finite-2.ensures ∙ not-true _ (ap not c.if-not-is_finite-2.true))
-
-pub wide-c-requires : goal.wide-c-requires
-wide-c-requires c = sym c.is_finite.ensures ∙ not-false _ (ap not c.if-not-is_finite.false)
-
-pub wide-d-requires : goal.wide-d-requires
-wide-d-requires c = sym c.is_finite-2.ensures ∙ not-false _ (ap not c.if-not-is_finite-2.false)
 
 pub returns-then-a-eq0 : goal.returns-then-a-eq0
 returns-then-a-eq0 c =

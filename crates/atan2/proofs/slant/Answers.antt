@@ -1,5 +1,4 @@
 -- The parts are the definition's, and the test picks its case. Assumes nothing.
-use borrow.Author.Rules.{rules}
 use borrow.Author.Tests.{le-leb, lt-leb}
 use native.Mathlib.Omega.{arith}
 use Prim.Native.Nat.{ℕ, ◌+◌, ◌*◌, ◌^◌, ◌≤◌, ◌<◌}
@@ -13,6 +12,7 @@ use Rattle.atan2.proofs.Numbers.{no-nan-bits}
 use Rattle.atan2.proofs.slant.Goals as goal
 
 -- the definition over parts u and v that are given
+
 abbrev over : Float → Float → ℕ → ℕ → ℕ → ℕ → ℕ → ℕ → Float
 over y x a b s t u v = cond (leb (u * 8192 + t * 2 ^ 30) v) (div binary32 y x) (of_bits binary32 (s * sign_place + angle_bits u v t (guess_of a b (ltb v u) t)))
 
@@ -28,14 +28,5 @@ module _ (y x : Float) (a b s t : ℕ) {top u v : ℕ} (et : top ≡ top_of a b)
       ap (λ (n : ℕ). of_bits binary32 (s * sign_place + n)) e
       ∙ sym (ap (λ (c : Bool). cond c (div binary32 y x) (of_bits binary32 (s * sign_place + angle_bits u v t (guess_of a b (ltb v u) t)))) (lt-leb (u * 8192 + t * 1073741824) v h)) ∙ given
 
-pub returns-then-u-left : goal.returns-then-u-left
-returns-then-u-left c =
-    near c.args.y c.args.x c.args.a c.args.b c.args.sign c.args.left c.larger-top.ensures.0 c.part-u.ensures.0 c.part-v.ensures.0 c.if-u-left.true
-
 pub float_from_bits-result : goal.float_from_bits-result
 float_from_bits-result c = no-nan-bits _ (omega arith)
-
-pub returns : goal.returns
-returns c =
-    far c.args.y c.args.x c.args.a c.args.b c.args.sign c.args.left c.larger-top.ensures.0 c.part-u.ensures.0 c.part-v.ensures.0
-    c.if-u-left.false (c.angle.ensures.0 ∙ ap (angle_bits c.part-u.result c.part-v.result c.args.left) c.guess.ensures.0)

@@ -1,5 +1,4 @@
 -- Where the way is mild the arc is calm (`calm-tests`); elsewhere its numbers tell. Assumes nothing.
-use borrow.Author.Rules.{rules}
 use mathlib.Core.Path.{sym, ap, ◌∙◌}
 use Rattle.floats.proofs.Tests.{passed}
 use Rattle.path_bounds.specs.Calm.{is_mild_way}

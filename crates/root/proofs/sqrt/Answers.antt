@@ -1,17 +1,16 @@
 -- A float is the value of its bits, and those tell zeros, infinity, what is below zero and what `root_pattern` takes apart.
 -- Assumes nothing.
-use borrow.Author.Tests.{eq-eqb}
 use native.Mathlib.Omega.{arith}
 use native.Mathlib.Decide.{dec_le}
 use native.Mathlib.Nat.{lt_of_not-le, zero-mul, zero-div, zero-add, add_assoc}
-use Prim.Native.Nat.{ℕ, zero, suc, ◌+◌, ◌*◌, ◌/◌, ◌%◌, ◌^◌, ◌≤◌, ◌<◌}
+use Prim.Native.Nat.{ℕ, zero, suc, ◌+◌, ◌%◌, ◌^◌, ◌≤◌, ◌<◌}
 use mathlib.Core.Path.{◌≡◌, refl, sym, ap, subst, ◌∙◌}
 use mathlib.Core.Logic.{◌⊎◌, inl, inr}
 use mathlib.Core.Bool.{Bool, true, false, not}
 use denote.Floats.{passes}
 use lib.IntN.{ℤ}
-use lib.Dec.{T, eqb, ltb, eqb-suc-zero, lt→ltb, ltb→lt, T_not, not_T}
-use lib.Ieee.{Float, nan, inf, fin, binary32, is_nan, ne, neg, up, down, fits, to_bits, of_bits, nan_bits, div}
+use lib.Dec.{T, ltb, eqb-suc-zero, lt→ltb, ltb→lt, T_not, not_T}
+use lib.Ieee.{Float, nan, inf, fin, binary32, is_nan, ne, neg, fits, to_bits, of_bits, nan_bits, div}
 use lib.Ieee.Bits.{of_bits-to_bits, to_bits-lt, nan_bits_is, nan_bits_above}
 use lib.Ieee.Compare.{differs_from_itself, nan_differs}
 use lib.Ieee.Fits.{neg-fits}
@@ -126,9 +125,6 @@ returns-then-b-eq2139095040 c = sym (root-infinity _ (passes _ c.well_formed.0.1
 
 pub returns-then-b-gt2139095040 : goal.returns-then-b-gt2139095040
 returns-then-b-gt2139095040 c = none ∙ sym (root_below _ (passes _ c.well_formed.0.1) (is_number _ c.if-x.false) c.if-b-gt2139095040.true c.if-b-eq0.false)
-
-pub root_pattern-requires : goal.root_pattern-requires
-root_pattern-requires c = in-range _ c.if-b-eq0.false c.if-b-eq2139095040.false c.if-b-gt2139095040.false
 
 pub float_from_bits-result : goal.float_from_bits-result
 float_from_bits-result c = no-nan-bits _ c.root_pattern.ensures.1

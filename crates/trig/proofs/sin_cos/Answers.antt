@@ -1,20 +1,17 @@
 -- The cases of `sin` and of `cos` side by side, over one reduction. Assumes nothing.
 use mathlib.Core.Bool.{not}
-use Rattle.std.proofs.Common.{◌≡◌, ℕ, ◌+◌, true, sym, ap, ◌∙◌, arith, rules}
+use Rattle.std.proofs.Common.{◌≡◌, ℕ, ◌+◌, true, sym, ap, ◌∙◌, arith}
 use lib.Ieee.{binary32, of_bits}
 use Rattle.trig_rule.specs.Rule.{in_the_reach}
 use Rattle.trig_rule.specs.Steps.{fixed_of, flip_of, rest_of, plain, sign_bit, cosine_at}
 use Rattle.trig_rule.proofs.Ruled.{sine-far, sine-tiny, sine-main, cosine-far, cosine-tiny, cosine-main}
-use Rattle.trig.proofs.Frame.{none, outside, inside, number, plain-le, sign_le, sine-is}
+use Rattle.trig.proofs.Frame.{none, outside, inside, plain-le, sign_le, sine-is}
 use Rattle.trig.proofs.sin_cos.Goals as goal
 
 pub returns-then-not-in_reach : goal.returns-then-not-in_reach
 returns-then-not-in_reach c =
     let far = outside _ _ c.in_reach.ensures (ap not c.if-not-in_reach.true) in
     (none ∙ sym (sine-far c.args.x far), none ∙ sym (cosine-far c.args.x far))
-
-pub float_to_bits-b : goal.float_to_bits-b
-float_to_bits-b c = number _ (inside _ _ c.in_reach.ensures (ap not c.if-not-in_reach.false))
 
 pub returns-then-a-lt964689920 : goal.returns-then-a-lt964689920
 returns-then-a-lt964689920 c =
@@ -23,7 +20,7 @@ returns-then-a-lt964689920 c =
 
 pub fixed-requires : goal.fixed-requires
 fixed-requires c =
-    (c.if-a-lt964689920.false, plain-le c.args.x c.well_formed.0.1 (inside _ _ c.in_reach.ensures (ap not c.if-not-in_reach.false)))
+    (omega arith, plain-le c.args.x c.well_formed.0.1 (inside _ _ c.in_reach.ensures (ap not c.if-not-in_reach.false)))
 
 pub overflow_add-b : goal.overflow_add-b
 overflow_add-b c =

@@ -4,9 +4,6 @@ use mathlib.Core.Path.{refl}
 use Rattle.arc.proofs.Rows.{rows-steps}
 use Rattle.arc.proofs.arcs.arc_steps.Goals as goal
 
-pub put_points-requires : goal.put_points-requires
-put_points-requires c = (c.put_sines.ensures.sines.size, c.put_sines.ensures.cosines.size)
-
 pub returns : goal.returns
 returns c =
     rows-steps _ _ c.put_angles.ensures c.put_sines.ensures.sines c.put_sines.ensures.cosines c.put_points.ensures.across c.put_points.ensures.along

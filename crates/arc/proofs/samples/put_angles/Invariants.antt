@@ -7,6 +7,3 @@ use Rattle.arc.proofs.samples.put_angles.Given as goal
 
 abbrev pub invariant-loop-i : goal.invariant-loop-i
 invariant-loop-i l = Replacing (angle_for l.shape) l.initial.x l.x l.i
-
-abbrev pub decreases-loop-i : goal.decreases-loop-i
-decreases-loop-i l = 32 - l.i

@@ -9,6 +9,3 @@ use Rattle.arc.proofs.samples.put_differences.Given as goal
 
 abbrev pub invariant-loop-i : goal.invariant-loop-i
 invariant-loop-i l = Replacing (step_for l.initial.x) l.initial.x l.x l.i
-
-abbrev pub decreases-loop-i : goal.decreases-loop-i
-decreases-loop-i l = 31 - l.i

@@ -8,6 +8,3 @@ use Rattle.arc.proofs.samples.put_points.Given as goal
 
 abbrev pub invariant-loop-i : goal.invariant-loop-i
 invariant-loop-i l = Replacing (across_for l.center l.radii l.turn l.initial.x l.initial.y) l.initial.x l.x l.i × Replacing (along_for l.center l.radii l.turn l.initial.x l.initial.y) l.initial.y l.y l.i
-
-abbrev pub decreases-loop-i : goal.decreases-loop-i
-decreases-loop-i l = 32 - l.i

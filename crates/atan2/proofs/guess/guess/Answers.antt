@@ -1,5 +1,4 @@
 -- The bits that make floats are none of a NaN: a field of 2047 ones is out of reach. Assumes nothing.
-use borrow.Author.Rules.{rules}
 use native.Mathlib.Omega.{arith}
 use Prim.Native.Nat.{ℕ, ◌+◌, ◌-◌, ◌*◌, ◌%◌, ◌≤◌, ◌<◌}
 use native.Mathlib.Nat.{le_of_lt}
@@ -22,25 +21,16 @@ picked-le false a b p m e h k = omega arith
 signed : (s p : ℕ) → s ≤ 1 → p ≤ 9218868437227405311 → (s * wide_sign_place + p) % wide_sign_place < wide_infinity_bits
 signed s p h k = omega arith
 
-pub overflow_mul-n : goal.overflow_mul-n
-overflow_mul-n c = let s = picked-le (ltb c.args.v c.args.u) (1 - c.args.left) c.args.left c.pick.result 1 c.pick.ensures (omega arith) (omega arith) in record { fits = omega arith }
-
-pub overflow_add-n : goal.overflow_add-n
-overflow_add-n c =
-    let s = picked-le (ltb c.args.v c.args.u) (1 - c.args.left) c.args.left c.pick.result 1 c.pick.ensures (omega arith) (omega arith) in
-    let p = picked-le (ltb c.args.v c.args.u) c.args.b c.args.a c.pick-2.result 9218868437227405311 c.pick-2.ensures (omega arith) (omega arith) in
-    record { fits = omega arith }
-
 pub float_from_bits-n : goal.float_from_bits-n
 float_from_bits-n c =
     no_nan _
     (signed c.pick.result c.pick-2.result
-    (picked-le (ltb c.args.v c.args.u) (1 - c.args.left) c.args.left c.pick.result 1 c.pick.ensures (omega arith) (omega arith))
-    (picked-le (ltb c.args.v c.args.u) c.args.b c.args.a c.pick-2.result 9218868437227405311 c.pick-2.ensures (omega arith) (omega arith)))
+    (picked-le (ltb c.args.d.v c.args.d.u) (1 - c.args.d.left) c.args.d.left c.pick.result 1 c.pick.ensures.value (omega arith) (omega arith))
+    (picked-le (ltb c.args.d.v c.args.d.u) c.args.b c.args.a c.pick-2.result 9218868437227405311 c.pick-2.ensures.value (omega arith) (omega arith)))
 
-pub float_from_bits-d : goal.float_from_bits-d
-float_from_bits-d c =
-    let p = picked-le (ltb c.args.v c.args.u) c.args.a c.args.b c.pick-d.result 9218868437227405311 c.pick-d.ensures (omega arith) (omega arith) in
+pub float_from_bits-below : goal.float_from_bits-below
+float_from_bits-below c =
+    let p = picked-le (ltb c.args.d.v c.args.d.u) c.args.a c.args.b c.pick-below.result 9218868437227405311 c.pick-below.ensures.value (omega arith) (omega arith) in
     no_nan _ (omega arith)
 
 pub float_from_bits-start : goal.float_from_bits-start

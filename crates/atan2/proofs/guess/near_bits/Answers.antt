@@ -1,5 +1,4 @@
 -- Each test picks a case of the definition; in the last one the difference is of numbers that are far enough apart. Assumes nothing.
-use borrow.Author.Rules.{rules}
 use borrow.Author.Tests.{lt-ltb, le-ltb}
 use native.Mathlib.Omega.{arith}
 use mathlib.Core.Path.{◌≡◌, sym, ap, subst}

@@ -1,5 +1,4 @@
 -- The balance decides. Assumes nothing.
-use borrow.Author.Rules.{rules}
 use Rattle.atan2_rule.specs.Steps.{ahead_at}
 use Rattle.atan2.proofs.search.ahead_at.Goals as goal
 

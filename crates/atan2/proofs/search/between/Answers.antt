@@ -1,5 +1,4 @@
 -- Each test picks a case of the definition. Assumes nothing.
-use borrow.Author.Rules.{rules}
 use borrow.Author.Tests.{not-true, not-false}
 use native.Mathlib.Omega.{arith}
 use Prim.Native.Nat.{ℕ}
@@ -27,15 +26,15 @@ module _ (u v left from to : ℕ) where
 
 pub returns-then-not-ahead_at : goal.returns-then-not-ahead_at
 returns-then-not-ahead_at c =
-    (at_first c.args.u c.args.v c.args.left c.args.from c.args.to (sym c.ahead_at.ensures ∙ not-true _ (ap not c.if-not-ahead_at.true)), omega arith)
+    (at_first c.args.d.u c.args.d.v c.args.d.left c.args.from c.args.to (sym c.ahead_at.ensures ∙ not-true _ (ap not c.if-not-ahead_at.true)), omega arith)
 
 pub returns-then-ahead_at : goal.returns-then-ahead_at
 returns-then-ahead_at c =
-    (at_last c.args.u c.args.v c.args.left c.args.from c.args.to (sym c.ahead_at.ensures ∙ not-false _ (ap not c.if-not-ahead_at.false)) (sym c.ahead_at-2.ensures ∙ c.if-ahead_at.true), omega arith)
+    (at_last c.args.d.u c.args.d.v c.args.d.left c.args.from c.args.to (sym c.ahead_at.ensures ∙ not-false _ (ap not c.if-not-ahead_at.false)) (sym c.ahead_at-2.ensures ∙ c.if-ahead_at.true), omega arith)
 
 pub returns : goal.returns
 returns c = (
-  c.nearer.ensures.0 ∙ ap (nearer c.args.u c.args.v c.args.left) c.climb.ensures.0
-      ∙ inside c.args.u c.args.v c.args.left c.args.from c.args.to (sym c.ahead_at.ensures ∙ not-false _ (ap not c.if-not-ahead_at.false)) (sym c.ahead_at-2.ensures ∙ c.if-ahead_at.false),
+  c.nearer.ensures.0 ∙ ap (nearer c.args.d.u c.args.d.v c.args.d.left) c.climb.ensures.0
+      ∙ inside c.args.d.u c.args.d.v c.args.d.left c.args.from c.args.to (sym c.ahead_at.ensures ∙ not-false _ (ap not c.if-not-ahead_at.false)) (sym c.ahead_at-2.ensures ∙ c.if-ahead_at.false),
   omega arith,
 )

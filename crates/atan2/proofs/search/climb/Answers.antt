@@ -1,7 +1,6 @@
--- The climb from t by k strides ends where the whole climb does; k falls. Assumes nothing.
-use borrow.Author.Rules.{rules}
+-- The climb from t by k strides ends where the whole climb does. Assumes nothing.
 use native.Mathlib.Omega.{arith}
-use Prim.Native.Nat.{ℕ, suc, ◌+◌, ◌-◌, ◌^◌, ◌≤◌, ◌<◌}
+use Prim.Native.Nat.{ℕ, suc, ◌+◌, ◌-◌, ◌^◌, ◌<◌}
 use mathlib.Core.Path.{◌≡◌, refl, sym, ap, ◌∙◌}
 use mathlib.Core.Bool.{Bool, cond, ◌&&◌}
 use lib.Dec.{ltb}
@@ -9,6 +8,7 @@ use Rattle.atan2_rule.specs.Steps.{ahead_at, climb}
 use Rattle.atan2.proofs.search.climb.Goals as goal
 
 -- no stride, and one stride, of the definition
+
 none : (test : ℕ → Bool) (to t : ℕ) → climb test to 0 t ≡ t
 unfolding climb
 none test to t = refl
@@ -26,13 +26,10 @@ climb-step test to k t h = ap (λ (n : ℕ). climb test to n t) back ∙ at (k -
     at : (n : ℕ) → climb test to (suc n) t ≡ climb test to n (cond (ltb (t + 2 ^ n) to && test (t + 2 ^ n)) (t + 2 ^ n) t)
     at n = step test to n t
 
-pub loop-k-init : goal.loop-k-init
-loop-k-init c = (refl, omega arith, omega arith, omega arith)
-
 pub loop-k-preserved : goal.loop-k-preserved
 loop-k-preserved c =
-    let test = ahead_at c.args.u c.args.v c.args.left in
-    (ap (climb test c.args.to (c.loop-k.k - 1)) c.stride-t.ensures.0 ∙ sym (climb-step test c.args.to c.loop-k.k c.loop-k.t c.loop-k-test.true) ∙ c.loop-k.invariant.0, c.stride-t.ensures.1, c.stride-t.ensures.2, omega arith)
+    let test = ahead_at c.args.d.u c.args.d.v c.args.d.left in
+    (ap (climb test c.args.to (c.loop-k.k - 1)) c.stride-t.ensures.0 ∙ sym (climb-step test c.args.to c.loop-k.k c.loop-k.t c.loop-k-test.true) ∙ c.loop-k.invariant.0, c.stride-t.ensures.1, c.stride-t.ensures.2)
 
 at_none : (test : ℕ → Bool) (to t k : ℕ) → k ≡ 0 → climb test to k t ≡ t
 at_none test to t k e = ap (λ (n : ℕ). climb test to n t) e ∙ none test to t
@@ -40,4 +37,4 @@ at_none test to t k e = ap (λ (n : ℕ). climb test to n t) e ∙ none test to 
 pub returns : goal.returns
 returns c =
     let e : c.loop-k.k ≡ 0 = omega arith in
-    (sym (at_none (ahead_at c.args.u c.args.v c.args.left) c.args.to c.loop-k.t c.loop-k.k e) ∙ c.loop-k.invariant.0, c.loop-k.invariant.1, c.loop-k.invariant.2)
+    (sym (at_none (ahead_at c.args.d.u c.args.d.v c.args.d.left) c.args.to c.loop-k.t c.loop-k.k e) ∙ c.loop-k.invariant.0, c.loop-k.invariant.1, c.loop-k.invariant.2)

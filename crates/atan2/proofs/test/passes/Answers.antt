@@ -1,5 +1,4 @@
 -- The rest of PI is a turn less it. Assumes nothing.
-use borrow.Author.Rules.{rules}
 use borrow.Author.Tests.{le-leb, lt-leb}
 use native.Mathlib.Omega.{arith}
 use native.Mathlib.Nat.{eq-or-lt_of_le, not-le_of_lt}
@@ -32,20 +31,14 @@ only-pi b l h k = elim (eq-or-lt_of_le h) [
     before : b < 1078530011 → b ≤ 1078530010
     before g = omega arith
 
-pub judged-requires : goal.judged-requires
-judged-requires c = (c.requires.0, c.requires.1, c.sides.ensures.bounded)
-
-pub judged-requires-else-x-le226375608064910088 : goal.judged-requires-else-x-le226375608064910088
-judged-requires-else-x-le226375608064910088 c = (c.requires.0, c.requires.1, c.past_pi.ensures.bounded)
-
 pub returns-then-x-le226375608064910088 : goal.returns-then-x-le226375608064910088
 returns-then-x-le226375608064910088 c =
-    c.judged.ensures ∙ judged-is c.sides.ensures c.args.u c.args.v c.args.left 0 ∙ ap (passes_at c.args.u c.args.v c.args.left 0) c.fixed-x.ensures.0
-    ∙ straight c.args.u c.args.v c.args.left c.args.b (subst (λ (n : ℕ). n ≤ half) c.fixed-x.ensures.0 c.if-x-le226375608064910088.true)
+    c.judged.ensures ∙ judged-is c.sides.ensures c.args.d.u c.args.d.v c.args.d.left 0 ∙ ap (passes_at c.args.d.u c.args.d.v c.args.d.left 0) c.fixed-x.ensures.0
+    ∙ straight c.args.d.u c.args.d.v c.args.d.left c.args.b (subst (λ (n : ℕ). n ≤ half) c.fixed-x.ensures.0 c.if-x-le226375608064910088.true)
 
 pub returns-else-x-le226375608064910088 : goal.returns-else-x-le226375608064910088
 returns-else-x-le226375608064910088 c =
     let above : half < fixed_of c.args.b = subst (λ (n : ℕ). half < n) c.fixed-x.ensures.0 c.if-x-le226375608064910088.false in
-    c.judged-else-x-le226375608064910088.ensures ∙ judged-is c.past_pi.ensures c.args.u c.args.v c.args.left 1
-    ∙ ap (λ (n : ℕ). passes_at c.args.u c.args.v c.args.left 1 (turn - fixed_of n)) (sym (only-pi c.args.b c.requires.2 c.requires.3 above))
-    ∙ flipped c.args.u c.args.v c.args.left c.args.b above
+    c.judged-else-x-le226375608064910088.ensures ∙ judged-is c.past_pi.ensures c.args.d.u c.args.d.v c.args.d.left 1
+    ∙ ap (λ (n : ℕ). passes_at c.args.d.u c.args.d.v c.args.d.left 1 (turn - fixed_of n)) (sym (only-pi c.args.b c.requires.0 c.requires.1 above))
+    ∙ flipped c.args.d.u c.args.d.v c.args.d.left c.args.b above

@@ -1,5 +1,4 @@
 -- The sides of the crate `trig`, brought to units of 2 ^ -30; no product reaches 2 ^ 64, by what the sides are at half a turn. Assumes nothing.
-use borrow.Author.Rules.{rules}
 use native.Mathlib.Omega.{arith}
 use native.Mathlib.Nat.{mul-le-mul, le_trans, le_of_eq}
 use Prim.Native.Nat.{ℕ, ◌*◌, ◌/◌, ◌^◌, ◌≤◌, ◌<◌}
@@ -38,12 +37,6 @@ sums_at r cp cm sp sm h ecp ecm esp esm =
         sine-down-most = le_trans (le_of_eq e) (le_trans (sine-down-most r h) (lit≤ tt));
       };
     }
-
-pub overflow_mul-result-3 : goal.overflow_mul-result-3
-overflow_mul-result-3 c = record { fits = omega (arith, cut_product c.args.r c.sine_sides-s.result.plus c.requires c.sine_sides-s.ensures.2) }
-
-pub overflow_mul-result-4 : goal.overflow_mul-result-4
-overflow_mul-result-4 c = record { fits = omega (arith, cut_product c.args.r c.sine_sides-s.result.minus c.requires c.sine_sides-s.ensures.3) }
 
 pub returns : goal.returns
 returns c =

@@ -1,5 +1,4 @@
 -- The test is the definition's (`less-itself`). Assumes nothing.
-use borrow.Author.Rules.{rules}
 use mathlib.Core.Path.{◌≡◌, sym, ◌∙◌}
 use mathlib.Core.Bool.{true, false}
 use lib.Ieee.Scale.{finite}

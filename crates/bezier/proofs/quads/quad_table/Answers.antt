@@ -1,5 +1,4 @@
 -- `table_of` sums the steps. Assumes nothing.
-use borrow.Author.Rules.{rules}
 use Rattle.table_samples.proofs.Steps.{table_is}
 use Rattle.bezier.proofs.quads.quad_table.Goals as goal
 

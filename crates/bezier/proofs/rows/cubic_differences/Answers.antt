@@ -1,13 +1,10 @@
 -- The invariants: the samples before i are in (`Sample`), then the differences before k, but for the last place (`Difference`). The
 -- measures are the places left. Assumes nothing.
-use borrow.Author.Rules.{rules}
 use native.Mathlib.Omega.{arith}
 use mathlib.Core.Path.{refl, ap, ◌∙◌}
-use Prim.Native.Nat.{ℕ, ◌-◌, ◌<◌}
-use lib.Ieee.{Float}
 use Rattle.bezier.specs.Rows.{cubic_coordinate}
-use Rattle.lengths.proofs.Lists.{Passing, passing-start, passing-more}
-use Rattle.bezier.proofs.Differences.{Difference, Sample, difference-of}
+use Rattle.lengths.proofs.Lists.{passing-start, passing-more}
+use Rattle.bezier.proofs.Differences.{difference-of}
 use Rattle.bezier.proofs.rows.cubic_differences.Goals as goal
 
 pub loop-i-init : goal.loop-i-init

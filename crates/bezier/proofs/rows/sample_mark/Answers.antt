@@ -4,7 +4,6 @@ use lib.IntN.{pos}
 use lib.Ieee.{Float, binary32, of_bits, of_int, div, round}
 use Rattle.floats.specs.Floats.{clamp01_of}
 use Rattle.table.specs.Lookup.{mark_of}
-use borrow.Author.Rules.{rules}
 use Rattle.bezier.proofs.rows.sample_mark.Goals as goal
 
 thirty-one : of_bits binary32 0x41F80000 ≡ of_int binary32 (pos 31)

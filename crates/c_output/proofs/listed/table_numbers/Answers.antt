@@ -1,5 +1,4 @@
 -- `table_numbers` meets its contract: the copy fills all places but the last. Assumes nothing.
-use borrow.Author.Rules.{rules}
 use native.Mathlib.Omega.{arith}
 use mathlib.Core.Path.{◌≡◌, ap, sym, ◌∙◌}
 use lib.Ieee.{Float}

@@ -1,9 +1,7 @@
--- The invariant: the numbers before k are in (`Copied`). The measure is the count of those left. Assumes nothing.
+-- The invariant: the numbers before k are in (`Copied`). Assumes nothing.
 use borrow.Author.Rules.{rules}
-use Prim.Native.Nat.{◌-◌}
-use lib.ListN.{length}
 use lib.Ieee.{nan}
-use Rattle.c_output.proofs.Copying.{Copied, copied-start, copied_more, copied-done}
+use Rattle.c_output.proofs.Copying.{copied-start, copied_more, copied-done}
 use Rattle.c_output.proofs.outputs.copy.Goals as goal
 
 pub loop-k-init : goal.loop-k-init

@@ -1,5 +1,4 @@
 -- `commands::encoding::put_arc` meets its contract: three runs of numbers and a last one; the flags are the numbers of `flag_of`. Assumes nothing.
-use borrow.Author.Rules.{rules}
 use lib.ListN.{length-set}
 use mathlib.Core.Path.{◌∙◌}
 use Rattle.commands.proofs.Storing.{arc-put}

@@ -1,5 +1,4 @@
 -- `commands::encoding::put_cubic` meets its contract: three runs of numbers, one after the other. Assumes nothing.
-use borrow.Author.Rules.{rules}
 use Rattle.commands.proofs.Storing.{six-put}
 use Rattle.commands.proofs.encoding.put_cubic.Goals as goal
 

@@ -1,5 +1,4 @@
 -- `commands::encoding::put_quad` meets its contract: two runs of numbers, one after the other. Assumes nothing.
-use borrow.Author.Rules.{rules}
 use Rattle.commands.proofs.Storing.{four-put}
 use Rattle.commands.proofs.encoding.put_quad.Goals as goal
 

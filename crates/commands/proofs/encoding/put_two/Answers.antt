@@ -1,5 +1,4 @@
 -- `commands::encoding::put_two` meets its contract: tidying changes no number. Assumes nothing.
-use borrow.Author.Rules.{rules}
 use native.Mathlib.Omega.{arith}
 use lib.ListN.{length-set}
 use Rattle.commands.proofs.Storing.{two-put}

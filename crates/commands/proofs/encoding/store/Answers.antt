@@ -1,5 +1,4 @@
 -- `commands::encoding::store` meets its contract. Assumes nothing.
-use borrow.Author.Rules.{rules}
 use mathlib.Core.Path.{ap}
 use lib.ListN.{set}
 use Rattle.commands.proofs.encoding.store.Goals as goal

@@ -1,5 +1,4 @@
 -- `commands::encoding::store_arguments` meets its contract: in each arm the value that was matched is the arm's constructor. Assumes nothing.
-use borrow.Author.Rules.{rules}
 use native.Mathlib.Omega.{arith}
 use Rattle.commands.proofs.encoding.store_arguments.Goals as goal
 

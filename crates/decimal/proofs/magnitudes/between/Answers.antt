@@ -1,9 +1,8 @@
 -- `decimal::magnitudes::between` meets its contract: each side of the middle has its law, and a tie goes to the even one. Assumes nothing.
-use mathlib.Core.Path.{◌≡◌, ap, sym, ◌∙◌}
+use mathlib.Core.Path.{ap, sym, ◌∙◌}
 use Rattle.decimal_digits.proofs.Values.{ten-pos}
 use Rattle.decimal_tie.specs.Weighing.{order_of}
 use Rattle.decimal.proofs.Sided.{bits-less, bits-greater, bits-equal}
-use borrow.Author.Rules.{rules}
 use Rattle.decimal.proofs.magnitudes.between.Goals as goal
 
 pub returns-in-Less : goal.returns-in-Less

@@ -1,7 +1,7 @@
 -- `decimal::magnitudes::magnitude` meets its contract. Capped exponents give the exact place among the powers of ten where it is in their table, and the right end of
 -- the floats where it is not. Assumes nothing.
-use mathlib.Core.Path.{◌≡◌, refl, ap, sym, ◌∙◌, subst}
-use mathlib.Core.Logic.{◌⊎◌, inl, inr, ⊎_elim}
+use mathlib.Core.Path.{◌≡◌, ap, sym, ◌∙◌, subst}
+use mathlib.Core.Logic.{◌⊎◌, ⊎_elim}
 use Prim.Native.Nat.{ℕ, ◌+◌, ◌-◌, ◌*◌, ◌^◌, ◌≤◌, ◌<◌}
 use native.Mathlib.Omega.{arith}
 use Rattle.decimal_digits.specs.Digits.{digits_among, val}
@@ -12,7 +12,6 @@ use Rattle.decimal_product.specs.Near.{Leading, Cell}
 use Rattle.decimal.specs.Bits.{Nearest}
 use Rattle.decimal.proofs.Capped.{Apart, under, past, near, capped-self}
 use Rattle.decimal.proofs.Scaled.{none-nearest, sized, placed, too-low, too-high, product-bits, product-between}
-use borrow.Author.Rules.{rules}
 use Rattle.decimal.proofs.magnitudes.magnitude.Goals as goal
 
 -- the place among the powers of ten, for any exponents that are capped so

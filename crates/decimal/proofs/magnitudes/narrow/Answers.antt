@@ -1,11 +1,8 @@
 -- `decimal::magnitudes::narrow` meets its contract. Assumes nothing.
 use Prim.Native.Nat.{ℕ, ◌<◌}
-use mathlib.Core.Path.{◌≡◌, sym, ap}
-use mathlib.Core.Bool.{Bool, cond}
+use mathlib.Core.Path.{◌≡◌}
 use native.Mathlib.Omega.{arith}
-use borrow.Author.Rules.{rules}
 use borrow.Author.Tests.{eq-eqb, ne_eqb}
-use Rattle.decimal.specs.Bits.{Tells}
 use Rattle.decimal.proofs.magnitudes.narrow.Goals as goal
 
 -- the number is not 0

@@ -2,7 +2,6 @@
 use Prim.Native.Nat.{◌^◌}
 use mathlib.Core.Path.{ap, sym, subst}
 use mathlib.Core.Bool.{Bool, false, not}
-use borrow.Author.Rules.{rules}
 use lib.Dec.{T}
 use lib.Ieee.{Float, nan, inf, fin, binary64, to_bits, is_nan}
 use Rattle.decimal_rounding.proofs.Limits.{Signed, sign_kept}

@@ -1,5 +1,4 @@
 -- `decimal::magnitudes::quotient` meets its contract: both numbers are f64, so that the division rounds their quotient. Assumes nothing.
-use borrow.Author.Rules.{rules}
 use lib.Dec.{le→leb}
 use lib.Ieee.{binary64, in_float}
 use Rattle.decimal_digits.proofs.Values.{ten-pos}

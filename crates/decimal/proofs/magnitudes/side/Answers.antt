@@ -1,9 +1,8 @@
 -- `decimal::magnitudes::side` meets its contract: the point is moved to one place, before which there are digits or zeros. Assumes nothing.
-use mathlib.Core.Path.{◌≡◌, refl, ◌∙◌}
+use mathlib.Core.Path.{refl, ◌∙◌}
 use mathlib.Core.Logic.{inl, inr}
 use native.Mathlib.Omega.{arith}
 use Rattle.decimal.proofs.Sided.{weighed-is}
-use borrow.Author.Rules.{rules}
 use Rattle.decimal.proofs.magnitudes.side.Goals as goal
 
 pub weigh-requires : goal.weigh-requires

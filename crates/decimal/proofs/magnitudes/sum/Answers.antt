@@ -1,5 +1,4 @@
 -- `decimal::magnitudes::sum` meets its contract: a sum that reaches the cap is capped. Assumes nothing.
-use borrow.Author.Rules.{rules}
 use Rattle.decimal.proofs.Capped.{sum-capped, sum-exact}
 use Rattle.decimal.proofs.magnitudes.sum.Goals as goal
 

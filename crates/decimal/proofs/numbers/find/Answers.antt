@@ -1,6 +1,6 @@
 -- `decimal::numbers::find` meets its contract: each way out is a law over what the calls have found. Assumes nothing.
-use mathlib.Core.Path.{◌≡◌, refl, ap, sym, ◌∙◌}
-use mathlib.Core.Bool.{not, true, false}
+use mathlib.Core.Path.{◌≡◌, ap, sym, ◌∙◌}
+use mathlib.Core.Bool.{not, true}
 use Prim.Native.Nat.{ℕ, ◌+◌, ◌^◌, ◌<◌}
 use native.Mathlib.Omega.{arith}
 use lib.Dec.{eqb}
@@ -10,7 +10,6 @@ use Rattle.scan.specs.Bytes.{among, points, exponent_marks}
 use Rattle.scan.proofs.RunLaws.{one-onward}
 use Rattle.decimal.specs.Decimal.{minus}
 use Rattle.decimal.proofs.Found.{plain_at, marked-at, mark-inside, number-no-digit, number-no-exponent, scanned, held_plain, held-falling, held-rising}
-use borrow.Author.Rules.{rules}
 use Rattle.decimal.proofs.numbers.find.Goals as goal
 
 pub gather_many-all-requires : goal.gather_many-all-requires

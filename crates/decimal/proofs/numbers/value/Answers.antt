@@ -6,7 +6,6 @@ use native.Mathlib.Nat.{add_comm, zero-add, le_of_lt, pow-le-pow_right, zero-lt-
 use native.Mathlib.Omega.{arith}
 use lib.Dec.{eqb}
 use lib.Ieee.{binary32, of_bits}
-use borrow.Author.Rules.{rules}
 use borrow.Author.Tests.{leb-true, ltb-true, eqb-true, eq-eqb, ne_eqb}
 use Rattle.floats.specs.Patterns.{sign_place}
 use Rattle.decimal_rounding.proofs.Wide.{no-nan-single}

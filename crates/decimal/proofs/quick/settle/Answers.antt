@@ -1,14 +1,13 @@
 -- `decimal::quick::settle` meets its contract: the bits of the quotient are those of the nearest f32. Assumes nothing.
 use mathlib.Core.Path.{◌≡◌, refl, ap, sym, ◌∙◌, subst}
 use mathlib.Core.List.{List, [], ◌∷◌}
-use Prim.Native.Nat.{ℕ, ◌^◌, ◌<◌, ◌≤◌}
-use native.Mathlib.Nat.{le_of_lt, pow-le-pow_right, zero-lt-suc}
+use Prim.Native.Nat.{ℕ, ◌^◌, ◌≤◌}
+use native.Mathlib.Nat.{pow-le-pow_right, zero-lt-suc}
 use native.Mathlib.Omega.{arith}
-use borrow.Author.Rules.{rules}
 use lib.ListN.{length, set}
-use lib.Ieee.{Float, binary32, round}
+use lib.Ieee.{Float}
 use Rattle.decimal_digits.proofs.Values.{ten-pos}
-use Rattle.decimal.specs.Bits.{Nearest, Settled}
+use Rattle.decimal.specs.Bits.{Nearest}
 use Rattle.decimal.proofs.Ranged.{quotient-tells, quotient-bits}
 use Rattle.decimal.proofs.quick.settle.Goals as goal
 

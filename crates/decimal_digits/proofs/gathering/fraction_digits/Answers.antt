@@ -1,5 +1,5 @@
 -- `decimal_digits::gathering::fraction_digits` meets its contract: the digits that eight bytes begin with, and the others one by one. Assumes nothing.
-use Rattle.std.proofs.Common.{ℕ, ◌+◌, ◌-◌, ◌*◌, ◌<◌, ◌≤◌, length, sym, refl, subst, arith, rules}
+use Rattle.std.proofs.Common.{ℕ, ◌+◌, ◌*◌, ◌≤◌, length, sym, refl, subst, arith}
 use Rattle.decimal_digits.specs.Leading.{Takes}
 use Rattle.decimal_digits.proofs.Taking.{takes-on, takes_run, run-ended, run-bounds, Bounds}
 use Rattle.decimal_digits.proofs.gathering.fraction_digits.Goals as goal

@@ -1,5 +1,5 @@
 -- `decimal_digits::gathering::gather` meets its contract. Assumes nothing.
-use Rattle.std.proofs.Common.{le_trans, rules}
+use Rattle.std.proofs.Common.{le_trans}
 use Rattle.decimal_digits.proofs.Taking.{gathers-on}
 use Rattle.decimal_digits.proofs.gathering.gather.Goals as goal
 

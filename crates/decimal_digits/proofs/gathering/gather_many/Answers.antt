@@ -2,7 +2,7 @@
 -- Assumes nothing.
 use mathlib.Core.Bool.{not}
 use mathlib.Core.Path.{ap}
-use Rattle.std.proofs.Common.{ℕ, ◌+◌, ◌-◌, ◌*◌, length, sym, refl, subst, le_trans, arith, rules}
+use Rattle.std.proofs.Common.{ℕ, ◌+◌, ◌*◌, sym, refl, subst, le_trans, arith}
 use borrow.Author.Tests.{not-false}
 use Rattle.decimal_digits.specs.Leading.{Takes}
 use Rattle.decimal_digits.proofs.Taking.{takes_none, takes-on, takes_run, run-ended, run-bounds, Bounds, gathers-on, gathers-none}

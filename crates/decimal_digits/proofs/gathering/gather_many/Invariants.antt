@@ -1,9 +1,7 @@
 -- `decimal_digits::gathering::gather_many` meets its contract. The invariant: the digits up to `at` are taken into `held`. The measure is what is left of the text.
 -- Assumes nothing.
-use Rattle.std.proofs.Common.{ℕ, ◌+◌, ◌-◌, ◌*◌, length, sym, refl, subst, le_trans, arith, rules}
-use borrow.Author.Tests.{not-false}
+use Rattle.std.proofs.Common.{◌-◌, length}
 use Rattle.decimal_digits.specs.Leading.{Takes}
-use Rattle.decimal_digits.proofs.Taking.{takes_none, takes-on, takes_run, run-ended, run-bounds, Bounds, gathers-on, gathers-none}
 use Rattle.decimal_digits.proofs.gathering.gather_many.Given as goal
 
 abbrev pub invariant-loop-held : goal.invariant-loop-held

@@ -1,5 +1,5 @@
 -- `decimal_digits::gathering::has` meets its contract. Assumes nothing.
-use Rattle.std.proofs.Common.{◌≡◌, ℕ, ◌-◌, length, arith, rules, leb-true}
+use Rattle.std.proofs.Common.{◌≡◌, ℕ, ◌-◌, length, arith, leb-true}
 use Rattle.decimal_digits.proofs.gathering.has.Goals as goal
 
 pub returns-then-count-text : goal.returns-then-count-text

@@ -1,5 +1,4 @@
 -- `decimal_digits::gathering::longer` meets its contract: `longer-exact` below the cap, `longer-capped` from it on. Assumes nothing.
-use Rattle.std.proofs.Common.{arith, rules}
 use Rattle.decimal_digits.proofs.Capping.{longer-exact, longer-capped}
 use Rattle.decimal_digits.proofs.gathering.longer.Goals as goal
 

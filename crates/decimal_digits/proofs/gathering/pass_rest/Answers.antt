@@ -1,5 +1,5 @@
 -- `decimal_digits::gathering::pass_rest` meets its contract. Assumes nothing.
-use Rattle.std.proofs.Common.{ℕ, ◌+◌, ◌-◌, sym, subst, arith, rules}
+use Rattle.std.proofs.Common.{ℕ, ◌+◌, ◌-◌, sym, subst, arith}
 use Rattle.scan.specs.Bytes.{digits}
 use Rattle.scan.proofs.RunLaws.{all-onward}
 use Rattle.decimal_digits.specs.Leading.{Gathers}

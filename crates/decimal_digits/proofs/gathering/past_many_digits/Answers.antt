@@ -1,6 +1,6 @@
 -- `decimal_digits::gathering::past_many_digits` meets its contract. The invariant: the run from `at` ends where the run from `from` does. The measure is what is left of the
 -- text. Assumes nothing.
-use Rattle.std.proofs.Common.{◌≡◌, ◌+◌, ◌-◌, length, sym, refl, ap, ◌∙◌, arith, rules}
+use Rattle.std.proofs.Common.{◌≡◌, ◌+◌, sym, refl, ap, ◌∙◌, arith}
 use Rattle.scan.specs.Runs.{past_digits_of}
 use Rattle.decimal_digits.proofs.Lanes.{both}
 use Rattle.decimal_digits.proofs.Taking.{run-same}

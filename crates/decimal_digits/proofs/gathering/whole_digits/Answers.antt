@@ -1,5 +1,5 @@
 -- `decimal_digits::gathering::whole_digits` meets its contract: the first digit is known, and the rest are taken after it. Assumes nothing.
-use Rattle.std.proofs.Common.{◌≡◌, ℕ, ◌+◌, ◌-◌, ◌*◌, ◌<◌, true, false, length, get_or, sym, refl, ap, ◌∙◌, subst, zero-add, arith, lit<, rules}
+use Rattle.std.proofs.Common.{◌≡◌, ℕ, ◌+◌, ◌-◌, ◌*◌, ◌<◌, true, false, length, get_or, sym, refl, ap, ◌∙◌, subst, zero-add, arith, lit<}
 use Rattle.scan.specs.Bytes.{among, digits}
 use Rattle.scan.proofs.ByteLaws.{digit-range}
 use Rattle.scan.proofs.RunLaws.{byte_inside, all_none}

@@ -1,5 +1,5 @@
 -- `decimal_digits::words::all_digits` meets its contract: no lane is marked. Assumes nothing.
-use Rattle.std.proofs.Common.{◌≡◌, ℕ, sym, refl, ap, ◌∙◌, arith, rules, eqb-true}
+use Rattle.std.proofs.Common.{◌≡◌, ℕ, sym, refl, ap, ◌∙◌, arith, eqb-true}
 use lib.Bits.{bit_xor}
 use Rattle.decimal_digits.specs.Words.{laid, eight_of, each, Below}
 use Rattle.decimal_digits.proofs.Lanes.{eight-below, none_other}

@@ -1,6 +1,5 @@
 -- `decimal_digits::words::eight` meets its contract: the lanes are joined three times. Assumes nothing.
 use Rattle.decimal_digits.proofs.Lanes.{eight_is}
-use Rattle.std.proofs.Common.{rules}
 use Rattle.decimal_digits.proofs.words.eight.Goals as goal
 
 pub returns : goal.returns

@@ -1,5 +1,5 @@
 -- `decimal_digits::words::join` meets its contract: neither part is above the mask. Assumes nothing.
-use Rattle.std.proofs.Common.{◌/◌, ◌^◌, mul-le-mul_right, arith, rules}
+use Rattle.std.proofs.Common.{◌/◌, ◌^◌, mul-le-mul_right, arith}
 use lib.Bits.{and_le_r}
 use Rattle.decimal_digits.proofs.words.join.Goals as goal
 

@@ -1,5 +1,5 @@
 -- `decimal_digits::words::run_at` meets its contract: the lowest mark tells the first lane that is no digit, and what is below it is moved up. Assumes nothing.
-use Rattle.std.proofs.Common.{◌≡◌, ℕ, ◌+◌, ◌-◌, ◌*◌, ◌/◌, ◌<◌, length, sym, refl, ap, ◌∙◌, le_of_lt, arith, rules}
+use Rattle.std.proofs.Common.{◌≡◌, ℕ, ◌+◌, ◌-◌, ◌*◌, ◌/◌, ◌<◌, length, sym, refl, ap, ◌∙◌, le_of_lt, arith}
 use lib.Bits.{bit_xor}
 use lib.Count.{count_trailing_zeros, trailing_le}
 use Rattle.decimal_digits.specs.Words.{laid, eight_of, begun, each, Below}

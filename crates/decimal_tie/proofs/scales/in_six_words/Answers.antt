@@ -1,8 +1,5 @@
 -- `decimal_tie::scales::in_six_words` meets its contract: `TwoWords` has the two words, and each arm is a law of their place. Assumes nothing.
-use mathlib.Core.Path.{◌≡◌, refl, ap, sym, ◌∙◌, subst}
-use Prim.Native.Nat.{ℕ, ◌+◌, ◌-◌, ◌*◌, ◌/◌, ◌%◌, ◌^◌, ◌<◌, ◌≤◌}
 use native.Mathlib.Omega.{arith}
-use borrow.Author.Rules.{rules}
 use Rattle.decimal_tie.proofs.Sixes.{TwoWords, two-words, six-0, six-1, six-2, six-3, six-4, six-5}
 use Rattle.decimal_tie.proofs.scales.in_six_words.Goals as goal
 

@@ -1,18 +1,11 @@
--- `decimal_tie::scales::take` meets its contract. The invariant: the digits from `i` on are those from `from` on. The measure is what is left of the part.
--- Assumes nothing.
-use mathlib.Core.Path.{◌≡◌, refl, ap, sym, ◌∙◌, subst}
-use Prim.Native.Nat.{ℕ, ◌+◌, ◌-◌, ◌<◌}
+-- `decimal_tie::scales::take` meets its contract. Assumes nothing.
+use mathlib.Core.Path.{ap, sym, ◌∙◌}
+use native.Mathlib.Nat.{le_refl}
 use native.Mathlib.Omega.{arith}
-use borrow.Author.Rules.{rules}
-use lib.ListN.{length, drop, get_or}
 use Rattle.scan.proofs.ByteLaws.{digit-range}
-use Rattle.decimal_digits.specs.Digits.{digits_among}
 use Rattle.decimal_tie.specs.Weighing.{first, others}
 use Rattle.decimal_tie.proofs.Parts.{digit-first, other-first, none_first}
 use Rattle.decimal_tie.proofs.scales.take.Goals as goal
-
-pub loop-i-init : goal.loop-i-init
-loop-i-init c = refl
 
 pub digit-requires : goal.digit-requires
 digit-requires c = digit-range _ (sym c.is_digit.ensures ∙ c.if-is_digit.true)
@@ -37,6 +30,6 @@ returns c =
     let found = sym c.loop-i.invariant ∙ none_first _ _ c.loop-i-test.false in
     record {
       digit-is = sym (ap first found);
-      rest-is = none_first _ _ c.loop-i-test.false ∙ sym (ap others found);
+      rest-is = none_first c.args.part.now _ (le_refl _) ∙ sym (ap others found);
       small = omega arith;
     }

@@ -1,7 +1,6 @@
 -- `decimal_tie::scales::times_ten` meets its contract: each word is below 2^50, so that each carry is below 10. Assumes nothing.
 use Prim.Native.Nat.{ℕ, ◌+◌, ◌*◌, ◌/◌, ◌<◌}
 use native.Mathlib.Omega.{arith}
-use borrow.Author.Rules.{rules}
 use Rattle.decimal_tie.proofs.scales.times_ten.Goals as goal
 
 carry : (word digit : ℕ) → word < 1125899906842624 → digit < 10 → (word * 10 + digit) / 1125899906842624 < 10

@@ -1,11 +1,10 @@
 -- `decimal_tie::scales::weigh` meets its contract: the middle in six words, against digits with a point among them or zeros before them. Assumes nothing.
-use mathlib.Core.Path.{◌≡◌, ap, sym, ◌∙◌, subst}
+use mathlib.Core.Path.{◌≡◌, ap, sym, ◌∙◌}
 use mathlib.Core.Logic.{⊎_elim}
 use Prim.Native.Nat.{ℕ, ◌*◌, ◌^◌}
 use native.Mathlib.Omega.{arith}
 use Rattle.decimal_digits.specs.Digits.{digits_among}
 use Rattle.decimal_tie.specs.Weighing.{weigh_of}
-use borrow.Author.Rules.{rules}
 use Rattle.decimal_tie.proofs.scales.weigh.Goals as goal
 
 pub returns-then-zeros-gt0 : goal.returns-then-zeros-gt0

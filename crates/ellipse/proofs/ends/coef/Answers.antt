@@ -1,5 +1,4 @@
 -- `ellipse::coef` meets its contract: the branch's test is the definition's, and what the calls ensure is what it names. Assumes nothing.
-use borrow.Author.Rules.{rules}
 use Rattle.floats.specs.Floats.{zero_f, epsilon_f}
 use Rattle.ellipse.specs.Ends.{coef_of, denom_of, under_root}
 use Rattle.ellipse.proofs.ends.coef.Goals as goal

@@ -1,5 +1,4 @@
 -- `ellipse::fitted` meets its contract: the branch's test, on what `lambda` ensures, is the definition's. Assumes nothing.
-use borrow.Author.Rules.{rules}
 use mathlib.Core.Path.{sym, ap, ◌∙◌}
 use Rattle.math.specs.Math.{scale_of}
 use Rattle.ellipse.proofs.Fitting.{grown, kept}

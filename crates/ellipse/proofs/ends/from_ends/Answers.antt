@@ -1,5 +1,4 @@
 -- `ellipse::from_ends` meets its contract: the centre and both angles of the way. Assumes nothing.
-use borrow.Author.Rules.{rules}
 use Rattle.floats.specs.Floats.{zero_f, one_f}
 use Rattle.ellipse.specs.Ends.{from_ends_of}
 use Rattle.ellipse.proofs.ends.from_ends.Goals as goal

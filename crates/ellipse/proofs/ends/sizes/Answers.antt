@@ -1,5 +1,4 @@
 -- `ellipse::sizes` meets its contract: what each call ensures. Assumes nothing.
-use borrow.Author.Rules.{rules}
 use Rattle.math.proofs.Pointwise.{both}
 use Rattle.ellipse.proofs.ends.sizes.Goals as goal
 

@@ -1,5 +1,4 @@
 -- `ellipse::way_of` meets its contract: what each call ensures, put together in the definition's order. Assumes nothing.
-use borrow.Author.Rules.{rules}
 use Rattle.ellipse.proofs.ends.way_of.Goals as goal
 
 pub returns : goal.returns
@@ -9,7 +8,6 @@ returns c =
       c.towards-towards.ensures,
       c.middle-middle.ensures,
       c.coef.ensures,
-      c.alike.ensures,
       c.fitted-radii.ensures,
       c.sizes.ensures,
       c.primed-p.ensures,

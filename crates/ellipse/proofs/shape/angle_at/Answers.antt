@@ -1,5 +1,4 @@
 -- `ellipse::angle_at` meets its contract: the share is clamped before it is multiplied. Assumes nothing.
-use borrow.Author.Rules.{rules}
 use Rattle.ellipse.proofs.shape.angle_at.Goals as goal
 
 pub returns : goal.returns

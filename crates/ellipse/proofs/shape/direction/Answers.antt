@@ -1,5 +1,4 @@
 -- `ellipse::direction` meets its contract: what each call ensures, put together in the definition's order. Assumes nothing.
-use borrow.Author.Rules.{rules}
 use mathlib.Core.Path.{◌∙◌}
 use Rattle.ellipse.specs.Shape.{direction_on}
 use Rattle.ellipse.proofs.shape.direction.Goals as goal

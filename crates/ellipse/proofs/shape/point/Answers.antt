@@ -1,5 +1,4 @@
 -- `ellipse::point` meets its contract: the turn is the rotation's. Assumes nothing.
-use borrow.Author.Rules.{rules}
 use mathlib.Core.Path.{◌∙◌}
 use Rattle.ellipse.specs.Shape.{point_on}
 use Rattle.ellipse.proofs.shape.point.Goals as goal

@@ -1,5 +1,4 @@
 -- `ellipse::point_turned` meets its contract: what each call ensures, put together in the definition's order. Assumes nothing.
-use borrow.Author.Rules.{rules}
 use Rattle.ellipse.specs.Shape.{point_turned}
 use Rattle.ellipse.proofs.shape.point_turned.Goals as goal
 

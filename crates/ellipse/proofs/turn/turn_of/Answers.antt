@@ -1,7 +1,5 @@
 -- `ellipse::turn_of` meets its contract: the pair has both parts. Assumes nothing.
-use borrow.Author.Rules.{rules}
 use mathlib.Core.Path.{◌≡◌}
-use Rattle.trig.specs.declared.SinCos.{SinCos}
 use Rattle.trig_rule.specs.Steps.{sine_of, cosine_of}
 use Rattle.rotation.specs.Rotation.{phi_of}
 use Rattle.ellipse.proofs.turn.turn_of.Goals as goal

@@ -1,6 +1,5 @@
 -- `flat::put_legs` meets its contract: a piece is a leg, and of a curve that is halved the legs of the second half stand after those of the first.
 -- Assumes nothing.
-use borrow.Author.Rules.{rules}
 use mathlib.Core.Path.{sym, ap, ◌∙◌}
 use native.Mathlib.Omega.{arith}
 use Rattle.flat.proofs.Putting.{room-flat, room-last, room-first, room-second, put-flat, put_last, put-halved, put-length, piece-length}

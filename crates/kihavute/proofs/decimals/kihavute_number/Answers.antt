@@ -1,5 +1,4 @@
 -- `kihavute_number` meets its contract: the text's length says which case holds, and what is given is the nearest value's. Assumes nothing.
-use borrow.Author.Rules.{rules}
 use Rattle.c_answer.proofs.Giving.{given-same}
 use Rattle.kihavute.proofs.NumberGiven.{text-long, text-fits, number-kept}
 use Rattle.kihavute.proofs.decimals.kihavute_number.Goals as goal

@@ -1,5 +1,4 @@
 -- `kihavute_sqrt` meets its contract: what the root ensures, which `tidy` keeps; and the law of it, since what is passed is an f32 value. Assumes nothing.
-use borrow.Author.Rules.{rules}
 use mathlib.Core.Path.{◌∙◌}
 use denote.Floats.{passes}
 use Rattle.kihavute.proofs.Keeping.{root-settled}

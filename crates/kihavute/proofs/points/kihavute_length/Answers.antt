@@ -1,5 +1,4 @@
 -- `kihavute_length` meets its contract: the bits of what the entry below ensures, and the law of it. Assumes nothing.
-use borrow.Author.Rules.{rules}
 use mathlib.Core.Path.{ap, ◌∙◌}
 use Rattle.floats.specs.Floats.{bits_of}
 use Rattle.kihavute.proofs.Keeping.{length-bits}

@@ -1,5 +1,4 @@
 -- `kihavute_atan2` meets its contract: what the entry below ensures, which `tidy` keeps; and the law of it, since what is passed are f32 values. Assumes nothing.
-use borrow.Author.Rules.{rules}
 use mathlib.Core.Path.{◌∙◌}
 use denote.Floats.{passes}
 use Rattle.kihavute.proofs.Keeping.{atan2-kept, atan2-settled}

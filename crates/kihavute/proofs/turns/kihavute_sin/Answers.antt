@@ -1,5 +1,4 @@
 -- `kihavute_sin` meets its contract: what the entry below ensures; and the law of it, since what is passed is an f32 value. Assumes nothing.
-use borrow.Author.Rules.{rules}
 use denote.Floats.{passes}
 use Rattle.kihavute.proofs.Keeping.{sine-kept}
 use Rattle.kihavute.proofs.turns.kihavute_sin.Goals as goal

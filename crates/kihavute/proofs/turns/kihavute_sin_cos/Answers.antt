@@ -1,5 +1,4 @@
 -- `kihavute_sin_cos` meets its contract: the two patterns of what the entry below ensures; and the laws of both, since what is passed is an f32 value. Assumes nothing.
-use borrow.Author.Rules.{rules}
 use mathlib.Core.Path.{refl, ap, ◌∙◌}
 use denote.Floats.{passes}
 use lib.Ieee.{Float}

@@ -1,5 +1,4 @@
 -- `kihavute_push_segment` meets its contract: the answer's length is judged first, then the kind and its numbers; then the entry's own promise is reported. Assumes nothing.
-use borrow.Author.Rules.{rules}
 use mathlib.Core.Path.{sym, ◌∙◌}
 use Rattle.kihavute_appending.proofs.AppendingGiven.{segment-known, not-appended, pushes-reported, push-refused}
 use Rattle.kihavute_appending.proofs.appending.kihavute_push_segment.Goals as goal

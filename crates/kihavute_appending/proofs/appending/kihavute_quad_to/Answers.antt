@@ -1,5 +1,4 @@
 -- `kihavute_quad_to` meets its contract: the answer's length is judged first, then the entry's own promise is reported. Assumes nothing.
-use borrow.Author.Rules.{rules}
 use Rattle.kihavute_appending.proofs.AppendingGiven.{not-appended, appends-reported}
 use Rattle.kihavute_appending.proofs.appending.kihavute_quad_to.Goals as goal
 

@@ -1,23 +1,13 @@
--- `kihavute_arc` meets its contract: an accepted arc that did not fall back has a sound table, and what it answers is given. Assumes nothing.
-use borrow.Author.Rules.{rules}
-use mathlib.Core.Path.{sym}
-use Rattle.arc.specs.declared.arcs.MadeArc.{MadeArc}
-use Rattle.c_answer.proofs.Giving.{given-same}
-use Rattle.kihavute_curves.specs.Lone.{arc_lone}
-use Rattle.kihavute_curves.proofs.LoneGiven.{arc-askable, asked-given, not-given}
+-- `kihavute_arc` meets its contract: a made arc can be asked, and what it answers is given. Assumes nothing.
+use mathlib.Core.Path.{sym, ◌∙◌}
+use Rattle.kihavute_curves.proofs.LoneGiven.{arc-askable}
 use Rattle.kihavute_curves.proofs.arcs.kihavute_arc.Goals as goal
 
 pub arc_lone-requires : goal.arc_lone-requires
-arc_lone-requires c = arc-askable _ c.made-made.ensures (sym c.in-Accepted.is)
+arc_lone-requires c = arc-askable _ (sym c.made.ensures ∙ c.in-Ok.is)
 
-pub returns-in-Accepted : goal.returns-in-Accepted
-returns-in-Accepted c =
-    given-same _ _
-    (asked-given (λ (m : MadeArc). m.verdict) (λ (m : MadeArc). arc_lone m.arc c.args.progress) c.made-made.ensures _ (sym c.in-Accepted.is) c.arc_lone.ensures)
-    c.give_lone.ensures
+pub returns-in-Ok : goal.returns-in-Ok
+returns-in-Ok c = rw (sym c.made.ensures ∙ c.in-Ok.is, sym c.arc_lone.ensures) c.give_lone.ensures
 
-pub returns-in-Refused : goal.returns-in-Refused
-returns-in-Refused c =
-    given-same _ _
-    (not-given (λ (m : MadeArc). m.verdict) (λ (m : MadeArc). arc_lone m.arc c.args.progress) c.made-made.ensures _ (sym c.in-Refused.is))
-    c.refuse.ensures
+pub returns-in-Err : goal.returns-in-Err
+returns-in-Err c = rw (sym c.made.ensures ∙ c.in-Err.is) c.refuse.ensures

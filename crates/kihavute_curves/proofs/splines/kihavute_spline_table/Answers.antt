@@ -7,4 +7,4 @@ pub returns-then-answer-lt8 : goal.returns-then-answer-lt8
 returns-then-answer-lt8 c = short-given _ _ _ c.if-answer-lt8.true
 
 pub returns : goal.returns
-returns c = stored-given _ _ _ c.if-answer-lt8.false _ _ _ _ c.spline_table-tabled.ensures c.give_count.ensures
+returns c = stored-given _ _ _ c.if-answer-lt8.false _ _ _ _ c.spline_table.ensures c.give_count.ensures

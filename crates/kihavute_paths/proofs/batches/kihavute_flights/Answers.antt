@@ -11,6 +11,6 @@ returns-then-answer-lt8 c = record { flights_given = no-flights _ _ _ _ _ _ c.if
 pub returns : goal.returns
 returns c =
     record {
-      flights_given = flights-reported _ _ _ _ _ _ _ c.if-answer-lt8.false c.flights-batch.ensures.flights c.give_batch.ensures;
+      flights_given = flights-reported _ _ _ _ _ _ _ c.if-answer-lt8.false c.flights-batch.ensures.flights c.give_count.ensures;
       ordered_flown_given = λ long. ordered-flown-same _ _ _ _ _ c.flights-batch.ensures.flights.answer c.flights-batch.ensures.ordered_flown;
     }

@@ -11,6 +11,6 @@ returns-then-answer-lt8 c = record { places_given = no-places _ _ _ _ _ c.if-ans
 pub returns : goal.returns
 returns c =
     record {
-      places_given = places-reported _ _ _ _ _ _ c.if-answer-lt8.false c.places-batch.ensures.places c.give_batch.ensures;
+      places_given = places-reported _ _ _ _ _ _ c.if-answer-lt8.false c.places-batch.ensures.places c.give_count.ensures;
       ordered_given = λ long. ordered-batch-same _ _ _ _ c.places-batch.ensures.places.answer c.places-batch.ensures.ordered_batch;
     }

@@ -8,4 +8,4 @@ returns-then-answer-lt8 c = put-short _ _ _ c.if-answer-lt8.true
 
 pub returns : goal.returns
 returns c =
-    put-evaluated c.args.answer.now _ _ c.if-answer-lt8.false _ _ _ c.args.out.now _ _ c.evaluate-evaluated.ensures c.give_evaluated.ensures
+    put-evaluated c.args.answer.now _ _ c.if-answer-lt8.false _ _ _ c.args.out.now _ _ c.evaluate.ensures c.give_count.ensures

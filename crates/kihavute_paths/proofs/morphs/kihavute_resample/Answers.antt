@@ -11,6 +11,6 @@ returns-then-answer-lt8 c = record { put = put-short _ _ _ c.if-answer-lt8.true;
 pub returns : goal.returns
 returns c =
     record {
-      put = put-resampled c.args.answer.now _ _ c.if-answer-lt8.false _ _ c.args.out.now _ _ c.resample-resampled.ensures c.give_resampled.ensures;
-      in_order_by = resampled-stands _ _ c.args.out.now _ _ c.resample-resampled.ensures c.give_resampled.ensures;
+      put = put-resampled c.args.answer.now _ _ c.if-answer-lt8.false _ _ c.args.out.now _ _ c.resample.ensures c.give_count.ensures;
+      in_order_by = resampled-stands _ _ c.args.out.now _ _ c.resample.ensures c.give_count.ensures;
     }

@@ -8,4 +8,4 @@ returns-then-answer-lt8 c = not-built _ _ _ _ c.if-answer-lt8.true
 
 pub returns : goal.returns
 returns c =
-    built-reported _ _ _ _ _ c.if-answer-lt8.false c.build_path-building.ensures c.give_building.ensures
+    built-reported _ _ _ _ _ c.if-answer-lt8.false c.build_path-built.ensures c.give_sizes.ensures

@@ -1,12 +1,9 @@
--- `kihavute_check` meets its contract: both ways out are cases of `check_given`. Assumes nothing.
+-- `kihavute_check` meets its contract: the count of the segments is given, or that there is no stored path. Assumes nothing.
+use mathlib.Core.Path.{ap, ◌∙◌}
+use Rattle.c_answer.specs.Counts.{count_given}
 use Rattle.c_answer.proofs.Giving.{given-same}
-use Rattle.kihavute_paths.proofs.CheckGiven.{check-yes, check-no}
-use mathlib.Core.Path.{sym, ◌∙◌}
-use borrow.Author.Rules.{rules}
+use Rattle.kihavute_paths.proofs.CheckGiven.{check-counted}
 use Rattle.kihavute_paths.proofs.stored_paths.kihavute_check.Goals as goal
 
-pub returns-then-check_path : goal.returns-then-check_path
-returns-then-check_path c = given-same _ _ (check-yes _ (sym c.check_path.ensures ∙ c.if-check_path.true)) c.accept.ensures
-
 pub returns : goal.returns
-returns c = given-same _ _ (check-no _ (sym c.check_path.ensures ∙ c.if-check_path.false)) c.refuse.ensures
+returns c = given-same _ _ (ap count_given c.len.ensures ∙ check-counted _) c.give_count.ensures

@@ -1,5 +1,4 @@
 -- `kihavute_read` meets its contract: the answer's length is judged first, then the reader's own promise is reported, and what it stores are the text's commands. Assumes nothing.
-use borrow.Author.Rules.{rules}
 use native.Mathlib.Omega.{arith}
 use Rattle.kihavute_reading.proofs.ReadingGiven.{not-read, read-reported}
 use Rattle.kihavute_reading.proofs.Keeping.{read_kept}

@@ -10,6 +10,6 @@ returns-then-answer-lt8 c = record { run_given = no_run _ _ _ _ _ c.if-answer-lt
 pub returns : goal.returns
 returns c =
     record {
-      run_given = run-reported _ _ _ _ _ _ c.if-answer-lt8.false c.dry_run-batch.ensures.dry_run c.give_run.ensures;
-      ordered_given = λ long. ordered-run-same _ _ _ _ c.dry_run-batch.ensures.dry_run.answer c.dry_run-batch.ensures.ordered_run;
+      run_given = run-reported _ _ _ _ _ _ c.if-answer-lt8.false c.dry_run-run.ensures.dry_run c.give_count.ensures;
+      ordered_given = λ long. ordered-run-same _ _ _ _ c.dry_run-run.ensures.dry_run.answer c.dry_run-run.ensures.ordered_run;
     }

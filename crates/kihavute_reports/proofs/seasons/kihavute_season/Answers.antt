@@ -8,4 +8,4 @@ returns-then-answer-lt8 c = no-season _ _ _ c.if-answer-lt8.true
 
 pub returns : goal.returns
 returns c =
-    season-reported _ _ _ _ c.if-answer-lt8.false c.sheet_of-sheet.ensures c.give_sheet.ensures
+    season-reported _ _ _ _ c.if-answer-lt8.false c.sheet_of.ensures c.give_count.ensures

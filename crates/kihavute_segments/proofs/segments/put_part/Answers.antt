@@ -1,5 +1,4 @@
 -- `put_part` meets its contract: the segment's numbers, and after them its table's where it has one. Assumes nothing.
-use borrow.Author.Rules.{rules}
 use mathlib.Core.Path.{◌≡◌, sym, ap, ◌∙◌}
 use lib.ListN.{length}
 use native.Mathlib.Omega.{arith}

@@ -1,19 +1,10 @@
 -- `legs::arc_point` meets its contract: the ends give way to the arc's own. Assumes nothing.
-use borrow.Author.Rules.{rules}
 use mathlib.Core.Path.{ap, ◌∙◌}
-use borrow.Author.Tests.{eq-eqb, ne_eqb}
+use borrow.Author.Tests.{ne_eqb}
 use Rattle.table_samples.specs.Samples.{sample_at}
 use Rattle.ellipse.specs.Shape.{point_on}
 use Rattle.legs.specs.Segments.{arc_point}
 use Rattle.legs.proofs.arcs.arc_point.Goals as goal
-
-pub returns-then-i-eq0 : goal.returns-then-i-eq0
-unfolding arc_point
-returns-then-i-eq0 c = rw (eq-eqb _ _ c.if-i-eq0.true)
-
-pub returns-then-i-eq31 : goal.returns-then-i-eq31
-unfolding arc_point
-returns-then-i-eq31 c = rw (ne_eqb _ _ c.if-i-eq0.false, eq-eqb _ _ c.if-i-eq31.true)
 
 pub returns : goal.returns
 unfolding arc_point sample_at

@@ -10,7 +10,4 @@ use Rattle.path_segment.proofs.Runs.{put_next}
 use Rattle.legs.proofs.flattening.copy.Given as goal
 
 abbrev pub invariant-loop-k : goal.invariant-loop-k
-invariant-loop-k l = (l.k ≤ l.count) × ((length l.out ≡ length l.initial.out) × (l.out ≡ sets l.initial.out 0 (take l.k l.from)))
-
-abbrev pub decreases-loop-k : goal.decreases-loop-k
-decreases-loop-k l = l.count - l.k
+invariant-loop-k l = (length l.out ≡ length l.initial.out) × (l.out ≡ sets l.initial.out 0 (take l.k l.from))

@@ -1,6 +1,5 @@
 -- `legs::put_segment` meets its contract: in each arm the value that was matched is the arm's constructor. Assumes nothing.
-use borrow.Author.Rules.{rules}
-use Rattle.legs.proofs.SegmentLegs.{of-line, of-quad, of-cubic, of-fallback, room-line, room-quad, room-cubic, room-arc, room-fallback, put-length}
+use Rattle.legs.proofs.SegmentLegs.{of-line, of-quad, of-cubic, of-fallback, room-line, room-quad, room-cubic, room-arc, room-fallback}
 use Rattle.legs.proofs.segments.put_segment.Goals as goal
 
 pub put_line-requires : goal.put_line-requires

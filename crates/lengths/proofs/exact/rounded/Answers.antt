@@ -1,18 +1,11 @@
 -- Below 2^-126 the step is 2^(925 - k), above it 2^29 (`rounded-small`, `rounded-large`). Assumes nothing.
 use native.Mathlib.Omega.{arith}
 use mathlib.Core.Path.{ap, ◌∙◌}
-use Prim.Native.Nat.{ℕ, ◌+◌, ◌-◌, ◌*◌, ◌^◌}
+use Prim.Native.Nat.{ℕ, ◌+◌, ◌-◌, ◌*◌}
 use lib.Ieee.{binary32, of_bits}
 use Rattle.floats.specs.Patterns.{hidden}
-use Rattle.lengths.proofs.Off.{shifted, step-pos, step_small, kept_small, rest-small, rounded-small, rounded-large}
-use borrow.Author.Rules.{rules}
+use Rattle.lengths.proofs.Off.{shifted, step_small, kept_small, rest-small, rounded-small, rounded-large}
 use Rattle.lengths.proofs.exact.rounded.Goals as goal
-
-pub nonzero_div-q : goal.nonzero_div-q
-nonzero_div-q c = step-pos c.args.q c.args.k _ c.requires.1 c.requires.2 c.if-k-lt896.true (shifted _ (omega arith))
-
-pub nonzero_rem-q : goal.nonzero_rem-q
-nonzero_rem-q c = step-pos c.args.q c.args.k _ c.requires.1 c.requires.2 c.if-k-lt896.true (shifted _ (omega arith))
 
 pub nearest-requires : goal.nearest-requires
 nearest-requires c =

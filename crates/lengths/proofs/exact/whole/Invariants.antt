@@ -1,9 +1,5 @@
 -- The invariant: the root is from q up to q + room, that is not reached. The measure is the room. Assumes nothing.
-use native.Mathlib.Omega.{arith}
-use native.Mathlib.Nat.{mul-le-mul}
-use mathlib.Core.Path.{◌≡◌, subst}
-use Prim.Native.Nat.{ℕ, ◌+◌, ◌-◌, ◌*◌, ◌/◌, ◌^◌, ◌≤◌, ◌<◌}
-use lib.Dec.{lit≤, lit<}
+use Prim.Native.Nat.{◌+◌, ◌*◌, ◌^◌, ◌≤◌, ◌<◌}
 use Rattle.lengths.proofs.exact.whole.Given as goal
 
 abbrev pub invariant-loop-room : goal.invariant-loop-room

@@ -1,7 +1,6 @@
 -- Between the two bounds the pattern is between theirs. Assumes nothing.
 use borrow.Author.Rules.{rules}
 use mathlib.Core.Path.{◌≡◌, sym, subst}
-use mathlib.Core.Logic.{⊎_elim}
 use Prim.Native.Nat.{◌*◌, ◌^◌, ◌≤◌, ◌<◌}
 use denote.Floats.{passes}
 use lib.Dec.{T, lit≤, lit<}

@@ -1,5 +1,4 @@
 -- A float without a sign has half its pattern below the constant, and what is left is no NaN's. Assumes nothing.
-use borrow.Author.Rules.{rules}
 use native.Mathlib.Omega.{arith}
 use denote.Floats.{passes}
 use Rattle.decimal_rounding.proofs.Wide.{no_nan}

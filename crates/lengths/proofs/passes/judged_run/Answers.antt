@@ -2,15 +2,9 @@
 -- left. Assumes nothing.
 use borrow.Author.Rules.{rules}
 use native.Mathlib.Omega.{arith}
-use mathlib.Core.Path.{◌≡◌, refl}
-use Prim.Native.Nat.{ℕ, ◌+◌, ◌-◌}
-use mathlib.Core.List.{List}
-use lib.ListN.{get_or}
-use lib.Ieee.{Float, nan}
-use Rattle.lengths.specs.Length.{Summed, Judged}
+use mathlib.Core.Path.{refl}
 use Rattle.lengths.proofs.Far.{judged-at}
-use Rattle.lengths.proofs.Lists.{Passing, passing-start, passing-more}
-use Rattle.lengths.proofs.passes.judged_run.Invariants.{Root, Anything, Sum}
+use Rattle.lengths.proofs.Lists.{passing-start, passing-more}
 use Rattle.lengths.proofs.passes.judged_run.Goals as goal
 
 pub loop-i-init : goal.loop-i-init

@@ -1,15 +1,12 @@
 -- The invariants: each place before i has its sum, before j anything, before k its length or 0 (`Passing`). The measures are the places
 -- left. Assumes nothing.
-use borrow.Author.Rules.{rules}
-use native.Mathlib.Omega.{arith}
-use mathlib.Core.Path.{◌≡◌, refl}
+use mathlib.Core.Path.{◌≡◌}
 use Prim.Native.Nat.{ℕ, ◌+◌, ◌-◌}
 use mathlib.Core.List.{List}
 use lib.ListN.{get_or}
 use lib.Ieee.{Float, nan}
 use Rattle.lengths.specs.Length.{Summed, Judged}
-use Rattle.lengths.proofs.Far.{judged-at}
-use Rattle.lengths.proofs.Lists.{Passing, passing-start, passing-more}
+use Rattle.lengths.proofs.Lists.{Passing}
 use Rattle.lengths.proofs.passes.judged_run.Given as goal
 
 -- what place j of the run from `at` on is to have: a sum, anything, and a length or 0

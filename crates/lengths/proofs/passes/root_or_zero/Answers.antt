@@ -1,5 +1,4 @@
 -- Both squares passed, so that the candidate is the root (`settled`), which is not far; every other way gives 0. Assumes nothing.
-use borrow.Author.Rules.{rules}
 use mathlib.Core.Path.{refl}
 use mathlib.Core.Logic.{inl, inr}
 use Prim.Native.Nat.{◌+◌, ◌*◌, ◌/◌}

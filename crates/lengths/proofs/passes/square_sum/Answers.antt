@@ -1,5 +1,4 @@
 -- Each coordinate is itself or the lowest, and a number either way. Assumes nothing.
-use borrow.Author.Rules.{rules}
 use Rattle.lengths.specs.Length.{square_sum_of}
 use Rattle.lengths.proofs.Upward.{squares-upward}
 use Rattle.lengths.proofs.Far.{summed}

@@ -1,22 +1,12 @@
--- The loop keeps `Widening`: the bounds of the points so far. The measure is the points left. Assumes nothing.
-use borrow.Author.Rules.{rules}
-use mathlib.Core.Path.{refl, sym, ap, ◌∙◌}
-use Prim.Native.Nat.{◌-◌}
-use native.Mathlib.Omega.{arith}
-use Rattle.morph.proofs.Widening.{Widening, widening-start, widening-inside, widening-more, widening-done}
+-- The loop keeps the bounds of the points so far. Assumes nothing.
+use Rattle.std.proofs.Common.{ap, ◌∙◌}
+use Rattle.morph.specs.Bounds.{point_bounds, bounds_of}
+use Rattle.morph.proofs.Widening.{widened_once}
 use Rattle.morph.proofs.bounding.bounds_between.Goals as goal
 
-pub between_at-requires : goal.between_at-requires
-between_at-requires c = c.requires
-
 pub loop-i-init : goal.loop-i-init
-loop-i-init c = widening-start _ _ _ _ _ _ c.shared-count.ensures c.requires c.between_at.ensures c.around-bounds.ensures
-
-pub between_at-requires-in-loop-i : goal.between_at-requires-in-loop-i
-between_at-requires-in-loop-i c = widening-inside _ _ _ _ _ _ c.loop-i.invariant c.loop-i-test.true
+unfolding bounds_of
+loop-i-init c = c.around-bounds.ensures ∙ ap point_bounds c.between_at.ensures
 
 pub loop-i-preserved : goal.loop-i-preserved
-loop-i-preserved c = widening-more _ _ _ _ _ _ c.loop-i.invariant _ _ c.loop-i-test.true c.between_at-in-loop-i.ensures c.widen-bounds.ensures
-
-pub returns : goal.returns
-returns c = widening-done _ _ _ _ _ _ c.loop-i.invariant c.loop-i-test.false
+loop-i-preserved c = rw (c.widen-bounds.ensures, c.between_at-in-loop-i.ensures, c.loop-i.invariant) (widened_once _ _ _ _ c.loop-i.auto.i)

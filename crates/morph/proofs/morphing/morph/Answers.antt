@@ -1,64 +1,22 @@
--- The shapes are judged, the count, the plans, the room; then both outputs are filled. Assumes nothing.
-use borrow.Author.Rules.{rules}
-use mathlib.Core.Path.{◌≡◌, sym, ◌∙◌}
-use Rattle.polyline.specs.Judging.{judge_two_of}
-use Rattle.polyline.specs.declared.judging.Judged.TheVariants.{Fine}
-use Rattle.morph.proofs.Answers.{at_count, Planning, shapes-refused, count_long, plans-refused, no-first, no_second, room-first, room-second, both-filled}
+-- Two plans, and the room for both. Assumes nothing.
+use Rattle.std.proofs.Common.{sym, ◌∙◌}
+use Rattle.morph.proofs.Answers.{planning, no_first, no_second, both_filled}
+use Rattle.morph.proofs.morphing.morph.Goals.{then-out_from-places-via-then-out_from-places, then-out_from-places-via-else-out_from-places+then-out_to-others}
 use Rattle.morph.proofs.morphing.morph.Goals as goal
 
--- ---- the answers
-pub returns-in-Refused : goal.returns-in-Refused
-returns-in-Refused c = shapes-refused (sym c.judge_two.ensures ∙ c.in-Refused.is)
-
-pub returns-then-count-gt4096 : goal.returns-then-count-gt4096
-returns-then-count-gt4096 c = at_count c.at_least_two-count.ensures (count_long ((let fine_here : judge_two_of c.args.from.now c.args.to.now ≡ Fine = sym c.judge_two.ensures ∙ c.in-Fine.is in fine_here)) c.if-count-gt4096.true)
-
-pub returns-in-Broken : goal.returns-in-Broken
-returns-in-Broken c =
-    at_count c.at_least_two-count.ensures (plans-refused ((let fine_here : judge_two_of c.args.from.now c.args.to.now ≡ Fine = sym c.judge_two.ensures ∙ c.in-Fine.is in fine_here)) c.if-count-gt4096.false (sym c.plan_both.ensures ∙ c.in-Broken.is))
-
 pub returns-then-out_from-places : goal.returns-then-out_from-places
-returns-then-out_from-places c = at_count c.at_least_two-count.ensures (no-first ((let planning_here : Planning c.args.from.now c.args.to.now c.at_least_two-count.result c.in-Both.first c.in-Both.second c.needed-places.result c.needed-others.result = record {
-  fine = (let fine_here : judge_two_of c.args.from.now c.args.to.now ≡ Fine = sym c.judge_two.ensures ∙ c.in-Fine.is in fine_here);
-  few = c.if-count-gt4096.false;
-  both = sym c.plan_both.ensures ∙ c.in-Both.is;
-  need-first = c.needed-places.ensures;
-  need-second = c.needed-others.ensures;
-} in planning_here)) c.if-out_from-places.true)
+returns-then-out_from-places c =
+    let p =
+    planning (sym c.judge_two.ensures ∙ c.in_ok-judge_two.was) c.if-count-gt4096.false (sym c.plan_for.ensures ∙ c.in_ok-first.was) (sym c.plan_for-2.ensures ∙ c.in_ok-second.was)
+    c.needed-places.ensures c.needed-others.ensures in
+    elim c.then-out_from-places.branch [
+      | then-out_from-places-via-then-out_from-places w ↦ no_first p c.args.out_from.now c.args.out_to.now c.at_least_two-count.ensures w.if-out_from-places.true
+      | then-out_from-places-via-else-out_from-places+then-out_to-others w ↦ no_second p c.args.out_from.now c.args.out_to.now c.at_least_two-count.ensures w.if-out_from-places.false w.if-out_to-others.true
+    ]
 
-pub returns-then-out_to-others : goal.returns-then-out_to-others
-returns-then-out_to-others c = at_count c.at_least_two-count.ensures (no_second ((let planning_here : Planning c.args.from.now c.args.to.now c.at_least_two-count.result c.in-Both.first c.in-Both.second c.needed-places.result c.needed-others.result = record {
-  fine = (let fine_here : judge_two_of c.args.from.now c.args.to.now ≡ Fine = sym c.judge_two.ensures ∙ c.in-Fine.is in fine_here);
-  few = c.if-count-gt4096.false;
-  both = sym c.plan_both.ensures ∙ c.in-Both.is;
-  need-first = c.needed-places.ensures;
-  need-second = c.needed-others.ensures;
-} in planning_here)) c.if-out_from-places.false c.if-out_to-others.true)
-
-pub fill-requires : goal.fill-requires
-fill-requires c = room-first ((let planning_here : Planning c.args.from.now c.args.to.now c.at_least_two-count.result c.in-Both.first c.in-Both.second c.needed-places.result c.needed-others.result = record {
-  fine = (let fine_here : judge_two_of c.args.from.now c.args.to.now ≡ Fine = sym c.judge_two.ensures ∙ c.in-Fine.is in fine_here);
-  few = c.if-count-gt4096.false;
-  both = sym c.plan_both.ensures ∙ c.in-Both.is;
-  need-first = c.needed-places.ensures;
-  need-second = c.needed-others.ensures;
-} in planning_here)) _ c.if-out_from-places.false
-
-pub fill-requires-in-Both : goal.fill-requires-in-Both
-fill-requires-in-Both c = room-second ((let planning_here : Planning c.args.from.now c.args.to.now c.at_least_two-count.result c.in-Both.first c.in-Both.second c.needed-places.result c.needed-others.result = record {
-  fine = (let fine_here : judge_two_of c.args.from.now c.args.to.now ≡ Fine = sym c.judge_two.ensures ∙ c.in-Fine.is in fine_here);
-  few = c.if-count-gt4096.false;
-  both = sym c.plan_both.ensures ∙ c.in-Both.is;
-  need-first = c.needed-places.ensures;
-  need-second = c.needed-others.ensures;
-} in planning_here)) _ c.if-out_to-others.false
-
-pub returns-in-Both : goal.returns-in-Both
-returns-in-Both c =
-    at_count c.at_least_two-count.ensures (both-filled ((let planning_here : Planning c.args.from.now c.args.to.now c.at_least_two-count.result c.in-Both.first c.in-Both.second c.needed-places.result c.needed-others.result = record {
-      fine = (let fine_here : judge_two_of c.args.from.now c.args.to.now ≡ Fine = sym c.judge_two.ensures ∙ c.in-Fine.is in fine_here);
-      few = c.if-count-gt4096.false;
-      both = sym c.plan_both.ensures ∙ c.in-Both.is;
-      need-first = c.needed-places.ensures;
-      need-second = c.needed-others.ensures;
-    } in planning_here)) c.if-out_from-places.false c.if-out_to-others.false c.fill.ensures c.fill-in-Both.ensures)
+pub returns : goal.returns
+returns c =
+    let p =
+    planning (sym c.judge_two.ensures ∙ c.in_ok-judge_two.was) c.if-count-gt4096.false (sym c.plan_for.ensures ∙ c.in_ok-first.was) (sym c.plan_for-2.ensures ∙ c.in_ok-second.was)
+    c.needed-places.ensures c.needed-others.ensures in
+    both_filled p c.args.out_from.now c.args.out_to.now c.at_least_two-count.ensures c.if-out_from-places.false c.if-out_to-others.false c.fill.ensures c.fill-2.ensures

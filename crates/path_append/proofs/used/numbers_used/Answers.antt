@@ -4,7 +4,6 @@ use Rattle.path_segment.specs.Segments.{width_of}
 use lib.Seq.{length-take-le}
 use native.Mathlib.Omega.{arith}
 use mathlib.Core.Path.{sym, ◌∙◌}
-use borrow.Author.Rules.{rules}
 use Rattle.path_append.proofs.used.numbers_used.Goals as goal
 
 pub slice_bounds-fields_before-end : goal.slice_bounds-fields_before-end

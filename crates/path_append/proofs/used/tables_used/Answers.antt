@@ -7,7 +7,6 @@ use lib.ListN.{take}
 use native.Mathlib.Omega.{arith}
 use mathlib.Core.Path.{sym, ap, ◌∙◌}
 use Prim.Native.Nat.{◌*◌}
-use borrow.Author.Rules.{rules}
 use Rattle.path_append.proofs.used.tables_used.Goals as goal
 
 pub slice_bounds-tables_before-end : goal.slice_bounds-tables_before-end

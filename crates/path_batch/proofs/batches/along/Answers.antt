@@ -1,14 +1,14 @@
 -- `path_batch::batches::along` meets its contract: each way out is a case of `spot_of` (`along-short` and so on), by the tests that led there. Assumes nothing.
 use borrow.Author.Rules.{rules}
-use mathlib.Core.Path.{◌≡◌, sym, ap, ap₂, ◌∙◌}
-use mathlib.Core.Bool.{true, false}
+use mathlib.Core.Path.{◌≡◌}
+use mathlib.Core.Bool.{false}
 use Prim.Native.Nat.{◌<◌}
 use native.Mathlib.Omega.{arith}
 use lib.ListN.{length}
-use lib.Ieee.{Float, le}
+use lib.Ieee.{le}
 use Rattle.floats.specs.Floats.{zero_f, one_f, epsilon_f}
-use Rattle.table.specs.Lookup.{at, target_of, share_of}
-use Rattle.table.specs.Spots.{before, path_total}
+use Rattle.table.specs.Lookup.{target_of}
+use Rattle.table.specs.Spots.{path_total}
 use Rattle.table.proofs.Before.{path-total}
 use Rattle.path_place.proofs.Standing.{spot-inside}
 use Rattle.path_batch.proofs.Along.{along-short, along-low, along-high, along-within}

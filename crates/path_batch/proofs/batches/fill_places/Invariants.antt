@@ -1,33 +1,14 @@
 -- `path_batch::batches::fill_places` meets its contract. The loop keeps what is filled up to its place, where the cursor stands, `Looking`, and that the marks are marks of the
--- path; the segments are those that `fill_segments` has found; the measure is what is left of the progresses. Assumes nothing.
-use borrow.Author.Rules.{rules}
-use Prim.Native.Nat.{◌*◌, ◌-◌, ◌≤◌, ◌<◌}
-use mathlib.Core.Path.{◌≡◌, refl, sym, ap, ◌∙◌, subst}
-use native.Mathlib.Omega.{arith}
-use lib.ListN.{length, take, get_or}
-use lib.Seq.{take_all}
-use lib.Ieee.{Float, nan}
-use mathlib.Core.List.{List}
+-- path; the segments are those that `fill_segments` has found. Assumes nothing.
+use mathlib.Core.Path.{◌≡◌}
+use lib.ListN.{take}
 use Rattle.answers.specs.Report.{written}
-use Rattle.table.specs.declared.quantities.Progress.{Progress}
-use Rattle.table.specs.Spots.{spot_of}
-use Rattle.flight.specs.Flights.{segment_given}
-use Rattle.path_stored.specs.Buffers.{Buffers, buffers, lent}
-use Rattle.path_place.specs.declared.cursors.Cursor.{Cursor}
-use Rattle.path_place.specs.Cursors.{cursor_of, Moving}
-use Rattle.path_place.specs.Places.{raw_within}
-use Rattle.path_place.proofs.Standing.{some-path, standing, place_is}
+use Rattle.path_stored.specs.Paths.{held}
 use Rattle.path_marks.specs.Marks.{Marks}
-use Rattle.path_marks.proofs.Marking.{marks-none, marks-same}
-use Rattle.path_query.specs.Flights.{flight_of}
-use Rattle.path_query.proofs.Seats.{some-place}
-use Rattle.path_batch.specs.Batches.{each, segments_for, raws_for, found_for}
-use Rattle.path_batch.proofs.Filling.{Looking, looking-first, looking-next, among, looking-moves, looking-leaps, each-size, each_next, each_at, each-filled, each-equal, segment-there, raw-there}
+use Rattle.path_batch.specs.Batches.{raws_for}
+use Rattle.path_batch.proofs.Filling.{Looking}
 use Rattle.path_batch.proofs.batches.fill_places.Given as goal
 
 abbrev pub invariant-loop-i : goal.invariant-loop-i
-invariant-loop-i l = let b = buffers l.kinds l.fields l.tables l.lengths l.commands in
-    Looking l.kinds l.progresses l.at l.i × (l.raws ≡ written (raws_for b (take l.i l.progresses)) l.initial.raws) × Marks l.kinds l.shift l.field_marks l.table_marks
-
-abbrev pub decreases-loop-i : goal.decreases-loop-i
-decreases-loop-i l = length l.progresses - l.i
+invariant-loop-i l =
+    Looking l.kinds l.progresses l.at l.i × (l.raws ≡ written (raws_for (held l.fn.path.buffers) (take l.i l.progresses)) l.initial.raws) × Marks l.kinds l.shift l.field_marks l.table_marks

@@ -1,5 +1,4 @@
 -- `path_batch::batches::put_numbers` meets its contract: four stores, one after the other. Assumes nothing.
-use borrow.Author.Rules.{rules}
 use native.Mathlib.Omega.{arith}
 use lib.ListN.{length-set}
 use Rattle.path_batch.proofs.Filling.{put_four}

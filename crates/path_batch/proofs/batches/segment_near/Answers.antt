@@ -1,8 +1,7 @@
 -- `path_batch::batches::segment_near` meets its contract: each way out is a case of `spot_of` (`segment-short` and so on), by the tests that led there. Assumes nothing.
-use borrow.Author.Rules.{rules}
 use mathlib.Core.Path.{◌≡◌}
 use mathlib.Core.Bool.{false}
-use lib.Ieee.{Float, le}
+use lib.Ieee.{le}
 use Rattle.floats.specs.Floats.{zero_f, epsilon_f}
 use Rattle.table.specs.Lookup.{target_of}
 use Rattle.table.specs.Spots.{path_total}

@@ -1,19 +1,25 @@
 -- `path_build::build_path` meets its contract: the first pass tells what is built, the second stores it. Assumes nothing.
 use borrow.Author.Rules.{rules}
-use mathlib.Core.Path.{sym, ◌∙◌}
+use mathlib.Core.Path.{◌≡◌, sym, ◌∙◌}
+use Rattle.std.specs.Prelude.{Err}
 use Rattle.path_stored.specs.Buffers.{lent_mut}
-use Rattle.path_build.proofs.Answering.{ended-refused, ended-holding, ended-built}
-use Rattle.path_build.proofs.building.build_path.Tie as tie
+use Rattle.path_build.proofs.Answering.{unbuilt, ended-short, ended-holding, ended-built}
 use Rattle.path_build.proofs.building.build_path.Goals as goal
 
--- ---- the answers
-pub returns-in-Refused : goal.returns-in-Refused
-returns-in-Refused c = ended-refused _ _ c.sized.ensures (sym c.room.ensures ∙ c.in-Refused.is)
+pub returns-in_err-sized : goal.returns-in_err-sized
+returns-in_err-sized c =
+    let e : c.from_residual.result ≡ Err c.in_err-sized.field-0.0 = search rules in
+    rw e (unbuilt _ _ (sym c.in_err-sized.was ∙ c.sized.ensures))
+
+pub returns-in_err-sizes : goal.returns-in_err-sizes
+returns-in_err-sizes c =
+    let e : c.from_residual-in_err-sizes.result ≡ Err c.in_err-sizes.field-0.0 = search rules in
+    rw e (ended-short _ _ (sym c.in_ok-sized.was ∙ c.sized.ensures) (sym c.room.ensures ∙ c.in_err-sizes.was))
 
 pub fill-requires : goal.fill-requires
 fill-requires c =
-    ended-holding (lent_mut c.args.kinds c.args.fields c.args.tables c.args.lengths c.args.commands) _ c.sized.ensures (sym c.room.ensures ∙ c.in-Built.is)
+    ended-holding (lent_mut c.args.kinds c.args.fields c.args.tables c.args.lengths c.args.commands) _ (sym c.in_ok-sized.was ∙ c.sized.ensures)
+    (sym c.room.ensures ∙ c.in_ok-sizes.was)
 
-pub returns-in-Built : goal.returns-in-Built
-returns-in-Built c =
-    ended-built _ _ c.sized.ensures (sym c.room.ensures ∙ c.in-Built.is) c.fill.ensures
+pub returns : goal.returns
+returns c = ended-built _ _ (sym c.in_ok-sized.was ∙ c.sized.ensures) (sym c.room.ensures ∙ c.in_ok-sizes.was) c.fill.ensures

@@ -1,5 +1,4 @@
 -- `path_build::by_letter::lay_at` meets its contract: what each letter draws is stored. Assumes nothing.
-use borrow.Author.Rules.{rules}
 use mathlib.Core.Path.{sym, ◌∙◌}
 use native.Mathlib.Omega.{arith}
 use Rattle.path_storing.proofs.Judged.{room_at, laid-at, turned-laid}
@@ -68,13 +67,13 @@ returns-in-67 c =
 pub decode-requires : goal.decode-requires
 decode-requires c = omega (arith, c.requires.0)
 
-pub returns-in-Bad : goal.returns-in-Bad
-returns-in-Bad c = turned-laid (drawn-bad _ (sym c.decode.ensures ∙ c.in-Bad.is))
+pub returns-in-None : goal.returns-in-None
+returns-in-None c = turned-laid (drawn-bad _ (sym c.decode.ensures ∙ c.in-None.is))
 
 pub lay_any-requires : goal.lay_any-requires
 lay_any-requires c =
-    (c.requires.1, room_at (drawn-command _ (sym c.decode.ensures ∙ c.in-Command.is)) c.requires.2)
+    (c.requires.1, room_at (drawn-command _ (sym c.decode.ensures ∙ c.in-Some.is)) c.requires.2)
 
-pub returns-in-Command : goal.returns-in-Command
-returns-in-Command c =
-    laid-at (drawn-command _ (sym c.decode.ensures ∙ c.in-Command.is)) c.lay_any.ensures
+pub returns-in-Some : goal.returns-in-Some
+returns-in-Some c =
+    laid-at (drawn-command _ (sym c.decode.ensures ∙ c.in-Some.is)) c.lay_any.ensures

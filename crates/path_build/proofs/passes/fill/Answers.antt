@@ -1,17 +1,9 @@
--- `path_build::passes::fill` meets its contract. The loop keeps that the commands up to its letter are passed and what they draw is written; the measure is what
--- is left of the letters. Assumes nothing.
-use borrow.Author.Rules.{rules}
-use Prim.Native.Nat.{◌-◌}
+-- `path_build::passes::fill` meets its contract. Assumes nothing.
 use native.Mathlib.Omega.{arith}
-use lib.ListN.{length}
-use Rattle.path_stored.specs.Buffers.{buffers}
-use Rattle.path_build.specs.Lists.{stored_list}
-use Rattle.path_build.proofs.Along.{Storing, storing-none, stored-kinds, stored-fields, stored-tables, stored-lengths}
+use Rattle.path_build.proofs.Along.{storing-none, stored-kinds, stored-fields, stored-tables, stored-lengths}
 use Rattle.path_build.proofs.Along.{stored-commands, stored-all, storing-number, storing-asks, storing-next}
-use Rattle.path_build.proofs.passes.fill.Tie as tie
 use Rattle.path_build.proofs.passes.fill.Goals as goal
 
--- ---- the answers
 pub loop-letter_at-init : goal.loop-letter_at-init
 loop-letter_at-init c = rw c.start-site.ensures (storing-none _ c.requires)
 
@@ -22,19 +14,12 @@ overflow_cast-number c =
     omega (arith, storing-number c.loop-letter_at.invariant c.requires c.loop-letter_at-test.true, asks.1.segments)
 
 pub lay_at-site-requires : goal.lay_at-site-requires
-lay_at-site-requires c =
-    storing-asks c.loop-letter_at.invariant c.requires c.loop-letter_at-test.true
+lay_at-site-requires c = storing-asks c.loop-letter_at.invariant c.requires c.loop-letter_at-test.true
 
 pub overflow_add-at : goal.overflow_add-at
 overflow_add-at c =
     let asks = storing-asks c.loop-letter_at.invariant c.requires c.loop-letter_at-test.true in
     omega (arith, asks.0, c.stride-at.ensures)
-
-pub overflow_add-letter_at : goal.overflow_add-letter_at
-overflow_add-letter_at c = omega (arith, c.loop-letter_at-test.true)
-
-pub loop-letter_at-smaller : goal.loop-letter_at-smaller
-loop-letter_at-smaller c = omega (arith, c.loop-letter_at-test.true)
 
 pub loop-letter_at-preserved : goal.loop-letter_at-preserved
 loop-letter_at-preserved c =

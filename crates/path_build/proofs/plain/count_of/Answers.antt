@@ -1,32 +1,31 @@
--- `path_build::plain::count_of` meets its contract. The loop keeps that what is counted and what is left to count are the whole count; the measure is what is left
--- of the letters. Assumes nothing.
-use borrow.Author.Rules.{rules}
-use Prim.Native.Nat.{◌+◌, ◌-◌, ◌≤◌}
-use mathlib.Core.Path.{◌≡◌}
-use native.Mathlib.Nat.{zero-add}
+-- `path_build::plain::count_of` meets its contract. Assumes nothing.
+use mathlib.Core.Path.{◌≡◌, refl, ◌∙◌}
+use mathlib.Core.Bool.{Bool, true, false}
 use native.Mathlib.Omega.{arith}
 use lib.Dec.{eqb}
-use lib.ListN.{length, get_or, drop}
-use Rattle.path_build.specs.Plain.{one_if, count_in}
+use lib.ListN.{get_or}
+use Rattle.std.specs.Int.{from_bool}
+use Rattle.path_build.specs.Plain.{one_if}
 use Rattle.path_build.proofs.Counting.{count_next, count-end, one-most}
 use Rattle.path_build.proofs.plain.count_of.Goals as goal
 
--- ---- the answers
-pub loop-i-init : goal.loop-i-init
-loop-i-init c = (omega arith, omega arith, zero-add _)
+byte-one : (so : Bool) → from_bool so ≡ one_if so
+byte-one true = refl
+byte-one false = refl
 
 pub overflow_add-count : goal.overflow_add-count
 overflow_add-count c =
-    let most : one_if (eqb (get_or c.args.letters.now c.loop-i.i 0) c.args.letter) ≤ 1 = one-most (eqb (get_or c.args.letters.now c.loop-i.i 0) c.args.letter) in
-    omega (arith, c.loop-i.invariant.0, c.loop-i.invariant.1, c.requires, c.one_if-count.ensures, most)
+    let so = eqb (get_or c.args.letters.now c.loop-own.own-index 0) c.args.letter in
+    let one : c.from-count.result ≡ one_if so = c.from-count.ensures ∙ byte-one so in
+    omega (arith, c.loop-own.invariant.0, c.requires, one, one-most so)
 
-pub loop-i-preserved : goal.loop-i-preserved
-loop-i-preserved c =
-    let most : one_if (eqb (get_or c.args.letters.now c.loop-i.i 0) c.args.letter) ≤ 1 = one-most (eqb (get_or c.args.letters.now c.loop-i.i 0) c.args.letter) in (
-      omega (arith, c.loop-i-test.true),
-      omega (arith, c.loop-i.invariant.1, c.one_if-count.ensures, most),
-      omega (arith, c.loop-i.invariant.2, c.one_if-count.ensures, count_next c.args.letters.now c.args.letter c.loop-i.i c.loop-i-test.true),
+pub loop-own-preserved : goal.loop-own-preserved
+loop-own-preserved c =
+    let so = eqb (get_or c.args.letters.now c.loop-own.own-index 0) c.args.letter in
+    let one : c.from-count.result ≡ one_if so = c.from-count.ensures ∙ byte-one so in (
+      omega (arith, c.loop-own.invariant.0, one, one-most so),
+      omega (arith, c.loop-own.invariant.1, one, count_next c.args.letters.now c.args.letter c.loop-own.own-index c.loop-own-test.true),
     )
 
 pub returns : goal.returns
-returns c = omega (arith, c.loop-i.invariant.2, count-end c.args.letters.now c.args.letter c.loop-i.i c.loop-i-test.false)
+returns c = omega (arith, c.loop-own.invariant.1, count-end c.args.letters.now c.args.letter c.loop-own.own-index c.loop-own-test.false)

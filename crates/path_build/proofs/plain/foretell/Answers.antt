@@ -1,5 +1,4 @@
 -- `path_build::plain::foretell` meets its contract: the counts of a plain list are those of what it builds. Assumes nothing.
-use borrow.Author.Rules.{rules}
 use Prim.Native.Nat.{ℕ, ◌≤◌}
 use mathlib.Core.Path.{◌≡◌, sym, ◌∙◌}
 use mathlib.Core.List.{List}

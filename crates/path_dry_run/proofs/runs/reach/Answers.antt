@@ -1,7 +1,6 @@
 -- `path_dry_run::runs::reach` meets its contract: the spot's segment is one of the path's, so that the cursor can be moved there and stands at its table. Assumes nothing.
-use borrow.Author.Rules.{rules}
 use Prim.Native.Nat.{ℕ, ◌<◌}
-use mathlib.Core.Path.{◌≡◌, sym, ap, ◌∙◌, subst}
+use mathlib.Core.Path.{ap, ◌∙◌, subst}
 use native.Mathlib.Omega.{arith}
 use lib.ListN.{length}
 use Rattle.table.specs.declared.tables.Spot.{Spot}

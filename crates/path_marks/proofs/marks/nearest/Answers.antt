@@ -1,5 +1,4 @@
 -- `path_marks::marks::nearest` meets its contract: the mark is the cursor of a segment that is no later. Assumes nothing.
-use borrow.Author.Rules.{rules}
 use Prim.Native.Nat.{◌/◌, ◌^◌, ◌<◌}
 use native.Mathlib.Omega.{arith}
 use Rattle.path_marks.proofs.Marking.{mark-lt, mark-le, mark-whole, mark-moves}

@@ -1,5 +1,4 @@
 -- `path_place::lookups::raw_in` meets its contract: the part that it lends is the table's 32 entries. Assumes nothing.
-use borrow.Author.Rules.{rules}
 use Rattle.path_place.specs.Places.{raw_in}
 use Rattle.path_place.proofs.Tables.{part-size, there-sound}
 use Rattle.path_place.proofs.lookups.raw_in.Goals as goal

@@ -1,5 +1,4 @@
 -- `path_place::lookups::raw_within` meets its contract: the cursor stands at the segment's table. Assumes nothing.
-use borrow.Author.Rules.{rules}
 use mathlib.Core.Path.{sym, ap, ◌∙◌, subst}
 use Prim.Native.Nat.{ℕ}
 use lib.ListN.{get_or}

@@ -1,24 +1,13 @@
--- `path_query::flight` meets its contract: the check decides, and the buffers lent are f32 values, so that `ordered` shows demand 3. Assumes nothing.
-use borrow.Author.Rules.{rules}
-use mathlib.Core.Path.{sym, ◌∙◌}
-use Rattle.floats.proofs.Tests.{passed}
-use Rattle.path_stored.proofs.Rule.{stored-rule}
-use Rattle.path_query.proofs.Answering.{flew-well, flew-bad}
+-- `path_query::flight` meets its contract: a stored path's numbers are f32 values, so that `ordered` shows demand 3. Assumes nothing.
+use mathlib.Core.Path.{subst, sym, ◌∙◌}
+use Rattle.path_stored.specs.declared.path_buffers.PathBuffers.{PathBuffers}
+use Rattle.path_stored.specs.Paths.{AreF32}
 use Rattle.path_query.proofs.Demand3.{ordered}
 use Rattle.path_query.proofs.queries.flight.Goals as goal
 
-pub flight-requires : goal.flight-requires
-flight-requires c = stored-rule _ (passed (sym c.check_path.ensures ∙ c.if-check_path.true))
-
-pub returns-then-check_path : goal.returns-then-check_path
-returns-then-check_path c =
-    let stored = sym c.check_path.ensures ∙ c.if-check_path.true in record {
-      value = flew-well _ _ _ stored c.flight.ensures;
-      ordered_by = λ some. ordered _ stored some c.shared_slice_known-3-1.given c.shared_slice_known-4-1.given;
-    }
-
-pub returns : goal.returns
-returns c = record {
-  value = flew-bad _ _ (sym c.check_path.ensures ∙ c.if-check_path.false);
-  ordered_by = tt;
-}
+pub returns-clause-ordered_by : goal.returns-clause-ordered_by
+returns-clause-ordered_by c =
+    let is = sym c.check_path.ensures.stored ∙ c.if-not-check_path.false in
+    let same = c.stored-stored.ensures in
+    let values = subst (λ (path : PathBuffers). AreF32 path.tables.now × AreF32 path.lengths.now) same c.stored-stored.result.values in
+    λ some. ordered _ is some values.0 values.1

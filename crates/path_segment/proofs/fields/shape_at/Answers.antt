@@ -2,7 +2,6 @@
 use Rattle.commands.proofs.Decoding.{number-from, point-first, point-later}
 use mathlib.Core.Path.{refl}
 use Prim.Native.Nat.{◌+◌}
-use borrow.Author.Rules.{rules}
 use Rattle.path_segment.proofs.fields.shape_at.Goals as goal
 
 pub returns : goal.returns

@@ -1,12 +1,7 @@
 -- `path_stored::counts::fields_between` meets its contract. The invariant: the sum is of the segments before `at`. The measure is the segments left. Assumes nothing.
-use borrow.Author.Rules.{rules}
-use mathlib.Core.Path.{◌≡◌, subst}
-use Prim.Native.Nat.{ℕ, ◌+◌, ◌-◌, ◌≤◌}
-use native.Mathlib.Omega.{arith}
+use Prim.Native.Nat.{◌-◌, ◌≤◌}
 use Rattle.path_segment.specs.Segments.{width_of}
-use Rattle.path_segment.proofs.Widths.{width-most}
 use Rattle.path_stored.specs.Counts.{Adds}
-use Rattle.path_stored.proofs.Spans.{adds-most}
 use Rattle.path_stored.proofs.counts.fields_between.Given as goal
 
 abbrev pub invariant-loop-at : goal.invariant-loop-at

@@ -1,12 +1,10 @@
 -- `path_stored::counts::fields_of_few` meets its contract. The invariant: the counts are of the segments before j. The measure is the segments left. Assumes nothing.
-use borrow.Author.Rules.{rules}
 use mathlib.Core.Path.{◌≡◌, ap}
-use Prim.Native.Nat.{◌-◌, ◌≤◌}
 use native.Mathlib.Omega.{arith}
 use lib.ListN.{get_or}
 use Rattle.path_segment.specs.Segments.{width_of}
 use Rattle.path_stored.specs.Stored.{before}
-use Rattle.path_stored.proofs.Spans.{FieldCounts, fields-start, fields-more, fields-done, fields-enough, one_at_most}
+use Rattle.path_stored.proofs.Spans.{fields-start, fields-more, one_at_most}
 use Rattle.path_stored.proofs.counts.fields_of_few.Goals as goal
 
 pub loop-j-init : goal.loop-j-init

@@ -1,5 +1,4 @@
 -- `path_stored::counts::one_table` meets its contract: a kind has one table or none. Assumes nothing.
-use borrow.Author.Rules.{rules}
 use mathlib.Core.Path.{sym, ◌∙◌}
 use Rattle.path_segment.proofs.Widths.{one_table, none-table}
 use Rattle.path_stored.proofs.counts.one_table.Goals as goal

@@ -1,11 +1,7 @@
 -- `path_stored::counts::tables_between` meets its contract. The invariant: the sum is of the segments before `at`. The measure is the segments left. Assumes nothing.
-use borrow.Author.Rules.{rules}
-use mathlib.Core.Path.{◌≡◌, subst}
-use Prim.Native.Nat.{ℕ, ◌+◌, ◌-◌, ◌≤◌}
-use native.Mathlib.Omega.{arith}
+use Prim.Native.Nat.{◌-◌, ◌≤◌}
 use Rattle.path_segment.specs.Segments.{tables_of}
 use Rattle.path_stored.specs.Counts.{Adds}
-use Rattle.path_stored.proofs.Spans.{adds-most, tables-under}
 use Rattle.path_stored.proofs.counts.tables_between.Given as goal
 
 abbrev pub invariant-loop-at : goal.invariant-loop-at

@@ -1,7 +1,6 @@
 -- `path_stored::counts::tables_of_few` meets its contract. The invariant: the sum is of the segments before j. The measure is the segments left. Assumes nothing.
-use borrow.Author.Rules.{rules}
 use mathlib.Core.Path.{◌≡◌, subst}
-use Prim.Native.Nat.{ℕ, ◌+◌, ◌-◌, ◌≤◌}
+use Prim.Native.Nat.{ℕ, ◌+◌}
 use native.Mathlib.Omega.{arith}
 use Rattle.path_segment.specs.Segments.{tables_of}
 use Rattle.path_stored.specs.Counts.{Adds}

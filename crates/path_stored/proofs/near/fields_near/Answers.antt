@@ -1,7 +1,6 @@
 -- `path_stored::near::fields_near` meets its contract: the last eight, or all, and those before them. Assumes nothing.
 use Prim.Native.Nat.{◌-◌}
 use native.Mathlib.Omega.{arith}
-use borrow.Author.Rules.{rules}
 use Rattle.path_stored.specs.Near.{more_fields}
 use Rattle.path_stored.proofs.Lanes.{Halves, halves, lanes-most, joined, all-fields, more-few}
 use Rattle.path_stored.proofs.near.fields_near.Goals as goal

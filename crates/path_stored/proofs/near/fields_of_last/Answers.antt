@@ -2,7 +2,6 @@
 use Prim.Native.Nat.{◌+◌, ◌-◌, ◌*◌, ◌/◌, ◌≤◌}
 use mathlib.Core.Path.{◌≡◌}
 use native.Mathlib.Omega.{arith}
-use borrow.Author.Rules.{rules}
 use lib.Bits.{bit_and, and_le_r}
 use Rattle.path_stored.specs.Near.{laid, itself, more_fields}
 use Rattle.path_stored.proofs.Lanes.{lanes-most, field-lanes}

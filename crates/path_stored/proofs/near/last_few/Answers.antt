@@ -1,6 +1,5 @@
 -- `path_stored::near::last_few` meets its contract: what is shifted out are the lanes before the last few. Assumes nothing.
 use mathlib.Core.Path.{refl}
-use borrow.Author.Rules.{rules}
 use Rattle.path_stored.proofs.Lanes.{last-lanes}
 use Rattle.path_stored.proofs.near.last_few.Goals as goal
 

@@ -1,7 +1,6 @@
 -- `path_stored::near::tables_near` meets its contract: the last eight, or all, and those before them. Assumes nothing.
 use Prim.Native.Nat.{◌-◌}
 use native.Mathlib.Omega.{arith}
-use borrow.Author.Rules.{rules}
 use Rattle.path_segment.specs.Segments.{tables_of}
 use Rattle.path_stored.proofs.Lanes.{Halves, halves, lanes-most, joined, tables-few}
 use Rattle.path_stored.proofs.near.tables_near.Goals as goal

@@ -1,7 +1,6 @@
 -- `path_stored::near::tables_of_last` meets its contract. Assumes nothing.
 use Prim.Native.Nat.{◌≤◌}
 use native.Mathlib.Omega.{arith}
-use borrow.Author.Rules.{rules}
 use Rattle.path_stored.specs.Near.{itself}
 use Rattle.path_stored.proofs.Lanes.{lanes-most, table-lanes}
 use Rattle.path_stored.proofs.near.tables_of_last.Goals as goal

@@ -1,7 +1,6 @@
 -- `path_stored::near::word_before` meets its contract. Assumes nothing.
 use Prim.Native.Nat.{◌-◌}
 use native.Mathlib.Omega.{arith}
-use borrow.Author.Rules.{rules}
 use Rattle.path_stored.proofs.Lanes.{word-is}
 use Rattle.path_stored.proofs.near.word_before.Goals as goal
 

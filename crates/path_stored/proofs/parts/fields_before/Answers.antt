@@ -1,5 +1,4 @@
 -- `path_stored::parts::fields_before` meets its contract: nothing stands before the first segment. Assumes nothing.
-use borrow.Author.Rules.{rules}
 use native.Mathlib.Omega.{arith}
 use Rattle.path_segment.specs.Segments.{width_of}
 use Rattle.path_stored.proofs.Counting.{before-zero}

@@ -5,11 +5,8 @@ use lib.Ieee.{binary32, add}
 use Rattle.arc.specs.Lines.{line_length_of}
 use Rattle.commands.proofs.Storing.{four-put}
 use Rattle.path_storing.proofs.Judged.{kind_fits, length-fits, command-fits, line-fits, line-laid}
-use borrow.Author.Rules.{rules}
-use Rattle.path_storing.proofs.direct.lay_line.Tie as tie
 use Rattle.path_storing.proofs.direct.lay_line.Goals as goal
 
--- ---- the answers
 pub bounds-kinds-index : goal.bounds-kinds-index
 bounds-kinds-index c = kind_fits c.requires.1
 
@@ -28,5 +25,5 @@ bounds-commands-index c = command-fits c.requires.1
 pub returns : goal.returns
 unfolding line_length_of
 returns c =
-    let put = four-put c.args.fields.now c.args.site.fields c.args.site.pen.current.x c.args.site.pen.current.y c.args.end.x c.args.end.y c.put_point.new.fields _ c.put_point.ensures c.put_point-2.ensures in
-    line-laid put (ap (add binary32 _) c.distance.ensures) c.drawn.ensures
+    let put = four-put c.args.fields.now c.args.site.sizes.fields c.args.start.x c.args.start.y c.args.end.x c.args.end.y c.put_point.new.fields _ c.put_point.ensures c.put_point-2.ensures in
+    line-laid put (ap (add binary32 _) c.distance.ensures) c.drawn.ensures c.grown.ensures

@@ -1,28 +1,13 @@
 -- `path_storing::direct::quad_to` meets its contract: a quad with a current point, else the point alone. Assumes nothing.
 use borrow.Author.Rules.{rules}
-use native.Mathlib.Omega.{arith}
 use Rattle.path_storing.proofs.Judged.{quad-drawn, quad-undrawn, quad-laid, moved-laid, room_at, room-counts, laid-at}
-use Rattle.path_storing.proofs.direct.quad_to.Tie as tie
 use Rattle.path_storing.proofs.direct.quad_to.Goals as goal
 
--- ---- the answers
+pub returns-in_default : goal.returns-in_default
+returns-in_default c = moved-laid (quad-undrawn _ _ (search rules) _ _ c.drawn.ensures) c.moved.ensures
+
 pub store_segment-length-requires : goal.store_segment-length-requires
-store_segment-length-requires c =
-    room-counts (room_at (quad-drawn _ c.if-pen.true _ _) c.requires.1)
-
-pub overflow_add-result : goal.overflow_add-result
-overflow_add-result c = omega (arith, c.requires.0.segments)
-
-pub overflow_add-result-then-pen : goal.overflow_add-result-then-pen
-overflow_add-result-then-pen c = omega (arith, c.requires.0.segments, c.requires.0.fields)
-
-pub overflow_add-result-then-pen-2 : goal.overflow_add-result-then-pen-2
-overflow_add-result-then-pen-2 c = omega (arith, c.requires.0.segments, c.requires.0.tables)
-
-pub returns-then-pen : goal.returns-then-pen
-returns-then-pen c =
-    laid-at (quad-drawn _ c.if-pen.true _ _)
-    (quad-laid _ c.drawn.ensures _ _ c.store_segment-length.ensures)
+store_segment-length-requires c = room-counts (room_at (quad-drawn _ c.in-Some.is _ _) c.requires.1)
 
 pub returns : goal.returns
-returns c = moved-laid (quad-undrawn _ _ c.if-pen.false _ _ c.drawn-2.ensures) c.moved.ensures
+returns c = laid-at (quad-drawn _ c.in-Some.is _ _) (quad-laid _ c.drawn-2.ensures _ _ c.grown.ensures c.store_segment-length.ensures)

@@ -1,5 +1,4 @@
 -- `path_storing::laying::lay` meets its contract: a line by itself, any other command as `lay_any` does. Assumes nothing.
-use borrow.Author.Rules.{rules}
 use mathlib.Core.Path.{ap}
 use Rattle.path_drawing.specs.Drawing.{draw_of}
 use Rattle.path_storing.proofs.Judged.{room_at, laid-at}

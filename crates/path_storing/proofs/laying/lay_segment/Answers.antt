@@ -1,5 +1,4 @@
 -- `path_storing::laying::lay_segment` meets its contract: the segment is stored, and the site told. Assumes nothing.
-use borrow.Author.Rules.{rules}
 use Rattle.path_storing.proofs.Judged.{room-counts, stored-laid}
 use Rattle.path_storing.proofs.laying.lay_segment.Goals as goal
 

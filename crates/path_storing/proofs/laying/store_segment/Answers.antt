@@ -1,5 +1,4 @@
 -- `path_storing::laying::store_segment` meets its contract: five stores, each in its buffer. Assumes nothing.
-use borrow.Author.Rules.{rules}
 use mathlib.Core.Path.{◌≡◌, ap, ◌∙◌}
 use lib.Ieee.{binary32, add}
 use Rattle.path_drawing.specs.Building.{length_after}

@@ -2,5 +2,5 @@
 use Rattle.std.proofs.Common.{◌<◌}
 use Rattle.replay_paths.proofs.buildings.mixed.Given as goal
 
-abbrev pub invariant-loop-i : goal.invariant-loop-i
-invariant-loop-i l = l.sum < 4294967296
+abbrev pub invariant-loop-number : goal.invariant-loop-number
+invariant-loop-number l = l.sum < 4294967296

@@ -1,14 +1,6 @@
 -- The loop keeps `Walking`: a stretch at or before the one that is picked. The measure is the points left. Assumes nothing.
-use borrow.Author.Rules.{rules}
-use mathlib.Core.Path.{refl, sym, ap, ◌∙◌}
-use Prim.Native.Nat.{◌-◌}
-use native.Mathlib.Omega.{arith}
-use Rattle.polyline.specs.Points.{count_of}
-use Rattle.resample.proofs.Walk.{Walking, walk_start, walk_more, walk-stop, walk-done}
+use Rattle.resample.proofs.Walk.{walk_start, walk_more, walk-stop, walk-done}
 use Rattle.resample.proofs.walking.advance.Goals as goal
-
-pub overflow_sub-last : goal.overflow_sub-last
-overflow_sub-last c = omega (arith, c.requires.some)
 
 pub loop-upper-init : goal.loop-upper-init
 loop-upper-init c = walk_start _ _ _ c.requires

@@ -1,10 +1,7 @@
 -- The loop keeps `Walking`: a stretch at or before the one that is picked. The measure is the points left. Assumes nothing.
-use borrow.Author.Rules.{rules}
-use mathlib.Core.Path.{refl, sym, ap, ◌∙◌}
 use Prim.Native.Nat.{◌-◌}
-use native.Mathlib.Omega.{arith}
 use Rattle.polyline.specs.Points.{count_of}
-use Rattle.resample.proofs.Walk.{Walking, walk_start, walk_more, walk-stop, walk-done}
+use Rattle.resample.proofs.Walk.{Walking}
 use Rattle.resample.proofs.walking.advance.Given as goal
 
 abbrev pub invariant-loop-upper : goal.invariant-loop-upper

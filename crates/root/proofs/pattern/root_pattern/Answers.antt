@@ -1,6 +1,5 @@
 -- The whole root of the shifted digits lies between the middles around the exact root (`pattern-root`), and half of its 25 digits is far
 -- below the pattern of infinity. Assumes nothing.
-use borrow.Author.Rules.{rules}
 use native.Mathlib.Omega.{arith}
 use Rattle.root.proofs.Patterns.{shifted-lt, shifted-root, root-few, pattern_lt, pattern-root}
 use Rattle.root.proofs.pattern.root_pattern.Goals as goal

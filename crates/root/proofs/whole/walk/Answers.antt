@@ -2,7 +2,7 @@
 -- bounds of the whole root, of which there is one (`is-whole-root`). Assumes nothing.
 use native.Mathlib.Omega.{arith}
 use native.Mathlib.Nat.{mul-le-mul, lt_of_not-le, not-le_of_lt, le_of_lt, le_trans, lt_of_le_of_lt, not-suc-le-zero, zero-lt-suc}
-use Prim.Native.Nat.{ℕ, zero, suc, ◌+◌, ◌-◌, ◌*◌, ◌≤◌, ◌<◌, ◌^◌}
+use Prim.Native.Nat.{ℕ, zero, suc, ◌+◌, ◌*◌, ◌≤◌, ◌<◌, ◌^◌}
 use Rattle.root.proofs.Squares.{is-whole-root}
 use Rattle.root.proofs.whole.walk.Goals as goal
 
@@ -18,42 +18,6 @@ next_le q h = let k : q + 1 ≤ 2 ^ 26 = omega arith in mul-le-mul k k
 
 grow : (n q : ℕ) → n < 2 ^ 50 → (q + 1) * (q + 1) ≤ n → q + 1 < 2 ^ 26
 grow n q h k = lt_of_not-le (λ (g : 2 ^ 26 ≤ q + 1). not-le_of_lt (lt_of_le_of_lt k h) (le_trans (omega arith) (mul-le-mul g g)))
-
-pub loop-q-init : goal.loop-q-init
-loop-q-init c = omega arith
-
-pub overflow_mul-q : goal.overflow_mul-q
-overflow_mul-q c = record { fits = omega (arith, square_le c.loop-q.q c.loop-q.invariant) }
-
-pub overflow_sub-q : goal.overflow_sub-q
-overflow_sub-q c = positive _ _ c.loop-q-test.true
-
-pub loop-q-smaller : goal.loop-q-smaller
-loop-q-smaller c = omega (arith, positive _ _ c.loop-q-test.true)
-
-pub loop-q-preserved : goal.loop-q-preserved
-loop-q-preserved c = omega arith
-
-pub loop-q-2-init : goal.loop-q-2-init
-loop-q-2-init c = (omega arith, omega arith)
-
-pub overflow_add-q : goal.overflow_add-q
-overflow_add-q c = omega arith
-
-pub overflow_add-q-in-loop-q-2 : goal.overflow_add-q-in-loop-q-2
-overflow_add-q-in-loop-q-2 c = omega arith
-
-pub overflow_mul-q-in-loop-q-2 : goal.overflow_mul-q-in-loop-q-2
-overflow_mul-q-in-loop-q-2 c = record { fits = omega (arith, next_le c.loop-q-2.q c.loop-q-2.invariant.0) }
-
-pub overflow_add-q-in-loop-q-2-2 : goal.overflow_add-q-in-loop-q-2-2
-overflow_add-q-in-loop-q-2-2 c = omega arith
-
-pub loop-q-2-smaller : goal.loop-q-2-smaller
-loop-q-2-smaller c = omega arith
-
-pub loop-q-2-preserved : goal.loop-q-2-preserved
-loop-q-2-preserved c = (grow _ _ c.requires.0 c.loop-q-2-test.true, c.loop-q-2-test.true)
 
 pub returns : goal.returns
 returns c = is-whole-root _ _ (record { low = c.loop-q-2.invariant.1; high = c.loop-q-2-test.false })

@@ -1,9 +1,6 @@
 -- First loop: q is below 2^26, and falls. Second loop: besides, its square is at most n, and q rises towards 2^26. At the end q has both
 -- bounds of the whole root, of which there is one (`is-whole-root`). Assumes nothing.
-use native.Mathlib.Omega.{arith}
-use native.Mathlib.Nat.{mul-le-mul, lt_of_not-le, not-le_of_lt, le_of_lt, le_trans, lt_of_le_of_lt, not-suc-le-zero, zero-lt-suc}
-use Prim.Native.Nat.{ℕ, zero, suc, ◌+◌, ◌-◌, ◌*◌, ◌≤◌, ◌<◌, ◌^◌}
-use Rattle.root.proofs.Squares.{is-whole-root}
+use Prim.Native.Nat.{◌-◌, ◌*◌, ◌≤◌, ◌<◌, ◌^◌}
 use Rattle.root.proofs.whole.walk.Given as goal
 
 abbrev pub invariant-loop-q : goal.invariant-loop-q

@@ -1,9 +1,11 @@
 -- Near the guess one square decides: with d = n - first * first below 4 * first + 4, the root is `first` where d is at most 2 * first, and one
 -- more otherwise (`settled`). Elsewhere `walk` has the contract. Assumes nothing.
-use borrow.Author.Rules.{rules}
 use native.Mathlib.Omega.{arith}
-use native.Mathlib.Nat.{mul-le-mul, le_of_lt}
-use mathlib.Core.Path.{◌≡◌, sym, subst}
+use borrow.Author.Tests.{ltb-true, ltb-false}
+use mathlib.Core.Path.{◌≡◌, refl, sym, ap, subst, ◌∙◌}
+use mathlib.Core.Bool.{Bool, true, false}
+use lib.Dec.{ltb}
+use mir.Val.{bool_byte}
 use mathlib.Core.Logic.{◌⊎◌, inl, inr}
 use Prim.Native.Nat.{ℕ, ◌+◌, ◌-◌, ◌*◌, ◌≤◌, ◌<◌}
 use Rattle.root.proofs.Squares.{Root, square-next, is-whole-root}
@@ -15,15 +17,17 @@ settled n f r a b (inr (h, e)) =
     let k : f + r ≡ f + 1 = omega (arith, e) in
     subst (Root n) (sym k) (record { low = omega (arith, square-next f, h); high = omega (arith, square-next (f + 1), square-next f, b) })
 
+-- the number of the test is 1 where d is above e
+beyond : (d e r : ℕ) → r ≡ bool_byte (ltb e d) → ((d ≤ e) × (r ≡ 0)) ⊎ ((e < d) × (r ≡ 1))
+beyond d e r h = at (ltb e d) refl
+  where
+    at : (b : Bool) → ltb e d ≡ b → ((d ≤ e) × (r ≡ 0)) ⊎ ((e < d) × (r ≡ 1))
+    at true k = inr (ltb-true e d k, h ∙ ap bool_byte k)
+    at false k = inl (ltb-false e d k, h ∙ ap bool_byte k)
+
 at_most_one : (d e r : ℕ) → ((d ≤ e) × (r ≡ 0)) ⊎ ((e < d) × (r ≡ 1)) → r ≤ 1
 at_most_one d e r (inl (h, k)) = omega (arith, k)
 at_most_one d e r (inr (h, k)) = omega (arith, k)
 
-pub overflow_mul-square : goal.overflow_mul-square
-overflow_mul-square c = record { fits = omega (arith, mul-le-mul (le_of_lt c.requires.1) (le_of_lt c.requires.1)) }
-
-pub overflow_add-result : goal.overflow_add-result
-overflow_add-result c = record { fits = omega (arith, at_most_one _ _ _ c.beyond.ensures) }
-
 pub returns-then-rest-first : goal.returns-then-rest-first
-returns-then-rest-first c = is-whole-root _ _ (settled _ _ _ c.if-square-n.true c.if-rest-first.true c.beyond.ensures)
+returns-then-rest-first c = is-whole-root _ _ (settled _ _ _ c.if-square-n.true c.if-rest-first.true (beyond _ _ _ c.from.ensures))

@@ -1,5 +1,4 @@
 -- `scan::scan_number` meets its contract: each way out is a law over the places that the calls have found. Assumes nothing.
-use borrow.Author.Rules.{rules}
 use Rattle.scan.proofs.NumberLaws.{number-none, number-bare, number-found}
 use Rattle.scan.proofs.numbers.scan_number.Goals as goal
 

@@ -1,6 +1,5 @@
 -- `scan::byte_at` meets its contract: past the text the byte is the default. Assumes nothing.
 use mathlib.Core.Path.{sym}
-use borrow.Author.Rules.{rules}
 use lib.ListN.{get_or-eq_default}
 use Rattle.scan.proofs.runs.byte_at.Goals as goal
 

@@ -18,11 +18,11 @@ judge-requires c =
 
 pub more-requires : goal.more-requires
 more-requires c =
-    sum_room _ _ _ _ _ _ c.judge.ensures c.in-Accepted.is c.requires.few c.requires.sum
+    sum_room _ _ _ _ _ _ c.judge.ensures c.in-Some.is c.requires.few c.requires.sum
 
-pub returns-in-Accepted : goal.returns-in-Accepted
-returns-in-Accepted c =
-    accepted-completed c.if-size-gt4096.false c.judge.ensures c.in-Accepted.is c.more.ensures
+pub returns-in-Some : goal.returns-in-Some
+returns-in-Some c =
+    accepted-completed c.if-size-gt4096.false c.judge.ensures c.in-Some.is c.more.ensures
 
-pub returns-in-Refused : goal.returns-in-Refused
-returns-in-Refused c = refused-completed c.if-size-gt4096.false c.judge.ensures c.in-Refused.is
+pub returns-in-None : goal.returns-in-None
+returns-in-None c = refused-completed c.if-size-gt4096.false c.judge.ensures c.in-None.is

@@ -1,33 +1,28 @@
--- `season_plan::counting::tally` meets its contract. The loop keeps that the rows of the bytes before i are marked; the measure is what is left of them. Assumes nothing.
-use borrow.Author.Rules.{rules}
-use Prim.Native.Nat.{ℕ, ◌-◌, ◌≤◌}
-use mathlib.Core.Path.{◌≡◌, refl, sym, ap, ◌∙◌}
-use mathlib.Core.List.{[], ◌∷◌, map}
-use native.Mathlib.Omega.{arith}
-use lib.ListN.{length, take}
+-- `season_plan::counting::tally` meets its contract. Assumes nothing.
+use Prim.Native.Nat.{ℕ}
+use mathlib.Core.Path.{refl, ap, ◌∙◌}
+use mathlib.Core.List.{[], ◌∷◌}
+use lib.ListN.{length}
 use Rattle.season_plan.specs.Rows.{row_of, marked}
 use Rattle.season_plan.proofs.Marks.{marked-length, tally-room, mapped_next, mapped-all}
 use Rattle.season_plan.proofs.counting.tally.Goals as goal
 
-pub loop-i-init : goal.loop-i-init
+pub loop-byte-init : goal.loop-byte-init
 unfolding marked
-loop-i-init c = (omega arith, refl)
+loop-byte-init c = refl
 
 pub bump-requires : goal.bump-requires
-bump-requires c =
-    tally-room _ _ _ _ _ c.loop-i-test.true c.loop-i.invariant.1 c.requires.0 c.requires.1 c.row.ensures
+bump-requires c = tally-room _ _ _ _ _ c.loop-byte-test.true c.loop-byte.invariant c.requires.0 c.requires.1 c.row.ensures
 
-pub loop-i-preserved : goal.loop-i-preserved
-loop-i-preserved c = (
-  omega arith,
-  c.bump.ensures
-      ∙ ap (λ (r : ℕ). marked (r ∷ []) c.loop-i.counts) c.row.ensures
-      ∙ ap (marked (row_of _ ∷ [])) c.loop-i.invariant.1
-      ∙ mapped_next row_of _ _ c.loop-i.i c.loop-i-test.true,
-)
+pub loop-byte-preserved : goal.loop-byte-preserved
+loop-byte-preserved c =
+    c.bump.ensures
+    ∙ ap (λ (r : ℕ). marked (r ∷ []) c.loop-byte.counts) c.row.ensures
+    ∙ ap (marked (row_of _ ∷ [])) c.loop-byte.invariant
+    ∙ mapped_next row_of _ _ c.loop-byte.byte-index c.loop-byte-test.true
 
 pub shape_of-counts : goal.shape_of-counts
-shape_of-counts c = ap length c.loop-i.invariant.1 ∙ marked-length _ _
+shape_of-counts c = ap length c.loop-byte.invariant ∙ marked-length _ _
 
 pub returns : goal.returns
-returns c = c.loop-i.invariant.1 ∙ mapped-all row_of _ _ c.loop-i.i c.loop-i-test.false
+returns c = c.loop-byte.invariant ∙ mapped-all row_of _ _ c.loop-byte.byte-index c.loop-byte-test.false

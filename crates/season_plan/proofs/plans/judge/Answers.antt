@@ -12,30 +12,30 @@ use Rattle.season_plan.proofs.plans.judge.Goals as goal
 -- ---- a refusal
 pub bump-requires : goal.bump-requires
 bump-requires c =
-    let h : c.number.result < 25 = subst (λ (n : ℕ). n < 25) (sym c.number.ensures) (number-row c.in-Refused.refusal) in
+    let h : c.number.result < 25 = subst (λ (n : ℕ). n < 25) (sym c.number.ensures) (number-row c.in-Err.refusal) in
     (omega (arith, h, c.requires.0), roomy-less c.requires.1 (omega arith))
 
-pub shape_of-counts-in-Refused : goal.shape_of-counts-in-Refused
-shape_of-counts-in-Refused c = ap length c.bump.ensures ∙ marked-length _ _
+pub shape_of-counts-in-Err : goal.shape_of-counts-in-Err
+shape_of-counts-in-Err c = ap length c.bump.ensures ∙ marked-length _ _
 
-pub returns-in-Refused : goal.returns-in-Refused
-returns-in-Refused c =
+pub returns-in-Err : goal.returns-in-Err
+returns-in-Err c =
     number-tallied
     (unread-counted _ c.requires.2
     (not-read _ c.requires.2 c.read_lean.ensures
     (spare (search rules) (search rules) (search rules))
-    c.in-Refused.is))
+    c.in-Err.is))
     c.number.ensures c.bump.ensures
 
 -- ---- a list
 pub slice_bounds-letters-end : goal.slice_bounds-letters-end
 slice_bounds-letters-end c =
-    let most = letters-most _ c.requires.2 c.read_lean.ensures (spare (search rules) (search rules) (search rules)) c.in-Read.is in
+    let most = letters-most _ c.requires.2 c.read_lean.ensures (spare (search rules) (search rules) (search rules)) c.in-Ok.is in
     omega (arith, most)
 
 pub slice_bounds-numbers-end : goal.slice_bounds-numbers-end
 slice_bounds-numbers-end c =
-    let most = numbers-most _ c.requires.2 c.read_lean.ensures (spare (search rules) (search rules) (search rules)) c.in-Read.is in
+    let most = numbers-most _ c.requires.2 c.read_lean.ensures (spare (search rules) (search rules) (search rules)) c.in-Ok.is in
     omega (arith, most)
 
 pub fly-requires : goal.fly-requires
@@ -46,21 +46,21 @@ fly-requires c = (
     text = c.args.text.now;
     is = held _ c.requires.2 c.read_lean.ensures
         (spare (search rules) (search rules) (search rules))
-        c.in-Read.is;
+        c.in-Ok.is;
   },
 )
 
-pub shape_of-counts-in-Read : goal.shape_of-counts-in-Read
-shape_of-counts-in-Read c =
+pub shape_of-counts-in-Ok : goal.shape_of-counts-in-Ok
+shape_of-counts-in-Ok c =
     ap length
     (c.fly.ensures _
     (held _ c.requires.2 c.read_lean.ensures
     (spare (search rules) (search rules) (search rules))
-    c.in-Read.is)).counts ∙ marked-length _ _
+    c.in-Ok.is)).counts ∙ marked-length _ _
 
-pub returns-in-Read : goal.returns-in-Read
-returns-in-Read c =
+pub returns-in-Ok : goal.returns-in-Ok
+returns-in-Ok c =
     c.fly.ensures _
     (held _ c.requires.2 c.read_lean.ensures
     (spare (search rules) (search rules) (search rules))
-    c.in-Read.is)
+    c.in-Ok.is)

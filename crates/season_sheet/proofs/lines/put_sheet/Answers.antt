@@ -1,5 +1,4 @@
 -- `season_sheet::put_sheet` meets its contract: section after section. Assumes nothing.
-use borrow.Author.Rules.{rules}
 use mathlib.Core.Path.{refl}
 use native.Mathlib.Omega.{arith}
 use Rattle.station_lines.proofs.Putting.{within-as, within-then}

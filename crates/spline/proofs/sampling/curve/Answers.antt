@@ -1,9 +1,9 @@
 -- What is left of the scaled parameter lies in a span (`in-spans`, `index-lt`). Assumes nothing.
-use Rattle.std.proofs.Common.{◌≡◌, ℕ, ◌-◌, ◌^◌, ◌<◌, ◌≤◌, sym, ap, ◌∙◌, subst, arith, le→leb, rules}
+use Rattle.std.proofs.Common.{◌≡◌, ℕ, ◌-◌, ◌^◌, ◌<◌, ◌≤◌, sym, ap, ◌∙◌, subst, arith, le→leb}
 use lib.Ieee.{in_float}
 use Rattle.floats.specs.Floats.{clamp01_of}
 use Rattle.polyline.specs.Points.{count_of}
-use Rattle.spline.specs.Formula.{index_of, along_of, curve_of, InSpans}
+use Rattle.spline.specs.Formula.{along_of, curve_of, InSpans}
 use Rattle.spline.proofs.Spans.{scaled-is, in-spans, index-lt}
 use Rattle.spline.proofs.sampling.curve.Goals as goal
 

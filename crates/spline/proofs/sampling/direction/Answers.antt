@@ -1,5 +1,5 @@
 -- By the number of points. Assumes nothing.
-use Rattle.std.proofs.Common.{sym, ◌∙◌, arith, rules}
+use Rattle.std.proofs.Common.{sym, arith}
 use Rattle.math.specs.Math.{origin_f}
 use Rattle.spline.proofs.Counts.{direction-few, direction-two, direction-more}
 use Rattle.spline.proofs.sampling.direction.Goals as goal

@@ -1,5 +1,4 @@
 -- Points within 2^40 have finite lengths (`near-finite`); others are measured. Assumes nothing.
-use borrow.Author.Rules.{rules}
 use native.Mathlib.Omega.{arith}
 use mathlib.Core.Path.{sym, ◌∙◌}
 use Rattle.floats.proofs.Tests.{passed}

@@ -1,5 +1,4 @@
 -- Counts of 16 bits are f32 values. Assumes nothing.
-use borrow.Author.Rules.{rules}
 use Rattle.table.specs.Lookup.{mark_of}
 use Rattle.spline_table.proofs.lanes.clamped_mark.Goals as goal
 

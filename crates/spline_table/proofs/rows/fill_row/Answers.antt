@@ -1,8 +1,5 @@
--- The invariant: the entries of the row before i are stored (`Storing`). The measure is the entries left. Assumes nothing.
-use borrow.Author.Rules.{rules}
-use Prim.Native.Nat.{◌-◌}
-use Rattle.spline.specs.Formula.{spline_sample_of}
-use Rattle.spline_table.proofs.RowLaws.{Storing, row_step, storing-start, storing-more, storing-ends}
+-- The invariant: the entries of the row before i are stored (`Storing`). Assumes nothing.
+use Rattle.spline_table.proofs.RowLaws.{row_step, storing-start, storing-more, storing-ends}
 use Rattle.spline_table.proofs.rows.fill_row.Goals as goal
 
 pub loop-i-init : goal.loop-i-init

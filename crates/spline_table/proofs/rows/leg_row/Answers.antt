@@ -1,6 +1,5 @@
 -- Each sample is on the only leg (`leg-across`, `leg-along`). Assumes nothing.
-use borrow.Author.Rules.{rules}
-use mathlib.Core.Path.{◌≡◌, sym, ap, ◌∙◌}
+use mathlib.Core.Path.{◌≡◌, ap, ◌∙◌}
 use Prim.Native.Nat.{◌+◌}
 use Rattle.math.specs.declared.points.Point.{Point}
 use Rattle.table_samples.specs.Samples.{sample_at}

@@ -1,10 +1,8 @@
--- The invariant: the differences before i are in, and the sample made last is the one at k + i (`Crossing`). The measure is the differences left. Assumes nothing.
-use borrow.Author.Rules.{rules}
+-- The invariant: the differences before i are in, and the sample made last is the one at k + i (`Crossing`). Assumes nothing.
 use mathlib.Core.Path.{refl, ap, ◌∙◌}
-use Prim.Native.Nat.{◌-◌}
 use Rattle.table_samples.specs.Samples.{sample_at}
 use Rattle.spline.specs.Formula.{spline_sample_of}
-use Rattle.spline_table.proofs.Crossing.{Crossing, crossing-start, crossing-more, crossing-done}
+use Rattle.spline_table.proofs.Crossing.{crossing-start, crossing-more, crossing-done}
 use Rattle.spline_table.proofs.rows.one_by_one.Goals as goal
 
 pub loop-i-init : goal.loop-i-init

@@ -1,6 +1,5 @@
 -- Where every mark of the row, scaled, lies between the ends of its span, each sample is on that span (`span-across`, `span-along`). Assumes nothing.
 use mathlib.Core.Bool.{not}
-use borrow.Author.Rules.{rules}
 use borrow.Author.Tests.{not-false}
 use native.Mathlib.Omega.{arith}
 use mathlib.Core.Path.{◌≡◌, sym, ap, ◌∙◌}

@@ -1,5 +1,4 @@
 -- `station_lines::lines::put_amount` meets its contract. Assumes nothing.
-use borrow.Author.Rules.{rules}
 use mathlib.Core.Path.{refl}
 use native.Mathlib.Omega.{arith}
 use Rattle.station_lines.proofs.Putting.{within-as, within-then, one_byte}

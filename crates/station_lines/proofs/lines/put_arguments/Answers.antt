@@ -1,5 +1,4 @@
 -- `station_lines::lines::put_arguments` meets its contract. Assumes nothing.
-use borrow.Author.Rules.{rules}
 use native.Mathlib.Omega.{arith}
 use mathlib.Core.Path.{refl}
 use Rattle.station_lines.proofs.Putting.{put-none, within-as, within-then}

@@ -1,6 +1,4 @@
 -- `station_lines::lines::put_flag` meets its contract. Assumes nothing.
-use borrow.Author.Rules.{rules}
-use lib.Ieee.{of_bits}
 use Rattle.station_lines.proofs.lines.put_flag.Goals as goal
 
 pub returns-then-flag : goal.returns-then-flag

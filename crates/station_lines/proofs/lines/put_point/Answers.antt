@@ -1,5 +1,4 @@
 -- `station_lines::lines::put_point` meets its contract. Assumes nothing.
-use borrow.Author.Rules.{rules}
 use native.Mathlib.Omega.{arith}
 use Rattle.station_lines.proofs.Putting.{within-as, within-then}
 use Rattle.station_lines.proofs.Fields.{point-fields}

@@ -1,5 +1,4 @@
 -- `station_lines::lines::put_refusal` meets its contract. Assumes nothing.
-use borrow.Author.Rules.{rules}
 use mathlib.Core.Path.{refl, ap}
 use native.Mathlib.Omega.{arith}
 use Rattle.station_lines.proofs.Putting.{put_then, put_same, within-as, within-then, one_byte}

@@ -1,5 +1,4 @@
 -- `station_lines::lines::put_values` meets its contract: each number is put just past the one before it, and takes at most 21 bytes. Assumes nothing.
-use borrow.Author.Rules.{rules}
 use native.Mathlib.Omega.{arith}
 use Rattle.station_lines.proofs.Putting.{put-none, within-as, within-then}
 use Rattle.station_lines.proofs.Fields.{no-values, one_value, two-values, three-values, four-values, five-values}

@@ -1,6 +1,6 @@
 -- `station_lines::numbers::put_decimal` meets its contract: the digits before the last are put by the call, whose number falls. Assumes nothing.
 use native.Mathlib.Omega.{arith}
-use Rattle.station_lines.proofs.Putting.{put-length, put_then, put_same}
+use Rattle.station_lines.proofs.Putting.{put_then, put_same}
 use Rattle.station_lines.proofs.Digits.{decimal-low, decimal-high, low-room, high-room}
 use Rattle.station_lines.proofs.numbers.+put_decimal.Goals as goal
 

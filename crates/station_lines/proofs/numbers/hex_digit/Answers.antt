@@ -1,5 +1,4 @@
 -- `station_lines::numbers::hex_digit` meets its contract. Assumes nothing.
-use borrow.Author.Rules.{rules}
 use borrow.Author.Tests.{lt-ltb, le-ltb}
 use Rattle.station_lines.specs.Numbers.{hex_digit}
 use Rattle.station_lines.proofs.numbers.hex_digit.Goals as goal

@@ -1,5 +1,4 @@
 -- `station_lines::numbers::put_byte` meets its contract: past the buffer's end nothing is stored. Assumes nothing.
-use borrow.Author.Rules.{rules}
 use Rattle.station_lines.proofs.Putting.{put-past}
 use Rattle.station_lines.proofs.numbers.put_byte.Goals as goal
 

@@ -1,5 +1,4 @@
 -- `station_lines::numbers::put_number` meets its contract. Assumes nothing.
-use borrow.Author.Rules.{rules}
 use native.Mathlib.Omega.{arith}
 use Rattle.station_lines.specs.Numbers.{number_field}
 use Rattle.station_lines.proofs.Putting.{put_then}

@@ -1,5 +1,4 @@
 -- `station_lines::numbers::put_small` meets its contract. Assumes nothing.
-use borrow.Author.Rules.{rules}
 use native.Mathlib.Omega.{arith}
 use Rattle.station_lines.proofs.Digits.{decimal-short}
 use Rattle.station_lines.proofs.numbers.put_small.Goals as goal

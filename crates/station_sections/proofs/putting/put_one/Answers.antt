@@ -1,12 +1,8 @@
 -- `station_sections::putting::put_one` meets its contract: what is flown at the station's progress is put. Assumes nothing.
-use borrow.Author.Rules.{rules}
 use native.Mathlib.Omega.{arith}
 use Rattle.station_lines.proofs.Putting.{within-as}
 use Rattle.station_sections.proofs.LinesTo.{segment-few, station-is}
 use Rattle.station_sections.proofs.putting.put_one.Goals as goal
-
-pub flight-there-requires : goal.flight-there-requires
-flight-there-requires c = c.requires.0.stored
 
 pub put_station-requires : goal.put_station-requires
 put_station-requires c =
@@ -14,4 +10,4 @@ put_station-requires c =
 
 pub returns : goal.returns
 returns c =
-    within-as 44 _ c.put_station.ensures.put (station-is _ _ _ _ _ c.progress-along.ensures c.flight-there.ensures) c.put_station.ensures.within
+    within-as 44 _ c.put_station.ensures.put (station-is _ _ _ _ _ c.progress.ensures c.flight-there.ensures) c.put_station.ensures.within

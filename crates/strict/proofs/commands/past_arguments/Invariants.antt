@@ -5,8 +5,8 @@ use lib.ListN.{length}
 use Rattle.strict.proofs.Sequences.{Going}
 use Rattle.strict.proofs.commands.past_arguments.Given as goal
 
-abbrev pub invariant-loop-kind : goal.invariant-loop-kind
-invariant-loop-kind l = Going l.edition l.text l.kind l.at l.end
+abbrev pub invariant-loop-next : goal.invariant-loop-next
+invariant-loop-next l = Going l.text.edition l.text.bytes.now l.kind l.at l.end
 
-abbrev pub decreases-loop-kind : goal.decreases-loop-kind
-decreases-loop-kind l = length l.text - l.end
+abbrev pub decreases-loop-next : goal.decreases-loop-next
+decreases-loop-next l = length l.text.bytes.now - l.end

@@ -2,11 +2,10 @@
 use Rattle.strict.proofs.CommandLaws.{arguments-missing, arguments-past}
 use Rattle.strict.proofs.commands.read_arguments.Goals as goal
 
-pub returns-then-end : goal.returns-then-end
-returns-then-end c =
-    arguments-missing c.args.edition c.args.text.now c.args.kind c.args.at _ c.past_space.ensures _ c.read_argument-end.ensures c.if-end.true
+pub returns-in_err-end : goal.returns-in_err-end
+returns-in_err-end c =
+    rw c.from_residual.ensures (arguments-missing c.args.text.edition c.args.text.bytes.now c.args.kind c.args.at _ c.past_space.ensures c.in_err-end.ensures)
 
 pub returns : goal.returns
 returns c =
-    arguments-past c.args.edition c.args.text.now c.args.kind c.args.at _ c.past_space.ensures _ _ c.read_argument-end.ensures
-    c.if-end.false c.past_arguments.ensures
+    arguments-past c.args.text.edition c.args.text.bytes.now c.args.kind c.args.at _ c.past_space.ensures _ _ c.in_ok-end.ensures c.past_arguments.ensures

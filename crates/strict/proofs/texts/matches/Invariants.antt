@@ -7,7 +7,7 @@ use Rattle.strict.proofs.Rests.{Rest}
 use Rattle.strict.proofs.texts.matches.Given as goal
 
 abbrev pub invariant-loop-at : goal.invariant-loop-at
-invariant-loop-at l = (Matches l.edition l.text → Rest l.edition l.text l.alone l.begun l.at) × (Rest l.edition l.text l.alone l.begun l.at → Matches l.edition l.text)
+invariant-loop-at l = (Matches l.text.edition l.text.bytes.now → Rest l.text.edition l.text.bytes.now l.alone l.begun l.at) × (Rest l.text.edition l.text.bytes.now l.alone l.begun l.at → Matches l.text.edition l.text.bytes.now)
 
 abbrev pub decreases-loop-at : goal.decreases-loop-at
-decreases-loop-at l = length l.text - l.at
+decreases-loop-at l = length l.text.bytes.now - l.at

@@ -1,6 +1,4 @@
 -- `strict_argument::arc_from_sweep_flag` meets its contract: a flag and a pair, with a separator or none between them. Assumes nothing.
-use native.Mathlib.Omega.{arith}
-use borrow.Author.Rules.{rules}
 use Rattle.strict_grammar.specs.Grammar.{coordinate-pair, flag}
 use Rattle.strict_argument.specs.Reading.{arc-from-sweep-flag}
 use Rattle.strict_argument.proofs.Steps.{step}
@@ -10,7 +8,11 @@ use Rattle.strict_argument.proofs.groups.arc_from_sweep_flag.Goals as goal
 pub returns : goal.returns
 unfolding arc-from-sweep-flag
 returns c =
-    let edition = c.args.edition in
-    let text = c.args.text.now in
-    step edition text (omega arith) (flag edition text) (coordinate-pair edition text) (pair-starts edition text) _ _ _ _
-    c.read_flag-end.ensures c.past_separator.ensures c.pair.ensures
+    let edition = c.args.text.edition in
+    let text = c.args.text.bytes.now in
+    step edition text (flag edition text) (coordinate-pair edition text) (pair-starts edition text) _ _ _ _
+    c.in_ok-end.ensures c.past_separator.ensures c.pair.ensures
+
+pub returns-in_err-end : goal.returns-in_err-end
+unfolding arc-from-sweep-flag
+returns-in_err-end c = rw c.from_residual.ensures (λ n v. c.in_err-end.ensures v.0 v.1)

@@ -1,5 +1,4 @@
 -- `strict_argument::read_argument` meets its contract: each kind's reader does. Assumes nothing.
-use borrow.Author.Rules.{rules}
 use Rattle.strict_argument.proofs.groups.read_argument.Goals as goal
 
 pub returns-in-Coordinate : goal.returns-in-Coordinate

@@ -1,7 +1,6 @@
 -- `strict_argument::is_space_2` meets its contract: its test and its class agree on each of the 256 bytes, as antt computes. Assumes nothing.
 use mathlib.Core.Path.{ap, ◌∙◌}
 use mathlib.Core.Bool.{Bool, ◌||◌}
-use borrow.Author.Rules.{rules}
 use lib.Dec.{eqb}
 use Rattle.scan.specs.Bytes.{among, white_space}
 use Rattle.scan.proofs.ByteLaws.{agree}

@@ -1,5 +1,4 @@
 -- `svg::read_path` meets its contract: a text that is too long is refused, and each way reads the others. Assumes nothing.
-use borrow.Author.Rules.{rules}
 use Rattle.svg.proofs.Answering.{too_long}
 use Rattle.svg.proofs.reading.read_path.Goals as goal
 

@@ -1,11 +1,7 @@
 -- `table::searches::first_from` meets its contract. The invariant: all lengths before k are below the target. The measure is what is left of the lengths. Assumes nothing.
-use mathlib.Core.Path.{sym, subst}
-use mathlib.Core.Bool.{Bool, not}
 use Prim.Native.Nat.{◌-◌}
-use lib.Dec.{T}
 use lib.ListN.{length}
-use Rattle.table.proofs.Search.{Bracket, bracket-passed, bracket-up, bracket-down, bracket-done}
-use borrow.Author.Rules.{rules}
+use Rattle.table.proofs.Search.{Bracket}
 use Rattle.table.proofs.searches.first_from.Given as goal
 
 abbrev pub invariant-loop-k : goal.invariant-loop-k

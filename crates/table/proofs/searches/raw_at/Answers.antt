@@ -3,22 +3,13 @@
 use borrow.Author.Rules.{rules}
 use Prim.Native.Nat.{◌-◌, ◌^◌}
 use lib.Dec.{le→leb}
-use lib.ListN.{length}
 use lib.Ieee.{in_float}
-use Rattle.floats.specs.Floats.{zero_f, one_f}
+use Rattle.floats.specs.Floats.{zero_f}
 use Rattle.floats.proofs.Tests.{failed}
-use Rattle.table.specs.Lookup.{last_of, raw_at, raw_in_part}
+use Rattle.table.specs.Lookup.{last_of}
 use Rattle.table.proofs.Lengths.{table-lengths}
 use Rattle.table.proofs.Enclosure.{Encloses, table-encloses}
 use Rattle.table.proofs.searches.raw_at.Goals as goal
-
-pub returns-then-target : goal.returns-then-target
-unfolding raw_at zero_f
-returns-then-target c = rw c.if-target.true
-
-pub returns-then-target-total : goal.returns-then-target-total
-unfolding raw_at zero_f one_f
-returns-then-target-total c = rw (c.if-target.false, c.if-target-total.true)
 
 pub first_not_below-upper-requires : goal.first_not_below-upper-requires
 first_not_below-upper-requires c =
@@ -60,13 +51,3 @@ pub overflow_sub-last : goal.overflow_sub-last
 unfolding zero_f
 overflow_sub-last c = let e = (let found_here : (Encloses (last_of c.args.entries.now) c.args.entries.now c.args.target c.first_not_below-upper.result) = rw c.first_not_below-upper.ensures
     (table-encloses c.args.entries.now c.args.total c.args.target c.requires.sound_table.sound c.requires.t (failed c.if-target.false) (failed c.if-target-total.false)) in found_here) in search rules
-
-pub int_to_float-parts : goal.int_to_float-parts
-unfolding in_float
-int_to_float-parts c =
-    le→leb (length c.args.entries.now - 1) (2 ^ 24) (search rules)
-
-pub returns : goal.returns
-unfolding raw_at raw_in_part zero_f one_f
-returns c =
-    rw (c.share-part.ensures, c.if-target.false, c.if-target-total.false, ← c.first_not_below-upper.ensures)

@@ -1,5 +1,4 @@
 -- `table::searches::spot_toward` meets its contract: a short path gives its last segment's end, and `spot_at` any other. Assumes nothing.
-use borrow.Author.Rules.{rules}
 use Rattle.floats.specs.Floats.{one_f, epsilon_f}
 use Rattle.table.proofs.Before.{path-total}
 use Rattle.table.proofs.searches.spot_toward.Goals as goal

@@ -1,5 +1,4 @@
 -- `table::row_is_sound` meets its contract: the whole row climbs, its first number is 0, and its last is not above the one before. Assumes nothing.
-use borrow.Author.Rules.{rules}
 use mathlib.Core.Path.{ap, ◌∙◌}
 use mathlib.Core.Bool.{Bool, ◌&&◌}
 use Prim.Native.Nat.{◌-◌}

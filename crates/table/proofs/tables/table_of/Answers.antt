@@ -2,15 +2,15 @@
 -- Assumes nothing.
 use borrow.Author.Rules.{rules}
 use mathlib.Core.Path.{◌≡◌, refl, sym, ap}
-use Prim.Native.Nat.{suc, ◌-◌}
+use Prim.Native.Nat.{suc}
 use lib.ListN.{length}
 use Rattle.floats.specs.Floats.{zero_f}
-use Rattle.table.proofs.Sums.{Summing, summing_start, summing-more, summing-done}
+use Rattle.table.proofs.Sums.{summing_start, summing-more, summing-done}
 use Rattle.table.proofs.tables.table_of.Goals as goal
 
 pub loop-k-init : goal.loop-k-init
 unfolding zero_f
-loop-k-init c = summing_start c.args.steps _ (sym (ap suc ((let size_here : length c.args.steps ≡ 31 = search rules in size_here)))) refl
+loop-k-init c = summing_start c.args.steps _ (sym (ap suc (search rules))) refl
 
 pub loop-k-preserved : goal.loop-k-preserved
 loop-k-preserved c = let n = (let size_here : length c.args.steps ≡ 31 = search rules in size_here) in summing-more c.loop-k.invariant (search rules)

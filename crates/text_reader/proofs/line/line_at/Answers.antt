@@ -1,5 +1,4 @@
 -- `text_reader::line::line_at` meets its contract: each way out is a case of its definition. Assumes nothing.
-use borrow.Author.Rules.{rules}
 use Prim.Native.Nat.{◌<◌}
 use lib.ListN.{length}
 use native.Mathlib.Omega.{arith}

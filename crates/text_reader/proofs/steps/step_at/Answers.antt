@@ -1,5 +1,4 @@
 -- `text_reader::steps::step_at` meets its contract: the part that is lent is what stands from the place on. Assumes nothing.
-use borrow.Author.Rules.{rules}
 use Rattle.text_reader.proofs.Paths.{step-inside, step_past}
 use Rattle.text_reader.proofs.steps.step_at.Goals as goal
 

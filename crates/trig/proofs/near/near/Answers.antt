@@ -1,5 +1,5 @@
 -- The float is the difference exactly, and its pattern packs it: `difference-answer`. Assumes nothing.
-use Rattle.std.proofs.Common.{ap, ◌∙◌, arith, rules}
+use Rattle.std.proofs.Common.{ap, ◌∙◌, arith}
 use lib.Ieee.{binary32, of_bits}
 use Rattle.trig_single.proofs.Finite.{finite-bits}
 use Rattle.trig_single.proofs.Near.{difference-near, difference-answer}

@@ -1,15 +1,10 @@
 -- The head and the difference are numbers, and the product's pattern packs the sine away from the middles: `product-stands`. Assumes nothing.
-use Rattle.std.proofs.Common.{◌≡◌, ℕ, ◌/◌, ◌%◌, ◌^◌, sym, subst, arith, le→leb, rules}
-use lib.Ieee.{in_float}
+use Rattle.std.proofs.Common.{◌≡◌, ℕ, ◌%◌, sym, subst, arith}
 use Rattle.floats.specs.Patterns.{narrow_step, narrow_half}
 use Rattle.trig_single.specs.Single.{Stands, sine_from}
 use Rattle.trig_single.proofs.Finite.{finite-bits}
 use Rattle.trig_single.proofs.Sine.{whole-number, head, product-number, product-stands}
 use Rattle.trig.proofs.near.product.Goals as goal
-
-pub int_to_float-b : goal.int_to_float-b
-unfolding in_float
-int_to_float-b c = le→leb (c.args.r / 32) (2 ^ 53) (omega arith)
 
 pub float_to_bits-b : goal.float_to_bits-b
 float_to_bits-b c = whole-number _

@@ -1,5 +1,5 @@
 -- r has 64 digits less its leading zeros, and what is dropped leaves 31 of them at most. Assumes nothing.
-use Rattle.std.proofs.Common.{◌≡◌, ℕ, ◌+◌, ◌/◌, ◌^◌, ◌<◌, ◌≤◌, sym, refl, subst, lt_of_lt_of_le, arith, pow_mono, shr_lt, rules}
+use Rattle.std.proofs.Common.{◌≡◌, ℕ, ◌+◌, ◌/◌, ◌^◌, ◌<◌, ◌≤◌, sym, refl, subst, lt_of_lt_of_le, arith, pow_mono, shr_lt}
 use lib.Count.{count_leading_zeros, leading_length}
 use Rattle.trig_rule.specs.Steps.{drop_of}
 use Rattle.trig.proofs.sides.dropped.Goals as goal

@@ -1,5 +1,5 @@
 -- The shift loses no digit: 24 digits are moved up by 39 places at most. Assumes nothing.
-use Rattle.std.proofs.Common.{ℕ, ◌+◌, ◌-◌, ◌*◌, ◌/◌, ◌%◌, ◌^◌, ◌≤◌, le_trans, lt_of_le_of_lt, mod-eq_of_lt, mul-le-mul, arith, lit<, pow_mono, rules}
+use Rattle.std.proofs.Common.{ℕ, ◌+◌, ◌-◌, ◌*◌, ◌/◌, ◌%◌, ◌^◌, ◌≤◌, le_trans, lt_of_le_of_lt, mod-eq_of_lt, mul-le-mul, arith, lit<, pow_mono}
 use native.Mathlib.Nat.{mod-le}
 use Rattle.floats.specs.Patterns.{hidden}
 use Rattle.trig_rule.specs.Steps.{fixed_of}

@@ -1,15 +1,13 @@
 -- The cases of the definition, with the sums lent. Assumes nothing.
-use borrow.Author.Rules.{rules}
 use native.Mathlib.Omega.{arith}
-use native.Mathlib.Nat.{mul-le-mul}
-use Prim.Native.Nat.{ℕ, ◌+◌, ◌*◌, ◌%◌, ◌≤◌}
+use Prim.Native.Nat.{ℕ, ◌+◌, ◌*◌, ◌%◌}
 use mathlib.Core.Path.{◌≡◌, sym, ap, ◌∙◌}
 use mathlib.Core.Bool.{not, true}
-use lib.Ieee.{Float, binary32, of_bits}
+use lib.Ieee.{binary32, of_bits}
 use Rattle.trig_rule.specs.Rule.{in_the_reach}
 use Rattle.trig_rule.specs.Steps.{fixed_of, flip_of, rest_of, sign_bit, sine_at}
 use Rattle.trig_rule.proofs.Ruled.{sine-far, sine-tiny, sine-main}
-use Rattle.trig.proofs.Frame.{none, outside, inside, number, sign_le, number-bits}
+use Rattle.trig.proofs.Frame.{none, outside, inside, sign_le, number-bits}
 use Rattle.trig_all.specs.Rows.{rest_for, flip_for}
 use Rattle.trig_all.proofs.Stepped.{stepped-main}
 use Rattle.trig_all.proofs.steps.sine_from.Goals as goal
@@ -17,14 +15,8 @@ use Rattle.trig_all.proofs.steps.sine_from.Goals as goal
 pub returns-then-not-in_reach : goal.returns-then-not-in_reach
 returns-then-not-in_reach c = none ∙ sym (sine-far c.args.x (outside _ _ c.in_reach.ensures (ap not c.if-not-in_reach.true)))
 
-pub float_to_bits-b : goal.float_to_bits-b
-float_to_bits-b c = number _ (inside _ _ c.in_reach.ensures (ap not c.if-not-in_reach.false))
-
 pub returns-then-b-lt964689920 : goal.returns-then-b-lt964689920
 returns-then-b-lt964689920 c = sym (sine-tiny _ (inside _ _ c.in_reach.ensures (ap not c.if-not-in_reach.false)) c.if-b-lt964689920.true)
-
-pub overflow_mul-r : goal.overflow_mul-r
-overflow_mul-r c = record { fits = omega (arith, mul-le-mul c.dropped-s.ensures.2 c.gap.ensures.1) }
 
 pub overflow_add-result : goal.overflow_add-result
 overflow_add-result c =

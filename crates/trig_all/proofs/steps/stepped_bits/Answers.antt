@@ -1,17 +1,13 @@
 -- Only an angle in reach, and not tiny, keeps its bits. Assumes nothing.
 use mathlib.Core.Bool.{not}
-use borrow.Author.Rules.{rules}
 use native.Mathlib.Omega.{arith}
 use mathlib.Core.Path.{ap, sym}
-use Rattle.trig.proofs.Frame.{outside, inside, number, plain-le}
+use Rattle.trig.proofs.Frame.{outside, inside, plain-le}
 use Rattle.trig_all.proofs.Stepped.{stepped-far, stepped-tiny, stepped-main}
 use Rattle.trig_all.proofs.steps.stepped_bits.Goals as goal
 
 pub returns-then-not-in_reach : goal.returns-then-not-in_reach
 returns-then-not-in_reach c = (sym (stepped-far _ (outside _ _ c.in_reach.ensures (ap not c.if-not-in_reach.true))), omega arith, omega arith)
-
-pub float_to_bits-a : goal.float_to_bits-a
-float_to_bits-a c = number _ (inside _ _ c.in_reach.ensures (ap not c.if-not-in_reach.false))
 
 pub returns-then-a-lt964689920 : goal.returns-then-a-lt964689920
 returns-then-a-lt964689920 c = (sym (stepped-tiny _ (inside _ _ c.in_reach.ensures (ap not c.if-not-in_reach.false)) c.if-a-lt964689920.true), omega arith, omega arith)

@@ -1,8 +1,0 @@
--- `kihavute_distance` meets its contract: the bits of what the entry below ensures. Assumes nothing.
-use borrow.Author.Rules.{rules}
-use mathlib.Core.Path.{ap, ◌∙◌}
-use Rattle.floats.specs.Floats.{bits_of}
-use Rattle.kihavute.proofs.points.kihavute_distance.Goals as goal
-
-pub returns : goal.returns
-returns c = c.bits.ensures ∙ ap bits_of c.distance.ensures

@@ -1,8 +1,0 @@
--- `kihavute_scale` meets its contract: the two patterns of what the entry below ensures. Assumes nothing.
-use borrow.Author.Rules.{rules}
-use mathlib.Core.Path.{ap, ◌∙◌}
-use Rattle.kihavute.specs.Pair.{pair_of}
-use Rattle.kihavute.proofs.points.kihavute_scale.Goals as goal
-
-pub returns : goal.returns
-returns c = c.pair.ensures ∙ ap pair_of c.scale.ensures

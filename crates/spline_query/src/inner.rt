@@ -1,2 +1,0 @@
-// What asks more of its callers than an entry may: handed on to crates that are proved to meet it.
-pub use crate::lookups::{flight, raw, total};
