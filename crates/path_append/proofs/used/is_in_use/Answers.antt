@@ -23,4 +23,4 @@ returns-then-path-m c = few-tables _ _ c.if-path-count.false (omega (arith, c.if
 
 pub returns : goal.returns
 returns c =
-    checked _ _ _ _ _ c.numbers_used-n.ensures c.tables_used-m.ensures c.if-path-count.false c.check_path.ensures
+    checked _ _ _ _ _ c.numbers_used-n.ensures c.tables_used-m.ensures c.if-path-count.false c.check_path.ensures.stored
