@@ -80,7 +80,8 @@ impl<'a> Marks<'a> {
         }
     }
 
-    // Sets them, as near to each other as 256 allow.
+    // Sets them, as near to each other as 256 allow. Laid into its callers, so that a batch of places keeps the tables' marks alone.
+    #[inline(always)]
     fn set(&mut self)
         requires { 0 < length self.old }
         ensures { self.new ≡ self.old }
