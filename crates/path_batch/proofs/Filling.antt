@@ -21,7 +21,7 @@ use Rattle.path_place.specs.declared.places.Place.{Place}
 use Rattle.path_place.specs.Cursors.{cursor_of, Moving}
 use Rattle.path_place.specs.Places.{place_in, place_of}
 use Rattle.path_place.proofs.Standing.{cursor-own, spot-among}
-use Rattle.path_marks.specs.Marks.{Marks, Leap}
+use Rattle.path_marks.specs.Marks.{Leap}
 use Rattle.path_query.specs.Flights.{flown_of, flight_of, Flyable}
 use Rattle.path_query.proofs.Answering.{flight-some, flight-none}
 use Rattle.path_query.proofs.Seats.{some-place}
@@ -50,9 +50,8 @@ module _ {b : Buffers} {progresses : List Float} {at : Cursor} {k : ℕ} (f : Fl
   pub looking-moves : Moving b.kinds at segment
   looking-moves = let h = among in let few = f.path.few in let stood = l.inside in record { few = few; is = l.is; stood = omega arith; inside = omega arith }
 
-  -- from the cursor or a mark
-  pub looking-leaps : {shift : ℕ} {fields tables : List ℕ} → Marks b.kinds shift fields tables → Leap b.kinds shift fields tables at segment
-  looking-leaps m = record { marks = m; move = looking-moves; inside = among }
+  pub looking-leaps : Leap b.kinds at segment
+  looking-leaps = record { move = looking-moves; inside = among }
 
 -- ---- one element for each progress
 

@@ -1,5 +1,5 @@
 -- Many progresses along one path (document 01, "The answers"): each as the single query gives it, in the order of the progresses. Refused with 12, then with 8. Definitions only.
-use Rattle.std.specs.Prelude.{ℕ, ◌*◌, ◌≤◌, ◌≡◌, Bool, ◌||◌, cond, List, [], ◌∷◌, ◌++◌, ltb, length, Float, Result, Ok, Err}
+use Rattle.std.specs.Prelude.{ℕ, ◌*◌, ◌≤◌, ◌<◌, ◌≡◌, Bool, ◌||◌, cond, List, [], ◌∷◌, ◌++◌, ltb, length, Float, Result, Ok, Err}
 use Rattle.answers.specs.declared.refusals.Refusal.{Refusal}
 use Rattle.answers.specs.declared.refusals.Refusal.TheVariants.{BadPath, NoRoom}
 use Rattle.answers.specs.declared.refusals.Values.{Values}
@@ -12,7 +12,7 @@ use Rattle.flight.specs.declared.Flight.{Flight}
 use Rattle.flight.specs.Flights.{segment_given}
 use Rattle.path_stored.specs.Buffers.{Buffers}
 use Rattle.path_stored.specs.Stored.{is_stored, most_segments}
-use Rattle.path_query.specs.Flights.{flight_of, Flyable}
+use Rattle.path_query.specs.Flights.{flight_of}
 
 -- ---- what is given for each progress
 
@@ -100,7 +100,7 @@ pub record SegmentsRoom (lengths progresses : List Float) (segments : List ℕ) 
   pub segments_room : length progresses ≤ length segments
 
 pub record PlacesRoom (b : Buffers) (progresses : List Float) (segments : List ℕ) (raws : List Float) : Type 0 where
-  pub path : Flyable b
+  pub some : 0 < length b.kinds
   pub segments_room : length progresses ≤ length segments
   pub raws_room : length progresses ≤ length raws
 

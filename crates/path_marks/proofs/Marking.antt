@@ -1,12 +1,12 @@
 -- Marks of a path: the zeros that serve at first, marks set one by one, and the way from a mark. Assumes nothing.
-use mathlib.Core.Path.{◌≡◌, refl, sym, ap, ◌∙◌}
+use mathlib.Core.Path.{◌≡◌, sym, ap, ◌∙◌}
 use mathlib.Core.Logic.{◌≢◌}
 use Prim.Native.Nat.{ℕ, zero, suc, ◌+◌, ◌*◌, ◌-◌, ◌/◌, ◌%◌, ◌^◌, ◌≤◌, ◌<◌}
 use native.Mathlib.Nat.{add-mul, one-mul, zero-mul, div-lt_iff_lt-mul, div-mul-le_self, mod-eq_of_lt, lt_of_mul-lt-mul_right, lt_of_lt_of_le}
 use native.Mathlib.Omega.{arith}
 use borrow.Author.Count.{below_more}
 use mathlib.Core.List.{List}
-use lib.ListN.{length, get_or, set, replicate, length-set}
+use lib.ListN.{length, get_or, set, length-set}
 use lib.Pow.{pow_pos, pow-lt}
 use lib.Seq.{get_or-set_same, get_or-set_other}
 use Rattle.path_stored.proofs.Counting.{before-zero}
@@ -14,7 +14,7 @@ use Rattle.path_place.specs.declared.cursors.Cursor.{Cursor}
 use Rattle.path_place.specs.Cursors.{cursor_of, Moving}
 use Rattle.path_place.proofs.Standing.{cursor-own}
 use Rattle.path_place.proofs.Walks.{walked_from, walked-fields, walked-tables}
-use Rattle.path_marks.specs.Marks.{segment_of, mark_of, Reach, Sized, Marks, Markable, Leap}
+use Rattle.path_marks.specs.Marks.{segment_of, mark_of, Reach, Sized, Marked, Leap}
 
 -- ---- the shift
 
@@ -24,17 +24,14 @@ apart-is {count} {shift} r = let fits : 2 ^ shift < 2 ^ 64 = pow-lt {j = 64} (le
 
 -- ---- at first
 
-pub marks-none : {kinds : List ℕ} → length kinds ≤ 65536 → Marks kinds 16 (replicate 256 0) (replicate 256 0)
+-- marks that are not set: the first keeps zeros, and no other stands on the path
+pub marked-unset : {kinds fields tables : List ℕ} → length kinds ≤ 65536 → Sized fields tables → get_or fields 0 0 ≡ 0 → get_or tables 0 0 ≡ 0 → Marked kinds 16 fields tables
 unfolding cursor_of
-marks-none {kinds} few = record { sized = record { fields_are = refl; tables_are = refl }; reach = record { far = omega arith; small = omega arith }; are = first }
+marked-unset {kinds} {fields} {tables} few sized p q = record { sized = sized; reach = record { far = omega arith; small = omega arith }; are = first }
   where
-    first : (k : ℕ) → segment_of 16 k < length kinds → mark_of 16 (replicate 256 0) (replicate 256 0) k ≡ cursor_of kinds (segment_of 16 k)
-    first zero inside = simp before-zero
+    first : (k : ℕ) → segment_of 16 k < length kinds → mark_of 16 fields tables k ≡ cursor_of kinds (segment_of 16 k)
+    first zero inside = rw (p, q) (simp before-zero)
     first (suc k) inside = absurd (omega arith)
-
-pub marks-same : {kinds fields fields' tables tables' : List ℕ} {shift shift' : ℕ} → shift' ≡ shift → fields' ≡ fields → tables' ≡ tables → Marks kinds shift fields tables
-    → Marks kinds shift' fields' tables'
-marks-same e p q m = rw (e, p, q) m
 
 -- ---- one mark after the other
 
@@ -49,11 +46,11 @@ pub record Setting (kinds : List ℕ) (shift : ℕ) (at : Cursor) (k : ℕ) (fie
   pub is : at ≡ cursor_of kinds (segment_of shift k)
   pub inside : segment_of shift k < length kinds
 
-pub setting-first : {kinds : List ℕ} (shift : ℕ) {at : Cursor} {fields tables : List ℕ} → Markable kinds fields tables → at ≡ cursor_of kinds 0 → Setting kinds shift at 0 fields tables
-setting-first {kinds} shift m e =
-    let some = m.some in
+pub setting-first : {kinds : List ℕ} (shift : ℕ) {at : Cursor} {fields tables : List ℕ} → Sized fields tables → 0 < length kinds → at ≡ cursor_of kinds 0
+    → Setting kinds shift at 0 fields tables
+setting-first {kinds} shift sized some e =
     let none : segment_of shift 0 ≡ 0 = zero-mul (2 ^ shift) in
-    record { is = e ∙ ap (cursor_of kinds) (sym none); inside = omega arith; set = record { sized = m.sized; are = λ m h. absurd (omega arith) } }
+    record { is = e ∙ ap (cursor_of kinds) (sym none); inside = omega arith; set = record { sized = sized; are = λ m h. absurd (omega arith) } }
 
 -- no mark past the 256 stands on the path
 pub setting-past : {kinds : List ℕ} {shift k : ℕ} {at : Cursor} {fields tables : List ℕ} → Setting kinds shift at k fields tables → Reach (length kinds) shift → k ≡ 256 → ⊥
@@ -102,7 +99,7 @@ module _ {kinds : List ℕ} {shift k : ℕ} {at : Cursor} {fields tables : List 
 
   -- no segment is left for another: they are marks of the path
   pub setting-done : Reach (length kinds) shift → {fields' tables' : List ℕ} → Before kinds shift (k + 1) fields' tables' → length kinds - at.segment ≤ 2 ^ shift
-      → Marks kinds shift fields' tables'
+      → Marked kinds shift fields' tables'
   setting-done r stored last =
       let next = segment-next in
       record {
@@ -120,10 +117,10 @@ module _ {kinds : List ℕ} {shift k : ℕ} {at : Cursor} {fields tables : List 
 
 -- ---- from a mark
 
-module _ {kinds : List ℕ} {shift : ℕ} {fields tables : List ℕ} {from : Cursor} {segment : ℕ} (s : Leap kinds shift fields tables from segment) where
+module _ {kinds : List ℕ} {shift : ℕ} {fields tables : List ℕ} {from : Cursor} {segment : ℕ} (m : Marked kinds shift fields tables) (s : Leap kinds from segment) where
   -- the mark before the segment is one of the 256
   pub mark-lt : segment / 2 ^ shift < 256
-  mark-lt = (div-lt_iff_lt-mul (pow_pos shift)).1 (lt_of_lt_of_le s.inside s.marks.reach.far)
+  mark-lt = (div-lt_iff_lt-mul (pow_pos shift)).1 (lt_of_lt_of_le s.inside m.reach.far)
 
   pub mark-le : segment_of shift (segment / 2 ^ shift) ≤ segment
   mark-le = div-mul-le_self segment (2 ^ shift)
@@ -139,7 +136,7 @@ module _ {kinds : List ℕ} {shift : ℕ} {fields tables : List ℕ} {from : Cur
       let inside = s.inside in
       record {
         few = s.move.few;
-        is = rw (e, p, q) (s.marks.are (segment / 2 ^ shift) (omega arith));
+        is = rw (e, p, q) (m.are (segment / 2 ^ shift) (omega arith));
         stood = omega arith;
         inside = omega arith;
       }

@@ -1,2 +1,3 @@
 -- Cursors at every so many segments.
 pub mod Marks
+pub mod Marked

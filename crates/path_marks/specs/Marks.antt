@@ -23,16 +23,10 @@ pub record Sized (fields tables : List ℕ) : Type 0 where
   pub tables_are : length tables ≡ 256
 
 -- each mark that stands on the path is the cursor of its segment
-pub record Marks (kinds : List ℕ) (shift : ℕ) (fields tables : List ℕ) : Type 0 where
+pub record Marked (kinds : List ℕ) (shift : ℕ) (fields tables : List ℕ) : Type 0 where
   pub sized : Sized fields tables
   pub reach : Reach (length kinds) shift
   pub are : (k : ℕ) → segment_of shift k < length kinds → mark_of shift fields tables k ≡ cursor_of kinds (segment_of shift k)
-
--- a path that marks can be set on
-pub record Markable (kinds fields tables : List ℕ) : Type 0 where
-  pub sized : Sized fields tables
-  pub some : 0 < length kinds
-  pub few : length kinds ≤ 65536
 
 -- a way of at most 16 segments on, that ends no nearer to the path's start
 pub record Short (from segment : ℕ) : Type 0 where
@@ -46,8 +40,7 @@ pub record Reaching (kinds : List ℕ) (from : Cursor) (segment : ℕ) : Type 0 
   pub short : Short from.segment segment
   pub known : Known kinds
 
--- a way to a segment of a path with marks
-pub record Leap (kinds : List ℕ) (shift : ℕ) (fields tables : List ℕ) (from : Cursor) (segment : ℕ) : Type 0 where
-  pub marks : Marks kinds shift fields tables
+-- a way to a segment of a path
+pub record Leap (kinds : List ℕ) (from : Cursor) (segment : ℕ) : Type 0 where
   pub move : Moving kinds from segment
   pub inside : segment < length kinds

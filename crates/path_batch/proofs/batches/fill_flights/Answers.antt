@@ -1,7 +1,7 @@
--- `path_batch::batches::fill_flights` meets its contract. The loop keeps what is filled up to its place, where the cursor stands, `Looking`, and that the marks are marks of the
+-- `path_batch::batches::fill_flights` meets its contract. The loop keeps what is filled up to its place, where the cursor stands, `Looking`, and that the marks are those of the
 -- path; the segments are those that `fill_segments` has found; the measure is what is left of the progresses. Assumes nothing.
-use Prim.Native.Nat.{◌*◌, ◌<◌}
-use mathlib.Core.Path.{◌≡◌, refl, ap, ◌∙◌}
+use Prim.Native.Nat.{ℕ, ◌*◌, ◌<◌}
+use mathlib.Core.Path.{◌≡◌, refl, sym, ap, ◌∙◌, subst}
 use native.Mathlib.Omega.{arith}
 use lib.ListN.{length, take, get_or}
 use lib.Seq.{take_all}
@@ -15,9 +15,9 @@ use Rattle.flight.specs.Flights.{segment_given}
 use Rattle.path_stored.specs.Paths.{held}
 use Rattle.path_place.specs.Cursors.{cursor_of}
 use Rattle.path_place.proofs.Standing.{some-path}
-use Rattle.path_marks.proofs.Marking.{marks-none}
+use Rattle.path_marks.specs.Marks.{Leap}
 use Rattle.path_query.specs.Flights.{flight_of, flown_within}
-use Rattle.path_query.proofs.Seats.{some-place, seated, flight-is}
+use Rattle.path_query.proofs.Seats.{a-flight, some-place, seated, flight-is}
 use Rattle.path_query.proofs.Answering.{flight-some}
 use Rattle.path_batch.specs.Batches.{each, raws_for, found_for, numbers_of, numbers_for}
 use Rattle.path_batch.proofs.Filling.{looking-first, looking-next, among, looking-leaps, each-size, each_next, segment-found, each-filled, each-equal, numbers-size, numbers-next, segment-there}
@@ -27,15 +27,15 @@ use Rattle.path_batch.proofs.batches.fill_flights.Goals as goal
 pub fill_segments-requires : goal.fill_segments-requires
 fill_segments-requires c =
     record {
-      path = some-path (some-place c.requires.places.path);
-      few = let one = c.requires.places.path.path.one in let most = c.requires.places.path.path.few in omega arith;
+      path = some-path (some-place (a-flight c.args.path.stored c.requires.places.some));
+      few = let one = c.args.path.stored.one in let most = c.args.path.stored.few in omega arith;
       segments_room = c.requires.places.segments_room;
     }
 
 pub loop-k-init : goal.loop-k-init
 unfolding each numbers_for
 loop-k-init c =
-    (looking-first c.first_cursor-at.ensures c.requires.places.path.some, refl, marks-none c.requires.places.path.path.few, refl)
+    (looking-first c.first_cursor-at.ensures c.requires.places.some, refl, c.unset-marks.ensures, refl)
 
 pub bounds-segments-k : goal.bounds-segments-k
 bounds-segments-k c =
@@ -48,14 +48,14 @@ pub along-local-requires : goal.along-local-requires
 along-local-requires c =
     let more : c.loop-k.k < length c.args.progresses.now = omega (arith, c.loop-k-test.true) in
     let segment_is = segment-found c.args.path.buffers.lengths.now c.args.progresses.now _ _ c.loop-k.k more c.fill_segments.ensures c.wide-segment.ensures in
-    record { sound_path = some-path (some-place c.requires.places.path); segment_value = segment_is }
+    record { sound_path = some-path (some-place (a-flight c.args.path.stored c.requires.places.some)); segment_value = segment_is }
 
 pub flown_within-there-requires : goal.flown_within-there-requires
 flown_within-there-requires c =
     let more : c.loop-k.k < length c.args.progresses.now = omega (arith, c.loop-k-test.true) in
     let segment_is = segment-found c.args.path.buffers.lengths.now c.args.progresses.now _ _ c.loop-k.k more c.fill_segments.ensures c.wide-segment.ensures in
-    let within : c.wide-segment.result < length c.args.path.buffers.kinds.now = among c.requires.places.path c.loop-k.invariant.0 (get_or c.args.progresses.now c.loop-k.k nan) segment_is in
-    let landed = c.walked-next.ensures.there in
+    let within : c.wide-segment.result < length c.args.path.buffers.kinds.now = among (a-flight c.args.path.stored c.requires.places.some) c.loop-k.invariant.0 (get_or c.args.progresses.now c.loop-k.k nan) segment_is in
+    let landed = subst (λ (kinds : List ℕ). c.walked-here.result ≡ cursor_of kinds c.wide-segment.result) c.loop-k.invariant.2 c.walked-here.ensures.there in
     seated landed within
 
 pub bounds-raws-k : goal.bounds-raws-k
@@ -78,35 +78,33 @@ put_numbers-requires c =
     let more : c.loop-k.k < length c.args.progresses.now = omega (arith, c.loop-k-test.true) in
     omega (arith, more, out_size, c.requires.out_room)
 
-pub walked-next-requires : goal.walked-next-requires
-walked-next-requires c =
+pub walked-here-requires : goal.walked-here-requires
+walked-here-requires c =
     let more : c.loop-k.k < length c.args.progresses.now = omega (arith, c.loop-k-test.true) in
     let segment_is = segment-found c.args.path.buffers.lengths.now c.args.progresses.now _ _ c.loop-k.k more c.fill_segments.ensures c.wide-segment.ensures in
-    record {
-      leap = looking-leaps c.requires.places.path c.loop-k.invariant.0 (get_or c.args.progresses.now c.loop-k.k nan) segment_is c.loop-k.invariant.2;
-      known = c.requires.places.path.path.known;
-    }
+    subst (λ (kinds : List ℕ). Leap kinds c.loop-k.at c.wide-segment.result) (sym c.loop-k.invariant.2)
+    (looking-leaps (a-flight c.args.path.stored c.requires.places.some) c.loop-k.invariant.0 (get_or c.args.progresses.now c.loop-k.k nan) segment_is)
 
 pub loop-k-preserved : goal.loop-k-preserved
 loop-k-preserved c =
     let p = get_or c.args.progresses.now c.loop-k.k nan in
     let more : c.loop-k.k < length c.args.progresses.now = omega (arith, c.loop-k-test.true) in
     let segment_is = segment-found c.args.path.buffers.lengths.now c.args.progresses.now _ _ c.loop-k.k more c.fill_segments.ensures c.wide-segment.ensures in
-    let within : c.wide-segment.result < length c.args.path.buffers.kinds.now = among c.requires.places.path c.loop-k.invariant.0 (get_or c.args.progresses.now c.loop-k.k nan) segment_is in
-    let landed = c.walked-next.ensures.there in
-    let landed_there : c.walked-next.result.1 ≡ cursor_of c.args.path.buffers.kinds.now (spot_of c.args.path.buffers.lengths.now p).segment = landed ∙ ap (cursor_of c.args.path.buffers.kinds.now) segment_is in
+    let within : c.wide-segment.result < length c.args.path.buffers.kinds.now = among (a-flight c.args.path.stored c.requires.places.some) c.loop-k.invariant.0 (get_or c.args.progresses.now c.loop-k.k nan) segment_is in
+    let landed = subst (λ (kinds : List ℕ). c.walked-here.result ≡ cursor_of kinds c.wide-segment.result) c.loop-k.invariant.2 c.walked-here.ensures.there in
+    let landed_there : c.walked-here.result ≡ cursor_of c.args.path.buffers.kinds.now (spot_of c.args.path.buffers.lengths.now p).segment = landed ∙ ap (cursor_of c.args.path.buffers.kinds.now) segment_is in
     let along_is : c.along-local.result.value ≡ (spot_of c.args.path.buffers.lengths.now p).progress.value = ap (λ (local : Progress). local.value) c.along-local.ensures in
     let path = held c.args.path.buffers in
     let raw_of : Float → Float = λ x. (flight_of path x).raw.value in
     let flown =
     c.flown_within-there.ensures
-    ∙ ap (flown_within c.args.path.buffers.kinds.now c.args.path.buffers.fields.now c.args.path.buffers.tables.now c.walked-next.result.1.segment) along_is
-    ∙ flight-is path p (spot_of c.args.path.buffers.lengths.now p) c.walked-next.result.1 refl landed_there
-    ∙ flight-some path p c.requires.places.path.some in (
-      looking-next c.walked-next.result.1 c.wide-segment.result landed within more,
+    ∙ ap (flown_within c.args.path.buffers.kinds.now c.args.path.buffers.fields.now c.args.path.buffers.tables.now c.walked-here.result.segment) along_is
+    ∙ flight-is path p (spot_of c.args.path.buffers.lengths.now p) c.walked-here.result refl landed_there
+    ∙ flight-some path p c.requires.places.some in (
+      looking-next c.walked-here.result c.wide-segment.result landed within more,
       each_next raw_of c.args.progresses.now _ c.loop-k.raws c.loop-k.k _ more c.requires.places.raws_room c.loop-k.invariant.1
           (c.tidy.ensures ∙ c.number_of.ensures ∙ ap (λ (flight : Flight). flight.raw.value) flown),
-      c.walked-next.ensures.marks,
+      c.walked-here.ensures.marks ∙ c.loop-k.invariant.2,
       c.put_numbers.ensures
           ∙ numbers-next path c.args.progresses.now c.args.out.now c.loop-k.out c.loop-k.k _ more c.requires.out_room c.loop-k.invariant.3 (ap numbers_of flown),
     )
@@ -139,7 +137,7 @@ returns c =
                 c.fill_segments.ensures
                 ∙ ap (λ (xs : List _). written xs c.args.segments.now)
                 (each-equal (λ p. (spot_of c.args.path.buffers.lengths.now p).segment) (λ p. segment_given (flight_of (held c.args.path.buffers) p).segment)
-                (λ p. segment-there (held c.args.path.buffers) p c.requires.places.path.some refl) c.args.progresses.now);
+                (λ p. segment-there (held c.args.path.buffers) p c.requires.places.some refl) c.args.progresses.now);
             raws_are = c.loop-k.invariant.1 ∙ ap (λ (ps : List Float). written (raws_for (held c.args.path.buffers) ps) c.args.raws.now) all;
           };
       out_is = c.loop-k.invariant.3 ∙ ap (λ (ps : List Float). written (numbers_for (held c.args.path.buffers) ps) c.args.out.now) all;

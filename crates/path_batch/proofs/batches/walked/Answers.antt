@@ -1,43 +1,30 @@
 -- `path_batch::batches::walked` meets its contract: the walk starts at the cursor or at a mark, and the marks stay marks of the path. Assumes nothing.
-use mathlib.Core.Path.{sym, subst}
-use Rattle.path_place.specs.declared.cursors.Cursor.{Cursor}
-use Rattle.path_place.specs.Cursors.{Moving}
-use Rattle.path_marks.proofs.Marking.{marks-same}
+use Prim.Native.Nat.{ℕ}
+use mathlib.Core.Path.{ap, ◌∙◌}
+use mathlib.Core.List.{List}
+use Rattle.path_place.specs.Cursors.{cursor_of}
 use Rattle.path_batch.proofs.batches.walked.Goals as goal
 use Rattle.path_batch.proofs.batches.walked.Goals.{then-is_step_on, else-is_step_on}
 
-pub marked-shift-requires : goal.marked-shift-requires
-marked-shift-requires c = c.requires.leap
-
-pub nearest-start-requires : goal.nearest-start-requires
-nearest-start-requires c = record { marks = c.marked-shift.ensures; move = c.requires.leap.move; inside = c.requires.leap.inside }
-
-pub reached-here-requires : goal.reached-here-requires
-reached-here-requires c =
-    let moves : Moving c.args.kinds.now c.if-is_step_on.start c.args.segment =
+pub walk-requires : goal.walk-requires
+walk-requires c =
     elim c.if-is_step_on.branch [
-      | then-is_step_on w ↦ subst (λ (cursor : Cursor). Moving c.args.kinds.now cursor c.args.segment) (sym w.start-is) c.requires.leap.move
-      | else-is_step_on w ↦ subst (λ (cursor : Cursor). Moving c.args.kinds.now cursor c.args.segment) (sym w.start-is) w.nearest-start.ensures
-    ] in
-    record { move = moves; short = c.is_near.ensures c.if-is_near.true; known = c.requires.known }
-
-pub moved-here-requires : goal.moved-here-requires
-moved-here-requires c =
-    elim c.if-is_step_on.branch [
-      | then-is_step_on w ↦ subst (λ (cursor : Cursor). Moving c.args.kinds.now cursor c.args.segment) (sym w.start-is) c.requires.leap.move
-      | else-is_step_on w ↦ subst (λ (cursor : Cursor). Moving c.args.kinds.now cursor c.args.segment) (sym w.start-is) w.nearest-start.ensures
+      | then-is_step_on w ↦ rw (w.start-is, w.marks-is) c.requires.move
+      | else-is_step_on w ↦ rw (w.start-is, w.marks-is, w.start-start.ensures.marks) w.start-start.ensures.start
     ]
 
-pub returns-then-is_near-clause-marks : goal.returns-then-is_near-clause-marks
-returns-then-is_near-clause-marks c =
+pub returns-clause-marks : goal.returns-clause-marks
+returns-clause-marks c =
     elim c.if-is_step_on.branch [
-      | then-is_step_on w ↦ marks-same w.shift-is w.fields-is w.tables-is c.requires.leap.marks
-      | else-is_step_on w ↦ marks-same w.shift-is w.fields-is w.tables-is w.marked-shift.ensures
+      | then-is_step_on w ↦ w.marks-is
+      | else-is_step_on w ↦ w.marks-is ∙ w.start-start.ensures.marks
     ]
 
-pub returns-else-is_near-clause-marks : goal.returns-else-is_near-clause-marks
-returns-else-is_near-clause-marks c =
-    elim c.if-is_step_on.branch [
-      | then-is_step_on w ↦ marks-same w.shift-is w.fields-is w.tables-is c.requires.leap.marks
-      | else-is_step_on w ↦ marks-same w.shift-is w.fields-is w.tables-is w.marked-shift.ensures
-    ]
+pub returns-clause-there : goal.returns-clause-there
+returns-clause-there c =
+    c.walk.ensures
+    ∙ ap (λ (kinds : List ℕ). cursor_of kinds c.args.segment)
+    (elim c.if-is_step_on.branch [
+      | then-is_step_on w ↦ w.marks-is
+      | else-is_step_on w ↦ w.marks-is ∙ w.start-start.ensures.marks
+    ])

@@ -9,7 +9,6 @@ use Rattle.floats.proofs.Tests.{passed}
 use Rattle.path_stored.proofs.Rule.{stored-rule}
 use Rattle.path_stored.specs.declared.path_buffers.PathBuffers.{PathBuffers}
 use Rattle.path_stored.specs.Paths.{AreF32, held}
-use Rattle.path_query.proofs.Seats.{a-flight}
 use Rattle.path_dry_run.specs.Seconds.{fast_of, FilledSeconds}
 use Rattle.path_dry_run.proofs.Sums.{slow-all}
 use Rattle.path_dry_run.proofs.Seconds.{filled_none, seconds-in-order}
@@ -35,7 +34,7 @@ fill_seconds-requires c =
     let here : 0 < length c.args.path.kinds.now = above (length c.args.path.kinds.now) (sym c.is_empty.ensures ∙ c.if-is_empty.false) in
     let some : 0 < length c.stored-stored.result.buffers.kinds.now = subst (λ (path : PathBuffers). 0 < length path.kinds.now) (sym same) here in
     record {
-      path = a-flight c.stored-stored.result.stored some;
+      some = some;
       recorded = record { few = omega arith; slow = slow-all c.args.speeds.now slow };
       segments_room = c.if-segments-count.false;
       raws_room = c.if-raws-count.false;

@@ -16,7 +16,6 @@ use Rattle.metres.proofs.Quotients.{metres-held}
 use Rattle.table.specs.Spots.{spot_toward}
 use Rattle.path_stored.specs.Paths.{held}
 use Rattle.path_place.proofs.Standing.{cursor-own}
-use Rattle.path_query.proofs.Seats.{some-place}
 use Rattle.path_batch.specs.Batches.{each}
 use Rattle.path_batch.proofs.Filling.{each-size, each_next}
 use Rattle.path_dry_run.specs.Seconds.{targets_of, segment_reached, raw_reached}
@@ -30,7 +29,7 @@ pub loop-i-init : goal.loop-i-init
 unfolding each sum_of
 loop-i-init c =
     let own = cursor-own c.args.path.buffers.kinds.now 0 c.first_cursor-at.ensures in
-    (refl, own.1, omega (arith, own.0, c.requires.path.some), refl, refl)
+    (refl, own.1, omega (arith, own.0, c.requires.some), refl, refl)
 
 pub overflow_add-sum : goal.overflow_add-sum
 overflow_add-sum c =
@@ -48,7 +47,7 @@ reach-there-requires c =
     let small : (c.loop-i.sum + get_or c.args.speeds.now c.loop-i.i 0) ≤ 3600000000 = omega (arith, next, sum-few c.requires.recorded (suc c.loop-i.i) more) in
     let n = (c.loop-i.sum + get_or c.args.speeds.now c.loop-i.i 0) in
     record {
-      reachable = record { path = some-place c.requires.path; is = c.loop-i.invariant.1; inside = c.loop-i.invariant.2 };
+      seated = record { is = c.loop-i.invariant.1; inside = c.loop-i.invariant.2 };
       t = subst (λ (x : Float). T (real x)) (sym c.metres.ensures) (nonneg-real (metres_of n) (metres-held n (omega (arith, small))).nn);
     }
 
@@ -56,7 +55,7 @@ pub overflow_cast-segments : goal.overflow_cast-segments
 overflow_cast-segments c =
     let stands : c.reach-there.result.at.segment ≡ (spot_toward c.args.path.buffers.lengths.now c.metres.result).segment = (cursor-own c.args.path.buffers.kinds.now _ c.reach-there.ensures.is).0 in
     let stands_inside : c.reach-there.result.at.segment < length c.args.path.buffers.kinds.now = omega (arith, stands, c.reach-there.ensures.inside) in
-    record { fits = omega (arith, stands_inside, c.requires.path.path.few) }
+    record { fits = omega (arith, stands_inside, c.args.path.stored.few) }
 
 pub bounds-segments-i : goal.bounds-segments-i
 bounds-segments-i c =
@@ -80,7 +79,7 @@ loop-i-preserved c =
     let more : c.loop-i.i < length c.args.speeds.now = c.loop-i-test.true in
     let next : (c.loop-i.sum + get_or c.args.speeds.now c.loop-i.i 0) ≡ sum_of (take (suc c.loop-i.i) c.args.speeds.now) = ap (λ (s : ℕ). s + get_or c.args.speeds.now
     c.loop-i.i 0) c.loop-i.invariant.0 ∙ sym (sum-next c.args.speeds.now c.loop-i.i more) in
-    let some : 0 < length c.args.path.buffers.kinds.now = c.requires.path.some in
+    let some : 0 < length c.args.path.buffers.kinds.now = c.requires.some in
     let stands : c.reach-there.result.at.segment ≡ (spot_toward c.args.path.buffers.lengths.now c.metres.result).segment = (cursor-own c.args.path.buffers.kinds.now _ c.reach-there.ensures.is).0 in
     let stands_inside : c.reach-there.result.at.segment < length c.args.path.buffers.kinds.now = omega (arith, stands, c.reach-there.ensures.inside) in
     let count_is : length (targets_of c.args.speeds.now) ≡ length c.args.speeds.now = targets-length 0 c.args.speeds.now in

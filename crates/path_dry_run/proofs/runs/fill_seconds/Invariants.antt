@@ -14,7 +14,7 @@ abbrev pub invariant-loop-i : goal.invariant-loop-i
 invariant-loop-i l =
     let b = held l.fn.path.buffers in
     (l.sum ≡ sum_of (take l.i l.speeds))
-    × (l.at ≡ cursor_of l.kinds l.at.segment)
-    × (l.at.segment < length l.kinds)
+    × (l.at ≡ cursor_of b.kinds l.at.segment)
+    × (l.at.segment < length b.kinds)
     × (l.segments ≡ written (each (segment_reached b) (take l.i (targets_of l.speeds))) l.initial.segments)
     × (l.raws ≡ written (each (raw_reached b) (take l.i (targets_of l.speeds))) l.initial.raws)
