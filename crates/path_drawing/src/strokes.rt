@@ -38,8 +38,9 @@ fn arc_drawn(chord: Chord, next: Pen) -> Option<Drawn>
 }
 
 // What a command makes, and where the pen is after it; nothing where its rotation is out of range. A drawing command without a current
-// point makes no segment and sets the point all the same.
+// point makes no segment and sets the point all the same. Within its callers it takes less stack (tests/c/stack.c).
 #[tactic(auto, unfolding(crate::specs::Drawing::arc_stroke_of, crate::specs::Drawing::draw_of))]
+#[inline(always)]
 pub fn draw(pen: Pen, command: PathCommand) -> Option<Drawn>
     ensures { result ≡ draw_of pen command }
 {

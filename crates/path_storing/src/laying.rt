@@ -38,8 +38,10 @@ pub(crate) fn moved(site: Site, pen: Pen) -> Site
     Site { pen, ..site }
 }
 
-// Judges a command at a site and counts what it stores: the next site, or `RotationRange` or `NotFinite`.
+// Judges a command at a site and counts what it stores: the next site, or `RotationRange` or `NotFinite`. Within its callers it takes
+// less stack (tests/c/stack.c).
 #[tactic(auto, unfolding(crate::specs::Sites::moved_of, crate::specs::Sites::judged_of, crate::specs::Sites::advance_of))]
+#[inline(always)]
 pub fn advance(site: Site, command: PathCommand) -> Result<Site, Refusal>
     requires { FewAt site }
     ensures { result ≡ advance_of site command }

@@ -1,4 +1,5 @@
-// Arguments of several words, each the first word, a separator or none, and the rest.
+// Arguments of several words, each the first word, a separator or none, and the rest. Within their callers they take less stack: a text
+// with its edition is not copied from call to call (tests/c/stack.c).
 ghost use Rattle.strict_grammar.specs.Grammar.{coordinate-pair, smooth-curveto-argument, curveto-argument, elliptical-arc-argument};
 ghost use Rattle.strict_argument.specs.Reading.{Reads, arc-from-radius, arc-from-rotation, arc-from-large-flag, arc-from-sweep-flag, argument_of};
 
@@ -14,6 +15,7 @@ pub enum Kind {
     Arc,
 }
 
+#[inline(always)]
 fn pair(text: Text, at: usize) -> Option<usize>
     ensures { Reads (coordinate-pair text.entry.edition text.entry.bytes.now) at result }
 {
@@ -22,6 +24,7 @@ fn pair(text: Text, at: usize) -> Option<usize>
 }
 
 // The argument of a smooth curve and of a quadratic one.
+#[inline(always)]
 fn two_pairs(text: Text, at: usize) -> Option<usize>
     ensures { Reads (smooth-curveto-argument text.entry.edition text.entry.bytes.now) at result }
 {
@@ -29,6 +32,7 @@ fn two_pairs(text: Text, at: usize) -> Option<usize>
     pair(text, past_separator(text, end))
 }
 
+#[inline(always)]
 fn three_pairs(text: Text, at: usize) -> Option<usize>
     ensures { Reads (curveto-argument text.entry.edition text.entry.bytes.now) at result }
 {
@@ -36,6 +40,7 @@ fn three_pairs(text: Text, at: usize) -> Option<usize>
     two_pairs(text, past_separator(text, end))
 }
 
+#[inline(always)]
 fn arc_from_sweep_flag(text: Text, at: usize) -> Option<usize>
     ensures { Reads (arc-from-sweep-flag text.entry.edition text.entry.bytes.now) at result }
 {
@@ -43,6 +48,7 @@ fn arc_from_sweep_flag(text: Text, at: usize) -> Option<usize>
     pair(text, past_separator(text, end))
 }
 
+#[inline(always)]
 fn arc_from_large_flag(text: Text, at: usize) -> Option<usize>
     ensures { Reads (arc-from-large-flag text.entry.edition text.entry.bytes.now) at result }
 {
@@ -52,6 +58,7 @@ fn arc_from_large_flag(text: Text, at: usize) -> Option<usize>
 
 // The separator before the first flag must stand there, and no test says so: the longest number
 // leaves no digit behind it, so no flag can stand there at once.
+#[inline(always)]
 fn arc_from_rotation(text: Text, at: usize) -> Option<usize>
     ensures { Reads (arc-from-rotation text.entry.edition text.entry.bytes.now) at result }
 {
@@ -60,6 +67,7 @@ fn arc_from_rotation(text: Text, at: usize) -> Option<usize>
 }
 
 // From the second radius.
+#[inline(always)]
 fn arc_from_radius(text: Text, at: usize) -> Option<usize>
     ensures { Reads (arc-from-radius text.entry.edition text.entry.bytes.now) at result }
 {
@@ -67,6 +75,7 @@ fn arc_from_radius(text: Text, at: usize) -> Option<usize>
     arc_from_rotation(text, past_separator(text, end))
 }
 
+#[inline(always)]
 fn arc(text: Text, at: usize) -> Option<usize>
     ensures { Reads (elliptical-arc-argument text.entry.edition text.entry.bytes.now) at result }
 {

@@ -1,6 +1,7 @@
 // The words that arguments are made of: a number, a radius, a rotation, a flag, and the separator
 // between two of them. Where the editions part, a function says so by a match on the edition: a
-// closure for each edition would say no less, and at each call.
+// closure for each edition would say no less, and at each call. Within their callers they take less
+// stack: a text with its edition is not copied from call to call (tests/c/stack.c).
 ghost use Rattle.std.specs.Prelude.{◌≡◌};
 ghost use Rattle.scan.specs.Bytes.{among, flags};
 ghost use Rattle.strict_grammar.specs.Spans.{Byte};
@@ -35,6 +36,7 @@ fn past_space_2(text: &[u8], at: usize) -> usize
     past_run(text, at, is_space_2)
 }
 
+#[inline(always)]
 pub fn past_space(text: Text, at: usize) -> usize
     ensures { result ≡ past_white_in text.entry.edition text.entry.bytes.now at }
 {
@@ -45,6 +47,7 @@ pub fn past_space(text: Text, at: usize) -> usize
 }
 
 // Past what may stand between two commands: white space, and in SVG 2 nothing.
+#[inline(always)]
 pub fn past_gap(text: Text, at: usize) -> usize
     ensures { result ≡ past_gap_of text.entry.edition text.entry.bytes.now at }
 {
@@ -55,6 +58,7 @@ pub fn past_gap(text: Text, at: usize) -> usize
 }
 
 // Past white space, one comma if it stands there, and white space.
+#[inline(always)]
 pub fn past_separator(text: Text, at: usize) -> usize
     ensures { result ≡ past_separator_of text.entry.edition text.entry.bytes.now at }
 {
@@ -90,6 +94,7 @@ fn number_2(text: &[u8], at: usize) -> Option<usize>
     None
 }
 
+#[inline(always)]
 pub fn read_number(text: Text, at: usize) -> Option<usize>
     ensures { Reads (number text.entry.edition text.entry.bytes.now) at result }
 {
@@ -100,6 +105,7 @@ pub fn read_number(text: Text, at: usize) -> Option<usize>
 }
 
 // A radius: a number before which no sign stands. Its exponent may have one.
+#[inline(always)]
 pub fn read_radius(text: Text, at: usize) -> Option<usize>
     ensures { Reads (nonnegative-number text.entry.edition text.entry.bytes.now) at result }
 {
@@ -111,6 +117,7 @@ pub fn read_radius(text: Text, at: usize) -> Option<usize>
 }
 
 // A rotation: a number, before which no sign stands in SVG 2.
+#[inline(always)]
 pub fn read_rotation(text: Text, at: usize) -> Option<usize>
     ensures { Reads (rotation text.entry.edition text.entry.bytes.now) at result }
 {
@@ -121,6 +128,7 @@ pub fn read_rotation(text: Text, at: usize) -> Option<usize>
 }
 
 // A flag, which is one byte: of `10` it is the 1.
+#[inline(always)]
 pub fn read_flag(text: &[u8], at: usize) -> Option<usize>
     ensures { Reads (Byte text.now flags) at result }
 {
