@@ -63,7 +63,7 @@ answers_at {drawers} {b} {whole} {other} {r} {b'} e a = subst (λ (w : Built). A
 
 module _ (b : Buffers) (built : Built) where
   -- nothing is built
-  pub unbuilt : {drawers : List ℕ} {reason : Refusal} → Err reason ≡ measure_of built → Answers (roomed (lent_of b) built) drawers b (Err reason) b
+  unbuilt : {drawers : List ℕ} {reason : Refusal} → Err reason ≡ measure_of built → Answers (roomed (lent_of b) built) drawers b (Err reason) b
   unbuilt {drawers} {reason} m = refuses reason (ap (roomed (lent_of b)) (measured-refused reason built m))
 
   module _ {sizes : Sizes} (m : Ok sizes ≡ measure_of built) where
@@ -80,7 +80,7 @@ module _ (b : Buffers) (built : Built) where
         ∙ ap (λ (x : Bool). cond x (refusal lacking) (path l.list)) e
 
     -- it has no room
-    pub ended-short : {drawers : List ℕ} {reason : Refusal} → building_of sizes (lent_of b) ≡ Err reason → Answers (roomed (lent_of b) built) drawers b (Err reason) b
+    ended-short : {drawers : List ℕ} {reason : Refusal} → building_of (Ok sizes) (lent_of b) ≡ Err reason → Answers (roomed (lent_of b) built) drawers b (Err reason) b
     ended-short {drawers} {reason} = by-room (is_short (needed_of sizes) (lent_of b)) refl
       where
         by-room : (short : Bool) → is_short (needed_of sizes) (lent_of b) ≡ short → cond short (Err lacking) (Ok sizes) ≡ Err reason → Answers (roomed (lent_of b) built) drawers b (Err reason) b
@@ -90,7 +90,7 @@ module _ (b : Buffers) (built : Built) where
         by-room false g h = cc
 
     -- it has room: only that is answered with its counts
-    module _ {own : Sizes} (e : building_of sizes (lent_of b) ≡ Ok own) where
+    module _ {own : Sizes} (e : building_of (Ok sizes) (lent_of b) ≡ Ok own) where
       room : (is_short (needed_of sizes) (lent_of b) ≡ false) × (sizes ≡ own)
       room = by (is_short (needed_of sizes) (lent_of b)) refl e
         where
@@ -98,8 +98,8 @@ module _ (b : Buffers) (built : Built) where
           by true g h = cc
           by false g h = (g, let f : sizes ≡ own = cc in f)
 
-      pub ended-holding : Holding built b
-      ended-holding =
+      has_room : Holding built b
+      has_room =
           let n = none-short (ltb (length b.kinds) sizes.segments) (ltb (length b.fields) sizes.fields) (ltb (length b.tables) sizes.tables) (ltb (length b.lengths) sizes.segments)
           (ltb (length b.commands) sizes.segments) room.0 in
           let c = l.counts in
@@ -112,8 +112,35 @@ module _ (b : Buffers) (built : Built) where
             commands_fit = omega (arith, ltb-false (length b.commands) sizes.segments n.4, ap (λ (x : Counts). x.commands) c);
           })
 
-      pub ended-built : {drawers : List ℕ} {b' : Buffers} → Filled built drawers b b' → Answers (roomed (lent_of b) built) drawers b (Ok own) b'
-      ended-built {drawers} {b'} filled =
+      built-whole : {drawers : List ℕ} {b' : Buffers} → Filled built drawers b b' → Answers (roomed (lent_of b) built) drawers b (Ok own) b'
+      built-whole {drawers} {b'} filled =
           subst (λ (s : Sizes). Answers (roomed (lent_of b) built) drawers b (Ok s) b') room.1
           (answers_at (roomed-is false room.0)
           (record { answer = ap (λ (x : Counts). accepted (values x)) (sym l.counts); after = subst (λ (x : Built). Filled x drawers b b') l.is filled }))
+
+  -- ---- the ending: what `room` answers to a size, and what is then written
+
+  module _ {size : Result Sizes Refusal} (m : size ≡ measure_of built) where
+    pub ended-refused : {drawers : List ℕ} {reason : Refusal} → building_of size (lent_of b) ≡ Err reason → Answers (roomed (lent_of b) built) drawers b (Err reason) b
+    ended-refused {drawers} {reason} = by_size size m
+      where
+        by_size : (x : Result Sizes Refusal) → x ≡ measure_of built → building_of x (lent_of b) ≡ Err reason → Answers (roomed (lent_of b) built) drawers b (Err reason) b
+        by_size (Ok sizes) n e = ended-short n e
+        by_size (Err own) n e =
+            let f : own ≡ reason = cc in
+            subst (λ (x : Refusal). Answers (roomed (lent_of b) built) drawers b (Err x) b) f (unbuilt n)
+
+    module _ {own : Sizes} (e : building_of size (lent_of b) ≡ Ok own) where
+      pub ended-holding : Holding built b
+      ended-holding = by_size size m e
+        where
+          by_size : (x : Result Sizes Refusal) → x ≡ measure_of built → building_of x (lent_of b) ≡ Ok own → Holding built b
+          by_size (Ok sizes) n h = has_room n h
+          by_size (Err reason) n h = cc
+
+      pub ended-built : {drawers : List ℕ} {b' : Buffers} → Filled built drawers b b' → Answers (roomed (lent_of b) built) drawers b (Ok own) b'
+      ended-built {drawers} {b'} filled = by_size size m e
+        where
+          by_size : (x : Result Sizes Refusal) → x ≡ measure_of built → building_of x (lent_of b) ≡ Ok own → Answers (roomed (lent_of b) built) drawers b (Ok own) b'
+          by_size (Ok sizes) n h = built-whole n h filled
+          by_size (Err reason) n h = cc

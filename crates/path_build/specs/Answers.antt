@@ -71,9 +71,10 @@ pub record Answers (built : Built) (drawers : List ℕ) (b : Buffers) (r : Resul
 abbrev pub needed_of : Sizes → Counts
 needed_of sizes = record { kinds = sizes.segments; fields = sizes.fields; tables = sizes.tables; lengths = sizes.segments; commands = sizes.segments }
 
--- what is answered to the sizes that a first pass tells, where the buffers have these places
-abbrev pub building_of : Sizes → Counts → Result Sizes Refusal
-building_of sizes lent =
+-- what is answered to what a first pass tells, where the buffers have these places
+abbrev pub building_of : Result Sizes Refusal → Counts → Result Sizes Refusal
+building_of (Err reason) lent = Err reason
+building_of (Ok sizes) lent =
     cond (is_short (needed_of sizes) lent) (Err (NoRoom (Five sizes.segments sizes.fields sizes.tables sizes.segments sizes.segments))) (Ok sizes)
 
 abbrev pub sizes_of : ℕ → ℕ → ℕ → Sizes

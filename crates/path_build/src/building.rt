@@ -30,7 +30,7 @@ pub fn build_path(
         lengths: lengths.len(),
         commands: commands.len(),
     };
-    let sizes = room(sized(letters, numbers)?, lent)?;
+    let sizes = room(sized(letters, numbers), lent)?;
     fill(letters, numbers, kinds, fields, tables, lengths, commands);
     Ok(sizes)
 }

@@ -26,15 +26,16 @@ fn is_short(needed: Counts, lent: Counts) -> bool
         | (lent.commands < needed.commands)
 }
 
-// The counts of a path that has room where the buffers have these places, or what it needs of each.
-pub fn room(sizes: Sizes, lent: Counts) -> Result<Sizes, Refusal>
+// What building answers where the buffers have these places: the counts of a path that has room in them, or why none is stored.
+pub fn room(sizes: Result<Sizes, Refusal>, lent: Counts) -> Result<Sizes, Refusal>
     ensures { result ≡ building_of sizes lent }
 {
+    let counted = sizes?;
     let Sizes {
         segments,
         fields,
         tables,
-    } = sizes;
+    } = counted;
     let needed = Counts {
         kinds: segments,
         fields,
@@ -45,5 +46,5 @@ pub fn room(sizes: Sizes, lent: Counts) -> Result<Sizes, Refusal>
     if is_short(needed, lent) {
         return Err(Refusal::NoRoom(Values::Five(segments, fields, tables, segments, segments)));
     }
-    Ok(sizes)
+    Ok(counted)
 }

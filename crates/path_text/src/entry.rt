@@ -44,7 +44,7 @@ pub fn build_from_text(
         lengths: lengths.len(),
         commands: commands.len(),
     };
-    let sizes = room(size_of(text)?, lent)?;
+    let sizes = room(size_of(text), lent)?;
     fill(text, kinds, fields, tables, lengths, commands);
     Ok(sizes)
 }

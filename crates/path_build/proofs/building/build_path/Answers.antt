@@ -3,23 +3,17 @@ use borrow.Author.Rules.{rules}
 use mathlib.Core.Path.{◌≡◌, sym, ◌∙◌}
 use Rattle.std.specs.Prelude.{Err}
 use Rattle.path_stored.specs.Buffers.{lent_mut}
-use Rattle.path_build.proofs.Answering.{unbuilt, ended-short, ended-holding, ended-built}
+use Rattle.path_build.proofs.Answering.{ended-refused, ended-holding, ended-built}
 use Rattle.path_build.proofs.building.build_path.Goals as goal
-
-pub returns-in_err-sized : goal.returns-in_err-sized
-returns-in_err-sized c =
-    let e : c.from_residual.result ≡ Err c.in_err-sized.field-0.0 = search rules in
-    rw e (unbuilt _ _ (sym c.in_err-sized.was ∙ c.sized.ensures))
 
 pub returns-in_err-sizes : goal.returns-in_err-sizes
 returns-in_err-sizes c =
-    let e : c.from_residual-in_err-sizes.result ≡ Err c.in_err-sizes.field-0.0 = search rules in
-    rw e (ended-short _ _ (sym c.in_ok-sized.was ∙ c.sized.ensures) (sym c.room.ensures ∙ c.in_err-sizes.was))
+    let e : c.from_residual.result ≡ Err c.in_err-sizes.field-0.0 = search rules in
+    rw e (ended-refused _ _ c.sized.ensures (sym c.room.ensures ∙ c.in_err-sizes.was))
 
 pub fill-requires : goal.fill-requires
 fill-requires c =
-    ended-holding (lent_mut c.args.kinds c.args.fields c.args.tables c.args.lengths c.args.commands) _ (sym c.in_ok-sized.was ∙ c.sized.ensures)
-    (sym c.room.ensures ∙ c.in_ok-sizes.was)
+    ended-holding (lent_mut c.args.kinds c.args.fields c.args.tables c.args.lengths c.args.commands) _ c.sized.ensures (sym c.room.ensures ∙ c.in_ok-sizes.was)
 
 pub returns : goal.returns
-returns c = ended-built _ _ (sym c.in_ok-sized.was ∙ c.sized.ensures) (sym c.room.ensures ∙ c.in_ok-sizes.was) c.fill.ensures
+returns c = ended-built _ _ c.sized.ensures (sym c.room.ensures ∙ c.in_ok-sizes.was) c.fill.ensures
