@@ -19,7 +19,7 @@ use Rattle.path_stored.specs.Stored.{before, Fielded, Stored, segment_in}
 use Rattle.path_stored.proofs.Reading.{record-fielded}
 use Rattle.path_place.specs.declared.cursors.Cursor.{Cursor}
 use Rattle.path_place.specs.Cursors.{cursor_of}
-use Rattle.path_place.specs.Places.{place_in, raw_in, raw_within, TableThere, SomePlace, Standing}
+use Rattle.path_place.specs.Places.{place_in, raw_in, raw_within, TableThere, SomePlace}
 use Rattle.path_place.proofs.Tables.{findable}
 use Rattle.path_place.proofs.Standing.{cursor-own, cursor-tables, standing}
 use Rattle.path_heading.specs.Headings.{sample_of, heading_of}
@@ -45,28 +45,22 @@ segment-in-kind : (kinds : List ℕ) (fields : List Float) → Fielded kinds fie
 unfolding segment_in
 segment-in-kind kinds fields fielded i inside = segment-kind (get_or kinds i 0) (drop (before width_of kinds i) fields) (fielded.known i inside)
 
+-- the table of the segment that was read is in its place
+pub seated-table : {kinds : List ℕ} {fields tables : List Float} {at : Cursor} → Seated kinds fields tables at → (segment : PathSegment) → segment ≡ segment_in kinds fields at.segment
+    → T (has_table (kind_of segment)) → TableThere tables at.tables
+seated-table {kinds} {fields} {tables} {at} s segment same has =
+    let here = s.standing in
+    let kind = ap kind_of same ∙ segment-in-kind kinds fields s.fielded at.segment here.inside in
+    subst (TableThere tables) (sym (cursor-tables kinds at.segment here.is)) (here.tabled (subst (λ (k : ℕ). T (has_table k)) kind has))
+
 -- ---- a path with a segment
 
 module _ {b : Buffers} (f : Flyable b) where
   pub some-place : SomePlace b.kinds b.tables b.lengths
   some-place = record { some = f.some; path = findable f.path }
 
-pub seated : {kinds : List ℕ} {at : Cursor} {i : ℕ} → at ≡ cursor_of kinds i → i < length kinds → Seated kinds at
-seated {kinds} {at} {i} e inside =
-    let own = cursor-own kinds i e in
-    let within : at.segment < length kinds = omega arith in
-    record { is = own.1; inside = within }
-
--- ---- a cursor at a segment of a stored path: the segment's fields and its table are in their places
-module _ {b : Buffers} (stored : Stored b) {at : Cursor} (seat : Seated b.kinds at) where
-  pub seat-standing : Standing b.kinds b.tables at
-  seat-standing = let inside = seat.inside in standing (record { some = omega arith; path = findable stored }) seat.is inside
-
-  pub seat-table : (segment : PathSegment) → segment ≡ segment_in b.kinds b.fields at.segment → T (has_table (kind_of segment)) → TableThere b.tables at.tables
-  seat-table segment same has =
-      let here = seat-standing in
-      let kind = ap kind_of same ∙ segment-in-kind b.kinds b.fields (record-fielded b stored) at.segment seat.inside in
-      subst (TableThere b.tables) (sym (cursor-tables b.kinds at.segment seat.is)) (here.tabled (subst (λ (k : ℕ). T (has_table k)) kind has))
+  pub seated : {at : Cursor} {i : ℕ} → at ≡ cursor_of b.kinds i → i < length b.kinds → Seated b.kinds b.fields b.tables at
+  seated e inside = record { standing = standing some-place e inside; fielded = record-fielded b f.path }
 
 -- what passes the check and has a segment
 module _ {b : Buffers} (s : Stored b) (some : 0 < length b.kinds) where

@@ -1,16 +1,15 @@
 -- What is flown at a progress along a stored path: `position` and `tangent` of `CompoundPath` (source document 002), "segment number .. and raw parameter" (change request L4). Position and
 -- tangent are, by definition, the sample and the tangent of the pair (segment, raw parameter) beside them, of which `path_place/proofs/Demand3.antt` speaks. Definitions only.
-use Rattle.std.specs.Prelude.{ℕ, ◌<◌, ◌≡◌, cond, List, eqb, length, Float, Some, None}
+use Rattle.std.specs.Prelude.{ℕ, ◌<◌, cond, List, eqb, length, Float, Some, None}
 use Rattle.floats.specs.Floats.{zero_f}
 use Rattle.math.specs.Math.{origin_f}
 use Rattle.table.specs.Spots.{spot_of}
 use Rattle.bezier.specs.Curves.{ahead_of}
 use Rattle.path_stored.specs.Buffers.{Buffers}
-use Rattle.path_stored.specs.Stored.{Stored, segment_in}
+use Rattle.path_stored.specs.Stored.{Fielded, Stored, segment_in}
 use Rattle.path_place.specs.declared.cursors.Cursor.{Cursor}
 use Rattle.path_place.specs.declared.places.Place.{Place}
-use Rattle.path_place.specs.Cursors.{cursor_of}
-use Rattle.path_place.specs.Places.{placed, place_of, raw_in, raw_within, table_start}
+use Rattle.path_place.specs.Places.{placed, place_of, raw_in, raw_within, table_start, Standing}
 use Rattle.path_heading.specs.Headings.{sample_of, heading_of}
 use Rattle.flight.specs.declared.Flight.{Flight}
 
@@ -45,10 +44,10 @@ flight_of b progress = cond (eqb (length b.kinds) 0) nowhere_f (flown_of b progr
 
 -- ---- what the functions of `inner` ask
 
--- a cursor at a segment
-pub record Seated (kinds : List ℕ) (at : Cursor) : Type 0 where
-  pub is : at ≡ cursor_of kinds at.segment
-  pub inside : at.segment < length kinds
+-- a cursor at a segment, whose fields and table are in their places
+pub record Seated (kinds : List ℕ) (fields tables : List Float) (at : Cursor) : Type 0 where
+  pub standing : Standing kinds tables at
+  pub fielded : Fielded kinds fields
 
 -- a stored path with a segment
 pub record Flyable (b : Buffers) : Type 0 where

@@ -12,29 +12,27 @@ use path_place::Cursor;
 use path_place::inner::{cursor_at, raw_within};
 use path_segment::PathSegment;
 use path_segment::inner::segment_at;
-use path_stored::StoredPath;
+use path_stored::{PathBuffers, StoredPath};
 use table::Progress;
 use table::inner::{raw_parameter_in, spot};
 
 // The segment at which a cursor stands.
-fn segment_here(path: StoredPath, at: Cursor) -> PathSegment
-    requires { Seated path.buffers.kinds.now at }
-    ensures { result ≡ segment_in path.entry.buffers.kinds.now path.entry.buffers.fields.now at.segment }
+fn segment_here(path: PathBuffers, at: Cursor) -> PathSegment
+    requires { Seated path.kinds.now path.fields.now path.tables.now at }
+    ensures { result ≡ segment_in path.entry.kinds.now path.entry.fields.now at.segment }
 {
-    let buffers = path.buffers;
-    segment_at(buffers.kinds[at.segment], buffers.fields, at.fields)
+    segment_at(path.kinds[at.segment], path.fields, at.fields)
 }
 
-// What is flown at a local progress on the segment at which a cursor stands.
-pub fn flown_within(path: StoredPath, at: Cursor, along: Progress) -> Flight
-    requires { Seated path.buffers.kinds.now at }
-    ensures { result ≡ flown_within path.entry.buffers.kinds.now path.entry.buffers.fields.now path.entry.buffers.tables.now at.segment along.value }
+// What is flown at a local progress on the segment at which a cursor stands. The running lengths and the command numbers are not read.
+pub fn flown_within(path: PathBuffers, at: Cursor, along: Progress) -> Flight
+    requires { Seated path.kinds.now path.fields.now path.tables.now at }
+    ensures { result ≡ flown_within path.entry.kinds.now path.entry.fields.now path.entry.tables.now at.segment along.value }
 {
-    let buffers = path.buffers;
     let segment = segment_here(path, at);
-    let raw = raw_within(buffers.kinds, buffers.tables, at, along);
+    let raw = raw_within(path.kinds, path.tables, at, along);
     let position = tidy_point(sample(segment, raw));
-    let tangent = tidy_point(heading(segment, buffers.tables, at.tables, along, raw));
+    let tangent = tidy_point(heading(segment, path.tables, at.tables, along, raw));
     Flight {
         position,
         tangent,
@@ -51,7 +49,7 @@ fn flown(path: StoredPath, progress: Progress) -> Flight
     let buffers = path.buffers;
     let found = spot(buffers.lengths, progress);
     let at = cursor_at(buffers.kinds, found.segment);
-    flown_within(path, at, found.progress)
+    flown_within(buffers, at, found.progress)
 }
 
 // What is flown on a path without segments: nothing, at (0, 0), with the raw parameter 0.

@@ -15,7 +15,8 @@ use Rattle.metres.specs.Metres.{metres_of}
 use Rattle.metres.proofs.Quotients.{metres-held}
 use Rattle.table.specs.Spots.{spot_toward}
 use Rattle.path_stored.specs.Paths.{held}
-use Rattle.path_place.proofs.Standing.{cursor-own}
+use Rattle.path_place.proofs.Standing.{cursor-own, standing}
+use Rattle.path_query.proofs.Seats.{a-flight, some-place}
 use Rattle.path_batch.specs.Batches.{each}
 use Rattle.path_batch.proofs.Filling.{each-size, each_next}
 use Rattle.path_dry_run.specs.Seconds.{targets_of, segment_reached, raw_reached}
@@ -47,7 +48,7 @@ reach-there-requires c =
     let small : (c.loop-i.sum + get_or c.args.speeds.now c.loop-i.i 0) ≤ 3600000000 = omega (arith, next, sum-few c.requires.recorded (suc c.loop-i.i) more) in
     let n = (c.loop-i.sum + get_or c.args.speeds.now c.loop-i.i 0) in
     record {
-      seated = record { is = c.loop-i.invariant.1; inside = c.loop-i.invariant.2 };
+      standing = standing (some-place (a-flight c.args.path.stored c.requires.some)) c.loop-i.invariant.1 c.loop-i.invariant.2;
       t = subst (λ (x : Float). T (real x)) (sym c.metres.ensures) (nonneg-real (metres_of n) (metres-held n (omega (arith, small))).nn);
     }
 

@@ -10,16 +10,16 @@ use Rattle.path_dry_run.proofs.Toward.{seat-place, seat-toward}
 use Rattle.path_dry_run.proofs.runs.reach.Goals as goal
 
 pub spot_toward-spot-requires : goal.spot_toward-spot-requires
-spot_toward-spot-requires c = record { sound_path = some-path (seat-place c.args.path.stored c.requires.seated); t = c.requires.t }
+spot_toward-spot-requires c = record { sound_path = some-path (seat-place c.args.path.stored c.requires.standing); t = c.requires.t }
 
 pub moved-at-requires : goal.moved-at-requires
 moved-at-requires c =
-    let seat = c.requires.seated in
+    let seat = c.requires.standing in
     moving (seat-place c.args.path.stored seat) seat.is seat.inside (seat-toward c.args.path.stored seat _ c.requires.t c.spot_toward-spot.ensures)
 
 pub raw_within-raw-requires : goal.raw_within-raw-requires
 raw_within-raw-requires c =
-    let seat = c.requires.seated in
+    let seat = c.requires.standing in
     standing (seat-place c.args.path.stored seat) c.moved-at.ensures (seat-toward c.args.path.stored seat _ c.requires.t c.spot_toward-spot.ensures)
 
 pub returns : goal.returns
@@ -34,5 +34,5 @@ returns c =
           ∙ ap (λ (spot : Spot). raw_within path.kinds.now path.tables.now spot.segment spot.progress.value) spot_is;
       inside =
           subst (λ (spot : Spot). spot.segment < length path.kinds.now) spot_is
-          (seat-toward c.args.path.stored c.requires.seated _ c.requires.t spot_is);
+          (seat-toward c.args.path.stored c.requires.standing _ c.requires.t spot_is);
     }

@@ -14,7 +14,7 @@ cursor_at-at-requires c =
 
 pub flown_within-requires : goal.flown_within-requires
 flown_within-requires c =
-    seated c.cursor_at-at.ensures (rw c.spot-found.ensures (spot-among (some-place (a-flight c.args.path.stored c.requires)) c.args.progress.value))
+    seated (a-flight c.args.path.stored c.requires) c.cursor_at-at.ensures (rw c.spot-found.ensures (spot-among (some-place (a-flight c.args.path.stored c.requires)) c.args.progress.value))
 
 pub returns : goal.returns
 returns c = c.flown_within.ensures ∙ flight-is _ _ c.spot-found.result c.cursor_at-at.result c.spot-found.ensures c.cursor_at-at.ensures
