@@ -1,12 +1,12 @@
 // Marks: how many fields and table entries stand before every so many segments of a path, at 256 places at most. They are a power of two of
 // segments apart, which is kept as its exponent, the shift.
 ghost use Rattle.std.specs.Prelude.{◌≡◌, ◌≤◌, ◌<◌, get_or, length, true};
+ghost use Rattle.path_stored.specs.Near.{Known};
 ghost use Rattle.path_place.specs.Cursors.{Moving, cursor_of};
 ghost use Rattle.path_marks.specs.Marks.{Leap, Reach, Reaching, Short};
 
 use path_place::inner::{forward, moved};
 use path_place::{Cursor, first_cursor};
-use path_stored::StoredPath;
 use path_stored::inner::{fields_near, tables_near};
 use std::marker::Model;
 
@@ -39,8 +39,8 @@ fn kept(marks: &[u32; 256], k: usize) -> usize
     marks[k] as usize
 }
 
-// A stored path's kinds with their marks, which the caller has room for: what reads the tables' alone then keeps those alone. A clause sees
-// the kinds.
+// A path's kinds with their marks, which the caller has room for: what reads the tables' alone then keeps those alone. A clause sees the
+// kinds.
 #[derive(Drop)]
 pub struct Marks<'a> {
     kinds: &'a [u8],
@@ -64,16 +64,17 @@ impl<'a> Model for Marks<'a> {
 impl<'a> Marks<'a> {
     // Marks that are not set yet.
     pub fn unset(
-        path: StoredPath<'a>,
+        kinds: &'a [u8],
         fields: &'a mut [u32; 256],
         tables: &'a mut [u32; 256],
     ) -> Marks<'a>
-        ensures { result ≡ path.entry.buffers.kinds.now }
+        requires { length kinds.now ≤ 65536 }
+        ensures { result ≡ kinds.now }
     {
         fields[0] = 0;
         tables[0] = 0;
         Marks {
-            kinds: path.buffers.kinds,
+            kinds,
             shift: UNSET,
             fields,
             tables,
@@ -130,10 +131,11 @@ impl<'a> Marks<'a> {
         self.nearest(from, segment)
     }
 
-    // From a cursor to a segment before or after it.
+    // From a cursor to a segment before or after it, over known kinds.
     #[inline(always)]
     pub fn walk(&self, from: Cursor, segment: usize) -> Cursor
-        requires { Moving self.now from segment }
+        requires moving { Moving self.now from segment }
+        requires known { Known self.now }
         ensures { result ≡ cursor_of self.now segment }
     {
         if is_near(self.kinds, from, segment) {
@@ -146,7 +148,7 @@ impl<'a> Marks<'a> {
 
 // Whether the way to a segment is one that two words of kinds count. On a path of up to 1,024 segments marks are four apart at most, and
 // the walk from one is as short.
-fn is_near(kinds: &[u8], from: Cursor, segment: usize) -> bool
+pub fn is_near(kinds: &[u8], from: Cursor, segment: usize) -> bool
     ensures { result ≡ true → Short from.segment segment }
 {
     let start = from.segment;
@@ -163,7 +165,7 @@ fn is_near(kinds: &[u8], from: Cursor, segment: usize) -> bool
 }
 
 // The cursor of such a segment.
-fn reached(kinds: &[u8], from: Cursor, segment: usize) -> Cursor
+pub fn reached(kinds: &[u8], from: Cursor, segment: usize) -> Cursor
     requires { Reaching kinds.now from segment }
     ensures { result ≡ cursor_of kinds.now segment }
 {

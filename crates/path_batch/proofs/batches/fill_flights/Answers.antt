@@ -12,6 +12,7 @@ use Rattle.table.specs.declared.quantities.Progress.{Progress}
 use Rattle.table.specs.Spots.{spot_of}
 use Rattle.flight.specs.declared.Flight.{Flight}
 use Rattle.flight.specs.Flights.{segment_given}
+use Rattle.path_stored.specs.Near.{Known}
 use Rattle.path_stored.specs.Paths.{held}
 use Rattle.path_place.specs.Cursors.{cursor_of}
 use Rattle.path_place.proofs.Standing.{some-path}
@@ -31,6 +32,9 @@ fill_segments-requires c =
       few = let one = c.args.path.stored.one in let most = c.args.path.stored.few in omega arith;
       segments_room = c.requires.places.segments_room;
     }
+
+pub unset-marks-requires : goal.unset-marks-requires
+unset-marks-requires c = c.args.path.stored.few
 
 pub loop-k-init : goal.loop-k-init
 unfolding each numbers_for
@@ -56,7 +60,7 @@ flown_within-there-requires c =
     let segment_is = segment-found c.args.path.buffers.lengths.now c.args.progresses.now _ _ c.loop-k.k more c.fill_segments.ensures c.wide-segment.ensures in
     let within : c.wide-segment.result < length c.args.path.buffers.kinds.now = among (a-flight c.args.path.stored c.requires.places.some) c.loop-k.invariant.0 (get_or c.args.progresses.now c.loop-k.k nan) segment_is in
     let landed = subst (λ (kinds : List ℕ). c.walked-here.result ≡ cursor_of kinds c.wide-segment.result) c.loop-k.invariant.2 c.walked-here.ensures.there in
-    seated landed within
+    seated (a-flight c.args.path.stored c.requires.places.some) landed within
 
 pub bounds-raws-k : goal.bounds-raws-k
 bounds-raws-k c =
@@ -82,8 +86,12 @@ pub walked-here-requires : goal.walked-here-requires
 walked-here-requires c =
     let more : c.loop-k.k < length c.args.progresses.now = omega (arith, c.loop-k-test.true) in
     let segment_is = segment-found c.args.path.buffers.lengths.now c.args.progresses.now _ _ c.loop-k.k more c.fill_segments.ensures c.wide-segment.ensures in
-    subst (λ (kinds : List ℕ). Leap kinds c.loop-k.at c.wide-segment.result) (sym c.loop-k.invariant.2)
-    (looking-leaps (a-flight c.args.path.stored c.requires.places.some) c.loop-k.invariant.0 (get_or c.args.progresses.now c.loop-k.k nan) segment_is)
+    record {
+      leap =
+          subst (λ (kinds : List ℕ). Leap kinds c.loop-k.at c.wide-segment.result) (sym c.loop-k.invariant.2)
+          (looking-leaps (a-flight c.args.path.stored c.requires.places.some) c.loop-k.invariant.0 (get_or c.args.progresses.now c.loop-k.k nan) segment_is);
+      known = subst Known (sym c.loop-k.invariant.2) c.args.path.stored.known;
+    }
 
 pub loop-k-preserved : goal.loop-k-preserved
 loop-k-preserved c =

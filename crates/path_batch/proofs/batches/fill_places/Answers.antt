@@ -11,6 +11,7 @@ use Rattle.answers.specs.Report.{written}
 use Rattle.table.specs.declared.quantities.Progress.{Progress}
 use Rattle.table.specs.Spots.{spot_of}
 use Rattle.flight.specs.Flights.{segment_given}
+use Rattle.path_stored.specs.Near.{Known}
 use Rattle.path_stored.specs.Paths.{held}
 use Rattle.path_place.specs.Cursors.{cursor_of}
 use Rattle.path_place.specs.Places.{raw_within}
@@ -30,6 +31,9 @@ fill_segments-requires c =
       few = let one = c.args.path.stored.one in let most = c.args.path.stored.few in omega arith;
       segments_room = c.requires.segments_room;
     }
+
+pub unset-marks-requires : goal.unset-marks-requires
+unset-marks-requires c = c.args.path.stored.few
 
 pub loop-i-init : goal.loop-i-init
 unfolding each
@@ -68,8 +72,12 @@ pub walked-here-requires : goal.walked-here-requires
 walked-here-requires c =
     let more : c.loop-i.i < length c.args.progresses.now = omega (arith, c.loop-i-test.true) in
     let segment_is = segment-found c.args.path.buffers.lengths.now c.args.progresses.now _ _ c.loop-i.i more c.fill_segments.ensures c.wide-segment.ensures in
-    subst (λ (kinds : List ℕ). Leap kinds c.loop-i.at c.wide-segment.result) (sym c.loop-i.invariant.2)
-    (looking-leaps (a-flight c.args.path.stored c.requires.some) c.loop-i.invariant.0 (get_or c.args.progresses.now c.loop-i.i nan) segment_is)
+    record {
+      leap =
+          subst (λ (kinds : List ℕ). Leap kinds c.loop-i.at c.wide-segment.result) (sym c.loop-i.invariant.2)
+          (looking-leaps (a-flight c.args.path.stored c.requires.some) c.loop-i.invariant.0 (get_or c.args.progresses.now c.loop-i.i nan) segment_is);
+      known = subst Known (sym c.loop-i.invariant.2) c.args.path.stored.known;
+    }
 
 pub loop-i-preserved : goal.loop-i-preserved
 loop-i-preserved c =

@@ -9,8 +9,9 @@ use Rattle.path_batch.proofs.batches.walked.Goals.{then-is_step_on, else-is_step
 pub walk-requires : goal.walk-requires
 walk-requires c =
     elim c.if-is_step_on.branch [
-      | then-is_step_on w ↦ rw (w.start-is, w.marks-is) c.requires.move
-      | else-is_step_on w ↦ rw (w.start-is, w.marks-is, w.start-start.ensures.marks) w.start-start.ensures.start
+      | then-is_step_on w ↦ record { moving = rw (w.start-is, w.marks-is) c.requires.leap.move; known = rw w.marks-is c.requires.known }
+      | else-is_step_on w ↦
+          record { moving = rw (w.start-is, w.marks-is, w.start-start.ensures.marks) w.start-start.ensures.start; known = rw (w.marks-is, w.start-start.ensures.marks) c.requires.known }
     ]
 
 pub returns-clause-marks : goal.returns-clause-marks

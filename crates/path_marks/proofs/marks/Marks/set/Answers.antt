@@ -1,9 +1,8 @@
 -- `path_marks::marks::Marks::set` meets its contract: 256 marks reach over the path, so that the walk ends at one of them. Assumes nothing.
 use Prim.Native.Nat.{◌≤◌, ◌<◌}
-use mathlib.Core.Path.{refl, sym, ap, ◌∙◌, subst}
+use mathlib.Core.Path.{refl, ap, ◌∙◌}
 use native.Mathlib.Omega.{arith}
 use lib.ListN.{length}
-use Rattle.path_stored.specs.Near.{Known}
 use Rattle.path_marks.proofs.Marking.{apart-is, setting-first, setting-own, setting-fields, setting-tables, setting-stored, setting-done, setting-next, setting-past}
 use Rattle.path_marks.proofs.marks.Marks.set.Goals as goal
 
@@ -35,7 +34,6 @@ invariant_of-self-then-count-at c =
     let reach = c.loop-k.invariant.2 in
     record {
       few = few;
-      known = subst Known (sym same) c.self.invariant.known;
       set =
           setting-done few c.loop-k.invariant.0 reach (setting-stored few c.loop-k.invariant.0 c.loop-k-test.true)
           (omega (arith, c.if-count-at.true, c.loop-k.invariant.3, ap length same));
