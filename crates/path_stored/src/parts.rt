@@ -2,7 +2,7 @@
 ghost use Rattle.std.specs.Prelude.{◌≡◌, ◌≤◌, ◌<◌, length};
 ghost use Rattle.table.specs.Spots.{path_total};
 ghost use Rattle.path_segment.specs.Segments.{width_of, tables_of};
-ghost use Rattle.path_stored.specs.Stored.{before, most_segments, segment_in, table_in};
+ghost use Rattle.path_stored.specs.Stored.{before, most_segments, Fielded, Tabled, segment_in, table_in};
 
 use crate::counts::{fields_between, tables_between};
 use crate::paths::StoredPath;
@@ -31,30 +31,48 @@ pub fn tables_before(kinds: &[u8], i: usize) -> usize
     tables_between(kinds, 0, i)
 }
 
+// Segment i.
+#[tactic(auto, unfolding(crate::specs::Stored::segment_in))]
+pub fn segment(kinds: &[u8], fields: &[f32], i: usize) -> PathSegment
+    requires fielded { Fielded kinds.now fields.now }
+    requires i_in_bounds { i < length kinds.now }
+    ensures { result ≡ segment_in kinds.now fields.now i }
+{
+    let at = fields_before(kinds, i);
+    segment_at(kinds[i], fields, at)
+}
+
+// Its table, which is sound. What stands for the table of a line and of a line fallback is not.
+#[tactic(auto, unfolding(crate::specs::Stored::table_in))]
+pub fn segment_table(kinds: &[u8], tables: &[f32], i: usize) -> Table
+    requires tabled { Tabled kinds.now tables.now }
+    requires i_in_bounds { i < length kinds.now }
+    ensures { result ≡ table_in kinds.now tables.now i }
+{
+    if has_table(kinds[i]) {
+        let n = tables_before(kinds, i);
+        return table_at(tables, 33 * n);
+    }
+    no_table()
+}
+
 impl<'a> StoredPath<'a> {
-    // Segment i.
-    #[tactic(auto, unfolding(crate::specs::Stored::segment_in))]
+    // Segment i of the path.
     pub fn segment(self, i: usize) -> PathSegment
         requires { i < length self.buffers.kinds.now }
         ensures { result ≡ segment_in self.entry.buffers.kinds.now self.entry.buffers.fields.now i }
     {
         let path = self.buffers;
-        let at = fields_before(path.kinds, i);
-        segment_at(path.kinds[i], path.fields, at)
+        segment(path.kinds, path.fields, i)
     }
 
-    // Its table, which is sound. What stands for the table of a line and of a line fallback is not.
-    #[tactic(auto, unfolding(crate::specs::Stored::table_in))]
+    // Its table.
     pub fn segment_table(self, i: usize) -> Table
         requires { i < length self.buffers.kinds.now }
         ensures { result ≡ table_in self.entry.buffers.kinds.now self.entry.buffers.tables.now i }
     {
         let path = self.buffers;
-        if has_table(path.kinds[i]) {
-            let n = tables_before(path.kinds, i);
-            return table_at(path.tables, 33 * n);
-        }
-        no_table()
+        segment_table(path.kinds, path.tables, i)
     }
 }
 
