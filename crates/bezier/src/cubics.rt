@@ -142,7 +142,7 @@ pub fn cubic(
 }
 
 // The points of a cubic, without its table.
-fn points_of(curve: &CubicBezierCurve) -> CubicPoints
+pub(crate) fn points_of(curve: &CubicBezierCurve) -> CubicPoints
     ensures start { result.start ≡ curve.now.start }
     ensures control1 { result.control1 ≡ curve.now.control1 }
     ensures control2 { result.control2 ≡ curve.now.control2 }

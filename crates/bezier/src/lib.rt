@@ -5,6 +5,7 @@
 mod cubics;
 mod curves;
 pub mod inner;
+mod lookups;
 mod quads;
 mod queries;
 mod rows;

@@ -124,7 +124,7 @@ pub fn quad(start: Point, control: Point, end: Point) -> Result<QuadBezier, Refu
 }
 
 // The points of a quad, without its table.
-fn points_of(curve: &QuadBezier) -> QuadPoints
+pub(crate) fn points_of(curve: &QuadBezier) -> QuadPoints
     ensures start { result.start ≡ curve.now.start }
     ensures control { result.control ≡ curve.now.control }
     ensures end { result.end ≡ curve.now.end }
