@@ -4,7 +4,7 @@
  *         beside libkihavute.a in one program, in either order: no symbol is in both.
  * Path:   the five buffers of a stored path, as the functions of kihavute.h build and check them, and the refusals' numbers, are
  *         those of kihavute.h. What its first comment says of state, memory, slices, bits and answers holds here too.
- * Stack:  at most 24 KiB, of which 16 hold the first 1,024 legs; tests/c/stack.c measures it (18,600 bytes on x86-64).
+ * Stack:  at most 24 KiB, of which 16 hold the first 1,024 legs; tests/c/stack.c measures it (18,792 bytes on x86-64).
  * Time:   20 to 35 ns a leg up to 1,024 legs of a path, twice that of curves above (docs/BENCH.md).
  *
  * Example: a curve as legs that stray from it by at most 1 unit.

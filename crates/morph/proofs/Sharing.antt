@@ -1,8 +1,8 @@
 -- The points that both shapes have, and the default resolution. Assumes nothing.
-use Prim.Native.Nat.{ℕ, ◌≤◌, max}
-use native.Mathlib.Nat.{min-le_left, min-le_right, le-max_left}
+use Prim.Native.Nat.{ℕ, ◌≤◌, ◌<◌, max}
+use native.Mathlib.Nat.{min-le_left, min-le_right, le-max_left, max-eq_left, max-eq_right}
 use native.Mathlib.Omega.{arith}
-use mathlib.Core.Path.{◌≡◌}
+use mathlib.Core.Path.{◌≡◌, sym, ◌∙◌}
 use mathlib.Core.List.{List}
 use borrow.Author.Tests.{le-ltb}
 use lib.Ieee.{Float}
@@ -19,10 +19,23 @@ module _ (from to : List Float) where
   unfolding shared_of
   shared_upto_second = min-le_right (count_of from) (count_of to)
 
-  -- it is at least 2, so stating it changes nothing
-  pub default_resolved : resolved (default_of from to) ≡ default_of from to
+  -- ---- the default: 128 where the larger shape has fewer points, else as many as that has
+
+  pub default-least : (count : ℕ) → count ≡ larger_of from to → count < 128 → 128 ≡ default_of from to
   unfolding default_of
-  default_resolved = rw (le-ltb (max 128 (larger_of from to)) 2 (least (le-max_left 128 (larger_of from to))))
+  default-least count e h = sym (max-eq_left (let g : larger_of from to ≤ 128 = omega arith in g))
+
+  pub default-larger : (count : ℕ) → count ≡ larger_of from to → 128 ≤ count → count ≡ default_of from to
+  unfolding default_of
+  default-larger count e h = e ∙ sym (max-eq_right (let g : 128 ≤ larger_of from to = omega arith in g))
+
+  -- it is at least 2, so stating it changes nothing
+  pub default-resolved : resolved (default_of from to) ≡ default_of from to
+  unfolding default_of
+  default-resolved = rw (le-ltb (max 128 (larger_of from to)) 2 (least (le-max_left 128 (larger_of from to))))
     where
       least : {n : ℕ} → 128 ≤ n → 2 ≤ n
       least h = omega arith
+
+-- `using` takes no name with a dash
+pub ruleset default_stated = (default-resolved)

@@ -69,7 +69,7 @@ pub fn morph(
 }
 
 // The same with 128 points, or as many as the larger shape has if that is more.
-#[tactic(auto, using(crate::proofs::Sharing::default_resolved))]
+#[tactic(auto, using(crate::proofs::Sharing::default_stated))]
 pub fn morph_default(
     from: &[f32],
     to: &[f32],

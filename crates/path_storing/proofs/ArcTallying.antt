@@ -16,10 +16,13 @@ use Rattle.path_storing.specs.Tallies.{grown_of, counted_of}
 use Rattle.path_storing.specs.declared.tallies.Tally.{Tally}
 
 module _ (tally : Tally) (chord : Chord) (next : Pen) where
-  pub fallback_counted : Some (grown_of tally next 11 0) ≡ counted_of tally (Some (Segment (Fallback (fallback_shape chord)) next))
+  pub fallback-counted : Some (grown_of tally next 11 0) ≡ counted_of tally (Some (Segment (Fallback (fallback_shape chord)) next))
   unfolding counted_of has_table tables_of
-  fallback_counted = rw (ap length (table_none (Fallback (fallback_shape chord)) refl))
+  fallback-counted = rw (ap length (table_none (Fallback (fallback_shape chord)) refl))
 
-  pub arc_counted : is_calm_arc (from_ends_of chord) ≡ true → Some (grown_of tally next 11 33) ≡ counted_of tally (Some (Segment (Arc (from_ends_of chord)) next))
+  pub arc-counted : is_calm_arc (from_ends_of chord) ≡ true → Some (grown_of tally next 11 33) ≡ counted_of tally (Some (Segment (Arc (from_ends_of chord)) next))
   unfolding counted_of has_table tables_of
-  arc_counted calm = rw (calm, table-some (Arc (from_ends_of chord)) refl)
+  arc-counted calm = rw (calm, table-some (Arc (from_ends_of chord)) refl)
+
+-- the two, as `using` takes no name with a dash
+pub ruleset arc_ways = (arc-counted, fallback-counted)

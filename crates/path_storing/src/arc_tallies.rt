@@ -11,7 +11,7 @@ use path_bounds::is_calm_chord;
 use path_drawing::Pen;
 
 // What an arc comes to, where both its ends are calm.
-#[tactic(auto, using(crate::proofs::ArcTallying::arc_counted, crate::proofs::ArcTallying::fallback_counted), unfolding(crate::specs::Tallies::counted_of, path_drawing::specs::Drawing::arc_of))]
+#[tactic(auto, using(crate::proofs::ArcTallying::arc_ways), unfolding(crate::specs::Tallies::counted_of, path_drawing::specs::Drawing::arc_of))]
 pub(crate) fn count_arc(so_far: Tally, chord: Chord, next: Pen) -> Option<Tally>
     requires { FewIn so_far }
     ensures { result ≡ counted_of so_far (arc_of chord next) }

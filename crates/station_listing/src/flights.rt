@@ -39,7 +39,7 @@ fn print(
     let past_commands = put_header(out, 0, b"commands", places);
     let past_lines = list(input, start, out, past_commands);
     let past_segments = put_header(out, past_lines, b"segments", kinds.len());
-    let past_kinds = put_segments(out, past_segments, path);
+    let past_kinds = put_segments(out, past_segments, path.buffers);
     let past_stations = put_header(out, past_kinds, b"stations", count);
     put_stations(out, past_stations, count, path)
 }

@@ -10,17 +10,16 @@ use station_lines::inner::{put_segment, put_station};
 use table::Progress;
 
 // A line for each segment.
-pub fn put_segments(out: &mut [u8], from: usize, path: StoredPath) -> usize
-    requires { Tellable path.buffers.kinds.now path.buffers.lengths.now path.buffers.commands.now × (from + 5632 ≤ 69632) }
-    ensures { PutWithin 5632 (segment_lines path.entry.buffers.kinds.now path.entry.buffers.lengths.now path.entry.buffers.commands.now) from
-        out.old out.new result }
+pub fn put_segments(out: &mut [u8], from: usize, path: PathBuffers) -> usize
+    requires { Tellable path.kinds.now path.lengths.now path.commands.now × (from + 5632 ≤ 69632) }
+    ensures { PutWithin 5632 (segment_lines path.entry.kinds.now path.entry.lengths.now path.entry.commands.now) from out.old out.new result }
 {
     let PathBuffers {
         kinds,
         lengths,
         commands,
         ..
-    } = path.buffers;
+    } = path;
     let mut at = from;
     for (k, &kind) in kinds.iter().enumerate() {
         at = put_segment(out, at, kind, lengths[k], commands[k] as usize);

@@ -25,4 +25,4 @@ shape_of-out c = to-length _ _ _ _ _ _ _ c.loop-k.invariant
 pub returns : goal.returns
 unfolding segment_lines
 returns c =
-    to-all _ _ _ _ _ _ _ _ c.loop-k.invariant (length c.args.path.buffers.kinds.now) (omega (arith, c.loop-k-test.false)) (omega (arith, c.requires.0.few))
+    to-all _ _ _ _ _ _ _ _ c.loop-k.invariant (length c.args.path.kinds.now) (omega (arith, c.loop-k-test.false)) (omega (arith, c.requires.0.few))
