@@ -44,7 +44,9 @@ pub fn dot(a: Point, b: Point) -> f32
     a.x * b.x + a.y * b.y
 }
 
-// Worked out in f64 and rounded to f32 at the end: infinite only where the length itself is above the largest f32.
+// Worked out in f64 and rounded to f32 at the end: infinite only where the length itself is above the largest f32. Not laid into its
+// callers, where LLVM would not see that two calls ask for one length.
+#[inline(never)]
 pub fn length(v: Point) -> f32
     ensures { result ≡ length_of v }
 {
