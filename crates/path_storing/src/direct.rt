@@ -56,7 +56,9 @@ fn lay_line(
     }
 }
 
-// Stores what a LineTo draws at a site.
+// Stores what a LineTo draws at a site. Laid into its callers: a site that is returned is read back in other widths than it is written, which
+// waits for each part.
+#[inline(always)]
 pub fn line_to(
     site: Site,
     number: u32,

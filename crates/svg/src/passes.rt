@@ -71,25 +71,36 @@ pub(crate) fn fill(
     let mut reader = from;
     let mut letter_at = first;
     let mut at = start;
-    while let Some(step) = read_step(text, reader)? {
-        let more = width(step.command);
-        if letters.len() <= letter_at || numbers.len() - at < more || offsets.len() <= letter_at {
-            return Ok(Stored::Full {
-                reader,
-                letters: letter_at,
-                numbers: at,
-            });
+    // no `?` and no `while let`: they copy the command twice more, in other widths than it is written
+    loop {
+        match read_step(text, reader) {
+            Err(refusal) => return Err(refusal),
+            Ok(None) => {
+                return Ok(Stored::Whole(Counts {
+                    letters: letter_at,
+                    numbers: at,
+                }));
+            }
+            Ok(Some(Stepped { command, next })) => {
+                let more = width(command);
+                if letters.len() <= letter_at
+                    || numbers.len() - at < more
+                    || offsets.len() <= letter_at
+                {
+                    return Ok(Stored::Full {
+                        reader,
+                        letters: letter_at,
+                        numbers: at,
+                    });
+                }
+                store(letters, numbers, letter_at, at, command);
+                offsets[letter_at] = next.offset as u32;
+                at += more;
+                letter_at += 1;
+                reader = next;
+            }
         }
-        store(letters, numbers, letter_at, at, step.command);
-        offsets[letter_at] = step.next.offset as u32;
-        at += more;
-        letter_at += 1;
-        reader = step.next;
     }
-    Ok(Stored::Whole(Counts {
-        letters: letter_at,
-        numbers: at,
-    }))
 }
 
 // Puts elements at the start of a buffer, and touches no other place.

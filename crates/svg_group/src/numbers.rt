@@ -68,17 +68,22 @@ fn any_number(text: &[u8], at: usize) -> Result<Read, Refusal>
     ensures { result ≡ read_number_of text.now at }
 {
     let start = scan::past_separators(text, at);
-    if text.len() <= start {
-        return Err(Refusal::UnexpectedEnd(text.len()));
+    let size = text.len();
+    if size <= start {
+        return Err(Refusal::UnexpectedEnd(size));
     }
-    decimal::number(text, start)
+    // taken apart and put together again: else it is copied as a whole, which is slower
+    match decimal::number(text, start) {
+        Ok(Read { value, end }) => Ok(Read { value, end }),
+        Err(refusal) => Err(refusal),
+    }
 }
 
 pub fn read_number(text: &[u8], at: usize) -> Result<Read, Refusal>
     ensures { result ≡ read_number_of text.now at }
 {
-    if let Some(read) = quick_number(text, at) {
-        return Ok(read);
+    if let Some(Read { value, end }) = quick_number(text, at) {
+        return Ok(Read { value, end });
     }
     any_number(text, at)
 }
@@ -138,16 +143,24 @@ pub fn read_pair(
 ) -> Result<Coordinates, Refusal>
     ensures { result ≡ read_pair_of text.now at relative current }
 {
-    let first = read_number(text, at)?;
-    let second = read_number(text, first.end)?;
-    let written = Point {
-        x: first.value,
-        y: second.value,
-    };
-    let point = moved(relative, current, written);
-    Ok(Coordinates {
-        x: point.x,
-        y: point.y,
-        next: second.end,
-    })
+    // no `?`: it copies a number and its place as one value, which waits for both
+    match read_number(text, at) {
+        Err(refusal) => Err(refusal),
+        Ok(
+            Read {
+                value: x,
+                end: next,
+            },
+        ) => match read_number(text, next) {
+            Err(refusal) => Err(refusal),
+            Ok(Read { value: y, end }) => {
+                let point = moved(relative, current, Point { x, y });
+                Ok(Coordinates {
+                    x: point.x,
+                    y: point.y,
+                    next: end,
+                })
+            }
+        },
+    }
 }

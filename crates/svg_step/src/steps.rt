@@ -7,7 +7,7 @@ ghost use Rattle.svg_step.specs.Steps.{due_group_of, due_letter_of, due_again_of
 use answers::Refusal;
 use commands::PathCommand;
 use math::Point;
-use svg_group::{Kind, Letter};
+use svg_group::{Group, Kind, Letter};
 
 // The reader's state between two commands.
 #[derive(Clone, Copy)]
@@ -271,11 +271,14 @@ pub fn read_step(text: &[u8], reader: Reader) -> Result<Option<Stepped>, Refusal
             let current = reader.current;
             let relative = is_relative(letter, reader.placed);
             let control = first_control(kind, reader.letter, current, reader.control);
-            let group = svg_group::read_group(text, first, kind, relative, current, control)?;
-            Ok(Some(Stepped {
-                command: group.command,
-                next: after(group.command, group.next, letter, offset, start),
-            }))
+            // no `?`: it copies the command once more, in other widths than it is written
+            match svg_group::read_group(text, first, kind, relative, current, control) {
+                Err(refusal) => Err(refusal),
+                Ok(Group { command, next }) => Ok(Some(Stepped {
+                    command,
+                    next: after(command, next, letter, offset, start),
+                })),
+            }
         }
     }
 }

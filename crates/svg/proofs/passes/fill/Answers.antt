@@ -10,32 +10,32 @@ use Rattle.svg.proofs.passes.fill.Goals as goal
 use Rattle.svg.proofs.passes.fill.Goals.{then-letters-letter_at-via-then-letters-letter_at, then-letters-letter_at-via-else-letters-letter_at+then-numbers-at}
 use Rattle.svg.proofs.passes.fill.Goals.{then-letters-letter_at-via-else-letters-letter_at+else-numbers-at+then-offsets-letter_at}
 
-pub loop-step-init : goal.loop-step-init
-loop-step-init c = c.requires.1
+pub loop-refusal-init : goal.loop-refusal-init
+loop-refusal-init c = c.requires.1
 
-pub returns-in_err-step : goal.returns-in_err-step
-returns-in_err-step c = search (rules, held-refused c.loop-step.invariant _ (sym c.read_step.ensures ∙ c.in_err-step.was))
+pub returns-in-Err : goal.returns-in-Err
+returns-in-Err c = search (rules, held-refused c.loop-refusal.invariant _ (sym c.read_step.ensures ∙ c.in-Err.is))
+
+pub returns-in-Ok-None : goal.returns-in-Ok-None
+returns-in-Ok-None c = held_whole c.loop-refusal.invariant (sym c.read_step.ensures ∙ c.in-Ok-None.is ∙ ap Ok c.in-Ok-None.field-0-is)
 
 pub returns-then-letters-letter_at : goal.returns-then-letters-letter_at
 returns-then-letters-letter_at c =
-    let e = sym c.read_step.ensures ∙ c.in_ok-step.was ∙ ap Ok c.in-Some.is in
+    let e = sym c.read_step.ensures ∙ c.in-Ok-Some.is ∙ ap Ok c.in-Ok-Some.field-0-is in
     elim c.then-letters-letter_at.branch [
-      | then-letters-letter_at-via-then-letters-letter_at w ↦ full-of-letters c.loop-step.invariant _ e w.if-letters-letter_at.true
+      | then-letters-letter_at-via-then-letters-letter_at w ↦ full-of-letters c.loop-refusal.invariant _ e w.if-letters-letter_at.true
       | then-letters-letter_at-via-else-letters-letter_at+then-numbers-at w ↦
-          full-of-numbers c.loop-step.invariant _ e _ c.width-more.ensures (omega (arith, w.if-numbers-at.true, held-within c.loop-step.invariant))
-      | then-letters-letter_at-via-else-letters-letter_at+else-numbers-at+then-offsets-letter_at w ↦ full-of-offsets c.loop-step.invariant _ e w.if-offsets-letter_at.true
+          full-of-numbers c.loop-refusal.invariant _ e _ c.width-more.ensures (omega (arith, w.if-numbers-at.true, held-within c.loop-refusal.invariant))
+      | then-letters-letter_at-via-else-letters-letter_at+else-numbers-at+then-offsets-letter_at w ↦ full-of-offsets c.loop-refusal.invariant _ e w.if-offsets-letter_at.true
     ]
 
 pub overflow_cast-offsets : goal.overflow_cast-offsets
-overflow_cast-offsets c = omega (arith, held-offset c.loop-step.invariant _ (sym c.read_step.ensures ∙ c.in_ok-step.was ∙ ap Ok c.in-Some.is), c.requires.0)
+overflow_cast-offsets c = omega (arith, held-offset c.loop-refusal.invariant _ (sym c.read_step.ensures ∙ c.in-Ok-Some.is ∙ ap Ok c.in-Ok-Some.field-0-is), c.requires.0)
 
-pub loop-step-smaller : goal.loop-step-smaller
-loop-step-smaller c = omega (arith, step-ahead _ _ _ (sym c.read_step.ensures ∙ c.in_ok-step.was ∙ ap Ok c.in-Some.is))
+pub loop-refusal-smaller : goal.loop-refusal-smaller
+loop-refusal-smaller c = omega (arith, step-ahead _ _ _ (sym c.read_step.ensures ∙ c.in-Ok-Some.is ∙ ap Ok c.in-Ok-Some.field-0-is))
 
-pub loop-step-preserved : goal.loop-step-preserved
-loop-step-preserved c =
-    holding-more c.loop-step.invariant _ (sym c.read_step.ensures ∙ c.in_ok-step.was ∙ ap Ok c.in-Some.is) _ c.width-more.ensures
-    (omega (arith, c.if-letters-letter_at.false)) (omega (arith, c.if-numbers-at.false, held-within c.loop-step.invariant)) (omega (arith, c.if-offsets-letter_at.false)) c.store.ensures
-
-pub returns : goal.returns
-returns c = held_whole c.loop-step.invariant (sym c.read_step.ensures ∙ c.in_ok-step.was ∙ ap Ok c.in_default.is)
+pub loop-refusal-preserved : goal.loop-refusal-preserved
+loop-refusal-preserved c =
+    holding-more c.loop-refusal.invariant _ (sym c.read_step.ensures ∙ c.in-Ok-Some.is ∙ ap Ok c.in-Ok-Some.field-0-is) _ c.width-more.ensures
+    (omega (arith, c.if-letters-letter_at.false)) (omega (arith, c.if-numbers-at.false, held-within c.loop-refusal.invariant)) (omega (arith, c.if-offsets-letter_at.false)) c.store.ensures

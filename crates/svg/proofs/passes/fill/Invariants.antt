@@ -6,8 +6,8 @@ use Rattle.svg.specs.Lists.{command_list}
 use Rattle.svg.specs.Texts.{Holding}
 use Rattle.svg.proofs.passes.fill.Given as goal
 
-abbrev pub invariant-loop-step : goal.invariant-loop-step
-invariant-loop-step l = Holding l.text (command_list l.initial.letters l.initial.numbers l.initial.offsets) (command_list l.letters l.numbers l.offsets) l.reader l.letter_at l.at
+abbrev pub invariant-loop-refusal : goal.invariant-loop-refusal
+invariant-loop-refusal l = Holding l.text (command_list l.initial.letters l.initial.numbers l.initial.offsets) (command_list l.letters l.numbers l.offsets) l.reader l.letter_at l.at
 
-abbrev pub decreases-loop-step : goal.decreases-loop-step
-decreases-loop-step l = length l.text - l.reader.at
+abbrev pub decreases-loop-refusal : goal.decreases-loop-refusal
+decreases-loop-refusal l = length l.text - l.reader.at
