@@ -3,9 +3,10 @@ ghost use Rattle.std.specs.Prelude.{◌≡◌};
 ghost use Rattle.svg_group.specs.Groups.{read_move_of, read_line_of, read_horizontal_of, read_vertical_of, read_cubic_of, read_smooth_cubic_of, read_quad_of, read_smooth_quad_of, read_arc_of, read_group_of};
 
 use crate::letters::Kind;
-use crate::numbers::{read_flags, read_number, read_pair};
+use crate::numbers::{Coordinates, read_flags, read_number, read_pair};
 use answers::Refusal;
 use commands::PathCommand;
+use decimal::Read;
 use math::Point;
 
 // The command and the place past its group.
@@ -21,92 +22,91 @@ pub struct Group {
 fn read_move(text: &[u8], at: usize, relative: bool, current: Point) -> Result<Group, Refusal>
     ensures { result ≡ read_move_of text.now at relative current }
 {
-    let end = read_pair(text, at, relative, current)?;
-    Ok(Group {
-        command: PathCommand::MoveTo(end.point()),
-        next: end.next,
-    })
+    match read_pair(text, at, relative, current) {
+        Err(refusal) => Err(refusal),
+        Ok(Coordinates { x, y, next }) => Ok(Group {
+            command: PathCommand::MoveTo(Point { x, y }),
+            next,
+        }),
+    }
 }
 
 #[tactic(auto, unfolding(crate::specs::Groups::read_line_of))]
 fn read_line(text: &[u8], at: usize, relative: bool, current: Point) -> Result<Group, Refusal>
     ensures { result ≡ read_line_of text.now at relative current }
 {
-    let end = read_pair(text, at, relative, current)?;
-    Ok(Group {
-        command: PathCommand::LineTo(end.point()),
-        next: end.next,
-    })
+    match read_pair(text, at, relative, current) {
+        Err(refusal) => Err(refusal),
+        Ok(Coordinates { x, y, next }) => Ok(Group {
+            command: PathCommand::LineTo(Point { x, y }),
+            next,
+        }),
+    }
 }
 
 #[tactic(auto, unfolding(crate::specs::Groups::read_horizontal_of))]
 fn read_horizontal(text: &[u8], at: usize, relative: bool, current: Point) -> Result<Group, Refusal>
     ensures { result ≡ read_horizontal_of text.now at relative current }
 {
-    let read = read_number(text, at)?;
-    let x = if relative {
-        current.x + read.value
-    } else {
-        read.value
-    };
-    let end = Point { x, y: current.y };
-    Ok(Group {
-        command: PathCommand::LineTo(end),
-        next: read.end,
-    })
+    match read_number(text, at) {
+        Err(refusal) => Err(refusal),
+        Ok(Read { value, end: next }) => {
+            let x = if relative { current.x + value } else { value };
+            let end = Point { x, y: current.y };
+            Ok(Group {
+                command: PathCommand::LineTo(end),
+                next,
+            })
+        }
+    }
 }
 
 #[tactic(auto, unfolding(crate::specs::Groups::read_vertical_of))]
 fn read_vertical(text: &[u8], at: usize, relative: bool, current: Point) -> Result<Group, Refusal>
     ensures { result ≡ read_vertical_of text.now at relative current }
 {
-    let read = read_number(text, at)?;
-    let y = if relative {
-        current.y + read.value
-    } else {
-        read.value
-    };
-    let end = Point { x: current.x, y };
-    Ok(Group {
-        command: PathCommand::LineTo(end),
-        next: read.end,
-    })
+    match read_number(text, at) {
+        Err(refusal) => Err(refusal),
+        Ok(Read { value, end: next }) => {
+            let y = if relative { current.y + value } else { value };
+            let end = Point { x: current.x, y };
+            Ok(Group {
+                command: PathCommand::LineTo(end),
+                next,
+            })
+        }
+    }
 }
 
-#[tactic(auto, unfolding(crate::specs::Groups::read_cubic_of))]
+#[tactic(auto, unfolding(crate::specs::Groups::read_cubic_of, crate::specs::Groups::read_smooth_cubic_of))]
 fn read_cubic(text: &[u8], at: usize, relative: bool, current: Point) -> Result<Group, Refusal>
     ensures { result ≡ read_cubic_of text.now at relative current }
 {
-    let control1 = read_pair(text, at, relative, current)?;
-    let control2 = read_pair(text, control1.next, relative, current)?;
-    let end = read_pair(text, control2.next, relative, current)?;
-    Ok(Group {
-        command: PathCommand::CubicTo {
-            control1: control1.point(),
-            control2: control2.point(),
-            end: end.point(),
-        },
-        next: end.next,
-    })
+    match read_pair(text, at, relative, current) {
+        Err(refusal) => Err(refusal),
+        Ok(Coordinates { x, y, next }) => {
+            let control1 = Point { x, y };
+            read_smooth_cubic(text, next, relative, current, control1)
+        }
+    }
 }
 
-#[tactic(auto, unfolding(crate::specs::Groups::read_quad_of))]
+#[tactic(auto, unfolding(crate::specs::Groups::read_quad_of, crate::specs::Groups::read_smooth_quad_of))]
 fn read_quad(text: &[u8], at: usize, relative: bool, current: Point) -> Result<Group, Refusal>
     ensures { result ≡ read_quad_of text.now at relative current }
 {
-    let control = read_pair(text, at, relative, current)?;
-    let end = read_pair(text, control.next, relative, current)?;
-    Ok(Group {
-        command: PathCommand::QuadTo {
-            control: control.point(),
-            end: end.point(),
-        },
-        next: end.next,
-    })
+    match read_pair(text, at, relative, current) {
+        Err(refusal) => Err(refusal),
+        Ok(Coordinates { x, y, next }) => {
+            let control = Point { x, y };
+            read_smooth_quad(text, next, relative, current, control)
+        }
+    }
 }
 
 // The second control and the end; the first control is given.
 #[tactic(auto, unfolding(crate::specs::Groups::read_smooth_cubic_of))]
+#[inline(always)]
 fn read_smooth_cubic(
     text: &[u8],
     at: usize,
@@ -116,20 +116,28 @@ fn read_smooth_cubic(
 ) -> Result<Group, Refusal>
     ensures { result ≡ read_smooth_cubic_of text.now at relative current first }
 {
-    let control2 = read_pair(text, at, relative, current)?;
-    let end = read_pair(text, control2.next, relative, current)?;
-    Ok(Group {
-        command: PathCommand::CubicTo {
-            control1: first,
-            control2: control2.point(),
-            end: end.point(),
-        },
-        next: end.next,
-    })
+    match read_pair(text, at, relative, current) {
+        Err(refusal) => Err(refusal),
+        Ok(Coordinates { x, y, next }) => {
+            let control2 = Point { x, y };
+            match read_pair(text, next, relative, current) {
+                Err(refusal) => Err(refusal),
+                Ok(Coordinates { x, y, next }) => Ok(Group {
+                    command: PathCommand::CubicTo {
+                        control1: first,
+                        control2,
+                        end: Point { x, y },
+                    },
+                    next,
+                }),
+            }
+        }
+    }
 }
 
 // The end alone.
 #[tactic(auto, unfolding(crate::specs::Groups::read_smooth_quad_of))]
+#[inline(always)]
 fn read_smooth_quad(
     text: &[u8],
     at: usize,
@@ -139,14 +147,16 @@ fn read_smooth_quad(
 ) -> Result<Group, Refusal>
     ensures { result ≡ read_smooth_quad_of text.now at relative current first }
 {
-    let end = read_pair(text, at, relative, current)?;
-    Ok(Group {
-        command: PathCommand::QuadTo {
-            control: first,
-            end: end.point(),
-        },
-        next: end.next,
-    })
+    match read_pair(text, at, relative, current) {
+        Err(refusal) => Err(refusal),
+        Ok(Coordinates { x, y, next }) => Ok(Group {
+            command: PathCommand::QuadTo {
+                control: first,
+                end: Point { x, y },
+            },
+            next,
+        }),
+    }
 }
 
 // The radii are no point of the plane, and are never added to one.

@@ -257,17 +257,20 @@ pub fn read_step(text: &[u8], reader: Reader) -> Result<Option<Stepped>, Refusal
     let start = reader.start;
     let at = scan::past_separators(text, reader.at);
     let offset = letter_offset(text, at, reader.offset);
-    match due_at(text, at, reader.letter, reader.placed)? {
-        Due::Done => Ok(None),
-        Due::Close(next) => Ok(Some(Stepped {
+    match due_at(text, at, reader.letter, reader.placed) {
+        Err(refusal) => Err(refusal),
+        Ok(Due::Done) => Ok(None),
+        Ok(Due::Close(next)) => Ok(Some(Stepped {
             command: PathCommand::ClosePath,
             next: after(PathCommand::ClosePath, next, reader.letter, offset, start),
         })),
-        Due::Group {
-            kind,
-            letter,
-            first,
-        } => {
+        Ok(
+            Due::Group {
+                kind,
+                letter,
+                first,
+            },
+        ) => {
             let current = reader.current;
             let relative = is_relative(letter, reader.placed);
             let control = first_control(kind, reader.letter, current, reader.control);
