@@ -6,6 +6,10 @@ use Rattle.math.specs.declared.points.Point.{Point}
 use Rattle.replay_records.specs.Records.{pattern_of}
 use Rattle.replay_records.specs.Given.{has_bits, same_point}
 
+abbrev pub verdict_number : Result (Unit {0}) Refusal → ℕ
+verdict_number (Ok _) = 0
+verdict_number (Err refusal) = number_of refusal
+
 abbrev pub placed_as : Result Point Refusal → ℕ → ℕ → ℕ → Bool
 placed_as (Ok p) due x y = due == 0 && same_point p x y
 placed_as (Err refusal) due x y = number_of refusal == due

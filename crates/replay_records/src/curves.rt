@@ -1,11 +1,21 @@
 // Answers about curves held against what is recorded: a refusal by its number, a place or a heading by its bits.
 ghost use Rattle.std.specs.Prelude.{◌≡◌, ◌+◌, ◌≤◌, length};
-ghost use Rattle.replay_records.specs.Curves.{placed_as, turned_as, same_answers};
+ghost use Rattle.replay_records.specs.Curves.{verdict_number, placed_as, turned_as, same_answers};
 
 use crate::given::{has_bits, same_point};
 use crate::pattern;
 use answers::Refusal;
 use math::Point;
+
+// The number of a refusal, or 0.
+pub fn number_of(verdict: Result<(), Refusal>) -> u32
+    ensures { result ≡ verdict_number verdict }
+{
+    match verdict {
+        Ok(()) => 0,
+        Err(refusal) => refusal.number(),
+    }
+}
 
 // Whether a place or a direction was given with these bits and the refusal's number is 0, or it was refused under that number.
 pub fn placed(found: Result<Point, Refusal>, due: u32, x: u32, y: u32) -> bool

@@ -13,7 +13,7 @@ ghost use Rattle.std.specs.Prelude.{◌≡◌, ◌<◌};
 ghost use Rattle.replay_records.specs.Records.{digit_of, half_of, pattern_of, float_of};
 
 pub use counts::{Count, kind, none, seen, tell};
-pub use curves::{placed, same_answers, turned};
+pub use curves::{number_of, placed, same_answers, turned};
 pub use decimals::{one, three, two};
 pub use given::{first_of, has_bits, point, same_point};
 pub use numbers::{lent, read_numbers, same_bytes, same_numbers};
