@@ -3,7 +3,9 @@ ghost use Rattle.std.specs.Prelude.{◌+◌, ◌≤◌, length};
 
 use answers::Refusal;
 use math::Point;
-use replay_records::{Count, float, has_bits, pattern, point, same_answers, same_numbers, seen};
+use replay_records::{
+    Count, float, has_bits, number_of, pattern, point, same_answers, same_numbers, seen,
+};
 use std::io;
 use std::io::Read;
 use table::{Progress, Table};
@@ -67,7 +69,7 @@ fn quad_agrees(text: &[u8], line: usize) -> bool
             let turned = bezier::quad_rotation_deg(curve, progress);
             number == 0 && same_curve(curve.table, position, tangent, turned, text, line)
         }
-        Err(refusal) => refusal.number() == number,
+        Err(refusal) => number_of(Err(refusal)) == number,
     }
 }
 
@@ -90,7 +92,7 @@ fn cubic_agrees(text: &[u8], line: usize) -> bool
             let turned = bezier::cubic_rotation_deg(curve, progress);
             number == 0 && same_curve(curve.table, position, tangent, turned, text, line)
         }
-        Err(refusal) => refusal.number() == number,
+        Err(refusal) => number_of(Err(refusal)) == number,
     }
 }
 

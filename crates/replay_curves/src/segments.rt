@@ -3,7 +3,9 @@ ghost use Rattle.std.specs.Prelude.{◌+◌, ◌≤◌, length};
 
 use arc::{EllipticalArc, LineSegment};
 use ellipse::Chord;
-use replay_records::{Count, float, has_bits, pattern, point, same_answers, same_numbers, seen};
+use replay_records::{
+    Count, float, has_bits, number_of, pattern, point, same_answers, same_numbers, seen,
+};
 use std::io;
 use std::io::Read;
 use table::Progress;
@@ -57,7 +59,7 @@ fn arc_agrees(text: &[u8], line: usize) -> bool
     let number = pattern(text, 1);
     match arc::arc(chord(text)) {
         Ok(own) => number == 0 && same_shape(own, text) && arc_answers(own, text, line),
-        Err(refusal) => refusal.number() == number,
+        Err(refusal) => number_of(Err(refusal)) == number,
     }
 }
 
@@ -72,7 +74,7 @@ fn line_agrees(text: &[u8], line: usize) -> bool
                 && has_bits(arc::line_length(own), pattern(text, 68))
                 && line_answers(own, text, line)
         }
-        Err(refusal) => refusal.number() == number,
+        Err(refusal) => number_of(Err(refusal)) == number,
     }
 }
 
